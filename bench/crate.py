@@ -17,6 +17,7 @@ to another kit. Needs rt and python3."""
 import os
 import re
 import resource
+import shutil
 import sys
 import tempfile
 
@@ -77,13 +78,33 @@ def checked(rt, crate, flags):
     return not crate.call(rt.rtlib.RATTLE, "check", *words)
 
 
+def outcomes(rt, crate, edits):
+    """What each edit came to, and what to say of it: whether it is refused, as it must be. Each begins with a copy of what a check of the
+    crate as it stands proved."""
+    if hasattr(rt, "must_fail_all"):
+        return rt.must_fail_all(crate, edits, ["--jobs", "1"])
+    room = rt.seeded(crate, ["--jobs", "2"])
+    if not room:
+        return [(False, f"{crate.name}: the crate as it stands is not proved, so no edit was tried")]
+    found = []
+    try:
+        for edit in edits:
+            with tempfile.TemporaryDirectory(dir=room) as own:
+                rt.linked(f"{room}/seed", f"{own}/seed")
+                kind, text = rt.must_fail(crate, edit, ["--jobs", "1"], f"{own}/seed")
+            found.append((kind in (rt.REFUSED, rt.AT_LIMIT), text))
+    finally:
+        shutil.rmtree(room)
+    return found
+
+
 def tried(rt, crate):
     """Tries the crate's edits as the gate does; whether each is refused. Notes it, so that the gate leaves those out that it tries if
     something has changed."""
     sum = kit.sum_of_edits(rt.rtlib, crate, {})
-    outcomes = rt.must_fail_all(crate, [*rt.edits_of(crate)[0], *kit.edits_if_changed(crate)], ["--jobs", "1"])
-    print(*(text for _, text in outcomes), sep="\n", flush=True)
-    is_well = all(refused for refused, _ in outcomes)
+    found = outcomes(rt, crate, [*rt.edits_of(crate)[0], *kit.edits_if_changed(crate)])
+    print(*(text for _, text in found), sep="\n", flush=True)
+    is_well = all(refused for refused, _ in found)
     if is_well and kit.edits_if_changed(crate) and sum == kit.sum_of_edits(rt.rtlib, crate, {}):
         kit.note_tried({crate.name: sum})
     return is_well

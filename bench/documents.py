@@ -212,7 +212,7 @@ class Trial:
             self.look_clauses_up(page)
         if page.path.startswith("crates/"):
             self.look_calls_up(page)
-        if page.path in ("README.md", "docs/ARCHITECTURE.md"):
+        if page.path == "docs/ARCHITECTURE.md":
             self.look_crates_up(page)
         if page.path == "docs/TESTING.md":
             self.look_scripts_up(page)

@@ -63,7 +63,7 @@ echo "$((number - 1)) requests for memory refused in turn"
 export WOZGIRT_LIBRARY="$folder/libwozgirt.so.0" WOZGIRT_LIBRARIES="$folder" PYTHONDONTWRITEBYTECODE=1
 for python in ${PYTHONS:-python3}; do
     "$python" --version
-    "$python" -m unittest discover -q -s "$top/python/tests" -t "$top/python"
+    "$python" -m unittest discover -q -s "$top/python/tests"
     PYTHONPATH=$top/python "$python" "$top/examples/python/four_threads.py" "$folder/python.txt"
     judge python
 done

@@ -137,11 +137,14 @@ static inline int wozgirt_lock_connect(int file, const struct sockaddr *address,
     return 1;
 }
 
-/* Sends all of it: 1, 0, -1 as above. */
+/* Sends all of it: 1, 0, -1 as above. That the other end has closed the connection is not said here, but behind what it said before
+ * that, by `wozgirt_lock_hear`. */
 static inline int wozgirt_lock_send(int file, const char *bytes, size_t length, int64_t until)
 {
     while (length) {
         ssize_t sent = send(file, bytes, length, MSG_NOSIGNAL | MSG_DONTWAIT);
+        if (sent < 0 && (errno == EPIPE || errno == ECONNRESET))
+            return 1;
         int ready = sent >= 0 || errno == EINTR ? 1 : errno == EAGAIN ? wozgirt_lock_await(file, POLLOUT, until) : -1;
         if (ready != 1)
             return ready;
@@ -252,6 +255,14 @@ static inline int wozgirt_lock_says(const char *line, const char *word, const ch
         return 0;
     line += second ? second + 1 : 0;
     return number ? *line == ' ' && wozgirt_lock_number(line + 1, number) : !*line;
+}
+
+/* Takes these last characters away from a line that ends with them. */
+static inline void wozgirt_lock_drop(char *line, const char *end)
+{
+    size_t length = strlen(line), count = strlen(end);
+    if (length >= count && strcmp(line + length - count, end) == 0)
+        line[length - count] = '\0';
 }
 
 /* What a line answers to this question. The token is written where a lock is granted. */

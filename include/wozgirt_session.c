@@ -27,10 +27,9 @@ enum {
 /* Behind a place: the comma before the next one, or the end. */
 static inline size_t wozgirt_session_behind(const char *servers, size_t at)
 {
-    for (; servers[at]; at++)
-        if (servers[at] == ',' && (strncmp(servers + at + 1, "tcp:", 4) == 0 || servers[at + 1] == '/' ||
-                                   strncmp(servers + at + 1, "./", 2) == 0))
-            break;
+    while (servers[at] && !(servers[at] == ',' && (strncmp(servers + at + 1, "tcp:", 4) == 0 || servers[at + 1] == '/' ||
+                                                   strncmp(servers + at + 1, "./", 2) == 0)))
+        at++;
     return at;
 }
 
@@ -133,8 +132,7 @@ static inline int wozgirt_session_lose(struct wozgirt_session *it, int why)
 static inline void wozgirt_session_pause(int64_t until)
 {
     int64_t left = wozgirt_lock_earlier(until - wozgirt_lock_now(), WOZGIRT_SESSION_PAUSE);
-    if (left > 0)
-        poll(NULL, 0, (int)left);
+    poll(NULL, 0, left > 0 ? (int)left : 0);
 }
 
 /* Ends the connection to a server that says what no server of locks says; it is not asked again at once. */
@@ -213,10 +211,14 @@ static inline int wozgirt_session_hear(struct wozgirt_session *it, uint64_t *hol
 {
     char key[24];
     uint64_t count = 0;
-    key[wozgirt_lock_decimal(key, it->key)] = '\0';
     wozgirt_session_tell(it, "session", it->key, until);
-    if (it->client.socket < 0 || wozgirt_lock_hear(&it->client, until) != 1 ||
-        !wozgirt_lock_says(it->client.line, "session", key, &count))
+    if (it->client.socket < 0 || wozgirt_lock_hear(&it->client, until) != 1)
+        return 0;
+    /* a server that is alone says so, and is taken only where there is no other: its locks are not those of others */
+    if (!it->servers[wozgirt_session_behind(it->servers, 0)])
+        wozgirt_lock_drop(it->client.line, " alone");
+    key[wozgirt_lock_decimal(key, it->key)] = '\0';
+    if (!wozgirt_lock_says(it->client.line, "session", key, &count))
         return 0;
     for (; count; count--) {
         if (wozgirt_lock_now() > until || wozgirt_lock_hear(&it->client, until) != 1)

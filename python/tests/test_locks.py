@@ -374,7 +374,7 @@ class Hostile(unittest.IsolatedAsyncioTestCase):
                b"status 1\n", b"\xff\xfe\n", b"cancelled a\n", b"x" * 100_000, b"waiting a 1\ngranted b 2\n", b"waiting a 1\ngranted a\n")
 
     def door(self, answer, lease=b"refused syntax\n"):
-        """The place of a server that answers the first two lines so."""
+        """The place of a server that answers so: the first line, and the question for the lease."""
         folder = tempfile.mkdtemp(dir="/tmp")
         path = os.path.join(folder, "door")
         door = socket.socket(socket.AF_UNIX)
@@ -383,11 +383,9 @@ class Hostile(unittest.IsolatedAsyncioTestCase):
 
         def serve():
             sock, _ = door.accept()
-            for it in (lease, answer):
-                if sock.recv(1000):
-                    sock.sendall(it)
-            while sock.recv(1000):
-                pass
+            answers = [answer]
+            for line in iter(lambda: sock.recv(1000), b""):
+                sock.sendall(lease if line.startswith(b"lease") else answers.pop() if answers else b"")
             sock.close()
         thread = threading.Thread(target=serve, daemon=True)
         thread.start()

@@ -560,6 +560,25 @@ class Etcd(unittest.TestCase):
                 self.assertEqual(log.status(), 2)
 
 
+class Away(unittest.TestCase):
+    """An etcd that is not there."""
+
+    def ends_with_its_input(self, place):
+        log = Log("http://%s:%d" % place)
+        self.addCleanup(log.__exit__)
+        time.sleep(0.5)
+        self.assertIsNone(log.process.poll(), log.errors)
+        log.process.stdin.close()
+        self.assertEqual((log.status(), log.lines), (0, []))
+
+    @needs_loopback
+    def test_the_end_of_the_input_is_seen(self):
+        with socket.create_server(("127.0.0.1", 0)) as nobody:
+            place = nobody.getsockname()
+            self.ends_with_its_input(place)  # it says nothing
+        self.ends_with_its_input(place)  # nobody listens
+
+
 class Words(unittest.TestCase):
     def test_wrong_words(self):
         right = ["--endpoints", "127.0.0.1:1", "--prefix", "locks", "--name", "a"]

@@ -1,6 +1,7 @@
 """The client of several servers, with servers in this process that fail when they are told to."""
 
 import os
+import signal
 import socket
 import sys
 import threading
@@ -10,6 +11,7 @@ import unittest
 sys.path.insert(0, os.path.join(os.path.dirname(os.path.abspath(__file__)), "..", "..", "server", "tests"))
 
 import test_cluster  # noqa: E402
+import test_restarts  # noqa: E402
 from harness import PATIENCE, by_the_clock, needs_loopback, needs_programs, wait_until  # noqa: E402
 from wozgirt import Client, Holds, Lock, LockLost, NotHolder, NotInTime, NotWaiter, Session, lines  # noqa: E402
 
@@ -390,6 +392,46 @@ class Sessions(unittest.TestCase):
         self.assertEqual(tokens, list(range(1, 121)))
         numbers = [it[:2] for it in self.arbiter.done]
         self.assertEqual(len(numbers), len(set(numbers)))
+
+
+@needs_programs
+class OfOne(test_restarts.Trial):
+    """With one server, and its engine, which are started again."""
+
+    def test_holds_and_waits_stay(self):
+        server, got = self.server(), []
+        with Session([server.path]) as client, Session([server.path]) as other:
+            token = client.acquire("a", label=5)
+            waiter = threading.Thread(target=lambda: got.append(other.acquire("a")))
+            waiter.start()
+            server.wait_for_waiters("a", 1)
+            self.restart_engine(server)
+            client.check()
+            for count, number in enumerate((signal.SIGTERM, signal.SIGKILL), 1):
+                server = self.again(server, number)
+                self.assertEqual(client.acquire("b"), count)
+                client.release("b", count)
+                server.wait_for_waiters("a", 1)
+            client.release("a", token)
+            waiter.join(PATIENCE)
+            self.assertEqual(got, [token + 1])
+            self.assertRaises(Holds, other.acquire, "a")
+
+    def test_a_hold_whose_client_was_away_is_lost(self):
+        server = self.server(lease="1")
+        with Session([server.path], lease=1) as client:
+            client.acquire("a")
+            server.process.kill()
+            server.process.wait()
+            wait_until(lambda: self.is_lost(client))
+
+    @staticmethod
+    def is_lost(client):
+        try:
+            client.check()
+        except LockLost:
+            return True
+        return False
 
 
 @needs_programs

@@ -164,8 +164,21 @@ class Client(OfOneProcess):
         outcome.add_done_callback(lambda it: it.cancelled() or it.exception())  # seen, whether or not somebody waits
         self._said = time.monotonic()
         self._calls.append(_Call(Question(line, self._said), outcome))
-        self._writer.write(line)
+        self._put(line)
         return outcome
+
+    def _put(self, line: bytes) -> None:
+        """Sends it. That the server has closed the connection is not said here: `_read` hears first what it said before. (A transport
+        whose write fails reads nothing more.)"""
+        if self._sock is not None and not self._writer.transport.get_write_buffer_size():
+            try:
+                line = line[self._sock.send(line):]
+            except BlockingIOError:
+                pass
+            except OSError:
+                return
+        if line:
+            self._writer.write(line)
 
     async def _ask_until(self, line: bytes, deadline: float) -> Question:
         """The answer. If it is not there by then, the client is lost."""

@@ -22,6 +22,7 @@ import base64
 import os
 import queue
 import re
+import select
 import sys
 import threading
 import time
@@ -37,6 +38,8 @@ T = TypeVar("T")
 PAUSE = 0.1
 #: Seconds in which the same is not written to standard error again.
 QUIET = 60.0
+#: Milliseconds between two looks at whether the first line is done.
+LOOK = 500
 #: Seconds behind its lease until another server of the name is taken for one that lives.
 LATE = 2.0
 #: The first line of the input, and the others.
@@ -61,6 +64,7 @@ class Program:
         self.needs: "queue.SimpleQueue[Tuple[int, int]]" = queue.SimpleQueue()
         self.crowd: Optional[Crowd] = None
         self.place = Place(None, 0, 0)
+        self.is_begun = threading.Event()
 
     def key(self, *words: object) -> str:
         """A key of the log."""
@@ -373,6 +377,16 @@ def append_all(program: Program) -> None:
         program.done(member, lambda it: put(it, value))
 
 
+def end_with_the_input(program: Program) -> None:
+    """Ends the process where its input ends before the first line is done: that can take as long as etcd is away, and nobody reads the
+    input meanwhile. The server's next start needs what this process has inherited."""
+    end = select.poll()
+    end.register(0, 0)
+    while not program.is_begun.is_set():
+        if end.poll(LOOK) and not program.is_begun.is_set():
+            program.end(0)
+
+
 def begun(program: Program) -> Keeper:
     """What the first line of the input says is compared with etcd, and this start gets its number."""
     line = sys.stdin.buffer.readline()
@@ -382,6 +396,7 @@ def begun(program: Program) -> Keeper:
     identity, *numbers = match.groups()
     position, revision, before = map(int, numbers)
     program.place = Place(identity.decode() if identity else None, position, revision)
+    program.start(lambda: end_with_the_input(program))
     try:
         return Keeper(program, before)
     except Lost as lost:
@@ -454,6 +469,7 @@ def main(words: Optional[Sequence[str]] = None) -> int:
         print(f"wozgirt-log: {fault}", file=sys.stderr)
         return 2
     keeper = begun(program)
+    program.is_begun.set()
     program.crowd = crowd = Crowd(program.tell, f"{program.name}:{keeper.incarnation}")
     program.tell(f"log {program.place.identity} {keeper.incarnation}")
     program.start(keeper.run)

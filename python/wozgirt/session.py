@@ -1,4 +1,4 @@
-"""The client of several servers that share their locks: it goes on with another one when its own does not answer."""
+"""The client of a session: it goes on with another server when its own does not answer, or with the same one when that is there again."""
 
 from __future__ import annotations
 
@@ -27,8 +27,9 @@ PART = 8
 
 
 class Session(Client):
-    """A `Client` of several servers. It has a key that it drew, and numbers what it asks: another server goes on with the same
-    holds, and does not do again what was done. It has a lease in any case; if no server answers for so long, it is lost.
+    """A `Client` of several servers that share their locks, or of one that is started again. It has a key that it drew, and numbers what
+    it asks: another server, or the new start, goes on with the same holds, and does not do again what was done. It has a lease in any
+    case; if no server answers for so long, it is lost.
 
     What cannot be withdrawn in time, since no server answers, is withdrawn as soon as one does; if none does, when the lease is over."""
 
@@ -214,6 +215,8 @@ class Session(Client):
             words = lines.words_of(wire.line_until(end))
             if words[:2] != ["session", str(self._key)]:
                 raise OSError(errno.EPROTO, f"the server sent {' '.join(words)!r}")
+            if words[3:] == ["alone"] and len(self.servers) > 1:
+                raise OSError(errno.EPROTO, "the server is alone, so its locks are not those of the others")
             told = [lines.words_of(wire.line_until(end)) for _ in range(lines.number(words, 2))]
             wire.send(self._wanted, [], ANSWER)
             others, lease = self._settled_lease(wire, end)

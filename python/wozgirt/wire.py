@@ -10,7 +10,7 @@ import threading
 import time
 from typing import Any, List, Optional
 
-from .lines import LockLost, Place
+from .lines import LockLost, Place, is_own
 
 #: How long the server may take to be there.
 CONNECT = 10.0
@@ -125,10 +125,14 @@ class Wire:
 
     def send(self, data: bytes, sent: List[int], patience: float) -> None:
         """Sends what is left of the data, of which so many bytes were sent, and notes how many are. Late if the other end takes
-        nothing for so many seconds."""
+        nothing for so many seconds. That it has closed the connection is not said here: whoever reads hears first what it said before."""
         while not sent or sum(sent) < len(data):
             try:
                 sent.extend(map(self._sock.send, (data[sum(sent):] if sent else data,), _QUIETLY))
+            except (BrokenPipeError, ConnectionResetError) as fault:
+                if not is_own(fault):
+                    raise
+                return
             except BlockingIOError:
                 writable = select.poll()
                 writable.register(self._sock, select.POLLOUT)

@@ -20,7 +20,7 @@ import threading
 import time
 
 import journals
-from harness import ENGINE, IS_DOUBLE, TOP, Server
+from harness import ENGINE, IS_DOUBLE, PATIENCE, TOP, Server
 
 from wozgirt import Client, LockError
 
@@ -28,7 +28,19 @@ NAMES, MACHINES, CLIENTS, LEASE, LINES = "ab", 5, 8, "0.3", "20000"
 
 
 def start(folder):
-    """A server in this folder."""
+    """A server in this folder. It ends if the engine of a server that was killed has the journal still, and is then started again."""
+    end = time.monotonic() + PATIENCE
+    while True:
+        try:
+            return start_once(folder)
+        except RuntimeError as fault:
+            said = str(fault).rpartition(" started wozgirt-server ")[2]
+            if "/journal is in use" not in said or time.monotonic() > end:
+                raise
+
+
+def start_once(folder):
+    """A server in this folder, if it comes up."""
     locks = ",".join(f"{name}:{MACHINES}" for name in NAMES)
     # (the double counts grants over all its segments, where each is to be judged by itself)
     words = [] if IS_DOUBLE else ["--segment", LINES]

@@ -42,6 +42,9 @@ class Double:
                 if line == "lease" and "lease" not in self.answers:
                     sock.sendall(b"lease 0\n")  # each client that asks for none is told that it has none
                     continue
+                if line.endswith(" attached") and "session" not in self.answers:
+                    sock.sendall(b"refused session\n")  # nor has it sessions
+                    continue
                 self.heard.append(line)
                 said = self.answers.get(line, self.answers.get(line.split(" ")[0], []))
                 said = said(line) if callable(said) else said

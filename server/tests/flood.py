@@ -1,6 +1,7 @@
 #!/usr/bin/env python3
 """flood.py SOCKET KIND CLIENTS: so many clients say all that the server takes of them, until this process is ended. It says `up` when
-they have been answered for the first time. KIND is one of KINDS; clients of an odd number read nothing in those that end in `deaf`."""
+they have been answered for the first time. KIND is one of KINDS; clients of an odd number read nothing in those that end in `deaf`. In
+`come` and `asked` they come and go all the time: at once, and when they have been answered, so that the engine has to hear of it."""
 
 import select
 import socket
@@ -14,7 +15,9 @@ KINDS = {
     "untold": b"stats a\n" + b"status\n" * 500,
     "untold-deaf": b"stats a\n" + b"status\n" * 500,
     "mixed": b"try a 1\nping\nstatus\nlease 0\nstats b\nleave\n" * 50,
+    "leave": b"try a 1\nleave\n" * 200,
     "come": b"try a 1\n" * 128,
+    "asked": b"try a 1\n",
 }
 
 
@@ -54,22 +57,37 @@ def pour(path, kind, clients):
                 sock.close()
 
 
-def come_and_go(path, clients):
+def come_and_go(path, kind, clients):
     print("up", flush=True)
     while True:
         socks = []
         for _ in range(clients):
             try:
                 socks.append(connect(path))
-                socks[-1].send(KINDS["come"])
+                socks[-1].send(KINDS[kind])
             except OSError:
                 pass
+        if kind == "asked":
+            wait_for_answers(socks)
         for sock in socks:
             sock.close()
 
 
+def wait_for_answers(socks):
+    """Of all that have one within a while."""
+    poller = select.poll()
+    for sock in socks:
+        poller.register(sock, select.POLLIN)
+    left = len(socks)
+    while left > 0:
+        told = poller.poll(100)
+        for number, _ in told:
+            poller.unregister(number)
+        left = left - len(told) if told else 0
+
+
 if __name__ == "__main__":
-    if sys.argv[2] == "come":
-        come_and_go(sys.argv[1], int(sys.argv[3]))
+    if sys.argv[2] in ("come", "asked"):
+        come_and_go(*sys.argv[1:3], int(sys.argv[3]))
     else:
         pour(sys.argv[1], sys.argv[2], int(sys.argv[3]))

@@ -6,6 +6,7 @@ is crates/ring_tool/out/ring_tool, and where that is not built, the double.
 A test waits for what has to come about, for as long as PATIENCE, and takes no time of its own for granted. Where the clock is what
 is tried, as with leases, `by_the_clock` tries again with longer times: a machine that is busy is late, and that is no fault."""
 
+import contextlib
 import functools
 import os
 import resource
@@ -79,7 +80,8 @@ class TooEarly(Exception):
 
 
 def by_the_clock(test):
-    """The test is passed a number by which its times are longer: 1, and a greater one if it fails."""
+    """The test is passed a number by which its times are longer: 1, and a greater one if it fails. It then begins anew: what it has
+    added to be cleaned up is, and it is set up again. (What fails in a subTest is not tried again.)"""
     @functools.wraps(test)
     def run(self):
         for longer in (1, 5):
@@ -87,6 +89,8 @@ def by_the_clock(test):
                 return test(self, longer)
             except (AssertionError, OSError, RuntimeError, IndexError):
                 pass  # the machine may have been late
+            self.doCleanups()
+            self.setUp()
         return test(self, 15)
     return run
 
@@ -98,7 +102,8 @@ RUNNING, GROUPS = [], []
 def stop_all():
     """Ends what tests started that were given up."""
     for group in GROUPS:
-        os.killpg(group, signal.SIGKILL)
+        with contextlib.suppress(ProcessLookupError):
+            os.killpg(group, signal.SIGKILL)
     for server in RUNNING:
         server.process.kill()
         server.process.wait()

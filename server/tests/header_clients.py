@@ -1,6 +1,5 @@
 """Clients in C that do what a test says, line by line (header_client.c), and doors in this process that answer what a test says."""
 
-import functools
 import os
 import shutil
 import socket
@@ -11,7 +10,7 @@ import unittest
 from typing import NamedTuple
 
 import journals
-from harness import FOLDER, PATIENCE, TOP, by_the_clock
+from harness import FOLDER, PATIENCE, TOP
 from test_header import compiles
 
 DONE, LATE, REFUSED, LOST, NAME, CHILD, SILENT = range(7)
@@ -20,16 +19,6 @@ INTERRUPTED = os.path.join(TOP, "server", "tests", "interrupted_client.c")
 #: how much later than its deadline a call may end, in seconds
 MARGIN = 0.2
 needs_c = unittest.skipUnless(shutil.which("cc"), "no C compiler")
-
-
-def by_the_clock_anew(test):
-    """`by_the_clock`, and what is set up for the test is set up for each try. (A subTest in it would not be tried again.)"""
-    @functools.wraps(test)
-    def run(self, longer):
-        if longer > 1:
-            self.setUp()
-        return test(self, longer)
-    return by_the_clock(run)
 
 
 class Answer(NamedTuple):

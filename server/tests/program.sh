@@ -1,7 +1,7 @@
 #!/bin/sh
 # program.sh TOOL: runs the built program as a process, and compares the status that it ends with, its standard output and its standard
-# error, byte by byte: a request that is done, refusals, words and a list that cannot be read, an output that cannot be written, and
-# locks whose memory is short.
+# error, byte by byte: a request that is done, refusals, words and a list that cannot be read, an output that cannot be written, a
+# folder that two processes are to serve, and locks whose memory is short.
 # The last line is `N passed, M failed`.
 set -u
 tool=$1
@@ -82,6 +82,44 @@ is "bad lines that cannot be written" ended 1 '' 'cannot write\n'
 "$tool" --help >/dev/full 2>err </dev/null
 status=$?
 is "help that cannot be written" ended 1 '' 'cannot write\n'
+
+# answered: the process that serves has answered its first call; it has fifty seconds for that
+answered() {
+    tries=0
+    while [ ! -s first ] && [ "$tries" -lt 500 ]; do
+        sleep 0.1
+        tries=$((tries + 1))
+    done
+    [ -s first ]
+}
+
+# one_at_a_time FOLDER CALL ANSWER WORD ..: while one process serves the folder, a second is refused; the first goes on, and when it
+# has ended, the next one has the folder
+one_at_a_time() {
+    served=$1 call=$2 answer=$3
+    shift 3
+    rm -f calls first && mkfifo calls
+    "$tool" "$@" <calls >first 2>/dev/null &
+    server=$!
+    exec 3>calls
+    echo "$call" >&3
+    status=none
+    is "$1 in a folder" answered
+    run "$@"
+    is "$1 in a folder that another process serves" ended 1 '' "$served is in use\n"
+    echo "$call" >&3
+    exec 3>&-
+    wait "$server"
+    status=$?
+    cp first out
+    is "$1 in a folder, to its end" [ "$status $(head -n 1 first) $(wc -l <first)" = "0 $answer 2" ]
+    run "$@"
+    is "$1 in a folder that another process has served" [ "$status" -eq 0 ]
+}
+
+mkdir locked kept
+one_at_a_time locked '1 try 0 5' '1 granted 0 1' locks --journal locked --locks deploy
+one_at_a_time kept 'pass 0 0 1 5' 'granted 3 14' serve history.txt --journal kept
 
 # short FOLDER WORD ..: locks answer `calls.txt`, where no request for memory may be for more than 128 KiB
 short() {

@@ -5,11 +5,13 @@ machine is no fault. The files of a folder run side by side, in processes of the
 they come last, one after the other. The last line is `N passed, M failed, K skipped`."""
 
 import collections
+import contextlib
 import os
 import re
 import signal
 import subprocess
 import sys
+import tempfile
 import time
 import unittest
 from concurrent.futures import ThreadPoolExecutor
@@ -20,6 +22,9 @@ LIMIT, LAST_LIMIT = 120, 30
 # Most tests wait most of their time
 SIDE_BY_SIDE = 2 * (os.cpu_count() or 1)
 BUSY = ("test_floods.py", "test_noise.py")
+
+#: groups of the processes that run files
+RUNNING = set()
 
 
 class Result(unittest.TextTestResult):
@@ -64,17 +69,37 @@ class Result(unittest.TextTestResult):
 
 
 def run_file(folder, file, end):
-    """Runs the tests of a file in a process of its own. Returns what it prints, and its counts."""
+    """Runs the tests of a file in a process of its own, and ends what that leaves behind. Returns what it prints, and its counts."""
     words = [sys.executable, os.path.realpath(__file__), folder, str(end - time.monotonic()), file]
-    ran = subprocess.run(words, stdin=subprocess.DEVNULL, stdout=subprocess.PIPE, stderr=subprocess.STDOUT, text=True, errors="replace", check=False)
-    lines = ran.stdout.rstrip("\n").split("\n")
+    with tempfile.TemporaryFile("w+", encoding="utf-8", errors="replace") as told:
+        ran = subprocess.Popen(words, stdin=subprocess.DEVNULL, stdout=told, stderr=subprocess.STDOUT, start_new_session=True)
+        RUNNING.add(ran.pid)
+        ran.wait()
+        end_group(ran.pid)
+        RUNNING.remove(ran.pid)
+        told.seek(0)
+        lines = told.read().rstrip("\n").split("\n")
     counts = re.fullmatch(r"(\d+) passed, (\d+) failed, (\d+) skipped", lines[-1])
     if not counts:
         return [*lines, f"{file} ended with status {ran.returncode}, and no counts"], (0, 1, 0)
     return lines[:-1], tuple(map(int, counts.groups()))
 
 
+def end_group(group):
+    with contextlib.suppress(ProcessLookupError):
+        os.killpg(group, signal.SIGKILL)
+
+
+def end_all(number, _):
+    """What runs files is in other groups, so it is ended here where this process is told to end."""
+    for group in list(RUNNING):
+        end_group(group)
+    os._exit(128 + number)
+
+
 def run_folder(folder, seconds):
+    signal.signal(signal.SIGINT, end_all)
+    signal.signal(signal.SIGTERM, end_all)
     end = time.monotonic() + seconds
     files = sorted(it for it in os.listdir(folder) if it.startswith("test_") and it.endswith(".py"))
     with ThreadPoolExecutor(SIDE_BY_SIDE) as pool:

@@ -385,6 +385,8 @@ class Checkpoints(Trial):
         self.assertEqual(d.operate("stats e"), c.operate("stats e"))
         self.assertNotEqual(d.operate("stats e").split()[5], "0")
         self.assertNotIn("--locks 5", c.text_of_log())
+        # (else the end of its lease, while they stop one after the other, is in the files of some of them)
+        self.assertEqual(say(late, "2 release e 2\n"), ["2 released e"])
         late.close()
         self.catch_up(*servers)
         [server.stop() for server in servers]

@@ -19,6 +19,14 @@ def start(server, *words, **more):
                             **{"stdout": subprocess.PIPE, "stderr": subprocess.PIPE, **more})
 
 
+def kick_all(server):
+    """An operator ends all clients with what they hold."""
+    lines = server.operate("clients").split("\n")[0]
+    for line in server.operate("clients", 1 + int(lines.split()[1])).split("\n")[1:]:
+        if line.split()[3] != "-":
+            server.operate(f"kick {line.split()[1]}")
+
+
 def close(process):
     process.stdout.close()
     process.stderr.close()
@@ -113,7 +121,7 @@ class LockCommand(unittest.TestCase):
     def lose(self, server, it):
         self.assertEqual(it.stdout.readline(), "up\n")
         begun = time.monotonic()
-        server.kill_engine()
+        kick_all(server)
         self.assertEqual(it.wait(PATIENCE), 75)
         self.assertIn("the lock is lost", it.stderr.read())
         close(it)
@@ -137,7 +145,7 @@ class LockCommand(unittest.TestCase):
                 script = "echo up $$; exec sleep 1000 2>/dev/null"
                 it = start(server, "lock", name, "--", "sh", "-c", script, stderr=errors)
                 command = int(it.stdout.readline().split()[1])
-                server.kill_engine()
+                kick_all(server)
                 self.assertEqual(it.wait(PATIENCE), 75)
                 self.assertRaises(ProcessLookupError, os.kill, command, 0)
                 it.stdout.close()
@@ -154,7 +162,7 @@ class LockCommand(unittest.TestCase):
         with Server() as server:
             it = start(server, "lock", "--group", "a", "--", "sh", "-c", "sleep 30 & echo up $!; wait")
             sleeper = int(it.stdout.readline().split()[1])
-            server.kill_engine()
+            kick_all(server)
             self.assertEqual(it.wait(PATIENCE), 75)
             wait_until(lambda: not os.path.exists(f"/proc/{sleeper}"))
             close(it)

@@ -211,10 +211,17 @@ class Answers(unittest.TestCase):
             self.assertGreater(len(pings), 2)
 
     def said_in_a_session(self, answers):
-        """Both of the servers are one."""
-        begin = {"session": lambda line: [line + " 0"], "lease": lambda line: [line], "ping": ["pong"]}
+        """Both of the servers are one; or there is one, and the session is attached."""
+        said = [self.said_in_a_session_of(answers, count) for count in (2, 1)]
+        self.assertEqual(said[0], said[1])
+        return said[0]
+
+    def said_in_a_session_of(self, answers, count):
+        def begun(line):
+            return [line.replace(" attached", " 0 0 30000") if count == 1 else line + " 0"]
+        begin = {"session": begun, "lease": lambda line: [line], "ping": ["pong"]}
         with Double({**begin, "3": ["3 left"], **answers}) as server:
-            env = dict(os.environ, WOZGIRT_SOCKET=f"{server.path},{server.path}")
+            env = dict(os.environ, WOZGIRT_SOCKET=",".join([server.path] * count))
             words = [COMMAND, "lock", "a", "--", "sh", "-c", "echo in $WOZGIRT_TOKEN"]
             done = subprocess.run(words, env=env, capture_output=True, text=True, timeout=PATIENCE, check=False)
             return done.returncode, done.stdout, done.stderr

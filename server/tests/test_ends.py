@@ -2,6 +2,7 @@
 
 import fcntl
 import os
+import shutil
 import signal
 import socket
 import subprocess
@@ -14,6 +15,10 @@ from harness import FOLDER, PATIENCE, SERVER, Server, needs_loopback, needs_prog
 
 # seconds in which the server has ended, on a machine that is busy: 10 for what was asked, and some more for what stands still
 LIMIT = 25
+
+
+# the greatest number of 64 bits
+MOST = (1 << 64) - 1
 
 
 def a_folder():
@@ -204,6 +209,24 @@ class Sockets(unittest.TestCase):
 
 
 @needs_programs
+class Files(unittest.TestCase):
+    def test_nobody_else_can_write_them(self):
+        """Whatever umask the server was started with, also those that the engine makes."""
+        with Server() as server:
+            server.stop()
+            shutil.rmtree(server.journal)
+            os.mkdir(server.journal)
+            server.process = subprocess.Popen(server.words, stderr=subprocess.DEVNULL, umask=0)
+            server.wait_until_it_answers(server.process)
+            with server.raw() as sock:
+                self.assertEqual(say(sock, "acquire a 1\n"), ["granted a 1"])
+            files = [os.path.join(server.journal, name) for name in os.listdir(server.journal)]
+            self.assertGreater(len(files), 1)
+            for path in [*files, server.path, server.operators]:
+                self.assertEqual(os.stat(path).st_mode & 0o022, 0, path)
+
+
+@needs_programs
 class Words(unittest.TestCase):
     def refused(self, *words):
         it = subprocess.run([SERVER, "--journal", "/nonexistent", "--locks", "a", *words], capture_output=True, timeout=PATIENCE, check=False)
@@ -213,6 +236,17 @@ class Words(unittest.TestCase):
     def test_counts_that_are_too_great(self):
         for count in ("18446744073709551615", "18446744073709551616", "1000001", "0"):
             self.assertIn(f"--connections: bad value `{count}`", self.refused("--connections", count))
+
+    def test_numbers_that_are_none(self):
+        """A number that is too great is refused, or is as good as none; it never becomes a small one."""
+        for word in ("--memory", "--keep-segments", "--mode", "--engine-patience", "--longest-lease", "--grace", "--deaf"):
+            for number in ("18446744073709551615", "18446744073709551616", "-1", "1x", "", "nan", "inf"):
+                self.assertIn(f"{word}: bad value `{number}`", self.refused(word, number))
+        for word in ("--waiters", "--segment"):
+            for number in ("18446744073709551616", "-1", "1x", ""):
+                self.assertIn(f"{word}: bad value `{number}`", self.refused(word, number))
+        with Server("--waiters", str(MOST)) as server, server.raw() as holder, server.raw() as waiter:
+            self.assertEqual([say(holder, "acquire a 1\n"), say(waiter, "acquire a 1\n")], [["granted a 1"], ["waiting a 0"]])
 
     def test_what_is_no_text(self):
         self.assertIn("is no text in UTF-8", self.refused(b"--socket", b"/tmp/\xff"))

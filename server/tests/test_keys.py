@@ -131,9 +131,10 @@ class Sessions(Trial):
         self.assertEqual(say(two, "2 leave\n3 acquire b 5\n", 2), ["2 left", "3 granted b 1"])
         self.assertIn("lock b held 3 5 1 ", a.operate("status", 4))
 
-    def test_a_server_alone_has_none(self):
-        with Server() as server, server.raw() as sock:
-            self.assertEqual(say(sock, "session 1\nacquire a 1\n", 2), ["refused session", "granted a 1"])
+    def test_no_session_is_attached(self):
+        """The end of a connection says nothing where a client goes on with the next server; one that is alone is no cluster."""
+        self.assertEqual(say(self.raw(self.server("a")), "session 1 attached\nacquire a 1\n", 2), ["refused session", "granted a 1"])
+        with Server() as server:
             self.assertEqual(server.operate("cluster"), "refused cluster")
 
 

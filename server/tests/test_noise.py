@@ -1,16 +1,28 @@
-"""Drawn input: lines that are nearly right, bytes that are nothing, connections that come and go, each with the seed of the test."""
+"""Drawn input: lines that are nearly right, bytes that are nothing, connections that come and go, requests to the page, each with the
+seed of the test. WOZGIRT_NOISE_SECONDS says how long it lasts at least: `WOZGIRT_NOISE_SECONDS=300 python3 test_noise.py`."""
 
+import contextlib
+import os
 import random
+import socket
 import threading
+import time
 import unittest
+import urllib.request
 
-from harness import Server, needs_programs, say
+from harness import PATIENCE, Server, needs_loopback, needs_programs, say
 
 from crash import judge_holds
 
 WORDS = ["acquire", "try", "release", "cancel", "leave", "ping", "lease", "stats", "status", "corrupt", "clients", "a", "b", "c", "q", "",
          "0", "1", "7", "01", "-1", "18446744073709551615", "18446744073709551616", "x" * 300, "\u00e9", "\0", "\t", "%s%n"]
 SEEDS = range(6)
+CONNECTIONS = 500
+SECONDS = float(os.environ.get("WOZGIRT_NOISE_SECONDS", "0"))
+# pieces of a request to the page
+PIECES = ["GET", "POST", "HEAD", "PUT", " ", " ", "/", "/metrics", "//", "/%00", "?", " HTTP/1.1", " HTTP/1.0", "HTTP/9", "\r\n", "\r\n", "\n",
+          "Host: 127.0.0.1\r\n", "Host: localhost\r\n", "Host: evil\r\n", "Host\r\n", "Content-Length: 7\r\n", "Content-Length: -1\r\n",
+          "Transfer-Encoding: chunked\r\n", "X: " + "x" * 5000, "\0", "\u00e9", "\r\n\r\n"]
 
 
 def line(draw):
@@ -25,34 +37,65 @@ def line(draw):
     return bytes(draw.randrange(256) for _ in range(draw.randrange(400)))
 
 
-def make_noise(server, seed):
-    draw = random.Random(seed)
-    for _ in range(500):
-        with server.raw(draw.random() < 0.1) as sock:
+def request(draw):
+    if draw.random() < 0.3:  # a right one
+        return f"GET {draw.choice(['/', '/metrics'])} HTTP/1.1\r\nHost: 127.0.0.1\r\n\r\n".encode()
+    return "".join(draw.choice(PIECES) for _ in range(draw.randrange(1, 12))).encode()
+
+
+def goes_on(until):
+    """Yields so often as there are connections to make at least, and then until the time has come."""
+    made = 0
+    while made < CONNECTIONS or time.monotonic() < until:
+        made += 1
+        yield made
+
+
+def send_in_pieces(draw, sock, text):
+    cut = draw.randrange(len(text) + 1)
+    sock.sendall(text[:cut])
+    sock.sendall(text[cut:])
+
+
+def make_noise(server, seed, until):
+    draw, port = random.Random(seed), server.port("clients")
+    for _ in goes_on(until):
+        where = draw.random()
+        over_tcp = where > 0.8 and socket.create_connection(("127.0.0.1", port), PATIENCE)
+        with over_tcp or server.raw(where < 0.1) as sock, contextlib.suppress(OSError):  # it is closed for what it said, or says nothing
             sock.settimeout(0.05)
-            try:
-                for _ in range(draw.randrange(1, 40)):
-                    text = line(draw) + (b"\n" if draw.random() < 0.97 else b"")
-                    cut = draw.randrange(len(text) + 1)
-                    sock.sendall(text[:cut])
-                    sock.sendall(text[cut:])
-                if draw.random() < 0.7:
-                    sock.recv(1 << 16)
-            except OSError:
-                pass  # it was closed for what it said, or says nothing
+            for _ in range(draw.randrange(1, 40)):
+                send_in_pieces(draw, sock, line(draw) + (b"\n" if draw.random() < 0.97 else b""))
+            if draw.random() < 0.7:
+                sock.recv(1 << 16)
 
 
+def visit(server, seed, until):
+    draw, port = random.Random(seed), server.port("page")
+    for _ in goes_on(until):
+        with socket.create_connection(("127.0.0.1", port), PATIENCE) as sock, contextlib.suppress(OSError):
+            sock.settimeout(0.05)
+            send_in_pieces(draw, sock, request(draw))
+            if draw.random() < 0.7:
+                sock.recv(1 << 16)
+
+
+@needs_loopback
 @needs_programs
 class Noise(unittest.TestCase):
     def test_the_server_goes_on_and_the_journal_is_right(self):
-        with Server(locks="a,b") as server:
-            threads = [threading.Thread(target=make_noise, args=(server, seed)) for seed in SEEDS]
+        with Server("--tcp", "127.0.0.1:0", "--page", "127.0.0.1:0", locks="a,b") as server:
+            until = time.monotonic() + SECONDS
+            threads = [threading.Thread(target=make_noise, args=(server, seed, until)) for seed in SEEDS]
+            threads.append(threading.Thread(target=visit, args=(server, len(SEEDS), until)))
             [t.start() for t in threads]
             [t.join() for t in threads]
             self.assertIsNone(server.process.poll())
             log = server.text_of_log()
             self.assertEqual(log.count("engine started"), 1, log[-2000:])
             self.assertNotIn("panicked", log)
+            with urllib.request.urlopen(f"http://127.0.0.1:{server.port('page')}/metrics", timeout=PATIENCE) as answer:
+                self.assertIn(b"\nwozgirt_engine_starts_total 1\n", answer.read())
             with server.raw() as sock:  # all who came are gone, and so are their holds
                 self.assertEqual([it.split()[0] for it in say(sock, "acquire a 1\nacquire b 1\n", 2)], ["granted", "granted"])
             server.stop()

@@ -137,6 +137,25 @@ class Pages(unittest.TestCase):
             sock.sendall(b"x" * 9000)
             self.assertTrue(sock.recv(100).startswith(b"HTTP/1.1 400 "))
 
+    def say_all(self, text):
+        """All that is answered, to the end of the connection."""
+        with socket.create_connection(("127.0.0.1", self.port), PATIENCE) as sock:
+            sock.sendall(text)
+            return b"".join(iter(lambda: sock.recv(4096), b""))
+
+    @with_page
+    def test_a_refusal_comes_to_its_end_where_more_was_said(self, server):
+        """What is not read of a request would have the system take the answer back."""
+        for _ in range(20):
+            answer = self.say_all(b"POST / HTTP/1.1\r\nContent-Length: 9000\r\n\r\n" + b"x" * 9000)
+            self.assertTrue(answer.startswith(b"HTTP/1.1 405 ") and answer.endswith(b"\n405 Method Not Allowed\n"), answer)
+
+    @with_page
+    def test_no_host_of_a_request_is_elsewhere(self, server):
+        """The second one neither."""
+        for hosts in (b"Host: a.example\r\nHost: localhost\r\n", b"Host: localhost\r\nHost: a.example\r\n"):
+            self.assertTrue(self.say_all(b"GET / HTTP/1.1\r\n" + hosts + b"\r\n").startswith(b"HTTP/1.1 421 "))
+
     @with_page
     def test_visitors_that_say_nothing_keep_nobody_out(self, server):
         idle = [socket.create_connection(("127.0.0.1", self.port), PATIENCE) for _ in range(20)]

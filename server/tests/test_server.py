@@ -360,7 +360,7 @@ class Ends(unittest.TestCase):
             for text, why in (("1 sings", "said what is no answer (syntax): 1 sings"), ("0 granted 0 1", "answered what nobody asked: 0 granted 0 1")):
                 engine = folder + "/engine"
                 with open(engine, "w", encoding="ascii") as file:
-                    file.write(f"#!/bin/sh\necho '{text}'\nsleep 100\n")
+                    file.write(f"#!/bin/sh\necho '{text}'\nexec sleep 100\n")
                 os.chmod(engine, 0o755)
                 server = subprocess.Popen([SERVER, "--engine", engine, "--journal", folder, "--locks", "a", "--socket", folder + "/s"],
                                           stderr=subprocess.PIPE, text=True)

@@ -11,9 +11,8 @@ import time
 import unittest
 
 import header_clients
-from harness import FOLDER, TOP, at_least, needs_loopback, needs_programs, wait_until
-from header_clients import (CHILD, DONE, LATE, LOST, MARGIN, NAME, REFUSED, SILENT, Clients, FullDoor, Interrupted,
-                            by_the_clock_anew, needs_c)
+from harness import FOLDER, TOP, at_least, by_the_clock, needs_loopback, needs_programs, wait_until
+from header_clients import CHILD, DONE, LATE, LOST, MARGIN, NAME, REFUSED, SILENT, Clients, FullDoor, Interrupted, needs_c
 from test_cluster import Trial, needs_strict
 
 sys.path.insert(0, os.path.join(TOP, "python", "tests"))
@@ -130,7 +129,7 @@ class Answers(Calls):
         self.free("b")
         self.assertEqual(client.hear()[1:3], (DONE, 6))
 
-    @by_the_clock_anew
+    @by_the_clock
     def test_answers_keep_the_lease(self, longer):
         """A client that is served does not lose its lease, though it never calls `wozgirt_session_check`."""
         client, end = self.session(lease=300 * longer), time.monotonic() + 3 * longer
@@ -138,7 +137,7 @@ class Answers(Calls):
             token = self.arbiter.tokens.get("a", 0) + 1
             self.assertEqual(client.results("acquire a 1 0", f"release a {token}"), [DONE, DONE])
 
-    @by_the_clock_anew
+    @by_the_clock
     def test_a_session_that_nobody_renews(self, longer):
         client = self.session(lease=400 * longer)
         time.sleep(0.5 * longer)
@@ -223,7 +222,7 @@ class Deadlines(Calls):
         self.assertEqual(it.result, result)
         self.assertLessEqual(it.seconds, seconds + MARGIN)
 
-    @by_the_clock_anew
+    @by_the_clock
     def test_an_acquire(self, _):
         for is_known in (False, True):
             client = self.session()
@@ -241,7 +240,7 @@ class Deadlines(Calls):
             self.assertEqual(self.verbs()[-2:], ["leave", "acquire"])
             client.ask("close")
 
-    @by_the_clock_anew
+    @by_the_clock
     def test_it_is_withdrawn_at_the_next_server(self, _):
         self.hold()
         client = self.session(lease=4000)
@@ -251,7 +250,7 @@ class Deadlines(Calls):
         wait_until(lambda: client.ask("check").result != DONE or "leave" in self.verbs(), 3)
         self.assertEqual(client.ask("acquire a 1 100").result, LATE)
 
-    @by_the_clock_anew
+    @by_the_clock
     def test_a_server_that_says_much(self, _):
         client = self.session()
         self.doors[0].lie = "granted a 0\n" * 3000000
@@ -263,7 +262,7 @@ class Deadlines(Calls):
         self.doors[0].close()
         self.is_in_time(client.ask("acquire a 1 100"), SILENT, 0.1)
 
-    @by_the_clock_anew
+    @by_the_clock
     def test_a_hold_is_lost_in_time(self, longer):
         """When half of the lease is over, also where a server takes connections and says nothing."""
         for line in ("check", "release a 1"):
@@ -280,7 +279,7 @@ class Deadlines(Calls):
             self.silence(False)
             self.arbiter.holders.clear()
 
-    @by_the_clock_anew
+    @by_the_clock
     def test_nobody_is_let_in(self, _):
         """The other server's queue is full, or the way to it is cut."""
         with tempfile.TemporaryDirectory(dir=FOLDER) as folder:
@@ -296,7 +295,7 @@ class Deadlines(Calls):
                 client.ask("close")
                 self.assertLess(time.monotonic() - begun, 1 + MARGIN)
 
-    @by_the_clock_anew
+    @by_the_clock
     def test_nobody_is_there(self, _):
         """At the beginning."""
         with tempfile.TemporaryDirectory(dir=FOLDER) as folder:
@@ -346,7 +345,7 @@ class Servers(Interrupted, Trial):
         self.end(a)
         self.are_in_journal(os.path.join(a.journal, "journal"))
 
-    @by_the_clock_anew
+    @by_the_clock
     def test_a_server_that_is_stopped(self, longer):
         a, b = self.server("a"), self.server("b")
         other = self.client(b.path, 30000)

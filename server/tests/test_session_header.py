@@ -4,6 +4,7 @@ told to."""
 import itertools
 import os
 import shutil
+import signal
 import subprocess
 import sys
 import tempfile
@@ -11,7 +12,7 @@ import threading
 import unittest
 
 from harness import PATIENCE, TOP, by_the_clock, needs_loopback, needs_programs, say, wait_until
-from header_clients import by_the_clock_anew
+import test_restarts
 from test_cluster import Trial, needs_strict
 from test_header import compiles
 
@@ -59,9 +60,28 @@ class Clients(unittest.TestCase):
 
 @needs_c
 @needs_programs
+class OfOne(Clients, test_restarts.Trial):
+    """One server, and its engine, which are started again."""
+
+    @by_the_clock
+    def test_a_hold_goes_on(self, _):
+        server = self.server()
+        it = self.client([server.path])
+        self.assertEqual(self.ask(it, "acquire a 7 0"), "acquire 0 1")
+        self.restart_engine(server)
+        self.assertEqual(self.ask(it, "check"), "check 0")
+        for number in (signal.SIGTERM, signal.SIGKILL):
+            server = self.again(server, number)
+            wait_until(lambda: self.ask(it, "check") == "check 0" and " a - " in server.operate("clients", 2))
+            self.assertEqual(say(self.raw(server), "try a 1\n"), ["busy a"])
+        self.assertEqual([self.ask(it, line) for line in ("release a 1", "acquire a 7 0")], ["release 0", "acquire 0 2"])
+
+
+@needs_c
+@needs_programs
 @needs_strict
 class Several(Clients, Trial):
-    @by_the_clock_anew
+    @by_the_clock
     def test_a_hold_goes_on(self, _):
         a, b = self.server("a"), self.server("b")
         it, other = self.client([a.path, b.path]), self.raw(b)
@@ -173,7 +193,7 @@ class Cuts(Clients):
                 self.doors[1].socks.clear()
                 self.doors[1].told = lambda _: None
 
-    @by_the_clock_anew
+    @by_the_clock
     def test_in_turns_while_connections_are_cut(self, _):
         """Each of three clients gets the lock or is late, and no hold is lost."""
         clients = [self.client(self.places[i % 2:] + self.places[:i % 2]) for i in range(3)]

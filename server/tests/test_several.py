@@ -1,5 +1,6 @@
 """The command `wozgirt` with several servers that have one log, or with doors in this process that fail when they are told to."""
 
+import contextlib
 import os
 import signal
 import subprocess
@@ -33,13 +34,15 @@ class Commands(unittest.TestCase):
 
     def start(self, *words):
         words, env = self.words(*words)
-        it = subprocess.Popen(words, stdin=subprocess.PIPE, stdout=subprocess.PIPE, stderr=subprocess.PIPE, text=True, env=env)
+        it = subprocess.Popen(words, stdin=subprocess.PIPE, stdout=subprocess.PIPE, stderr=subprocess.PIPE, text=True, env=env,
+                              start_new_session=True)
         self.addCleanup(self.end_it, it)
         return it
 
     @staticmethod
     def end_it(it):
-        it.kill()
+        with contextlib.suppress(ProcessLookupError):
+            os.killpg(it.pid, signal.SIGKILL)  # COMMAND too, which has the other end of its output
         it.communicate()
 
     def finish(self, it, status, output):

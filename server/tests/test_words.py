@@ -28,6 +28,12 @@ def options_of(text):
     return {option for left in lefts for option in OPTION.findall(left)}
 
 
+def valued(text):
+    """Those of them that have a value: a word in capitals."""
+    lefts = (re.split(r"  +", line.strip())[0] for line in text.splitlines() if re.match(r" +--?\w", line))
+    return {option for left in lefts if re.search(r" [A-Z]", left) for option in OPTION.findall(left)}
+
+
 def ring_tool():
     """By command, and for no command: the program's help, or, where only the engine's double is there, that which the gate compares
     with the program's."""
@@ -68,6 +74,20 @@ def zsh(program, *words):
     return found
 
 
+def takes_value(shell, program, *words):
+    """Whether the shell takes what follows the last of these words, an option, for its value. bash then offers no options; fish always
+    does, and is asked for its own words of the option."""
+    *words, option = words
+    if shell is bash:
+        return not options_only(bash(program, *words, option, "-"))
+    if shell is fish:
+        name = f"-l {option[2:]}" if option.startswith("--") else f"-s {option[1:]}"
+        return bool(re.search(rf"^complete .*{name} .*-(x|rF) ", read(COMPLETIONS, "fish", f"{program}.fish"), re.MULTILINE))
+    script = f'_arguments() {{ print -rl -- $@ }}; _values() {{ }}; words=("$@"); CURRENT=$#; source {COMPLETIONS}/zsh/_{program}'
+    it = subprocess.run(["zsh", "-f", "-c", script, "zsh", program, *words, "-"], capture_output=True, text=True, timeout=60, check=True)
+    return bool(re.search(rf"^(?:\([^)]*\))?{option}=?-?\+?\[[^]]*\]:", it.stdout, re.MULTILINE))
+
+
 def offered(words):
     it = subprocess.run(words, capture_output=True, text=True, timeout=60, check=True)
     return {line.split("\t")[0] for line in it.stdout.splitlines() if line} - {"--"}
@@ -80,6 +100,17 @@ def each_shell(test):
                 with self.subTest(shell=shell.__name__):
                     test(self, lambda program, *words, shell=shell: offers(shell, program, *words))
     return run
+
+
+def each_program(shell):
+    """For each option of our programs in this shell: whether it is taken for one with a value, and whether the help has one."""
+    text = help_of(SERVER)
+    yield from ((f"wozgirt-server {it}", takes_value(shell, "wozgirt-server", it), it in valued(text))
+                for it in sorted(options_of(text) - {"--help", "--version"}))
+    text = help_of(COMMAND)
+    for command in re.findall(r"^wozgirt (\w+)", text, re.MULTILINE):
+        yield from ((f"wozgirt {command} {it}", takes_value(shell, "wozgirt", command, it), it in valued(text))
+                    for it in sorted(options_only(offers(shell, "wozgirt", command, ""))))
 
 
 def offers(shell, program, *words):
@@ -101,7 +132,7 @@ class Completions(unittest.TestCase):
         commands = set(re.findall(r"^wozgirt (\w+)", text, re.MULTILINE))
         self.assertEqual(offers("wozgirt", ""), commands | {"--help", "--version"})
         own = {command: options_only(offers("wozgirt", command, "")) for command in commands}
-        self.assertEqual(set().union(*own.values()) | {"--help", "--version"}, options_of(text) | {"--every"})
+        self.assertEqual(set().union(*own.values()) | {"--help", "--version"}, options_of(text))
         looks = {"--socket", "--server-wait"}
         self.assertEqual((own["try"], own["status"], own["bench"], own["watch"], own["admin"]),
                          (own["lock"], looks, {"--socket"}, looks | {"--every"}, {"--operators"}))
@@ -111,6 +142,19 @@ class Completions(unittest.TestCase):
         self.assertEqual(re.findall(r"^\.It Cm (\w+)", page, re.MULTILINE), orders)
 
     @each_shell
+    def test_where_the_command_takes_them(self, offers):
+        text = help_of(COMMAND)
+        for command in re.findall(r"^wozgirt (\w+)", text, re.MULTILINE):
+            taken = {it for it in options_of(text) - {"--help", "--version"} if is_taken(command, it)}
+            self.assertEqual(options_only(offers("wozgirt", command, "")), taken, command)
+
+    def test_values(self):
+        for shell in (bash, fish, zsh):
+            if shutil.which(shell.__name__):
+                for words, is_taken, is_valued in each_program(shell):
+                    self.assertEqual(is_taken, is_valued, f"{shell.__name__}: {words}")
+
+    @each_shell
     def test_ring_tool(self, offers):
         helps = ring_tool()
         commands = commands_of(helps[""])
@@ -118,6 +162,13 @@ class Completions(unittest.TestCase):
         self.assertEqual(set(helps) - {""}, commands - {"help"})
         for command in commands - {"help"}:
             self.assertEqual(options_only(offers("ring_tool", command, "")), options_of(helps[command]), command)
+
+
+def is_taken(command, option):
+    """Whether `wozgirt COMMAND` takes this option: what it says then is that something else is missing."""
+    it = subprocess.run([COMMAND, command, option], capture_output=True, text=True, timeout=60, check=False)
+    assert it.returncode == 64, it
+    return "has no place here" not in it.stderr
 
 
 def options_only(words):
@@ -132,7 +183,7 @@ class ManPages(unittest.TestCase):
                 for option in re.findall(r"Fl Fl [\w-]+|Fl [A-Za-z]\b", line)}
 
     def test_options(self):
-        self.assertEqual(self.options("wozgirt.1"), options_of(help_of(COMMAND)) | {"--every"})
+        self.assertEqual(self.options("wozgirt.1"), options_of(help_of(COMMAND)))
         self.assertEqual(self.options("wozgirt-server.8"), options_of(help_of(SERVER)) | {"--journal", "--locks"})
         log = help_of(os.path.join(TOP, "python", "wozgirt-log"))
         self.assertEqual(self.options("wozgirt-log.8"), options_of(log) - {"-h", "--help"})

@@ -1,9 +1,13 @@
 -- When a segment of locks is due to end (this project's own).
-use Rattle.std.specs.Prelude.{◌≡◌, ◌≢◌, ℕ, ◌+◌, nat_lt, Bool, false, ◌||◌, ◌==◌, List, [], ◌∷◌, length, slice_get, Option, None, Some}
+use Rattle.std.specs.Prelude.{◌≡◌, ◌≢◌, ℕ, ◌+◌, nat_lt, Bool, true, false, ◌||◌, ◌==◌, List, [], ◌∷◌, length, slice_get, Option, None, Some, ◌⊎◌}
 use Rattle.ring_model.specs.Limits.{machine_limit, event_limit}
 use Rattle.ring_locks.specs.declared.answers.Answer.TheVariants as answer
 use Rattle.ring_locks.specs.declared.answers.Answers.{Answers}
+use Rattle.ring_locks.specs.declared.answers.Refusal.{Refusal}
 use Rattle.ring_locks.specs.declared.answers.Refusal.TheVariants as refusal
+use Rattle.ring_locks.specs.Cuts.{AreNext, HaveNoNext}
+use Rattle.segment_loop.specs.declared.segmented.EndFault.{EndFault}
+use Rattle.segment_loop.specs.declared.segmented.EndFault.TheVariants as end
 use Rattle.ring_locks.specs.Locks.{Ask}
 use Rattle.ring_locks.specs.Kept.{LockView, IsKeptLock, IsAnswer}
 
@@ -23,6 +27,17 @@ has_short (v ∷ vs) = is_short v || has_short vs
 -- The segment is due once its journal may have no more lines, or a lock is short.
 abbrev pub is_due : ℕ → Bool → Bool
 is_due remaining short = (remaining == 0) || short
+
+-- Locks have no next segment: their rings have none; or a lock would be short in it; or there is no
+-- memory.
+abbrev pub HaveNoSegment : List LockView → Refusal → Type 0
+HaveNoSegment locks why =
+    HaveNoNext locks why
+    ⊎ ((why ≡ refusal.Full)
+    × ((next : List LockView) × AreNext locks next × (has_short next ≡ true)))
+
+abbrev pub IsUnended : List LockView → EndFault → Type 0
+IsUnended locks why = ((why ≡ end.Full) × HaveNoSegment locks refusal.Full) ⊎ (why ≡ end.OutOfMemory)
 
 -- ---- a law: while no lock is short, no ask is refused since a segment is full
 

@@ -5,7 +5,7 @@ ghost use Rattle.ring_locks.specs.declared.answers.Refusal.{Refusal};
 ghost use Rattle.ring_locks.specs.Cuts.{AreNext};
 ghost use Rattle.ring_locks.specs.Kept.{IsLeft};
 ghost use Rattle.lock_serve.specs.Asking.{asked, IsAnswerTo, is_want};
-ghost use Rattle.lock_serve.specs.Due.{is_due, has_short};
+ghost use Rattle.lock_serve.specs.Due.{is_due, has_short, HaveNoSegment};
 ghost use Rattle.lock_serve.specs.Counting.{IsCounted, IsStart, count_about, count_of_all};
 
 use crate::asking::{OneAsk, ask_lock};
@@ -125,7 +125,7 @@ impl Segment {
         ensures locks { IfOk result (λ s. AreNext self.now.locks s.locks) }
         ensures remaining { IfOk result (λ s. s.remaining ≡ limit) }
         ensures short { IfOk result (λ s. s.short ≡ false) }
-        ensures why { IfErr result (λ e. (e ≡ Refusal.Full) ⊎ (e ≡ Refusal.Memory)) }
+        ensures why { IfErr result (λ e. HaveNoSegment self.now.locks e) }
     {
         let locks = match self.locks.next(alloc) {
             Ok(locks) => locks,

@@ -76,7 +76,9 @@ pub(crate) fn limit_of(limit: Option<u64>) -> u64
 }
 
 /// Why a segment that is due is not ended.
-pub(crate) fn end_fault(why: Refusal) -> EndFault {
+pub(crate) fn end_fault(why: Refusal) -> EndFault
+    ensures { ((result ≡ EndFault.Full) × (why ≡ Refusal.Full)) ⊎ (result ≡ EndFault.OutOfMemory) }
+{
     match why {
         Refusal::Full => EndFault::Full,
         _ => EndFault::OutOfMemory,

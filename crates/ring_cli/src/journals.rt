@@ -39,9 +39,9 @@ const JOIN_ABOUT: &str = "Saves the whole history of a folder of segments";
 const JOIN_HELP: &str = "\
 FOLDER has the segments of a served journal, each of which counts by itself. NEW has the whole history of all of them, as
 one saved history in the latest version: its places, its grants and its surveys count from the first event of all. No file
-in FOLDER changes. The history is written to NEW.part, which then takes the place of NEW: an old one is whole after a
-refusal or an interrupt. NEW cannot lie in FOLDER. Then it prints what `check` prints of NEW. Where NEW is `-`, the text
-goes to standard output, and the line to standard error.
+in FOLDER changes. The history is written beside NEW, as .wozgirt.part, which then takes the place of NEW: an old one is
+whole after a refusal or an interrupt. NEW cannot lie in FOLDER. Then it prints what `check` prints of NEW. Where NEW is
+`-`, the text goes to standard output, and the line to standard error.
 
 What `check` refuses of FOLDER is refused as `check` does, and makes no NEW. So is a folder that does not begin at segment
 1, since a saved history has nothing before its first event; and one of whose rings has more than 4000000 events in all.

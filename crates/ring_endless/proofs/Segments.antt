@@ -90,6 +90,11 @@ no_next b t d v e i p q view none base =
     none (subst (λ (x : Base). IsBase x) (sym (ap (λ (x : Survey). base_with b t x) q ∙ next_base_is b t d i p))
     (subst (λ (x : EndlessView). IsBase (base_after x.base x.ring.book.start x.ring.book.history)) (sym view) base))
 
+-- and where there is one, there is room for it
+pub has_next : (b c : Base) (d : RingView ℕ) (e : EndlessView) → ◌≡◌ {A = EndlessView} (record { base = b; ring = d }) e → c ≡ base_after b d.book.start d.book.history → IsBase c → IsBase (base_after e.base e.ring.book.start e.ring.book.history)
+has_next b c d e view p room =
+    subst (λ (x : EndlessView). IsBase (base_after x.base x.ring.book.start x.ring.book.history)) view (subst (λ (x : Base). IsBase x) p room)
+
 -- the next segment, of its parts
 pub next_is : (b : Base) (d : RingView ℕ) (c : Base) (e : RingView ℕ) → c ≡ base_after b d.book.start d.book.history → IsFresh d.book.now.ring 0 e.book → AreFresh (length d.clients) e.clients →
     IsNext (record { base = b; ring = d }) (record { base = c; ring = e })

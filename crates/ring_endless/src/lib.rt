@@ -4,4 +4,4 @@
 pub mod laws;
 mod rings;
 
-pub use rings::{EndlessRing, NextError};
+pub use rings::{EndlessRing, NextError, Uncut};

@@ -45,6 +45,13 @@ pub enum NextError {
     OutOfMemory,
 }
 
+/// A ring that has no next segment, and why.
+#[derive(Drop)]
+pub struct Uncut {
+    pub ring: EndlessRing,
+    pub why: NextError,
+}
+
 impl EndlessRing {
     /// A ring whose segment is this one, after this base.
     pub fn after(base: Base, ring: OneThreadRing<Till>) -> EndlessRing
@@ -248,6 +255,9 @@ impl EndlessRing {
         ensures full { IfErr result (λ e. e ≡ error.Full
             → ¬ IsBase (base_after self.now.base self.now.ring.book.start
             self.now.ring.book.history)) }
+        ensures memory { IfErr result (λ e. e ≡ error.OutOfMemory
+            → IsBase (base_after self.now.base self.now.ring.book.start
+            self.now.ring.book.history)) }
     {
         let Some(base) = self.base.next(self.tally(), self.ring.glance()) else {
             return Err(NextError::Full);
@@ -266,14 +276,18 @@ impl EndlessRing {
     ///
     /// # Errors
     ///
-    /// The ring as it was, if there is no next segment.
-    pub fn cut(self, alloc: Global) -> Result<EndlessRing, EndlessRing>
+    /// The ring as it was, with the error of [`EndlessRing::next`].
+    pub fn cut(self, alloc: Global) -> Result<EndlessRing, Uncut>
         ensures ok { IfOk result (λ next. IsNext self next × IsEndless next) }
-        ensures err { IfErr result (λ ring. ring ≡ self) }
+        ensures err { IfErr result (λ uncut. uncut.ring ≡ self) }
+        ensures full { IfErr result (λ uncut. uncut.why ≡ error.Full
+            → ¬ IsBase (base_after self.base self.ring.book.start self.ring.book.history)) }
+        ensures memory { IfErr result (λ uncut. uncut.why ≡ error.OutOfMemory
+            → IsBase (base_after self.base self.ring.book.start self.ring.book.history)) }
     {
         match self.next(alloc) {
             Ok(next) => Ok(next),
-            Err(_) => Err(self),
+            Err(why) => Err(Uncut { ring: self, why }),
         }
     }
 }

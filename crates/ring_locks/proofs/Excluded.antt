@@ -1,6 +1,6 @@
 -- Exclusion: a hold goes on until an input ends it.
-use Rattle.std.proofs.Common.{◌≡◌, ℕ, Bool, true, false, List, [], ◌∷◌, ◌++◌, refl, sym, ◌∙◌, ap, subst, inl, inr, Option, Some, None}
-use Rattle.std.specs.Prelude.{◌||◌, ◌==◌, if◌then◌else◌, slice_get, option_map, ◌⊎◌}
+use Rattle.std.proofs.Common.{◌≡◌, ℕ, zero, suc, Bool, true, false, List, [], ◌∷◌, ◌++◌, refl, sym, ◌∙◌, ap, subst, inl, inr, Option, Some, None}
+use Rattle.std.specs.Prelude.{◌||◌, ◌&&◌, ◌==◌, if◌then◌else◌, slice_get, slice_set, option_map, ◌⊎◌}
 use Rattle.std.proofs.lemmas.Bool.{eq-eqb, true≢false, or_left, or_right, both_ways, and_from}
 use Rattle.ring_model.specs.History.{after}
 use Rattle.ring_model.specs.Resources.{till}
@@ -8,9 +8,10 @@ use Rattle.ring_locks.specs.declared.answers.Waiter.{Waiter}
 use Rattle.ring_locks.specs.declared.answers.Holder.{Holder}
 use Rattle.ring_locks.specs.declared.answers.Answer.{Answer}
 use Rattle.ring_locks.specs.declared.answers.Answer.TheVariants as answer
-use Rattle.ring_locks.specs.Lines.{Lock, without}
-use Rattle.ring_locks.specs.Locks.{Ask, Mark, Turn, joined, fault, Input, Asked, step, restarted}
-use Rattle.ring_locks.specs.Promises.{locks_after, names, grant_of, grants_in, grants_of, ends_hold, NoneIs, GoesOn, Exclusion}
+use Rattle.ring_locks.specs.declared.answers.Refusal.TheVariants as refusal
+use Rattle.ring_locks.specs.Lines.{Lock, without, is_held_with}
+use Rattle.ring_locks.specs.Locks.{Ask, Release, Mark, Turn, told, ended, turn, joined, fault, Input, Asked, Step, step, step_at, restarted}
+use Rattle.ring_locks.specs.Promises.{locks_after, names, grant_of, grants_in, grants_of, ends_hold, NoneIs, GoesOn, Exclusion, OthersReleaseNothing}
 use Rattle.ring_locks.proofs.Moves.{Move, Stays, Waits, Gets, Ends, Drops, Faults, IsEnd, Released, Left, IsDrop, Cancelled, Gone, waiter, is_grant}
 use Rattle.ring_locks.proofs.Changes.{Change, Moves, Stands, Restarts, one_step}
 
@@ -54,16 +55,20 @@ pub record IsExcluded (h : Holder) (m : Lock) (answers : List (ℕ × Answer)) :
   pub goes_on : GoesOn h m
   pub nobody : grants_in answers ≡ []
 
+-- it is who holds
+own_client : (c : ℕ) (h k : Holder) → k.client ≡ c → (k.client ≡ h.client) ⊎ (k.client ≡ 0) → ((c == h.client) || (c == 0)) ≡ true
+own_client c h k own (inl p) = or_left (c == h.client) (c == 0) (eq-eqb c h.client (sym own ∙ p))
+own_client c h k own (inr p) = or_right (c == h.client) (c == 0) (eq-eqb c 0 (sym own ∙ p))
+
 -- the hold would have ended
 would_end : (at : ℕ) (l : Lock) (c : ℕ) (h k : Holder) (ask : Ask) (seat : ℕ) (line : List Waiter) (answers : List (ℕ × Answer)) → IsEnd l c k ask seat line answers → k.client ≡ c → k.token ≡ h.token →
     (k.client ≡ h.client) ⊎ (k.client ≡ 0) → ends_hold at h (Asked c at ask) ≡ true
 would_end at l c h k ask seat line answers (Released a b e f) own token client =
-    subst (λ (x : Ask). ends_hold at h (Asked c at x) ≡ true) (sym a) (and_from (at == at) (k.token == h.token) (eq-eqb at at refl) (eq-eqb k.token h.token token))
+    subst (λ (x : Ask). ends_hold at h (Asked c at x) ≡ true) (sym a)
+    (and_from (at == at) ((k.token == h.token) && ((c == h.client) || (c == 0))) (eq-eqb at at refl)
+    (and_from (k.token == h.token) ((c == h.client) || (c == 0)) (eq-eqb k.token h.token token) (own_client c h k own client)))
 would_end at l c h k ask seat line answers (Left a b e f) own token client =
-    subst (λ (x : Ask). ends_hold at h (Asked c at x) ≡ true) (sym a) (and_from (at == at) ((c == h.client) || (c == 0)) (eq-eqb at at refl) (elim client [
-      | inl p ↦ or_left (c == h.client) (c == 0) (eq-eqb c h.client (sym own ∙ p))
-      | inr p ↦ or_right (c == h.client) (c == 0) (eq-eqb c 0 (sym own ∙ p))
-    ]))
+    subst (λ (x : Ask). ends_hold at h (Asked c at x) ≡ true) (sym a) (and_from (at == at) ((c == h.client) || (c == 0)) (eq-eqb at at refl) (own_client c h k own client))
 
 excluded_move : (ls : List Lock) (at : ℕ) (l : Lock) (c : ℕ) (ask : Ask) (t : Turn) (h : Holder) → GoesOn h l → ends_hold at h (Asked c at ask) ≡ false → Move ls l c ask t → IsExcluded h t.lock t.answers
 excluded_move ls at l c ask t h g n (Stays a q leave e) = subst (λ (x : Turn). IsExcluded h x.lock x.answers) (sym e) (record { goes_on = g; nobody = no_grants c a q })
@@ -116,3 +121,26 @@ excluded_from ls (i ∷ is) at l h e g n =
 
 pub exclusion : Exclusion
 exclusion ls is at l h e held n = excluded_from ls is at l h e (record { now = h; held = held; token = refl; client = inl refl }) n
+
+-- ---- releases of others
+
+-- a lock that is put where it is
+set_same : (ls : List Lock) (at : ℕ) (l : Lock) → slice_get ls at ≡ Some l → slice_set ls at l ≡ ls
+set_same [] at l e = let p : ◌≡◌ {A = Option Lock} None (Some l) = e in absurd cc
+set_same (x ∷ ls) zero l e = let p : ◌≡◌ {A = Option Lock} (Some x) (Some l) = e in cc
+set_same (x ∷ ls) (suc at) l e = ap (λ (y : List Lock). x ∷ y) (set_same ls at l e)
+
+-- a turn of which only an answer is told
+abbrev told_step : List Lock → ℕ → Turn → Step
+told_step ls at t = record { locks = slice_set ls at t.lock; marks = t.marks; answers = t.answers }
+
+release_of : (b : Bool) (l : Lock) (c : ℕ) (t : Turn) → b ≡ false → (if b then t else told l c (answer.Refused refusal.Holder)) ≡ told l c (answer.Refused refusal.Holder)
+release_of true l c t e = absurd (true≢false e)
+release_of false l c t e = refl
+
+pub others_release_nothing : OthersReleaseNothing
+others_release_nothing ls at l c token e n =
+    let found : step ls (Asked c at (Release token)) ≡ step_at ls c at (Release token) (Some l) = ap (λ (w : Option Lock). step_at ls c at (Release token) w) e in
+    let turned : turn ls l c (Release token) ≡ told l c (answer.Refused refusal.Holder) = release_of (is_held_with c token l.holder) l c (ended l.ring l.line 1 ((c, answer.Released) ∷ [])) n in
+    found ∙ ap (λ (t : Turn). told_step ls at t) turned
+    ∙ ap (λ (ys : List Lock). record { locks = ys; marks = []; answers = (c, answer.Refused refusal.Holder) ∷ [] }) (set_same ls at l e)

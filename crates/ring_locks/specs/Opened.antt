@@ -1,5 +1,6 @@
 -- The hold that is open in the history of a ring's segment (this project's own).
-use Rattle.std.specs.Prelude.{◌≡◌, ℕ, ◌+◌, List, [], ◌∷◌, ◌++◌, map, drop, length, slice_get, slice_index_or, nat_le, if◌then◌else◌, Option, Some, None, option_map}
+use Rattle.std.specs.Prelude.{◌≡◌, ℕ, ◌+◌, ◌<◌, ◌≤◌, ◌⊎◌, List, [], ◌∷◌, ◌++◌, map, drop, length, slice_get, slice_index_or, nat_le, if◌then◌else◌, Option, Some, None, option_map}
+use Rattle.ring_model.specs.Limits.{event_limit}
 use Rattle.ring_model.specs.History.{State, after}
 use Rattle.ring_model.specs.Resources.{till}
 use Rattle.ring_model.specs.declared.events.Event.{Event}
@@ -9,11 +10,13 @@ use Rattle.ring_logs.specs.LogView.{LogView}
 use Rattle.ring_chains.specs.Bases.{IsAmount, state_from, shifted}
 use Rattle.ring_endless.specs.Endless.{EndlessView, IsEndless}
 use Rattle.ring_locks.specs.declared.answers.Holder.{Holder}
+use Rattle.ring_locks.specs.declared.answers.Refusal.{Refusal}
+use Rattle.ring_locks.specs.declared.answers.Refusal.TheVariants as refusal
 use Rattle.ring_locks.specs.Grants.{most_passes, repairs}
 use Rattle.ring_locks.specs.Lines.{Lock}
 use Rattle.ring_locks.specs.Locks.{Mark, Call, Survey, Input, Restart}
 use Rattle.ring_locks.specs.Promises.{AreRight, locks_after, marks_of, events_of, open_after, carries}
-use Rattle.ring_locks.specs.Kept.{LockView, state_of, lock_of, AreMade}
+use Rattle.ring_locks.specs.Kept.{LockView, state_of, lock_of, lock_limit, AreMade}
 
 -- the events of a segment, counted with those before it
 abbrev pub events_in : EndlessView → List Event
@@ -53,6 +56,16 @@ pub record IsAdded (old new : List LockView) (e : EndlessView) : Type 0 where
       (map Call (repairs (most_passes (length e.ring.book.now.ring.values)) (state_of e))) ring
   pub added : new
       ≡ old ++ record { ring = ring; line = []; holder = holder_behind (open_in e) } ∷ []
+
+-- none is added: there are as many as there may be, or the ring has no room for its repair; or there
+-- is no memory
+abbrev pub HaveNoRoom : List LockView → EndlessView → Type 0
+HaveNoRoom vs e =
+    (lock_limit ≤ length vs)
+    ⊎ (event_limit < length e.ring.book.history + most_passes (length e.ring.book.now.ring.values))
+
+abbrev pub IsNotAdded : List LockView → EndlessView → Refusal → Type 0
+IsNotAdded vs e why = ((why ≡ refusal.Full) × HaveNoRoom vs e) ⊎ (why ≡ refusal.Memory)
 
 -- ---- of a history that shows its holds
 

@@ -13,7 +13,8 @@ use Rattle.ring_locks.specs.declared.answers.Waiter.{Waiter}
 use Rattle.ring_locks.specs.declared.answers.Holder.{Holder}
 use Rattle.ring_locks.specs.declared.answers.Answer.{Answer}
 use Rattle.ring_locks.specs.declared.answers.Answer.TheVariants as answer
-use Rattle.ring_locks.specs.Lines.{Lock, stands, is_held_by, waits_for, client_of, holder_of, comes_to}
+use Rattle.ring_locks.specs.declared.answers.Refusal.TheVariants as refusal
+use Rattle.ring_locks.specs.Lines.{Lock, stands, is_held_by, is_held_with, waits_for, client_of, holder_of, comes_to}
 use Rattle.ring_locks.specs.Locks.{Ask, Release, Cancel, Leave, Corrupt, Mark, Call, Survey, Input, Asked, Restart, step}
 
 -- ---- what is true at every moment
@@ -89,10 +90,11 @@ grants_of at ls [] = []
 grants_of at ls (i ∷ is) =
     (if names at i then grants_in (step ls i).answers else []) ++ grants_of at (step ls i).locks is
 
--- an input that ends this hold of the lock: a release with its token, or a leave by who holds it,
+-- an input that ends this hold of the lock: a release with its token, or a leave, by who holds it,
 -- which is client 0 behind a restart
 abbrev pub ends_hold : ℕ → Holder → Input → Bool
-ends_hold at h (Asked c i (Release token)) = (i == at) && (token == h.token)
+ends_hold at h (Asked c i (Release token)) =
+    (i == at) && ((token == h.token) && ((c == h.client) || (c == 0)))
 ends_hold at h (Asked c i Leave) = (i == at) && ((c == h.client) || (c == 0))
 ends_hold at h _ = false
 
@@ -165,6 +167,15 @@ Exclusion =
     → l.holder ≡ Some h → NoneIs (ends_hold at h) is
     → (grants_of at ls is ≡ [])
     × ((m : Lock) × (slice_get (locks_after ls is) at ≡ Some m) × GoesOn h m)
+
+-- nobody else's release ends a hold: one by another client, or with another token, is refused, and
+-- nothing changes
+abbrev pub OthersReleaseNothing : Type 0
+OthersReleaseNothing =
+    (ls : List Lock) (at : ℕ) (l : Lock) (c token : ℕ) → slice_get ls at ≡ Some l
+    → is_held_with c token l.holder ≡ false
+    → step ls (Asked c at (Release token))
+    ≡ record { locks = ls; marks = []; answers = (c, answer.Refused refusal.Holder) ∷ [] }
 
 -- the tokens rise, from the passes before on, up to the passes behind
 abbrev pub Rise : ℕ → List Holder → ℕ → Type 0

@@ -4,7 +4,7 @@
 ghost use Rattle.ring_locks.specs.Handed.{HoldsAreHandedBack};
 ghost use Rattle.ring_locks.specs.Opened.{HoldsAreFound, RestartsAreRight};
 ghost use Rattle.ring_locks.specs.Worked.{WorkedAnswers, WorkedMarks};
-ghost use Rattle.ring_locks.specs.Promises.{EmptyLinesAreRight, RightStays, Exclusion, LeaversAreGone, TokensRise, TokensAreCounted, TokensAreForeseen, NobodyWaitsForNothing, FirstComeFirstServed, NoCircle, CirclesAreReal, OneEventEach, HistoryShowsHolds, RestartsRecover, SegmentsShowHolds, SegmentsRecover, CarriedChangesNothing, OneAnswerEach};
+ghost use Rattle.ring_locks.specs.Promises.{EmptyLinesAreRight, RightStays, Exclusion, OthersReleaseNothing, LeaversAreGone, TokensRise, TokensAreCounted, TokensAreForeseen, NobodyWaitsForNothing, FirstComeFirstServed, NoCircle, CirclesAreReal, OneEventEach, HistoryShowsHolds, RestartsRecover, SegmentsShowHolds, SegmentsRecover, CarriedChangesNothing, OneAnswerEach};
 
 /// Locks of settled rings for which nobody waits are right, and locks that are right stay so, whatever is asked.
 pub fn locks_stay_right()
@@ -12,10 +12,11 @@ pub fn locks_stay_right()
     ensures stay { RightStays }
 {}
 
-/// From a grant until an input ends the hold, nobody else is granted: a release with the hold's token, or a leave by its
-/// client, which is client 0 behind a restart.
+/// From a grant until an input ends the hold, nobody else is granted: a release with the hold's token, or a leave, by its
+/// client, which is client 0 behind a restart. Nobody else's release ends it: that is refused, and changes nothing.
 pub fn exclusion()
-    ensures { Exclusion }
+    ensures excluded { Exclusion }
+    ensures others { OthersReleaseNothing }
 {}
 
 /// The tokens of a lock rise with each grant, restarts or not. With no fault between, each is one more than the one before; and

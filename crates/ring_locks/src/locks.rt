@@ -6,7 +6,7 @@ ghost use Rattle.ring_locks.specs.Locks.{Acquire, Try, Release, Cancel, Corrupt,
 ghost use Rattle.ring_locks.specs.Cuts.{AreNext, HaveNoNext};
 ghost use Rattle.ring_locks.specs.Handed.{IsHanded, CannotBeHanded};
 ghost use Rattle.ring_locks.specs.Kept.{LockView, lock_of, locks_of, lock_limit, IsKeptRing, IsKeptLock, AreKept, IsDone, IsAnswer, IsLeft};
-ghost use Rattle.ring_locks.specs.Opened.{holder_behind, IsAdded};
+ghost use Rattle.ring_locks.specs.Opened.{holder_behind, IsAdded, IsNotAdded};
 ghost use Rattle.ring_locks.specs.Waiting.{lock_in};
 ghost use Rattle.ring_locks.specs.Parts.{view_of, views_of};
 ghost use Rattle.ring_locks.specs.declared.answers.Left.{Left};
@@ -292,11 +292,13 @@ impl Locks {
     ///
     /// # Errors
     ///
-    /// `Full`, `Memory`. There are as many locks as before then, and the ring is let go.
+    /// `Full` where there are [`LOCK_LIMIT`] locks, or where the ring's segment has no room for its repair; `Memory`. There are as
+    /// many locks as before then, and the ring is let go.
     pub fn add(&mut self, alloc: Global, ring: EndlessRing) -> Result<(), Refusal>
         requires { IsKeptRing ring }
         ensures ok { OnOk result (IsAdded self.old self.new ring) }
         ensures err { OnErr result (self.new ≡ self.old) }
+        ensures why { IfErr result (λ e. IsNotAdded self.old ring e) }
     {
         let mut ring = ring;
         let held = open_hold(&ring);

@@ -7,9 +7,19 @@ mod process;
 mod program;
 mod requests;
 
-use crate::process::run_process;
+use crate::process::{CommandLine, SystemProcess, run_process};
+use disks::{SystemDisk, take_low};
 use std::process::ExitCode;
 
 fn main(rt: HostRuntime) -> ExitCode {
-    run_process(&rt, &mut rt.stderr())
+    // Before any file is opened, so that none gets a standard descriptor that was closed and is printed into. If it
+    // fails, no device can be opened, and things are as they were.
+    let _ = take_low(&rt);
+    run_process(
+        &rt,
+        &mut SystemDisk::new(&rt),
+        &SystemProcess::new(&rt),
+        &CommandLine,
+        &mut rt.stderr(),
+    )
 }

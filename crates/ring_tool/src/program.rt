@@ -1,72 +1,26 @@
-//! The whole program, over its words, the files of any disk, any reader and any two writers.
+//! The whole program, over what its words ask for, the files of any disk, any reader and any two writers.
 
-ghost use Rattle.std.specs.Prelude.{◌≤◌, ℕ, List, Option};
+ghost use Rattle.std.specs.Prelude.{◌≤◌};
 ghost use Rattle.std.specs.Io.Buffered.{writer_contents};
 ghost use Rattle.ring_tool.specs.Run.{HasRun};
-ghost use Rattle.ring_tool.specs.declared.asked.Asked.{Asked};
 ghost use Rattle.tool_parts.specs.Worlds.{world};
 
-use crate::asked::{Asked, read_asked};
+use crate::asked::Asked;
 use crate::ends::{Ending, fail, refuse, show};
 use crate::requests::do_request;
 use disks::Disk;
-use std::io::{BufWriter, Input, Read, Write};
+use std::io::{BufWriter, Read, Write};
 use std::sync::Wait;
 use std::thread::Threads;
 use tool_parts::faults::ToolError;
 
-/// The whole program: reads the words, which leave out the program's name, does the command, and
-/// returns how the run has ended. The files that it reads and makes by name are those of `disk`. What the command prints goes to
-/// `out`, and so do the help and the version that were asked for: at the end all of it is in the writer below, which is returned,
-/// or the status tells that it is not. The text of a refusal goes to `err`. A word `-` names standard input, which is read only
+/// Does what words ask for, and ends the run. The files that it reads and makes by name are those of `disk`. What the command prints
+/// goes to `out`, and so do the help and the version that were asked for: at the end all of it is in the writer below, which is
+/// returned, or the status tells that it is not. The text of a refusal goes to `err`. A word `-` names `input`, which is read only
 /// then.
 ///
 /// The status is 0 where it was done and every byte has left, 2 where the words or a list cannot be read, and 1 after each
 /// other refusal. A fault of `err` does not change it.
-pub fn run_tool<R: AllocGlobal + Input + Threads + Wait + Sync, D: Disk, O: Write + Drop, E: Write>(
-    rt: &R,
-    disk: &mut D,
-    words: &[String],
-    out: BufWriter<O>,
-    err: &mut E,
-) -> Ending<O>
-    ensures status { result.status ≤ 2 }
-    ensures ended { (asked : Asked)
-        × (was : Option (List ℕ))
-        × (is : Option (List ℕ))
-        × HasRun asked result.status result.told
-        (world (D.holds disk.old) was (writer_contents O.contents out) (E.contents err.old))
-        (world (D.holds disk.new) is (O.contents result.out) (E.contents err.new)) }
-{
-    run_tool_on(rt, disk, words, &mut rt.reader(), out, err)
-}
-
-/// [`run_tool`], with any reader instead of standard input.
-pub fn run_tool_on<
-    R: AllocGlobal + Threads + Wait + Sync,
-    D: Disk,
-    I: Read,
-    O: Write + Drop,
-    E: Write,
->(
-    rt: &R,
-    disk: &mut D,
-    words: &[String],
-    input: &mut I,
-    out: BufWriter<O>,
-    err: &mut E,
-) -> Ending<O>
-    ensures status { result.status ≤ 2 }
-    ensures ended { (asked : Asked) × HasRun asked result.status result.told
-        (world (D.holds disk.old) (I.remaining input.old)
-        (writer_contents O.contents out) (E.contents err.old))
-        (world (D.holds disk.new) (I.remaining input.new)
-        (O.contents result.out) (E.contents err.new)) }
-{
-    run_asked(rt, disk, read_asked(rt.alloc(), words), input, out, err)
-}
-
-/// Does what words ask for, and ends the run.
 pub fn run_asked<
     R: AllocGlobal + Threads + Wait + Sync,
     D: Disk,

@@ -1,12 +1,12 @@
-//! A wrong start of a lock.
+//! Wrong starts of a lock.
 
 ghost use Rattle.std.specs.Prelude.{◌≡◌, ℕ, ◌+◌, ◌≤◌, Some, length, IfSome, vec_len, vec_capacity};
 ghost use Rattle.ring_locks.specs.Kept.{IsKeptRing};
-ghost use Rattle.ring_locks.specs.Opened.{open_in, IsAdded};
+ghost use Rattle.ring_locks.specs.Opened.{open_in, IsAdded, IsNotAdded};
 
 use ring_endless::EndlessRing;
 use ring_locks::laws::leavers_are_gone;
-use ring_locks::{Left, Locks};
+use ring_locks::{Left, Locks, Refusal};
 use std::alloc::Global;
 
 /// A hold that is open in the history of a lock goes on as client 0's: here it is dropped. It gives up if there is no memory.
@@ -28,4 +28,19 @@ pub fn drops_a_hold_at_a_start(
     locks.leave(0, left);
     leavers_are_gone();
     Some(locks.count())
+}
+
+/// A lock is refused for want of room or memory: here it is refused as one that there is not. It gives up if the lock is added.
+pub fn refuses_a_lock_for_another_reason(
+    alloc: Global,
+    locks: &mut Locks,
+    ring: EndlessRing,
+) -> Option<Refusal>
+    requires kept { IsKeptRing ring }
+    ensures wrong { IfSome result (λ why. IsNotAdded locks.old ring why → ⊥) }
+{
+    match locks.add(alloc, ring) {
+        Ok(()) => None,
+        Err(_) => Some(Refusal::Lock),
+    }
 }

@@ -14,10 +14,12 @@
 
 mod answers;
 mod inputs;
+mod states;
 mod words;
 
 pub use answers::{Answer, Answered, Refusal, Stats};
 pub use inputs::{Asked, Input};
+pub use states::StateLine;
 pub use words::{decimal, NotALine};
 
 /// The number of a client. [`NOBODY`] holds what was held when the engine started.

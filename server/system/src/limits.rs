@@ -1,36 +1,18 @@
 //! How many files may be open.
 
-use crate::checked;
-use std::ffi::c_ulong;
+use crate::calls::{limit_of_files, set_limit_of_files, LimitCount};
 use std::io;
-
-const RLIMIT_NOFILE: i32 = 7;
-
-/// A limit of the system: the one that holds, and how far the process may raise that.
-#[repr(C)]
-struct Limit {
-    now: c_ulong,
-    most: c_ulong,
-}
-
-extern "C" {
-    fn getrlimit(of: i32, limit: *mut Limit) -> i32;
-    fn setrlimit(of: i32, limit: *const Limit) -> i32;
-}
 
 /// Lets this process have so many files open, or as many as it may: how many that are. One that may have more keeps that.
 pub fn permit_files(wanted: u64) -> io::Result<u64> {
-    let wanted = c_ulong::try_from(wanted).unwrap_or(c_ulong::MAX);
-    let mut limit = Limit { now: 0, most: 0 };
-    // SAFETY: the limit is valid, and the call writes to it alone.
-    checked(unsafe { getrlimit(RLIMIT_NOFILE, &mut limit) })?;
-    if limit.now < wanted.min(limit.most) {
-        limit.now = wanted.min(limit.most);
-        // SAFETY: the limit is valid.
-        checked(unsafe { setrlimit(RLIMIT_NOFILE, &limit) })?;
+    let wanted = LimitCount::try_from(wanted).unwrap_or(LimitCount::MAX);
+    let mut limit = limit_of_files()?;
+    if limit.rlim_cur < wanted.min(limit.rlim_max) {
+        limit.rlim_cur = wanted.min(limit.rlim_max);
+        set_limit_of_files(&limit)?;
     }
     #[allow(clippy::useless_conversion)] // of 64 bits already, on most machines
-    Ok(limit.now.into())
+    Ok(limit.rlim_cur.into())
 }
 
 #[cfg(test)]

@@ -1,28 +1,11 @@
 //! Who is at the other end of a Unix socket, as the kernel noted it when the connection was made.
 
-use crate::checked;
-use std::ffi::c_void;
+use crate::calls::{peer_credentials, peer_groups};
 use std::io;
-use std::mem::size_of;
-use std::os::fd::{AsFd, AsRawFd};
+use std::os::fd::{AsFd, BorrowedFd};
 
-const SOL_SOCKET: i32 = 1;
-const SO_PEERCRED: i32 = 17;
-const SO_PEERGROUPS: i32 = 59;
 /// The kernel's own limit of supplementary groups.
 const MOST_GROUPS: usize = 65_536;
-
-extern "C" {
-    fn getsockopt(socket: i32, level: i32, name: i32, value: *mut c_void, length: *mut u32) -> i32;
-}
-
-/// `struct ucred` of the system.
-#[repr(C)]
-struct Credentials {
-    process: i32,
-    user: u32,
-    group: u32,
-}
 
 /// The process at the other end of a connection, when it was made.
 #[derive(Clone, Debug, PartialEq, Eq)]
@@ -37,34 +20,22 @@ pub struct Peer {
 
 /// Who is at the other end of a connected Unix socket.
 pub fn peer_of(socket: impl AsFd) -> io::Result<Peer> {
-    let socket = socket.as_fd().as_raw_fd();
-    let mut credentials = Credentials { process: 0, user: 0, group: 0 };
-    let mut length = size_of::<Credentials>() as u32;
-    // SAFETY: `value` points to `length` writable bytes, and any bytes are a `Credentials`.
-    checked(unsafe {
-        getsockopt(socket, SOL_SOCKET, SO_PEERCRED, (&mut credentials as *mut Credentials).cast(), &mut length)
-    })?;
-    let mut groups = vec![credentials.group];
-    groups.extend(supplementary_groups(socket)?);
-    Ok(Peer { process: credentials.process, user: credentials.user, groups })
+    let credentials = peer_credentials(socket.as_fd())?;
+    let mut groups = vec![credentials.gid];
+    groups.extend(supplementary_groups(socket.as_fd())?);
+    Ok(Peer { process: credentials.pid, user: credentials.uid, groups })
 }
 
-fn supplementary_groups(socket: i32) -> io::Result<Vec<u32>> {
-    let mut room = 32;
+fn supplementary_groups(socket: BorrowedFd<'_>) -> io::Result<Vec<u32>> {
+    let mut groups = vec![0; 32];
     loop {
-        let mut groups = vec![0u32; room];
-        let mut length = (room * size_of::<u32>()) as u32;
-        // SAFETY: `value` points to `length` writable bytes, and any bytes are numbers.
-        let result = unsafe { getsockopt(socket, SOL_SOCKET, SO_PEERGROUPS, groups.as_mut_ptr().cast(), &mut length) };
-        match checked(result) {
-            Ok(_) => {
-                groups.truncate(length as usize / size_of::<u32>());
+        match peer_groups(socket, &mut groups) {
+            (Ok(()), count) => {
+                groups.truncate(count);
                 return Ok(groups);
             }
-            Err(_) if length as usize > room * size_of::<u32>() && room < MOST_GROUPS => {
-                room = length as usize / size_of::<u32>();
-            }
-            Err(fault) => return Err(fault),
+            (Err(_), count) if count > groups.len() && groups.len() < MOST_GROUPS => groups.resize(count, 0),
+            (Err(fault), _) => return Err(fault),
         }
     }
 }

@@ -1,59 +1,16 @@
 //! Waiting for many files at once.
 
-use crate::checked;
-use std::ffi::{c_long, c_ulong, c_void};
+use crate::calls::{self, EpollEvent, EPOLLERR, EPOLLHUP, EPOLLIN, EPOLLOUT};
+use crate::calls::{EPOLL_CTL_ADD, EPOLL_CTL_DEL, EPOLL_CTL_MOD};
+use std::hint;
 use std::io;
-use std::os::fd::{AsFd, AsRawFd, FromRawFd, OwnedFd};
-use std::ptr;
-use std::time::Duration;
+use std::os::fd::{AsFd, OwnedFd};
+use std::time::{Duration, Instant};
 
-const EPOLL_CLOEXEC: i32 = 0o2_000_000;
-const EPOLL_CTL_ADD: i32 = 1;
-const EPOLL_CTL_DEL: i32 = 2;
-const EPOLL_CTL_MOD: i32 = 3;
-const EPOLLIN: u32 = 0x001;
-const EPOLLOUT: u32 = 0x004;
-const EPOLLERR: u32 = 0x008;
-const EPOLLHUP: u32 = 0x010;
-const POLLIN: i16 = 1;
 /// How many events the first wait takes at most. Each wait that takes as many as it may doubles the room for the next one.
 const FIRST_ROOM: usize = 256;
 /// A wait that is shorter ends to the microsecond: `epoll_wait` counts milliseconds.
 const FINE: Duration = Duration::from_millis(10);
-
-/// `struct epoll_event` of the system, which is packed on this one kind of processor.
-#[cfg_attr(target_arch = "x86_64", repr(C, packed))]
-#[cfg_attr(not(target_arch = "x86_64"), repr(C))]
-#[derive(Clone, Copy)]
-struct Raw {
-    events: u32,
-    key: u64,
-}
-
-impl Raw {
-    const NONE: Raw = Raw { events: 0, key: 0 };
-}
-
-/// `struct pollfd` and `struct timespec` of the system.
-#[repr(C)]
-struct Polled {
-    file: i32,
-    events: i16,
-    happened: i16,
-}
-
-#[repr(C)]
-struct Time {
-    seconds: c_long,
-    nanoseconds: c_long,
-}
-
-extern "C" {
-    fn ppoll(files: *mut Polled, count: c_ulong, time: *const Time, mask: *const c_void) -> i32;
-    fn epoll_create1(flags: i32) -> i32;
-    fn epoll_ctl(epoll: i32, operation: i32, file: i32, event: *mut Raw) -> i32;
-    fn epoll_wait(epoll: i32, events: *mut Raw, most: i32, milliseconds: i32) -> i32;
-}
 
 /// What to wait for at a file. That it is gone is told in any case.
 #[derive(Clone, Copy, Debug, PartialEq, Eq)]
@@ -89,15 +46,13 @@ pub struct Event {
 /// A set of files that are waited for. As long as something can be done at a file, each wait tells it again.
 pub struct Poller {
     epoll: OwnedFd,
-    raw: Vec<Raw>,
+    raw: Vec<EpollEvent>,
 }
 
 impl Poller {
     /// An empty set.
     pub fn new() -> io::Result<Poller> {
-        // SAFETY: no memory is passed; the new file is nobody else's.
-        let epoll = unsafe { OwnedFd::from_raw_fd(checked(epoll_create1(EPOLL_CLOEXEC))?) };
-        Ok(Poller { epoll, raw: vec![Raw::NONE; FIRST_ROOM] })
+        Ok(Poller { epoll: calls::create_epoll()?, raw: vec![EpollEvent::NONE; FIRST_ROOM] })
     }
 
     /// Waits for this file too. A file that is closed leaves the set by itself.
@@ -116,10 +71,20 @@ impl Poller {
     }
 
     fn control(&self, operation: i32, file: impl AsFd, key: u64, interest: Interest) -> io::Result<()> {
-        let mut event = Raw { events: interest.bits(), key };
-        let (epoll, file) = (self.epoll.as_raw_fd(), file.as_fd().as_raw_fd());
-        // SAFETY: `event` is a valid event, which is only read, and both files are open.
-        checked(unsafe { epoll_ctl(epoll, operation, file, &mut event) }).map(drop)
+        let event = EpollEvent { events: interest.bits(), data: key };
+        calls::control_epoll(self.epoll.as_fd(), operation, file.as_fd(), event)
+    }
+
+    /// The same as [`Poller::wait`] without a sleep, which takes longer to wake from than what happens soon takes to happen.
+    pub fn look(&mut self, time: Duration, events: &mut Vec<Event>) -> io::Result<bool> {
+        let begun = Instant::now();
+        loop {
+            let is_all = self.wait(Some(Duration::ZERO), events)?;
+            if !events.is_empty() || begun.elapsed() >= time {
+                return Ok(is_all);
+            }
+            hint::spin_loop();
+        }
     }
 
     /// Waits until something happens, or for so long, and puts what happened into `events`. It may be nothing. True if that
@@ -127,13 +92,10 @@ impl Poller {
     /// delays this answer for a few waits only.
     pub fn wait(&mut self, time: Option<Duration>, events: &mut Vec<Event>) -> io::Result<bool> {
         events.clear();
-        let epoll = self.epoll.as_raw_fd();
+        let epoll = self.epoll.as_fd();
         let milliseconds = match time {
             Some(time) if !time.is_zero() && time < FINE => {
-                let mut polled = Polled { file: epoll, events: POLLIN, happened: 0 };
-                let time = Time { seconds: 0, nanoseconds: c_long::from(time.subsec_nanos() as i32) };
-                // SAFETY: `polled` is one valid entry, and the time is only read. What comes of it the next call tells.
-                unsafe { ppoll(&mut polled, 1, &time, ptr::null()) };
+                calls::wait_until_readable(epoll, time); // what comes of it the next call tells
                 0
             }
             // rounded up, so that a wait for a deadline does not end just before it
@@ -141,21 +103,19 @@ impl Poller {
             None => -1,
         };
         let room = self.raw.len();
-        let most = i32::try_from(room).unwrap_or(i32::MAX);
-        // SAFETY: `raw` has as many writable events as `most` or more, and any bytes are an event.
-        let count = match checked(unsafe { epoll_wait(epoll, self.raw.as_mut_ptr(), most, milliseconds) }) {
-            Ok(count) => count as usize,
+        let count = match calls::wait_for_epoll(epoll, &mut self.raw, milliseconds) {
+            Ok(count) => count,
             Err(fault) if fault.kind() == io::ErrorKind::Interrupted => return Ok(false),
             Err(fault) => return Err(fault),
         };
         events.extend(self.raw[..count].iter().map(|raw| {
-            let (bits, key) = (raw.events, raw.key);
+            let (bits, key) = (raw.events, raw.data);
             let is_gone = bits & (EPOLLERR | EPOLLHUP) != 0;
             let is_readable = is_gone || bits & EPOLLIN != 0;
             Event { key, is_readable, is_writable: is_gone || bits & EPOLLOUT != 0, is_gone }
         }));
         if count == room {
-            self.raw.resize(2 * room, Raw::NONE);
+            self.raw.resize(2 * room, EpollEvent::NONE);
         }
         Ok(count < room)
     }
@@ -199,6 +159,18 @@ mod tests {
         }
         other.write_all(b"x").unwrap();
         assert_eq!(waited(&mut poller, 5).len(), 1);
+    }
+
+    #[test]
+    fn a_look_ends_in_time_or_when_something_comes() {
+        let (one, mut other) = UnixStream::pair().unwrap();
+        let (mut poller, mut events, begun) = (Poller::new().unwrap(), Vec::new(), Instant::now());
+        poller.add(&one, 7, Interest::READS).unwrap();
+        let time = Duration::from_micros(300);
+        assert!(poller.look(time, &mut events).unwrap() && events.is_empty() && begun.elapsed() >= time);
+        other.write_all(b"x").unwrap();
+        assert!(poller.look(Duration::from_secs(3600), &mut events).unwrap());
+        assert_eq!(events.len(), 1);
     }
 
     #[test]

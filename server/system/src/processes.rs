@@ -1,63 +1,41 @@
 //! Processes that are asked to end, and what they inherit.
 
-use crate::{checked, Signal};
+use crate::calls::{self, FD_CLOEXEC, O_NONBLOCK};
+use crate::Signal;
 use std::io;
-use std::os::fd::{AsFd, AsRawFd};
-
-const F_GETFD: i32 = 1;
-const F_SETFD: i32 = 2;
-const F_GETFL: i32 = 3;
-const F_SETFL: i32 = 4;
-const O_NONBLOCK: i32 = 0o4_000;
-const FD_CLOEXEC: i32 = 1;
-
-const LOCK_EX: i32 = 2;
-const LOCK_NB: i32 = 4;
-
-extern "C" {
-    fn flock(file: i32, operation: i32) -> i32;
-    fn kill(process: i32, signal: i32) -> i32;
-    fn fcntl(file: i32, command: i32, argument: i32) -> i32;
-}
+use std::os::fd::AsFd;
 
 /// Sends a signal to a child that was not waited for yet, so that its number is still its own; or, with `is_group`, to
 /// all processes of the group that has the child's number.
 pub fn send_signal(child: &std::process::Child, signal: Signal, is_group: bool) -> io::Result<()> {
     let process = i32::try_from(child.id()).map_err(io::Error::other)?;
-    // SAFETY: no memory is passed.
-    checked(unsafe { kill(if is_group { -process } else { process }, signal.number()) }).map(drop)
+    calls::send(if is_group { -process } else { process }, signal.number())
 }
 
 /// Lets the programs that this one starts from now on have this file too.
 pub fn inherit(file: impl AsFd) -> io::Result<()> {
-    let file = file.as_fd().as_raw_fd();
-    // SAFETY: no memory is passed, and the file is open.
-    let flags = checked(unsafe { fcntl(file, F_GETFD, 0) })?;
-    // SAFETY: as above.
-    checked(unsafe { fcntl(file, F_SETFD, flags & !FD_CLOEXEC) }).map(drop)
+    let flags = calls::descriptor_flags(file.as_fd())?;
+    calls::set_descriptor_flags(file.as_fd(), flags & !FD_CLOEXEC)
 }
 
 /// Locks the file, as long as it is open here or in a program that inherited it: whether nobody else has it.
 pub fn try_lock(file: impl AsFd) -> io::Result<bool> {
-    // SAFETY: no memory is passed, and the file is open.
-    match checked(unsafe { flock(file.as_fd().as_raw_fd(), LOCK_EX | LOCK_NB) }) {
+    match calls::lock_file(file.as_fd()) {
         Err(fault) if fault.kind() == io::ErrorKind::WouldBlock => Ok(false),
-        other => other.map(|_| true),
+        other => other.map(|()| true),
     }
 }
 
 /// From now on nobody waits who reads or writes this end of a pipe. The other end stays as it is.
 pub fn never_wait(pipe: impl AsFd) -> io::Result<()> {
-    let file = pipe.as_fd().as_raw_fd();
-    // SAFETY: no memory is passed, and the file is open.
-    let flags = checked(unsafe { fcntl(file, F_GETFL, 0) })?;
-    // SAFETY: as above.
-    checked(unsafe { fcntl(file, F_SETFL, flags | O_NONBLOCK) }).map(drop)
+    let flags = calls::file_flags(pipe.as_fd())?;
+    calls::set_file_flags(pipe.as_fd(), flags | O_NONBLOCK)
 }
 
 #[cfg(test)]
 mod tests {
     use super::*;
+    use std::os::fd::AsRawFd;
     use std::os::unix::process::ExitStatusExt;
     use std::process::Command;
     use std::sync::{Mutex, MutexGuard, PoisonError};

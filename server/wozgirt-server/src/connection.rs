@@ -45,7 +45,7 @@ pub enum Pending {
     /// The same, with their numbers, where the log says what the engine is asked.
     Numbered(u64, Input),
     Leaving(u64),
-    /// Its session begins when the log says so.
+    /// Its session begins when the log says so, or when what was asked before for it is answered.
     Opening,
     /// The server has answered it, and that is told when all before it is answered.
     Told(Vec<u8>),
@@ -53,10 +53,10 @@ pub enum Pending {
     Listing(Listing),
 }
 
-/// The session of a connection, where several servers have one log.
+/// The session of a connection.
 #[derive(Debug)]
 pub struct Seat {
-    /// The word by which the log knows the client.
+    /// The word by which the client is known.
     pub key: u64,
     /// Whether the client gave a key, and gives numbers.
     pub is_keyed: bool,
@@ -64,6 +64,10 @@ pub struct Seat {
     pub last: u64,
     /// Whether the client has left, and said nothing since.
     pub has_left: bool,
+    /// The number of the session, where no log gives one.
+    pub session: Option<Client>,
+    /// Whether the session is over when its client closes the connection.
+    pub is_attached: bool,
 }
 
 /// Who has come in at a door.
@@ -118,6 +122,9 @@ pub struct Connection {
     pub is_dirty: bool,
     /// It stands in the line of those who have said more than was taken.
     pub is_queued: bool,
+    /// When its turn to ask the engine comes, and its place in the line of those who wait for that.
+    pub tag: u64,
+    pub place: Option<u64>,
     /// How many of its lines wait for the engine, and whether one ever did.
     pub asked: usize,
     pub has_asked: bool,
@@ -157,6 +164,8 @@ impl Connection {
             has_said_all: false,
             is_dirty: false,
             is_queued: false,
+            tag: 0,
+            place: None,
             asked: 0,
             has_asked: false,
             heard: now,
@@ -236,6 +245,11 @@ impl Connection {
         self.input.len() >= SHARE
     }
 
+    /// What was read and not taken yet.
+    pub fn input(&self) -> &[u8] {
+        &self.input
+    }
+
     /// Whether a line has begun that can have no end.
     pub fn has_endless_line(&self) -> bool {
         self.input.len() >= LONGEST_LINE && !self.input[..LONGEST_LINE].contains(&b'\n')
@@ -252,6 +266,11 @@ impl Connection {
     /// Whether its session begins next, when the log says so.
     pub fn is_opening(&self) -> bool {
         matches!(self.pending.front(), Some(Pending::Opening))
+    }
+
+    /// Whether its session begins, behind the answers to what it said before.
+    pub fn is_to_be_opened(&self) -> bool {
+        self.pending.iter().any(|it| matches!(it, Pending::Opening))
     }
 
     fn has_room(&self) -> bool {
@@ -284,11 +303,15 @@ impl Connection {
 
     /// Tells an operator what came of the end of a hold that it asked for, in its place among the answers.
     pub fn tell_ending(&mut self, line: impl std::fmt::Display) {
-        let ending = self.pending.iter_mut().find(|it| matches!(it, Pending::Ending));
-        if let Some(ending) = ending {
+        self.tell_in_place(|it| matches!(it, Pending::Ending), line);
+    }
+
+    /// Tells it this in the place of the first line of its kind.
+    pub fn tell_in_place(&mut self, is_its: impl Fn(&Pending) -> bool, line: impl std::fmt::Display) {
+        if let Some(pending) = self.pending.iter_mut().find(|it| is_its(it)) {
             let mut lines = Vec::new();
             self.untold += put_line(&mut lines, line);
-            *ending = Pending::Told(lines);
+            *pending = Pending::Told(lines);
         }
         self.tell_what_waited();
     }

@@ -1,10 +1,13 @@
 //! Between the connections and the engine: lines of a connection become inputs, and answers become lines.
 
+mod waiting;
+
+use crate::answer_line::AnswerLine;
 use crate::board::Board;
-use crate::cluster::Cluster;
-use crate::connection::{Connection, Door, Pending, MOST_PENDING};
+use crate::connection::{Connection, Door, Pending};
 use crate::engine::Engine;
 use crate::log::{End, Event, Log};
+use crate::mode::Mode;
 use crate::names::Names;
 use crate::questions::Questions;
 use crate::requests::{numbered, parse, BadRequest, Request, Verb, LONGEST_LINE};
@@ -12,15 +15,14 @@ use crate::rules::Rules;
 use crate::settings::Settings;
 use crate::status::{Listing, Locks};
 use crate::sums::Sums;
+use crate::turns::Turn;
 use std::fmt;
 use std::rc::Rc;
 use std::time::{Duration, Instant};
-use wozgirt_engine::{Answer, Asked, Client, Input, Lock, NotALine, Stats, Token, NOBODY};
+use wozgirt_engine::{Answer, Asked, Client, Input, Lock, NotALine, Token, NOBODY};
 
 /// After so many lines it is looked what time it is.
 const LINES_BY_CLOCK: u32 = 8;
-/// With so many lines that wait to be put into the log, no more are taken.
-const MOST_FOR_LOG: usize = 10_000;
 
 /// What is left to do after some lines.
 #[derive(Debug, PartialEq, Eq)]
@@ -65,38 +67,10 @@ pub struct Desk {
     pub sums: Sums,
     /// The log.
     pub log: Log,
-    /// The log that this server has with others, if it has one.
-    pub cluster: Option<Box<Cluster>>,
+    /// Alone, or as one of several.
+    pub mode: Mode,
     /// The time of this round.
     pub now: Instant,
-}
-
-/// An answer with the names of locks.
-pub struct AnswerLine<'a> {
-    answer: &'a Answer,
-    names: &'a Names,
-}
-
-impl fmt::Display for AnswerLine<'_> {
-    fn fmt(&self, f: &mut fmt::Formatter<'_>) -> fmt::Result {
-        let name = |lock: &Lock| self.names.name(*lock);
-        match self.answer {
-            Answer::Granted { lock, token } => write!(f, "granted {} {token}", name(lock)),
-            Answer::Waiting { lock, before } => write!(f, "waiting {} {before}", name(lock)),
-            Answer::Busy { lock } => write!(f, "busy {}", name(lock)),
-            Answer::Released { lock } => write!(f, "released {}", name(lock)),
-            Answer::Cancelled { lock } => write!(f, "cancelled {}", name(lock)),
-            Answer::Corrupted { lock, old } => write!(f, "corrupted {} {old}", name(lock)),
-            Answer::Stats(it) => {
-                let Stats { lock, machines, waiters, passes, holder, token } = it;
-                write!(f, "stats {} {machines} {waiters} {passes} {holder} {token}", name(lock))
-            }
-            // here it is no lock, but the last number of the session
-            Answer::Refused { why, lock: Some(last) } if why.word() == "past" => write!(f, "refused {why} {last}"),
-            Answer::Refused { why, lock: None } => write!(f, "refused {why}"),
-            Answer::Refused { why, lock: Some(lock) } => write!(f, "refused {why} {}", name(lock)),
-        }
-    }
 }
 
 impl Desk {
@@ -104,16 +78,19 @@ impl Desk {
     pub fn take_lines(&mut self, connection: &mut Connection, until: Instant) -> Then {
         let input = connection.take_input();
         let (mut taken, mut count, mut then) = (0, 0, Then::Wait);
-        while then == Then::Wait && connection.takes_more() && self.may_ask(connection) {
+        while then == Then::Wait && connection.takes_more() && self.may_ask(connection, &input[taken..]) {
             count += 1;
             if count % LINES_BY_CLOCK == 0 && Instant::now() >= until {
                 break;
             }
             let Some(length) = input[taken..].iter().take(LONGEST_LINE).position(|&b| b == b'\n') else { break };
+            let before = self.questions.asked();
             then = match std::str::from_utf8(&input[taken..taken + length]) {
                 Ok(line) => self.take(connection, line),
                 Err(_) => self.refuse(connection, &BadRequest::Word),
             };
+            let cost = self.questions.asked() - before;
+            connection.tag = self.questions.turns.charge(connection.tag, cost);
             taken += length + 1;
         }
         connection.put_back(input, taken);
@@ -124,47 +101,18 @@ impl Desk {
         then
     }
 
-    /// Whether the connection has a line that may be taken now.
-    pub fn has_work(&mut self, connection: &Connection) -> bool {
-        connection.has_line() && self.may_ask(connection)
-    }
-
-    /// Whether one more line of the connection may wait for the engine. Operators may ask when clients may not.
-    fn may_ask(&mut self, connection: &Connection) -> bool {
-        let (waiting, most) = (self.waiting_lines(), self.most_waiting());
-        self.is_full |= waiting >= most;
-        let is_refused = match connection.door {
-            Door::Operators => waiting >= 2 * most,
-            Door::Clients | Door::Network => self.is_full,
-        };
-        !is_refused && self.questions.permits(connection.asked, MOST_PENDING)
-    }
-
-    /// Whether the engine has done so much that clients may ask again.
-    pub fn is_free_again(&mut self) -> bool {
-        self.is_full && self.waiting_lines() <= self.most_waiting() / 2
-    }
-
-    /// Whether the engine has done nearly all. It is asked, if that is not known.
-    pub fn has_little_to_do(&mut self) -> bool {
-        let is_little = self.waiting_lines() <= self.most_waiting() / 4;
-        if !is_little && self.cluster.is_none() && self.questions.oldest().is_none() {
-            self.mark();
-        }
-        is_little
-    }
-
-    fn most_waiting(&self) -> usize {
-        if self.cluster.is_some() {
-            MOST_FOR_LOG
-        } else {
-            self.questions.most()
-        }
-    }
-
     /// Asks the engine. Where there is a log, what goes to the engine comes from there.
     pub fn ask_engine(&mut self, client: Client, input: Input) {
         self.engine.ask(Asked { client, input });
+        let is_marked = if input == Input::Leave { self.questions.ask_to_leave() } else { self.questions.ask() };
+        if is_marked {
+            self.mark();
+        }
+    }
+
+    /// The same for a line that is no client's own.
+    pub(crate) fn ask_engine_line(&mut self, line: impl fmt::Display) {
+        self.engine.ask_line(line);
         if self.questions.ask() {
             self.mark();
         }
@@ -183,7 +131,7 @@ impl Desk {
 
     /// How many lines may wait for the engine, or for the log that this server has with others.
     pub fn waiting_lines(&self) -> usize {
-        self.cluster.as_ref().map_or_else(|| self.questions.waiting(), |cluster| cluster.waiting_lines())
+        self.mode.waiting_lines(&self.questions)
     }
 
     /// Tells more of the list of all locks, until this time.
@@ -206,15 +154,23 @@ impl Desk {
             }
             Ok(Request::Of(name, Verb::End(token))) => return self.end_hold(connection, name, token),
             Ok(Request::Of(name, verb)) => self.ask(connection, number, name, verb),
-            Ok(Request::Leave) if self.cluster.is_some() => self.put_leave(connection, number),
-            Ok(Request::Leave) => self.ask_to_leave(connection),
-            Ok(Request::Session(key)) => return self.open_session(connection, key),
+            Ok(Request::Leave) => match self.mode {
+                Mode::Alone(_) => match number {
+                    Some(number) => self.ask_session_to_leave(connection, number),
+                    None => self.ask_to_leave(connection),
+                },
+                Mode::InLog(_) => self.put_leave(connection, number),
+            },
+            Ok(Request::Session(key, is_attached)) => return self.open_session(connection, key, is_attached),
             Ok(Request::Cluster) => self.tell_cluster(connection),
             Ok(Request::Ping) => connection.tell_in_order("pong"),
             Ok(Request::Lease(asked)) => {
                 let longest = self.settings.longest_lease;
                 let lease = if asked.is_zero() { longest } else { asked.min(longest) };
                 connection.lease = Some(lease);
+                if let (Mode::Alone(alone), Some(seat)) = (&mut self.mode, &connection.seat) {
+                    seat.session.into_iter().for_each(|session| alone.set_lease(session, lease));
+                }
                 connection.tell_in_order(format_args!("lease {}", lease.as_millis()));
             }
             Ok(Request::GivenLease) => {
@@ -263,14 +219,27 @@ impl Desk {
             self.board.asked(lock);
         }
         self.sums.inputs += 1;
-        if self.cluster.is_some() {
-            return self.put_input(connection, number, input);
+        match self.mode {
+            Mode::Alone(_) => match number {
+                Some(number) => self.ask_for_session(connection, number, input),
+                None => match input {
+                    Input::Stats { lock } if connection.seat.is_some() => self.tell_stats(connection, lock),
+                    _ => self.ask_plainly(connection, input),
+                },
+            },
+            Mode::InLog(_) => self.put_input(connection, number, input),
+        }
+    }
+
+    fn ask_plainly(&mut self, connection: &mut Connection, input: Input) {
+        if let (Input::Acquire { lock, .. } | Input::Try { lock, .. }, Some(alone)) = (input, self.alone()) {
+            alone.note_plain(lock);
         }
         self.ask_engine(connection.client, input);
         self.note_asked(connection, Pending::Asked(input));
     }
 
-    fn note_asked(&mut self, connection: &mut Connection, pending: Pending) {
+    pub(crate) fn note_asked(&mut self, connection: &mut Connection, pending: Pending) {
         self.questions.askers += usize::from(connection.asked == 0);
         connection.asked += 1;
         connection.has_asked = true;
@@ -278,7 +247,7 @@ impl Desk {
     }
 
     /// One line of the connection is answered.
-    fn note_answered(&mut self, connection: &mut Connection) {
+    pub(crate) fn note_answered(&mut self, connection: &mut Connection) {
         connection.asked -= 1;
         self.questions.askers -= usize::from(connection.asked == 0);
     }
@@ -292,7 +261,7 @@ impl Desk {
         match verb {
             Verb::Acquire(label) => {
                 let is_full = self.board.lock(lock).is_some_and(|sight| sight.is_full(self.settings.waiters));
-                if is_full && !self.holds(connection, lock) {
+                if is_full && !self.mode.holds(connection, lock) {
                     return Err("waiters");
                 }
                 Ok(Input::Acquire { lock, label })
@@ -312,7 +281,7 @@ impl Desk {
         let lock = self.names.number(name);
         let holder = lock.and_then(|lock| self.board.lock(lock)).and_then(|sight| sight.holder);
         let why = match (lock, holder) {
-            _ if self.cluster.is_some() => "cluster",
+            _ if self.mode.in_log().is_some() => "cluster",
             (None, _) => "lock",
             (Some(lock), Some(holder)) if holder.token == token => {
                 connection.pending.push_back(Pending::Ending);
@@ -350,6 +319,7 @@ impl Desk {
             if *lock == waits_for {
                 connection.waits_for = None;
                 connection.holds.push(*lock);
+                self.note_token(*lock, *token);
                 self.board.granted(*lock, connection.client, *token, None, self.now);
                 self.tell(connection, &answer);
                 return Ok(None);
@@ -390,6 +360,7 @@ impl Desk {
                 if lock == *l =>
             {
                 connection.holds.push(lock);
+                self.note_token(lock, *token);
                 self.board.granted(lock, client, *token, Some(label), self.now);
             }
             (Input::Acquire { lock, label }, Answer::Waiting { lock: l, .. }) if lock == *l => {
@@ -447,12 +418,14 @@ impl Desk {
                 self.board.asked_no_longer(lock);
             }
         }
-        let held = if self.cluster.is_some() { self.end_seat(connection, end) } else { self.forget(connection) };
-        self.questions.askers -= usize::from(connection.asked > 0);
-        // of one that never asked the engine knows nothing
-        if connection.has_asked && !matches!(end, End::Engine | End::Stop) && self.cluster.is_none() {
-            self.ask_engine(connection.client, Input::Leave);
+        if let Some(place) = connection.place.take() {
+            self.questions.turns.step_out(connection.client, place);
         }
+        let held = match self.mode {
+            Mode::Alone(_) => self.end_plain(connection, end),
+            Mode::InLog(_) => self.end_seat(connection, end),
+        };
+        self.questions.askers -= usize::from(connection.asked > 0);
         self.sums.ended(end);
         let is_wanted = !held.is_empty() || !matches!(end, End::Closed | End::Stop);
         if is_wanted || self.settings.logs_connections {
@@ -460,12 +433,27 @@ impl Desk {
         }
     }
 
-    /// The lease of a new connection. Where servers share a log, the lock of a client that hears nothing of its server is given to
-    /// another by the next server, so each has one.
+    /// What a connection that is gone had is free. Returns what it held.
+    fn end_plain(&mut self, connection: &mut Connection, end: End) -> String {
+        if connection.seat.is_some() {
+            return self.leave_session(connection, end);
+        }
+        // of one that never asked the engine knows nothing
+        if connection.has_asked && !matches!(end, End::Engine | End::Stop) {
+            if self.questions.has_room(true) && self.questions.turns.is_next(connection.tag) {
+                self.ask_engine(connection.client, Input::Leave);
+            } else {
+                self.questions.turns.line_up(connection.client, connection.tag, Turn::Gone);
+            }
+        }
+        self.forget(connection)
+    }
+
+    /// The lease of a new connection.
     pub fn first_lease(&self, door: Door) -> Option<Duration> {
         let has_one = match door {
             Door::Network => true,
-            Door::Clients => self.settings.is_lease_for_all || self.cluster.is_some(),
+            Door::Clients => self.settings.is_lease_for_all || self.mode.gives_leases(),
             Door::Operators => false,
         };
         has_one.then_some(self.settings.longest_lease)

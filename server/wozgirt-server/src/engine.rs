@@ -168,9 +168,14 @@ impl Engine {
         }
     }
 
+    /// Whether it is time to start it.
+    pub fn is_due(&self, now: Instant) -> bool {
+        matches!(self.state, State::Away(start) if start <= now)
+    }
+
     /// Starts it if it is time: the number of its process.
     pub fn start(&mut self, now: Instant) -> Result<Option<u32>, CannotStart> {
-        if !matches!(self.state, State::Away(start) if start <= now) {
+        if !self.is_due(now) {
             return Ok(None);
         }
         let mut command = Command::new(&self.program);

@@ -5,6 +5,9 @@
 //! one wake-up, and many inputs go in one write if many come.
 
 pub mod accounts;
+mod alone;
+mod answer_line;
+mod awake;
 pub mod board;
 mod cluster;
 mod connection;
@@ -14,8 +17,10 @@ mod engine;
 mod journal;
 pub mod log;
 mod memory;
+mod mode;
 pub mod names;
 mod notify;
+mod options;
 mod outbox;
 mod pages;
 mod places;
@@ -28,5 +33,6 @@ pub mod settings;
 mod status;
 mod stream;
 mod sums;
+mod turns;
 
 pub use server::{CannotServe, Server};

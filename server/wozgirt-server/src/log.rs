@@ -108,6 +108,8 @@ pub enum Event<'a> {
     MoreLocks { count: usize, own: usize, list: &'a str },
     SessionRefused { who: &'a str },
     SessionOver { session: Client, held: &'a str },
+    SessionsKept { sessions: usize, held: usize },
+    SessionsUnkept { fault: &'a std::io::Error },
     Contradiction { name: &'a str, position: u64 },
     HostAway { name: &'a str, seconds: u64 },
     Checkpoint { position: u64, segment: u64 },
@@ -150,6 +152,8 @@ impl Event<'_> {
             Event::MoreLocks { .. } => "more-locks",
             Event::SessionRefused { .. } => "session-refused",
             Event::SessionOver { .. } => "session-over",
+            Event::SessionsKept { .. } => "sessions-kept",
+            Event::SessionsUnkept { .. } => "sessions-unkept",
             Event::Contradiction { .. } => "contradiction",
             Event::HostAway { .. } => "host-away",
             Event::Checkpoint { .. } => "checkpoint",
@@ -217,6 +221,12 @@ impl fmt::Display for Event<'_> {
             }
 
             Event::SessionRefused { who } => write!(f, "refused, the session is somebody else's: {who}"),
+            Event::SessionsKept { sessions, held } => {
+                write!(f, "{sessions} sessions go on, with {held} holds, if their clients come back")
+            }
+            Event::SessionsUnkept { fault } => {
+                write!(f, "sessions are not kept beside the journal, and do not outlive this server: {fault}")
+            }
             Event::SessionOver { session, held } => write!(f, "session {session} did not come back; it held {held}"),
             Event::Contradiction { name, position } => {
                 write!(f, "CONTRADICTION: server {name} had other answers up to position {position}")

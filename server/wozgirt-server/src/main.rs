@@ -6,8 +6,9 @@ use std::process::ExitCode;
 use std::sync::mpsc::channel;
 use std::thread;
 use std::time::Duration;
-use wozgirt_server::settings::{parse, Words, USAGE};
+use wozgirt_server::settings::{help, parse, Words};
 use wozgirt_server::Server;
+use wozgirt_system::create_for_owner;
 
 /// Wrong words, as `sysexits.h` has it.
 const USAGE_STATUS: u8 = 64;
@@ -16,18 +17,10 @@ const USAGE_STATUS: u8 = 64;
 const LONGEST_COMPLAINT: Duration = Duration::from_secs(1);
 
 fn main() -> ExitCode {
-    let words: Result<Vec<_>, _> = std::env::args_os().skip(1).map(std::ffi::OsString::into_string).collect();
-    let words = match words {
-        Ok(words) => words,
-        Err(word) => {
-            complain(format_args!("{word:?} is no text in UTF-8\nTry --help."));
-            return ExitCode::from(USAGE_STATUS);
-        }
-    };
-    let settings = match parse(words) {
+    let settings = match parse(std::env::args_os().skip(1)) {
         Ok(Words::Run(settings)) => *settings,
         Ok(Words::Help) => {
-            println!("{USAGE}");
+            print!("{}", help());
             return ExitCode::SUCCESS;
         }
         Ok(Words::Version) => {
@@ -39,6 +32,7 @@ fn main() -> ExitCode {
             return ExitCode::from(USAGE_STATUS);
         }
     };
+    create_for_owner(); // the engine's files too, whatever umask this was started with
     match Server::open(settings).and_then(Server::run) {
         Ok(()) => ExitCode::SUCCESS,
         Err(fault) => {

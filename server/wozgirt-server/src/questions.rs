@@ -1,19 +1,26 @@
 //! How far the engine is with what it was asked, and what the server itself asks it.
 //!
 //! The engine answers in order. So a question of the server's own, a *mark*, shows that all lines before it are done, whosever they
-//! were, of clients that are gone too. One goes to it each second, and behind each some hundred lines.
+//! were, of clients that are gone too. One goes to it each second, and behind each some hundred lines. What a leave costs grows with
+//! the locks there are, so it counts for more than one.
 
+use crate::turns::Turns;
 use std::collections::VecDeque;
 use std::time::{Duration, Instant};
 use wozgirt_engine::{Answer, Client, Input, Lock, Token};
 
 /// How many lines of all clients together should wait for the engine: what each may have there is its part of this. One who comes new
-/// waits for as many; so there are fewer, between these, if a mark takes longer than it should.
+/// waits for as many; so there are fewer, between these, if a mark takes longer than it should, and more if half of them take a
+/// small part of that.
 const MOST_WANTED: usize = 1024;
+const FIRST_WANTED: usize = 128;
 const LEAST_WANTED: usize = 32;
 const LONG: Duration = Duration::from_millis(5);
-/// How many lines lie between marks at most.
-const BETWEEN_MARKS: u64 = 128;
+/// How many lines lie between marks at most, and how many times at least a mark comes in as many as are wanted.
+const BETWEEN_MARKS: usize = 128;
+const LEAST_MARKS: usize = 4;
+/// For so many locks a leave takes as long as another line does.
+const LOCKS_AS_LONG_AS_A_LINE: usize = 8;
 /// How long it takes at most to the next mark.
 const PERIOD: Duration = Duration::from_secs(1);
 
@@ -22,8 +29,8 @@ const PERIOD: Duration = Duration::from_secs(1);
 pub enum Own {
     /// How this lock is, when the engine starts.
     Begin(Lock),
-    /// Whether it is there: how many lines were asked by then, and when.
-    Mark(u64, Instant),
+    /// Whether it is there: how many lines were asked by then, how many it had before it, and when.
+    Mark(u64, usize, Instant),
     /// An operator ends a hold that was open when the engine started.
     End(Client, Lock, Token),
 }
@@ -37,33 +44,57 @@ pub struct Questions {
     marked: u64,
     last_mark: Instant,
     wanted: usize,
+    wanted_since: Instant,
+    leave_cost: u64,
+    /// Who asks when there is room for more.
+    pub turns: Turns,
     /// How many of these are beginnings.
     begins: usize,
-    /// How many clients have lines there, and how many there are.
+    /// How many clients have lines there.
     pub askers: usize,
-    pub clients: usize,
 }
 
 impl Questions {
-    /// Nothing was asked.
-    pub fn new(now: Instant) -> Questions {
+    /// Nothing was asked of an engine that has so many locks.
+    pub fn new(now: Instant, locks: usize) -> Questions {
+        let leave_cost = 1 + locks / LOCKS_AS_LONG_AS_A_LINE;
         Questions {
+            leave_cost: u64::try_from(leave_cost).unwrap_or(u64::MAX),
+            turns: Turns::default(),
             own: VecDeque::new(),
             asked: 0,
             done: 0,
             marked: 0,
             last_mark: now,
-            wanted: MOST_WANTED,
+            wanted: FIRST_WANTED,
+            wanted_since: now,
             begins: 0,
             askers: 0,
-            clients: 0,
         }
     }
 
     /// A line goes to the engine: whether a mark is to go behind it.
     pub fn ask(&mut self) -> bool {
-        self.asked += 1;
-        self.asked - self.marked >= BETWEEN_MARKS
+        self.ask_much(1)
+    }
+
+    /// The same for a leave.
+    pub fn ask_to_leave(&mut self) -> bool {
+        self.ask_much(self.leave_cost)
+    }
+
+    fn ask_much(&mut self, cost: u64) -> bool {
+        self.asked += cost;
+        self.asked - self.marked >= self.between_marks() as u64
+    }
+
+    fn between_marks(&self) -> usize {
+        BETWEEN_MARKS.min(self.wanted / LEAST_MARKS)
+    }
+
+    /// What it was asked, in lines.
+    pub fn asked(&self) -> u64 {
+        self.asked
     }
 
     /// A question of the server's own goes to the engine.
@@ -74,14 +105,16 @@ impl Questions {
 
     /// A mark goes to the engine now: how it asks.
     pub fn mark(&mut self, now: Instant) -> Input {
-        self.put(Own::Mark(self.asked, now));
+        self.put(Own::Mark(self.asked, self.waiting(), now));
         (self.marked, self.last_mark) = (self.asked, now);
         Input::Stats { lock: 0 }
     }
 
-    /// When the next mark is due, unless the last one is unanswered.
+    /// When the next mark is due, unless the last one is unanswered: at once if somebody waits for what was asked since then.
     pub fn next_mark(&self) -> Option<Instant> {
-        self.own.is_empty().then_some(self.last_mark + PERIOD)
+        let is_wanted = self.asked > self.marked && self.turns.first().is_some();
+        let period = if is_wanted { Duration::ZERO } else { PERIOD };
+        self.own.is_empty().then_some(self.last_mark + period)
     }
 
     /// What the engine's answer to client 0 is the answer to, if it can be one.
@@ -94,21 +127,24 @@ impl Questions {
             (Own::Mark(..) | Own::End(..), Answer::Refused { .. }) => true,
             _ => false,
         };
-        if let Own::Mark(lines, asked) = own {
+        if let Own::Mark(lines, before, asked) = own {
             self.done = lines;
-            self.note_time(now.saturating_duration_since(asked));
+            if asked >= self.wanted_since {
+                self.note_time(before, now.saturating_duration_since(asked), now);
+            }
         }
         self.begins -= usize::from(matches!(own, Own::Begin(_)));
         is_right.then_some(own)
     }
 
-    /// A mark took so long.
-    fn note_time(&mut self, took: Duration) {
-        if took > LONG {
-            self.wanted = (self.wanted / 2).max(LEAST_WANTED);
-        } else if took < LONG / 2 {
-            self.wanted = (self.wanted * 2).min(MOST_WANTED);
-        }
+    /// A mark that had so many lines before it took so long.
+    fn note_time(&mut self, before: usize, took: Duration, now: Instant) {
+        let wanted = match took {
+            _ if took > LONG => (self.wanted / 2).max(LEAST_WANTED),
+            _ if took < LONG / 4 && before >= self.wanted / 2 => (self.wanted * 2).min(MOST_WANTED),
+            _ => return,
+        };
+        (self.wanted, self.wanted_since) = (wanted, now);
     }
 
     /// Whether the engine has answered how all locks are.
@@ -121,25 +157,34 @@ impl Questions {
         usize::try_from(self.asked - self.done).unwrap_or(usize::MAX)
     }
 
-    /// With so many, those of clients that are gone included, nothing is read and nobody is let in; until half of them is done.
-    pub fn most(&self) -> usize {
-        2 * (self.wanted + self.clients + BETWEEN_MARKS as usize)
+    /// Whether it has so little that it may have one more line; a leave that costs more than is wanted, if it has done nearly all.
+    pub fn has_room(&self, is_leave: bool) -> bool {
+        let cost = if is_leave { usize::try_from(self.leave_cost).unwrap_or(usize::MAX) } else { 1 };
+        let has = self.waiting();
+        has.saturating_add(cost) <= self.wanted || has < self.between_marks()
     }
 
-    /// Whether a client that has so many lines there may have one more: its part, and never more than `most`. One always may be.
-    pub fn permits(&self, asked: usize, most: usize) -> bool {
-        let part = (self.wanted / self.askers.max(1)).min(most);
-        asked == 0 || asked < part && self.waiting() < self.wanted
+    /// Whether a client that has so many lines there has less than its part, and never more than `most`.
+    pub fn has_part(&self, asked: usize, most: usize) -> bool {
+        asked < (self.wanted / self.askers.max(1)).clamp(1, most)
+    }
+
+    /// Whether a client with this tag, and so many lines there, may have one more now: one that has none there, and asks no more than
+    /// its part, always, unless that line is a leave.
+    pub fn permits(&self, asked: usize, tag: u64, is_leave: bool) -> bool {
+        asked == 0 && !is_leave && self.turns.is_light(tag) || self.has_room(is_leave) && self.turns.is_next(tag)
     }
 
     /// Since when the oldest question of the server's own is unanswered.
     pub fn oldest(&self) -> Option<Instant> {
-        self.own.iter().find_map(|own| if let Own::Mark(_, asked) = own { Some(*asked) } else { None })
+        self.own.iter().find_map(|own| if let Own::Mark(_, _, asked) = own { Some(*asked) } else { None })
     }
 
     /// The engine is gone.
     pub fn forget(&mut self, now: Instant) {
-        *self = Questions { askers: self.askers, clients: self.clients, ..Questions::new(now) };
+        let mut turns = std::mem::take(&mut self.turns);
+        turns.forget_leaving();
+        *self = Questions { askers: self.askers, leave_cost: self.leave_cost, turns, ..Questions::new(now, 0) };
     }
 }
 
@@ -155,13 +200,13 @@ mod tests {
     #[test]
     fn a_mark_shows_what_is_done() {
         let now = Instant::now();
-        let mut questions = Questions::new(now);
+        let mut questions = Questions::new(now, 0);
         assert_eq!(questions.next_mark(), Some(now + PERIOD));
-        assert_eq!((1..=BETWEEN_MARKS).filter(|_| questions.ask()).count(), 1);
+        assert_eq!((1..=32).filter(|_| questions.ask()).count(), 1);
         questions.mark(now);
         assert!(!questions.ask());
-        assert_eq!((questions.waiting(), questions.next_mark(), questions.oldest()), (129, None, Some(now)));
-        assert_eq!(questions.answered(&stats(0), now), Some(Own::Mark(128, now)));
+        assert_eq!((questions.waiting(), questions.next_mark(), questions.oldest()), (33, None, Some(now)));
+        assert_eq!(questions.answered(&stats(0), now), Some(Own::Mark(32, 32, now)));
         assert_eq!((questions.waiting(), questions.oldest()), (1, None));
         assert_eq!(questions.answered(&stats(0), now), None);
     }
@@ -169,7 +214,7 @@ mod tests {
     #[test]
     fn the_beginning_is_over_with_the_last_lock() {
         let now = Instant::now();
-        let mut questions = Questions::new(now);
+        let mut questions = Questions::new(now, 0);
         questions.put(Own::Begin(0));
         questions.put(Own::Begin(1));
         assert!(questions.answered(&stats(0), now).is_some() && !questions.has_begun());
@@ -180,26 +225,67 @@ mod tests {
 
     #[test]
     fn who_asks_has_a_part() {
-        let mut questions = Questions::new(Instant::now());
-        for (askers, part) in [(0, 128), (1, 128), (20, 51), (5000, 1)] {
+        let mut questions = Questions::new(Instant::now(), 0);
+        for (askers, part) in [(0, 100), (1, 100), (20, 6), (5000, 1)] {
             questions.askers = askers;
-            assert_eq!((0..1000).filter(|&asked| questions.permits(asked, 128)).count(), part);
+            assert_eq!((0..1000).filter(|&asked| questions.has_part(asked, 100)).count(), part);
         }
-        questions.askers = 1;
-        for _ in 0..MOST_WANTED {
+        let newcomer = questions.turns.newcomer();
+        assert!(questions.permits(1, 0, true) && questions.permits(0, newcomer, true));
+        for _ in 0..FIRST_WANTED {
             questions.ask();
         }
-        assert!(questions.permits(0, 128) && !questions.permits(1, 128));
+        let permits = [(0, 0, false), (0, 0, true), (1, 0, false), (0, newcomer, false)];
+        let permits = permits.map(|(asked, tag, is_leave)| questions.permits(asked, tag, is_leave));
+        assert_eq!(permits, [true, false, false, false]);
+    }
+
+    #[test]
+    fn a_leave_counts_for_many_lines_and_has_a_mark() {
+        let mut questions = Questions::new(Instant::now(), 1000);
+        assert!(questions.has_room(true) && questions.ask_to_leave());
+        assert!(questions.has_room(false) && !questions.has_room(true));
     }
 
     #[test]
     fn of_a_slow_engine_less_is_wanted() {
-        let mut questions = Questions::new(Instant::now());
-        (0..9).for_each(|_| questions.note_time(2 * LONG));
+        let now = Instant::now();
+        let mut questions = Questions::new(now, 0);
+        (0..9).for_each(|_| questions.note_time(1, 2 * LONG, now));
         assert_eq!(questions.wanted, LEAST_WANTED);
-        questions.note_time(LONG / 4);
+        questions.note_time(LEAST_WANTED / 2, LONG / 8, now);
         assert_eq!(questions.wanted, 2 * LEAST_WANTED);
-        (0..9).for_each(|_| questions.note_time(LONG / 4));
+        (0..9).for_each(|_| questions.note_time(LEAST_WANTED / 2, LONG / 8, now));
+        assert_eq!(questions.wanted, 2 * LEAST_WANTED);
+        (0..9).for_each(|_| questions.note_time(MOST_WANTED, LONG / 8, now));
         assert_eq!(questions.wanted, MOST_WANTED);
+    }
+
+    #[test]
+    fn who_waits_for_the_rest_of_a_mark_has_it_at_once() {
+        let now = Instant::now();
+        let mut questions = Questions::new(now, 1000);
+        questions.mark(now);
+        (1..FIRST_WANTED / LEAST_MARKS).for_each(|_| assert!(!questions.ask()));
+        questions.answered(&stats(0), now + 2 * LONG);
+        assert!(!questions.has_room(true) && questions.next_mark() == Some(now + PERIOD));
+        questions.turns.line_up(7, 0, crate::turns::Turn::Gone);
+        assert_eq!(questions.next_mark(), Some(now));
+        questions.mark(now + LONG);
+        questions.answered(&stats(0), now + LONG);
+        assert!(questions.has_room(true) && questions.next_mark() == Some(now + LONG + PERIOD));
+    }
+
+    #[test]
+    fn one_change_is_waited_for_before_the_next() {
+        let begun = Instant::now();
+        let mut questions = Questions::new(begun, 0);
+        (0..4).for_each(|_| {
+            questions.mark(begun);
+        });
+        for _ in 0..4 {
+            questions.answered(&stats(0), begun + 2 * LONG);
+        }
+        assert_eq!(questions.wanted, FIRST_WANTED / 2);
     }
 }

@@ -23,7 +23,7 @@ pub enum Request<'a> {
     /// How all locks are.
     Status,
     /// To go on with the session that has this key.
-    Session(u64),
+    Session(u64, bool),
     /// Of an operator: where this server is in the log.
     Cluster,
     /// Of an operator: who is connected.
@@ -94,7 +94,11 @@ pub fn parse(line: &str, is_operator: bool) -> Result<Request<'_>, BadRequest> {
         "leave" => alone(rest, Request::Leave),
         "ping" => alone(rest, Request::Ping),
         "status" => alone(rest, Request::Status),
-        "session" => Ok(Request::Session(decimal(rest.unwrap_or(""))?)),
+        "session" => {
+            let rest = rest.unwrap_or("");
+            let key = rest.strip_suffix(" attached");
+            Ok(Request::Session(decimal(key.unwrap_or(rest))?, key.is_some()))
+        }
         "lease" if rest.is_none() => Ok(Request::GivenLease),
         "lease" => Ok(Request::Lease(Duration::from_millis(decimal(rest.unwrap_or(""))?))),
         "cluster" if is_operator => alone(rest, Request::Cluster),
@@ -140,6 +144,12 @@ fn alone<'a>(rest: Option<&str>, request: Request<'a>) -> Result<Request<'a>, Ba
     rest.map_or(Ok(request), |_| Err(NotALine::Syntax.into()))
 }
 
+/// Whether a leave is the first line here, with its number if there is one.
+pub fn asks_to_leave(input: &[u8]) -> bool {
+    let line = input.split(|&b| b == b'\n').next().unwrap_or(input);
+    line.ends_with(b"leave") && line[..line.len() - 5].iter().all(|&b| b == b' ' || b.is_ascii_digit())
+}
+
 #[cfg(test)]
 mod tests {
     use super::*;
@@ -157,7 +167,8 @@ mod tests {
             ("status", Request::Status),
             ("lease", Request::GivenLease),
             ("lease 1500", Request::Lease(Duration::from_millis(1500))),
-            ("session 18446744073709551615", Request::Session(u64::MAX)),
+            ("session 18446744073709551615", Request::Session(u64::MAX, false)),
+            ("session 7 attached", Request::Session(7, true)),
             ("cluster", Request::Cluster),
             ("clients", Request::Clients),
             ("stop", Request::Stop),
@@ -207,6 +218,8 @@ mod tests {
             "lease -1",
             "session",
             "session x",
+            "session attached",
+            "session 7 x",
         ] {
             assert_eq!(parse(line, false), rest(NotALine::Syntax), "{line:?}");
         }

@@ -1,62 +1,14 @@
 //! The words of the command line.
 
 use crate::cluster::{OverEtcd, ReadingOverEtcd};
+pub use crate::options::help;
+use crate::options::{options, Name};
+use std::ffi::OsString;
 use std::fmt;
 use std::net::SocketAddr;
 use std::path::PathBuf;
 use std::time::Duration;
-
-/// The help's text.
-pub const USAGE: &str = "\
-wozgirt-server --journal FOLDER [--locks NAME[:N[:K]],..] [OPTION ..]
-
-Gives the locks of one engine to clients on sockets. It decides nothing about locks: the engine does.
-
-The engine, which is run as `PROGRAM locks --journal FOLDER [--locks ..] ..`:
-  --engine PROGRAM         the program of the engine [ring_tool]
-  --journal FOLDER         where the engine keeps its journal
-  --locks NAME[:N[:K]],..  the locks; without it those of FOLDER
-  --segment LINES          how many lines a file of the journal has
-  --keep-segments COUNT    how many of these files are kept; what is removed is noted in FOLDER.removed [all]
-  --no-sync                answers do not wait for the disk
-  --engine-patience SECONDS  an engine that leaves a question unanswered for so long is ended, and started again [60]
-  --faults                 operators may write faults
-
-Sockets:
-  --socket PATH            for clients [/run/wozgirt/lock.sock]
-  --mode OCTAL             its mode [600]
-  --group NAME             its group
-  --operators PATH         for operators; without it there is none
-  --operators-mode OCTAL   its mode [600]
-  --operators-group NAME   its group
-  --tcp ADDRESS:PORT       for clients, who are not asked who they are
-  --page ADDRESS:PORT      `GET /` is a page, `GET /metrics` is for Prometheus
-  --listen-anywhere        the last two may be other addresses than this machine's own
-
-Several servers, with one log in etcd (FOLDER is then one of this server, with its checkpoint and journal):
-  --etcd URL,..            the members of etcd
-  --name NAME              this server's name, which no other has
-  --prefix KEY             what its keys in etcd begin with, the same for all servers [wozgirt]
-  --cacert FILE            who signs the certificates of etcd
-  --cert FILE              this server's own certificate
-  --key FILE               its key
-  --host-lease SECONDS     how long etcd takes a silent server for alive [10]
-  --checkpoint LINES       how many lines of the log lie between checkpoints, the same for all servers [100000]
-  --log-program PROGRAM    what speaks to etcd [wozgirt-log]
-
-Limits:
-  --rules FILE             who may use which lock
-  --longest-lease SECONDS  the longest lease of a client, and of each over TCP that asks for none [30]
-  --lease-for-all          clients on the Unix socket who ask for none have it too
-  --grace SECONDS          how long what was held when the engine, or another server, ended stays held [the longest lease]
-  --connections COUNT      how many clients at once on the Unix socket, and as many over TCP [1000]
-  --memory MIB             how much memory all connections may take together [128, or what COUNT needs]
-  --waiters COUNT          how many wait for one lock at once [10000]
-  --deaf SECONDS           how long a client may leave its answers unread [30]
-
-Other:
-  --log-connections        a line in the log for each client that comes and goes
-  --help, --version";
+use wozgirt_words::{next_word, BadWord, Word};
 
 /// How a socket is made that has a name.
 #[derive(Debug, Clone, PartialEq, Eq)]
@@ -132,6 +84,8 @@ pub enum Words {
 /// What is wrong with the words.
 #[derive(Debug, PartialEq, Eq)]
 pub enum BadWords {
+    /// A word is no text.
+    NoText(OsString),
     /// There is no such word.
     Unknown(String),
     /// It needs a value.
@@ -153,6 +107,7 @@ pub enum BadWords {
 impl fmt::Display for BadWords {
     fn fmt(&self, f: &mut fmt::Formatter<'_>) -> fmt::Result {
         match self {
+            BadWords::NoText(word) => write!(f, "{word:?} is no text in UTF-8"),
             BadWords::Unknown(word) => write!(f, "there is no option {word}"),
             BadWords::NoValue(word) => write!(f, "{word} needs a value"),
             BadWords::Value(word, value) => write!(f, "{word}: bad value `{value}`"),
@@ -169,19 +124,29 @@ impl fmt::Display for BadWords {
 
 impl std::error::Error for BadWords {}
 
-/// Reads the words after the program's name.
-pub fn parse(words: impl IntoIterator<Item = String>) -> Result<Words, BadWords> {
-    let mut reading = Reading::default();
-    let mut words = words.into_iter();
-    while let Some(word) = words.next() {
-        match word.as_str() {
-            "--help" | "-h" => return Ok(Words::Help),
-            "--version" | "-V" => return Ok(Words::Version),
-            _ => {}
+impl From<BadWord> for BadWords {
+    fn from(word: BadWord) -> BadWords {
+        match word {
+            BadWord::Unknown(word) => word.into_string().map_or_else(BadWords::NoText, BadWords::Unknown),
+            BadWord::NoValue(name) => BadWords::NoValue(name),
         }
-        if !reading.flag(&word) {
-            let value = words.next();
-            reading.value(word, value)?;
+    }
+}
+
+/// Reads the words after the program's name.
+pub fn parse(words: impl IntoIterator<Item = impl Into<OsString>>) -> Result<Words, BadWords> {
+    let mut reading = Reading::default();
+    let mut words = words.into_iter().map(Into::into);
+    while let Some(word) = next_word(&mut words, options()) {
+        match word? {
+            Word::Help => return Ok(Words::Help),
+            Word::Version => return Ok(Words::Version),
+            Word::End => return Err(BadWords::Unknown("--".into())),
+            Word::Other(word) => return Err(BadWord::Unknown(word).into()),
+            Word::Option(name, written, value) => {
+                let value = value.into_string().map_err(BadWords::NoText)?;
+                reading.put(name, &value).ok_or(BadWords::Value(written, value))?;
+            }
         }
     }
     reading.settings().map(|settings| Words::Run(Box::new(settings)))
@@ -215,52 +180,36 @@ struct Reading {
 }
 
 impl Reading {
-    fn flag(&mut self, word: &str) -> bool {
-        let flag = match word {
-            "--no-sync" => &mut self.is_not_synced,
-            "--faults" => &mut self.permits_faults,
-            "--listen-anywhere" => &mut self.listens_anywhere,
-            "--lease-for-all" => &mut self.is_lease_for_all,
-            "--log-connections" => &mut self.logs_connections,
-            _ => return false,
-        };
-        *flag = true;
-        true
-    }
-
-    fn value(&mut self, word: String, value: Option<String>) -> Result<(), BadWords> {
-        if !VALUED.contains(&word.as_str()) {
-            return Err(BadWords::Unknown(word));
-        }
-        let value = value.ok_or_else(|| BadWords::NoValue(word.clone()))?;
-        self.put(&word, &value).ok_or(BadWords::Value(word, value))
-    }
-
-    /// Nothing if it is not a value of this word.
-    fn put(&mut self, word: &str, value: &str) -> Option<()> {
-        match word {
-            "--engine" => self.engine = Some(value.into()),
-            "--journal" => self.journal = Some(value.into()),
-            "--locks" => self.locks = Some(value.into()),
-            "--segment" => self.segment = Some(value.parse().ok().filter(|&lines| lines > 0)?),
-            "--keep-segments" => self.keep_segments = Some(count(value).filter(|&count| count > 1)?),
-            "--engine-patience" => self.engine_patience = Some(seconds(value).filter(|time| !time.is_zero())?),
-            "--socket" => self.sockets[0].0 = Some(value.into()),
-            "--mode" => self.sockets[0].1 = Some(mode(value)?),
-            "--group" => self.sockets[0].2 = Some(value.into()),
-            "--operators" => self.sockets[1].0 = Some(value.into()),
-            "--operators-mode" => self.sockets[1].1 = Some(mode(value)?),
-            "--operators-group" => self.sockets[1].2 = Some(value.into()),
-            "--tcp" => self.tcp = Some(value.parse().ok()?),
-            "--page" => self.page = Some(value.parse().ok()?),
-            "--rules" => self.rules = Some(value.into()),
-            "--longest-lease" => self.longest_lease = Some(seconds(value).filter(|time| !time.is_zero())?),
-            "--grace" => self.grace = Some(seconds(value)?),
-            "--connections" => self.connections = Some(count(value)?),
-            "--memory" => self.memory = Some(count(value)?),
-            "--waiters" => self.waiters = Some(value.parse().ok()?),
-            "--deaf" => self.deaf = Some(seconds(value).filter(|time| !time.is_zero())?),
-            _ => return self.cluster.put(word, value),
+    /// Nothing if it is not a value of this option.
+    fn put(&mut self, name: Name, value: &str) -> Option<()> {
+        match name {
+            Name::Engine => self.engine = Some(value.into()),
+            Name::Journal => self.journal = Some(value.into()),
+            Name::Locks => self.locks = Some(value.into()),
+            Name::Segment => self.segment = Some(value.parse().ok().filter(|&lines| lines > 0)?),
+            Name::KeepSegments => self.keep_segments = Some(count(value).filter(|&count| count > 1)?),
+            Name::NoSync => self.is_not_synced = true,
+            Name::EnginePatience => self.engine_patience = Some(seconds(value).filter(|time| !time.is_zero())?),
+            Name::Faults => self.permits_faults = true,
+            Name::Socket => self.sockets[0].0 = Some(value.into()),
+            Name::Mode => self.sockets[0].1 = Some(mode(value)?),
+            Name::Group => self.sockets[0].2 = Some(value.into()),
+            Name::Operators => self.sockets[1].0 = Some(value.into()),
+            Name::OperatorsMode => self.sockets[1].1 = Some(mode(value)?),
+            Name::OperatorsGroup => self.sockets[1].2 = Some(value.into()),
+            Name::Tcp => self.tcp = Some(value.parse().ok()?),
+            Name::Page => self.page = Some(value.parse().ok()?),
+            Name::ListenAnywhere => self.listens_anywhere = true,
+            Name::Rules => self.rules = Some(value.into()),
+            Name::LongestLease => self.longest_lease = Some(seconds(value).filter(|time| !time.is_zero())?),
+            Name::LeaseForAll => self.is_lease_for_all = true,
+            Name::Grace => self.grace = Some(seconds(value)?),
+            Name::Connections => self.connections = Some(count(value)?),
+            Name::Memory => self.memory = Some(count(value)?),
+            Name::Waiters => self.waiters = Some(value.parse().ok()?),
+            Name::Deaf => self.deaf = Some(seconds(value).filter(|time| !time.is_zero())?),
+            Name::LogConnections => self.logs_connections = true,
+            Name::OverEtcd(name) => self.cluster.put(name, value)?,
         }
         Some(())
     }
@@ -308,40 +257,6 @@ impl Reading {
         })
     }
 }
-
-/// The options that have a value.
-const VALUED: [&str; 30] = [
-    "--engine",
-    "--journal",
-    "--locks",
-    "--segment",
-    "--keep-segments",
-    "--engine-patience",
-    "--socket",
-    "--mode",
-    "--group",
-    "--operators",
-    "--operators-mode",
-    "--operators-group",
-    "--tcp",
-    "--page",
-    "--rules",
-    "--longest-lease",
-    "--grace",
-    "--connections",
-    "--memory",
-    "--waiters",
-    "--deaf",
-    "--etcd",
-    "--name",
-    "--prefix",
-    "--cacert",
-    "--cert",
-    "--key",
-    "--host-lease",
-    "--checkpoint",
-    "--log-program",
-];
 
 fn mode(value: &str) -> Option<u32> {
     u32::from_str_radix(value, 8).ok().filter(|&mode| mode <= 0o777)
@@ -397,6 +312,7 @@ impl Settings {
 #[cfg(test)]
 mod tests {
     use super::*;
+    use std::os::unix::ffi::OsStringExt;
 
     fn read(words: &str) -> Result<Settings, BadWords> {
         match parse(words.split_whitespace().map(String::from))? {
@@ -413,6 +329,16 @@ mod tests {
         assert_eq!(settings.clients, Named { path: "/run/wozgirt/lock.sock".into(), mode: 0o600, group: None });
         assert_eq!((settings.operators, settings.tcp, settings.page), (None, None, None));
         assert_eq!((settings.longest_lease, settings.grace), (Duration::from_secs(30), Duration::from_secs(30)));
+        assert_eq!(read("--journal=/j --grace=31").unwrap().grace, Duration::from_secs(31));
+    }
+
+    #[test]
+    fn words_that_are_no_text() {
+        let word = OsString::from_vec(b"\xff".to_vec());
+        for words in [vec!["--journal".into(), word.clone()], vec![word.clone()]] {
+            assert_eq!(parse(words), Err(BadWords::NoText(word.clone())));
+        }
+        assert_eq!(BadWords::NoText(word).to_string(), "\"\\xFF\" is no text in UTF-8");
     }
 
     #[test]
@@ -460,6 +386,9 @@ mod tests {
             ("", "--journal is missing"),
             ("--journal", "--journal needs a value"),
             ("--journal j --jump", "there is no option --jump"),
+            ("--journal j jump", "there is no option jump"),
+            ("--journal j --no-sync=1", "there is no option --no-sync=1"),
+            ("--journal j -- --no-sync", "there is no option --"),
             ("--journal j --mode 8", "--mode: bad value `8`"),
             ("--journal j --mode 1777", "--mode: bad value `1777`"),
             ("--journal j --grace -1", "--grace: bad value `-1`"),
@@ -486,7 +415,7 @@ mod tests {
         }
         assert!(matches!(read("--journal j --tcp 0.0.0.0:1"), Err(BadWords::Anywhere(_))));
         assert!(read("--journal j --tcp 0.0.0.0:1 --listen-anywhere").is_ok());
-        assert_eq!(parse(["--help".into()]), Ok(Words::Help));
-        assert_eq!(parse(["--version".into()]), Ok(Words::Version));
+        assert_eq!(parse(["--help"]), Ok(Words::Help));
+        assert_eq!(parse(["--version"]), Ok(Words::Version));
     }
 }

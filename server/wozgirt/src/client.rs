@@ -17,6 +17,11 @@ pub fn soon(deadline: Option<Instant>) -> Instant {
     deadline.map_or(end, |deadline| deadline.min(end))
 }
 
+/// When a server has to have answered what it was asked then.
+pub fn soon_after(asked: Instant) -> Instant {
+    asked + SOON
+}
+
 /// Why there is no answer.
 #[derive(Debug)]
 pub enum Fault {
@@ -117,7 +122,7 @@ impl Client {
         matches!(self.stream, Stream::Tcp(_))
     }
 
-    /// Sends a line.
+    /// Sends a line. That the server has closed the connection is not said here: who reads hears first what it said before.
     pub fn send(&mut self, line: &str) -> Result<(), Fault> {
         let mut text = Vec::with_capacity(line.len() + 1);
         text.extend_from_slice(line.as_bytes());
@@ -126,7 +131,10 @@ impl Client {
             Stream::Unix(stream) => stream.write_all(&text),
             Stream::Tcp(stream) => stream.write_all(&text),
         };
-        written.map_err(Fault::from)
+        match written.map_err(Fault::from) {
+            Err(Fault::Closed) => Ok(()),
+            other => other,
+        }
     }
 
     /// The next line of the server; `Late` if there is none until then.

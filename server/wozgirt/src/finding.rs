@@ -13,8 +13,9 @@ const CONNECT: Duration = Duration::from_secs(2);
 const ANSWER: Duration = Duration::from_secs(5);
 /// And how long at least, if there is less time left than that.
 const LEAST: Duration = Duration::from_millis(50);
-/// The pause until all servers are tried again, if none of them answers.
+/// The pause until all servers are tried again, if none of them answers; and one, which may be there at any moment.
 const PAUSE: Duration = Duration::from_millis(50);
+const PAUSE_OF_ONE: Duration = Duration::from_millis(10);
 
 /// What is looked for.
 #[derive(Debug, Clone)]
@@ -25,8 +26,10 @@ pub struct Search {
     pub first: usize,
     /// The session.
     pub key: u64,
-    /// The lease that is asked for.
-    pub lease: Duration,
+    /// Whether it is over when this client closes the connection.
+    pub is_attached: bool,
+    /// The lease that is asked for, if one is.
+    pub lease: Option<Duration>,
     /// When nobody wants it any more.
     pub until: Instant,
     /// How often all are tried,
@@ -43,8 +46,11 @@ pub struct Found {
     pub at: usize,
     /// When it was tried.
     pub begun: Instant,
-    /// The lease that it gives.
-    pub lease: Duration,
+    /// Whether it was not there at first.
+    pub has_come: bool,
+    /// The lease that it gives, and how long the session may be without a connection.
+    pub lease: Option<Duration>,
+    pub away: Duration,
     /// What the session has: `holds NAME TOKEN` and `waits NAME`.
     pub told: Vec<String>,
     /// What it said besides.
@@ -61,8 +67,9 @@ impl Search {
             for i in 0..count {
                 let at = (self.first + i) % count;
                 let other = match self.try_one(at, count - i) {
-                    Ok(found) => return Ok(found),
+                    Ok(found) => return Ok(Found { has_come: round > 1, ..found }),
                     Err(known @ (Fault::Connect(..) | Fault::At(..))) => known,
+                    Err(other) if count == 1 => other,
                     Err(other) => Fault::At(self.places[at].clone(), Box::new(other)),
                 };
                 is_starting |= other.is_of_a_start();
@@ -77,7 +84,8 @@ impl Search {
             if round >= self.rounds && !(is_starting && Instant::now() < self.there) {
                 break;
             }
-            thread::sleep(PAUSE.min(self.until.saturating_duration_since(Instant::now())));
+            let pause = if self.is_attached { PAUSE_OF_ONE } else { PAUSE };
+            thread::sleep(pause.min(self.until.saturating_duration_since(Instant::now())));
         }
         Err(fault)
     }
@@ -87,22 +95,44 @@ impl Search {
         let begun = Instant::now();
         let share = self.until.saturating_duration_since(begun) / u32::try_from(sharers).unwrap_or(1);
         let left = share.max(LEAST);
-        let mut client = Client::open(&self.places[at], begun + CONNECT.min(left))?;
-        let end = Some(begun + ANSWER.min(left));
-        client.send(&format!("session {}", self.key))?;
+        // where a connection that is closed ends the session, one that may have said its key is not given up for another
+        let (connect, answer) = if self.is_attached { (left, left) } else { (CONNECT.min(left), ANSWER.min(left)) };
+        let mut client = Client::open(&self.places[at], begun + connect)?;
+        let end = Some(begun + answer);
+        client.send(&format!("session {}{}", self.key, if self.is_attached { " attached" } else { "" }))?;
         let first = client.line(end)?;
-        let count: Option<usize> =
-            first.strip_prefix(&format!("session {} ", self.key)).and_then(|word| word.parse().ok());
-        let count = count.ok_or_else(|| unexpected(first))?;
+        if self.places.len() > 1 && first.ends_with(" alone") {
+            return Err(Fault::Refused("session".into())); // its locks are not those of the others
+        }
+        let (count, mut lease, mut away) = self.opened(&first).ok_or_else(|| unexpected(first))?;
         let told = (0..count).map(|_| client.line(end)).collect::<Result<_, _>>()?;
-        client.send(&format!("lease {}", self.lease.as_millis()))?;
         let mut others = Vec::new();
-        loop {
-            let line = client.line(end)?;
-            match line.strip_prefix("lease ").and_then(|word| word.parse().ok()).map(Duration::from_millis) {
-                Some(lease) => return Ok(Found { client, at, begun, lease, told, others }),
-                None => others.push(line),
+        if let Some(wanted) = self.lease {
+            client.send(&format!("lease {}", wanted.as_millis()))?;
+            let given = loop {
+                let line = client.line(end)?;
+                match line.strip_prefix("lease ").and_then(|word| word.parse().ok()) {
+                    Some(given) => break Duration::from_millis(given),
+                    None => others.push(line),
+                }
+            };
+            (lease, away) = (Some(given), given);
+        }
+        Ok(Found { client, at, begun, has_come: false, lease, away, told, others })
+    }
+
+    /// What the first line of a server says: how many follow, and of an attached session its lease, and how long it may be without a
+    /// connection.
+    fn opened(&self, first: &str) -> Option<(usize, Option<Duration>, Duration)> {
+        let rest = first.strip_prefix(&format!("session {} ", self.key))?;
+        let numbers: Vec<u64> = rest.split(' ').map(|word| word.parse().ok()).collect::<Option<_>>()?;
+        let time = Duration::from_millis;
+        match (self.is_attached, &numbers[..]) {
+            (false, &[count]) => Some((usize::try_from(count).ok()?, None, Duration::ZERO)),
+            (true, &[count, lease, away]) => {
+                Some((usize::try_from(count).ok()?, (lease > 0).then(|| time(lease)), time(away)))
             }
+            _ => None,
         }
     }
 }

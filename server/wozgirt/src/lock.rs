@@ -133,9 +133,12 @@ pub fn run(places: &[Place], hold: &Hold) -> Result<Ending, NotRun> {
         Patience::For(time) => Some(Instant::now() + time),
         Patience::Endless | Patience::None => None,
     };
-    let opened = match places {
-        [place] => Alone::open(place, hold, deadline).map(Opened::Alone),
-        _ => Session::open(places, hold, deadline).map(Opened::Session),
+    let opened = match (Session::open(places, hold, deadline), places) {
+        // it has no such sessions
+        (Err(Fault::Refused(why)), [place]) if why == "session" || why == "syntax" => {
+            Alone::open(place, hold, deadline).map(Opened::Alone)
+        }
+        (opened, _) => opened.map(Opened::Session),
     };
     match opened {
         Ok(Opened::Alone(alone)) => run_alone(alone, hold, deadline),
@@ -163,9 +166,18 @@ fn run_alone(mut alone: Alone, hold: &Hold, deadline: Option<Instant>) -> Result
 }
 
 fn run_in_session(mut session: Session, hold: &Hold, deadline: Option<Instant>) -> Result<Ending, NotRun> {
+    if session.is_attached() {
+        return match session.acquire(hold, deadline, None)? {
+            Got::Token(token) => {
+                let signals = heard(session.poller())?;
+                command(hold, token, &mut session, signals)
+            }
+            Got::Not(ending) => Ok(ending),
+        };
+    }
     let ending = (|| {
         let mut signals = heard(session.poller())?;
-        match session.acquire(hold, deadline, &mut signals)? {
+        match session.acquire(hold, deadline, Some(&mut signals))? {
             Got::Token(token) => command(hold, token, &mut session, signals),
             Got::Not(ending) => Ok(ending),
         }

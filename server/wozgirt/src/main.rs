@@ -7,8 +7,8 @@ mod bench;
 mod client;
 mod connecting;
 mod finding;
-mod help;
 mod lock;
+mod options;
 mod output;
 mod parsing;
 mod places;
@@ -90,7 +90,7 @@ fn main() -> ExitCode {
             Ok(text) => done(print(&text).map_err(CannotDo::Output)),
             Err(wrong) => say(wrong, 1),
         },
-        Ok(Words::Help) => done(print(help::USAGE).map_err(CannotDo::Output)),
+        Ok(Words::Help) => done(print(&options::help()).map_err(CannotDo::Output)),
         Ok(Words::Version) => {
             done(print(concat!("wozgirt ", env!("CARGO_PKG_VERSION"), "\n")).map_err(CannotDo::Output))
         }

@@ -1,10 +1,12 @@
 //! The reading of the command line.
 
+use crate::options::{Name, OrderName, Verb, COMMANDS, ORDERS};
 use crate::places::{places, Place};
 use crate::words::{BadWords, Hold, Load, Look, Order, Patience, Words};
 use std::ffi::{OsStr, OsString};
-use std::os::unix::ffi::{OsStrExt, OsStringExt};
+use std::os::unix::ffi::OsStrExt;
 use std::time::Duration;
+use wozgirt_words::{next_word, Word};
 
 /// Where servers are, if no word says it.
 #[derive(Debug, Clone)]
@@ -37,76 +39,39 @@ struct Reading {
 /// Reads the words after the program's name.
 pub fn parse(words: impl IntoIterator<Item = OsString>, usual: Usual) -> Result<Words, BadWords> {
     let mut words = words.into_iter();
-    let verb = text(words.next().ok_or(BadWords::None)?);
+    let command = match next_word::<Name>(&mut words, []).ok_or(BadWords::None)?? {
+        Word::Help => return Ok(Words::Help),
+        Word::Version => return Ok(Words::Version),
+        Word::Other(word) if word == "help" => return Ok(Words::Help),
+        Word::Other(word) => COMMANDS.iter().find(|it| word == it.name).ok_or_else(|| BadWords::Unknown(text(word)))?,
+        Word::Option(_, word, _) => return Err(BadWords::Unknown(word)),
+        Word::End => return Err(BadWords::Unknown("--".into())),
+    };
     let mut reading = Reading::new(usual);
-    match verb.as_str() {
-        "--help" | "-h" | "help" => return Ok(Words::Help),
-        "--version" | "-V" => return Ok(Words::Version),
-        "lock" => {}
-        "try" => reading.is_impatient = true,
-        "status" | "watch" | "bench" | "admin" => {}
-        _ => return Err(BadWords::Unknown(verb)),
-    }
-    let is_lock = matches!(verb.as_str(), "lock" | "try");
-    while let Some(word) = words.next() {
-        let (option, attached) = split(&word);
-        match option.as_str() {
-            "--help" | "-h" => return Ok(Words::Help),
-            "--" if is_lock => reading.command = words.by_ref().collect(),
-            _ if attached.is_none() && reading.flag(&option, is_lock) => {}
-            _ if is_valued(&option, &verb) => {
-                let value = attached.or_else(|| words.next()).ok_or_else(|| BadWords::NoValue(option.clone()))?;
-                reading.put(&option, &value).ok_or_else(|| BadWords::Value(option, text(value)))?;
+    reading.is_impatient = command.verb == Verb::Try;
+    let is_lock = matches!(command.verb, Verb::Lock | Verb::Try);
+    while let Some(word) = next_word(&mut words, command.options()) {
+        match word? {
+            Word::Help => return Ok(Words::Help),
+            Word::Version => return Ok(Words::Version),
+            Word::End if is_lock => reading.command = words.by_ref().collect(),
+            Word::End => return Err(BadWords::Unknown("--".into())),
+            Word::Option(name, written, value) => {
+                reading.put(name, &value).ok_or_else(|| BadWords::Value(written, text(value)))?;
             }
-            _ if option.starts_with('-') => return Err(BadWords::Unknown(text(word))),
-            _ if is_lock && !reading.others.is_empty() => {
+            Word::Other(word) if is_lock && !reading.others.is_empty() => {
                 reading.command.push(word);
                 reading.command.extend(words.by_ref());
             }
-            _ => reading.others.push(word),
+            Word::Other(word) => reading.others.push(word),
         }
     }
-    reading.words(&verb)
+    reading.words(command.verb)
 }
 
 /// A word for a message, or one that only text can be equal to.
 fn text(word: OsString) -> String {
     word.to_string_lossy().into_owned()
-}
-
-/// An option and the value that is part of its word: `--wait=1` and `-w1`.
-fn split(word: &OsStr) -> (String, Option<OsString>) {
-    let bytes = word.as_bytes();
-    let (option, value) = match bytes {
-        [b'-', b'-', ..] => match bytes.iter().position(|&b| b == b'=') {
-            Some(at) => (&bytes[..at], Some(&bytes[at + 1..])),
-            None => (bytes, None),
-        },
-        [b'-', b'w' | b'E', value @ ..] if !value.is_empty() => (&bytes[..2], Some(value)),
-        _ => (bytes, None),
-    };
-    (String::from_utf8_lossy(option).into_owned(), value.map(|value| OsString::from_vec(value.into())))
-}
-
-fn is_valued(word: &str, verb: &str) -> bool {
-    match word {
-        "--socket" => verb != "admin",
-        "--server-wait" => matches!(verb, "lock" | "try" | "status" | "watch"),
-        "--operators" => verb == "admin",
-        "--every" => verb == "watch",
-        "-w"
-        | "--wait"
-        | "--timeout"
-        | "-E"
-        | "--conflict-status"
-        | "--conflict-exit-code"
-        | "--label"
-        | "--lease"
-        | "--kill-after" => {
-            matches!(verb, "lock" | "try")
-        }
-        _ => false,
-    }
 }
 
 impl Reading {
@@ -130,44 +95,37 @@ impl Reading {
         }
     }
 
-    fn flag(&mut self, word: &str, is_lock: bool) -> bool {
-        match word {
-            "-n" | "--no-wait" | "--nonblock" | "--nb" if is_lock => self.is_impatient = true,
-            "-o" | "--close" if is_lock => self.closes = true,
-            "--command-only" if is_lock => self.is_of_command_only = true,
-            "--group" if is_lock => self.is_group = true,
-            _ => return false,
-        }
-        true
-    }
-
-    /// Nothing if it is not a value of this word.
-    fn put(&mut self, word: &str, value: &OsStr) -> Option<()> {
-        match word {
-            "--socket" => self.socket = value.into(),
-            "--operators" => self.operators = value.into(),
-            "--server-wait" => self.server_wait = seconds(value)?,
-            "--every" => self.every = seconds(value).filter(|time| !time.is_zero())?,
-            "-E" | "--conflict-status" | "--conflict-exit-code" => self.conflict_status = number(value)?,
-            "--label" => self.label = Some(number(value)?),
-            "--lease" => self.lease = Some(seconds(value).filter(|time| time.as_millis() > 0)?),
-            "--kill-after" => self.kill_after = seconds(value)?,
-            _ => self.wait = Some(seconds(value)?),
+    /// Nothing if it is not a value of this option.
+    fn put(&mut self, name: Name, value: &OsStr) -> Option<()> {
+        match name {
+            Name::Socket => self.socket = value.into(),
+            Name::Operators => self.operators = value.into(),
+            Name::ServerWait => self.server_wait = seconds(value)?,
+            Name::Every => self.every = seconds(value).filter(|time| !time.is_zero())?,
+            Name::Wait => self.wait = Some(seconds(value)?),
+            Name::NoWait => self.is_impatient = true,
+            Name::ConflictStatus => self.conflict_status = number(value)?,
+            Name::Label => self.label = Some(number(value)?),
+            Name::Lease => self.lease = Some(seconds(value).filter(|time| time.as_millis() > 0)?),
+            Name::KillAfter => self.kill_after = seconds(value)?,
+            Name::Close => self.closes = true,
+            Name::CommandOnly => self.is_of_command_only = true,
+            Name::Group => self.is_group = true,
         }
         Some(())
     }
 
-    fn words(mut self, verb: &str) -> Result<Words, BadWords> {
+    fn words(mut self, verb: Verb) -> Result<Words, BadWords> {
         let mut others = std::mem::take(&mut self.others).into_iter();
         let words = match verb {
-            "bench" => self.bench(&mut others)?,
-            "admin" => Words::Admin(self.operators.into(), order(&mut others)?),
-            "status" => Words::Status(Look { places: self.places()?, server_wait: self.server_wait, every: None }),
-            "watch" => {
+            Verb::Bench => self.bench(&mut others)?,
+            Verb::Admin => Words::Admin(self.operators.into(), order(&mut others)?),
+            Verb::Status => Words::Status(Look { places: self.places()?, server_wait: self.server_wait, every: None }),
+            Verb::Watch => {
                 let every = Some(self.every);
                 Words::Status(Look { places: self.places()?, server_wait: self.server_wait, every })
             }
-            _ => Words::Lock(self.places()?, self.hold(others.next())?),
+            Verb::Lock | Verb::Try => Words::Lock(self.places()?, self.hold(others.next())?),
         };
         others.next().map_or(Ok(words), |word| Err(BadWords::Unknown(text(word))))
     }
@@ -223,22 +181,22 @@ impl Reading {
 
 /// What an operator says.
 fn order(words: &mut impl Iterator<Item = OsString>) -> Result<Order, BadWords> {
-    let verb = words.next().map(text).ok_or(BadWords::Order)?;
+    let verb = words.next().ok_or(BadWords::Order)?;
+    let found = ORDERS.iter().find(|it| verb == it.name()).ok_or(BadWords::Order)?;
     let next_number = |words: &mut dyn Iterator<Item = OsString>| {
         let word = words.next().ok_or(BadWords::Order)?;
-        number(&word).ok_or_else(|| BadWords::Value(verb.clone(), text(word)))
+        number(&word).ok_or_else(|| BadWords::Value(found.name().into(), text(word)))
     };
-    Ok(match verb.as_str() {
-        "clients" => Order::Clients,
-        "cluster" => Order::Cluster,
-        "stop" => Order::Stop,
-        "kick" => Order::Kick(next_number(words)?),
-        "end" => Order::End(name(words.next().ok_or(BadWords::Order)?)?, next_number(words)?),
-        "corrupt" => {
+    Ok(match found.order {
+        OrderName::Clients => Order::Clients,
+        OrderName::Cluster => Order::Cluster,
+        OrderName::Stop => Order::Stop,
+        OrderName::Kick => Order::Kick(next_number(words)?),
+        OrderName::End => Order::End(name(words.next().ok_or(BadWords::Order)?)?, next_number(words)?),
+        OrderName::Corrupt => {
             let lock = name(words.next().ok_or(BadWords::Order)?)?;
             Order::Corrupt(lock, next_number(words)?, next_number(words)?)
         }
-        _ => return Err(BadWords::Order),
     })
 }
 
@@ -267,6 +225,7 @@ fn seconds(value: &OsStr) -> Option<Duration> {
 #[cfg(test)]
 mod tests {
     use super::*;
+    use std::os::unix::ffi::OsStringExt;
 
     fn usual() -> Usual {
         Usual { socket: "/s".into(), operators: "/o".into() }
@@ -369,6 +328,7 @@ mod tests {
         assert_eq!(read("--help"), Ok(Words::Help));
         assert_eq!(read("lock --help"), Ok(Words::Help));
         assert_eq!(read("--version"), Ok(Words::Version));
+        assert_eq!(read("lock deploy --version"), Ok(Words::Version));
     }
 
     #[test]
@@ -376,6 +336,9 @@ mod tests {
         for (words, why) in [
             ("", "lock, try, status, watch, bench or admin is wanted"),
             ("jump", "`jump` has no place here"),
+            ("-w 1 lock deploy -- true", "`-w` has no place here"),
+            ("-- lock deploy true", "`--` has no place here"),
+            ("status --", "`--` has no place here"),
             ("lock", "NAME is missing"),
             ("lock deploy", "COMMAND is missing"),
             ("lock deploy --", "COMMAND is missing"),

@@ -1,18 +1,21 @@
-//! A lock of several servers that have one log: if the server is lost, the next one goes on with the same hold.
+//! A lock in a session: if the server is lost, the next one goes on with the same hold, or the same server when it was started again.
 //!
 //! The client has a key that it drew, and numbers what it asks. Another server tells what the session has, and does not do again what
-//! was done. The client has a lease in any case; if no server answers for half of it, the lock is lost.
+//! was done. Of several servers the client has a lease in any case; if no server answers for half of it, the lock is lost. Of one server
+//! the session is attached: it is over when the connection is closed on this side. There the client has a lease if it asks for one; else
+//! the lock is lost when the server has been away for half of the time that it keeps the session.
 
 use crate::answers::{Answer, Verb};
-use crate::client::{fault_of, question, soon, Client, Fault};
+use crate::client::{fault_of, question, soon, soon_after, Client, Fault};
 use crate::finding::{Finding, Found, Search};
 use crate::lock::{Ending, Got, Link, Unanswered, GRACE, LEASE};
 use crate::places::Place;
 use crate::words::{Hold, Patience};
 use std::fs::File;
 use std::io::{self, Read};
+use std::thread;
 use std::time::{Duration, Instant};
-use wozgirt_system::{Event, Interest, Poller, Signal, Signals};
+use wozgirt_system::{inherit, Event, Interest, Poller, Signal, Signals};
 
 const SERVER: u64 = 1;
 const BELL: u64 = 2;
@@ -21,6 +24,10 @@ const ROUNDS: usize = 3;
 /// After this part of the lease the client speaks, and after another one without an answer it looks for another server. So a quarter is
 /// left for that, until the lock is lost after half of the lease.
 const PARTS: u32 = 8;
+/// Where there is no other server, it speaks after this part.
+const PARTS_OF_ONE: u32 = 4;
+/// A server that just came up is asked later by who does not wait for the lock: who waits for both, and came first, is then before it.
+const AFTER_OTHERS: Duration = Duration::from_millis(200);
 
 /// What was asked last and has no answer yet.
 struct Asked {
@@ -33,8 +40,8 @@ struct Asked {
 enum Server {
     Here(Client),
     Sought(Finding),
-    /// Nobody any more.
-    Nobody,
+    /// Nobody any more. The connection is kept, if there is one: it keeps the lock.
+    Nobody(#[allow(dead_code)] Option<Client>),
 }
 
 /// A session.
@@ -42,7 +49,12 @@ pub struct Session {
     places: Vec<Place>,
     at: usize,
     key: u64,
-    lease: Duration,
+    is_attached: bool,
+    closes: bool,
+    lease: Option<Duration>,
+    /// How long the session may be without a connection, and since when it is.
+    away: Duration,
+    left: Option<Instant>,
     server: Server,
     poller: Poller,
     /// Some server heard this client then, or later.
@@ -51,6 +63,7 @@ pub struct Session {
     pinged: Option<Instant>,
     number: u64,
     asked: Option<Asked>,
+    asked_at: Instant,
     answer: Option<String>,
     name: String,
     is_waiting: bool,
@@ -64,22 +77,34 @@ impl Session {
     pub fn open(places: &[Place], hold: &Hold, deadline: Option<Instant>) -> Result<Session, Fault> {
         let mut bytes = [0; 8];
         File::open("/dev/urandom")?.read_exact(&mut bytes)?;
-        let (key, lease, now) = (u64::from_le_bytes(bytes), hold.lease.unwrap_or(LEASE), Instant::now());
+        let (key, now) = (u64::from_le_bytes(bytes), Instant::now());
+        let is_attached = places.len() == 1;
+        let has_lease = !is_attached || matches!(places, [Place::Tcp(_)]);
+        let lease = hold.lease.or(has_lease.then_some(LEASE));
         let there = now + hold.server_wait;
         let until = soon(deadline).max(deadline.map_or(there, |deadline| deadline.min(there)));
-        let search = Search { places: places.to_vec(), first: 0, key, lease, until, rounds: ROUNDS, there };
+        let rounds = if is_attached { 1 } else { ROUNDS };
+        let search = Search { places: places.to_vec(), first: 0, key, is_attached, lease, until, rounds, there };
         let found = search.run()?;
+        if is_attached && hold.patience == Patience::None && found.has_come {
+            thread::sleep(AFTER_OTHERS);
+        }
         let mut session = Session {
             places: search.places,
             at: 0,
             key,
+            is_attached,
+            closes: hold.closes,
             lease,
-            server: Server::Nobody,
+            away: Duration::ZERO,
+            left: None,
+            server: Server::Nobody(None),
             poller: Poller::new()?,
             spoken: now,
             pinged: None,
             number: 0,
             asked: None,
+            asked_at: now,
             answer: None,
             name: hold.name.clone(),
             is_waiting: false,
@@ -90,8 +115,18 @@ impl Session {
         Ok(session)
     }
 
-    /// Asks for the lock, and waits for it as long as the hold says, or until a signal ends that.
-    pub fn acquire(&mut self, hold: &Hold, deadline: Option<Instant>, signals: &mut Signals) -> Result<Got, Fault> {
+    /// Whether the end of this program withdraws all that it has asked.
+    pub fn is_attached(&self) -> bool {
+        self.is_attached
+    }
+
+    /// Asks for the lock, and waits for it as long as the hold says, or until one of these signals ends that.
+    pub fn acquire(
+        &mut self,
+        hold: &Hold,
+        deadline: Option<Instant>,
+        mut signals: Option<&mut Signals>,
+    ) -> Result<Got, Fault> {
         let verb = if hold.patience == Patience::None { Verb::Try } else { Verb::Acquire };
         let end = deadline.map(|deadline| deadline + GRACE);
         self.ask(verb, Some(hold.label()))?;
@@ -105,16 +140,29 @@ impl Session {
                 self.ask(Verb::Cancel, None)?;
             }
             if end.is_some_and(|end| end <= now) {
-                return Ok(Got::Not(Ending::Unanswered(Unanswered::Lease(self.lease))));
+                return Ok(Got::Not(Ending::Unanswered(self.unanswered())));
             }
-            let until = [self.next_time(), deadline.filter(|it| *it > now).or(end)].into_iter().flatten().min();
+            let due = (self.is_attached && self.asked.is_some()).then(|| soon_after(self.asked_at));
+            if due.is_some_and(|due| due <= now) && self.left.is_none() {
+                return Err(Fault::Late);
+            }
+            let until = [self.next_time(), deadline.filter(|it| *it > now).or(end), due.filter(|due| *due > now)];
+            let until = until.into_iter().flatten().min();
             self.poller.wait(until.map(|until| until.saturating_duration_since(now)), &mut events)?;
-            while let Some(signal) = signals.next_signal() {
+            while let Some(signal) = signals.as_mut().and_then(|signals| signals.next_signal()) {
                 if signal != Signal::Child {
                     return Ok(Got::Not(Ending::Signal(signal)));
                 }
             }
             self.step(&events, Instant::now())?;
+        }
+    }
+
+    /// What becomes of a question that is given up.
+    fn unanswered(&self) -> Unanswered {
+        match self.lease {
+            Some(lease) if !self.is_attached => Unanswered::Lease(lease),
+            _ => Unanswered::Closed,
         }
     }
 
@@ -143,6 +191,7 @@ impl Session {
         let (Server::Here(client), Some(Asked { number, line, .. })) = (&mut self.server, &self.asked) else {
             return Ok(());
         };
+        self.asked_at = Instant::now();
         match client.send(&format!("{number} {line}")) {
             Ok(()) => Ok(()),
             Err(_) => self.search(),
@@ -165,14 +214,22 @@ impl Session {
         }
     }
 
-    /// This server is lost: another one is looked for.
+    /// This server is lost: another one is looked for, or the same one when it is there again.
     fn search(&mut self) -> Result<(), Fault> {
+        if let Server::Here(client) = &self.server {
+            self.poller.remove(client)?; // COMMAND may have the connection, too
+        }
+        if self.is_attached {
+            self.left.get_or_insert_with(Instant::now);
+        }
+        let end = self.loss().unwrap_or(self.spoken).max(self.spoken + self.lease.unwrap_or_default());
         let search = Search {
             places: self.places.clone(),
             first: self.at + 1,
             key: self.key,
+            is_attached: self.is_attached,
             lease: self.lease,
-            until: self.spoken + self.lease,
+            until: end,
             rounds: usize::MAX,
             there: self.spoken,
         };
@@ -185,9 +242,10 @@ impl Session {
 
     /// Goes on with this server.
     fn go_on(&mut self, found: Found) -> Result<(), Fault> {
-        let Found { client, at, begun, lease, told, others } = found;
+        let Found { client, at, begun, lease, away, told, others, .. } = found;
         self.poller.add(&client, SERVER, Interest::READS)?;
         (self.at, self.spoken, self.lease) = (at, begun, lease);
+        (self.away, self.left) = (away, None);
         self.server = Server::Here(client);
         self.compare(&told)?;
         for line in others {
@@ -253,8 +311,11 @@ impl Session {
     }
 
     /// When the lock is lost, or nothing is waited for any more.
-    fn loss(&self) -> Instant {
-        self.spoken + if self.token.is_some() { self.lease / 2 } else { self.lease }
+    fn loss(&self) -> Option<Instant> {
+        let part = |time: Duration| if self.token.is_some() { time / 2 } else { time };
+        let silence = self.lease.map(|lease| self.spoken + part(lease));
+        let absence = self.left.map(|left| left + part(self.away));
+        [silence, absence].into_iter().flatten().min()
     }
 
     /// Hears what has come, speaks where it is time, and goes on with another server where this one is silent.
@@ -272,22 +333,28 @@ impl Session {
             }
             Server::Sought(finding) => match finding.take() {
                 Some(Ok(found)) => self.go_on(found)?,
+                Some(Err(fault @ Fault::Refused(_))) if self.is_attached => return Err(fault),
                 Some(Err(_)) => self.search()?,
                 None => {}
             },
-            Server::Nobody => {}
+            Server::Nobody(_) => {}
         }
-        if self.loss() <= now {
-            return Err(Fault::Nobody);
+        if self.loss().is_some_and(|loss| loss <= now) {
+            return Err(if self.is_attached { Fault::Late } else { Fault::Nobody });
         }
         Ok(())
     }
 
+    /// After what time this client speaks, if it has a lease.
+    fn part(&self) -> Option<Duration> {
+        self.lease.map(|lease| lease / if self.is_attached { PARTS_OF_ONE } else { PARTS })
+    }
+
     /// A sign of life, if it is time; a server that has not answered the last one is lost.
     fn speak(&mut self, now: Instant) -> Result<(), Fault> {
-        let part = self.lease / PARTS;
+        let Some(part) = self.part() else { return Ok(()) };
         let Server::Here(client) = &mut self.server else { return Ok(()) };
-        if self.pinged.is_some_and(|pinged| pinged + part <= now) {
+        if !self.is_attached && self.pinged.is_some_and(|pinged| pinged + part <= now) {
             return self.search();
         }
         if self.pinged.is_none() && self.spoken + part <= now {
@@ -306,20 +373,28 @@ impl Link for Session {
     }
 
     fn lease(&self) -> Option<Duration> {
-        Some(self.lease)
+        Some(self.lease.unwrap_or(self.away))
     }
 
-    /// Nothing: a server takes a client for dead that says nothing, whoever has the connection.
+    /// Where there is a lease, a server takes a client for dead that says nothing, whoever has the connection. So COMMAND inherits that
+    /// of one server only, and it alone keeps the lock there without a lease, until the server is started again.
     fn share(&self) -> io::Result<bool> {
-        Ok(false)
+        match &self.server {
+            Server::Here(client) if self.is_attached && !self.closes => {
+                inherit(client)?;
+                Ok(self.lease.is_none())
+            }
+            _ => Ok(false),
+        }
     }
 
     fn next_time(&self) -> Option<Instant> {
+        let is_silent = self.is_attached && self.pinged.is_some();
         let speaks = match self.server {
-            Server::Here(_) => Some(self.pinged.unwrap_or(self.spoken) + self.lease / PARTS),
+            Server::Here(_) if !is_silent => self.part().map(|part| self.pinged.unwrap_or(self.spoken) + part),
             _ => None,
         };
-        Some(speaks.map_or(self.loss(), |speaks| speaks.min(self.loss())))
+        [speaks, self.loss()].into_iter().flatten().min()
     }
 
     fn look(&mut self, events: &[Event], now: Instant) -> Option<Fault> {
@@ -327,7 +402,13 @@ impl Link for Session {
     }
 
     fn give_up(&mut self) -> io::Result<()> {
-        self.server = Server::Nobody;
+        match std::mem::replace(&mut self.server, Server::Nobody(None)) {
+            Server::Here(client) if self.is_attached => {
+                self.poller.remove(&client)?;
+                self.server = Server::Nobody(Some(client));
+            }
+            _ => {}
+        }
         Ok(())
     }
 

@@ -1,10 +1,12 @@
 //! What the words of the command line ask for.
 
+use crate::options::{COMMANDS, ORDERS};
 use crate::places::Place;
 use std::ffi::OsString;
 use std::fmt;
 use std::path::PathBuf;
 use std::time::Duration;
+use wozgirt_words::BadWord;
 
 /// What is to be done.
 #[derive(Debug, Clone, PartialEq, Eq)]
@@ -135,7 +137,7 @@ pub enum BadWords {
 impl fmt::Display for BadWords {
     fn fmt(&self, f: &mut fmt::Formatter<'_>) -> fmt::Result {
         match self {
-            BadWords::None => f.write_str("lock, try, status, watch, bench or admin is wanted"),
+            BadWords::None => write!(f, "{} is wanted", one_of(COMMANDS.iter().map(|it| it.name))),
             BadWords::Unknown(word) => write!(f, "`{word}` has no place here"),
             BadWords::NoValue(word) => write!(f, "{word} needs a value"),
             BadWords::Value(word, value) => write!(f, "{word}: bad value `{value}`"),
@@ -150,11 +152,27 @@ impl fmt::Display for BadWords {
             }
             BadWords::Both => f.write_str("--wait and --no-wait exclude each other"),
             BadWords::Several => f.write_str("bench measures one server: name it with --socket PLACE"),
-            BadWords::Order => f.write_str(
-                "admin: clients, cluster, end NAME TOKEN, kick CLIENT, corrupt NAME MACHINE VALUE or stop is wanted",
-            ),
+            BadWords::Order => write!(f, "admin: {} is wanted", one_of(ORDERS.iter().map(|it| it.words))),
         }
     }
 }
 
 impl std::error::Error for BadWords {}
+
+impl From<BadWord> for BadWords {
+    fn from(word: BadWord) -> BadWords {
+        match word {
+            BadWord::Unknown(word) => BadWords::Unknown(word.to_string_lossy().into_owned()),
+            BadWord::NoValue(name) => BadWords::NoValue(name),
+        }
+    }
+}
+
+/// `a, b or c`.
+fn one_of(words: impl Iterator<Item = &'static str>) -> String {
+    let words: Vec<&str> = words.collect();
+    match words.split_last() {
+        Some((last, others)) if !others.is_empty() => format!("{} or {last}", others.join(", ")),
+        _ => words.concat(),
+    }
+}

@@ -10,7 +10,7 @@ use std::io::{self, Write as _};
 use std::path::{Path, PathBuf};
 use std::thread;
 use std::time::Duration;
-use wozgirt_engine::decimal;
+use wozgirt_engine::{decimal, StateLine};
 use wozgirt_system::{inherit, try_lock};
 
 /// Its first line.
@@ -26,7 +26,7 @@ pub struct Checkpoint {
     /// What the log says.
     pub applied: Applied,
     /// The engine's state.
-    pub state: Vec<String>,
+    pub state: Vec<StateLine>,
 }
 
 /// A text is no checkpoint: the number of its first wrong line.
@@ -80,7 +80,9 @@ impl Checkpoint {
         }
         let count =
             state.and_then(|count| usize::try_from(count).ok()).ok_or(BadCheckpoint(text.lines().count() + 1))?;
-        found.state = lines.by_ref().take(count).map(|(_, line)| line.into()).collect();
+        let state = lines.by_ref().take(count);
+        let state = state.map(|(i, line)| line.parse().map_err(|_| BadCheckpoint(i + 1)));
+        found.state = state.collect::<Result<_, _>>()?;
         let end: Vec<&str> = lines.map(|(_, line)| line).collect();
         if found.state.len() < count || end != ["end"] || !text.ends_with('\n') || found.identity.is_empty() {
             return Err(BadCheckpoint(text.lines().count()));
@@ -128,8 +130,8 @@ impl Checkpoint {
 }
 
 /// The lines of a state that the engine reads as a file.
-pub fn holders(state: &[String]) -> String {
-    state.iter().filter(|line| line.starts_with("hold ")).map(|line| format!("{line}\n")).collect()
+pub fn holders(state: &[StateLine]) -> String {
+    state.iter().filter(|line| matches!(line, StateLine::Hold { .. })).map(|line| format!("{line}\n")).collect()
 }
 
 /// What the name of a segment that is kept for a checkpoint begins with, before the position.
@@ -244,13 +246,14 @@ impl Folder {
     }
 
     /// Keeps the last segment as it is now, for the checkpoint at this position. An engine replaces that file when it starts, and writes
-    /// into no file that was there.
+    /// into no file that was there. Its name is on the disk before a checkpoint can be that needs it.
     pub fn keep(&self, last: u64, position: u64) -> io::Result<()> {
         let kept = self.kept(position);
         match fs::remove_file(&kept) {
-            Err(fault) if fault.kind() != io::ErrorKind::NotFound => Err(fault),
-            _ => fs::hard_link(self.segment(last), kept),
+            Err(fault) if fault.kind() != io::ErrorKind::NotFound => return Err(fault),
+            _ => fs::hard_link(self.segment(last), kept)?,
         }
+        File::open(&self.path)?.sync_all()
     }
 
     /// Removes what is kept for checkpoints before the one before this position's.
@@ -312,7 +315,9 @@ mod tests {
         applied
             .sessions
             .insert(80, Known { session: 8, home: server("a", "3").unwrap(), last: None, owner: Owner::default() });
-        let state = ["hold 0 3 7", "8 acquire 0 1", "7 4 did 7 granted 0 3", "at 12 00"].map(String::from).into();
+        let state = ["hold 0 3 7", "8 acquire 0 1", "7 4 did 7 granted 0 3", "at 12 00"]
+            .map(|line| line.parse().unwrap())
+            .into();
         Checkpoint { identity: "x".into(), segment: 6, applied, state }
     }
 
@@ -327,6 +332,7 @@ mod tests {
             assert_eq!(Checkpoint::parse(wrong, 5), Err(BadCheckpoint(line)), "{wrong}");
         }
         assert_eq!(Checkpoint::parse(&text.replace("over b 2", "over b"), 5), Err(BadCheckpoint(6)));
+        assert_eq!(Checkpoint::parse(&text.replace("8 acquire 0 1", "8 acquire x 1"), 5), Err(BadCheckpoint(12)));
     }
 
     #[test]

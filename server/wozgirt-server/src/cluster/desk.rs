@@ -4,33 +4,29 @@ use super::{Key, Line, Session};
 use crate::connection::{Connection, Pending, Seat};
 use crate::desk::{Desk, Then};
 use crate::log::{End, Event};
+use crate::mode::Mode;
 use crate::requests::BadRequest;
 use wozgirt_engine::{Answer, Input, Lock, NotALine, Stats, Token};
 
 impl Desk {
-    /// Whether the client holds the lock, as far as the engine told.
-    pub(crate) fn holds(&self, connection: &Connection, lock: Lock) -> bool {
-        match (&self.cluster, &connection.seat) {
-            (Some(cluster), Some(seat)) => {
-                cluster.owns.session(seat.key).is_some_and(|session| cluster.mirror.holds(session, lock))
-            }
-            (Some(_), None) => false,
-            (None, _) => connection.holds.contains(&lock),
-        }
-    }
-
     /// The client gives its key. Its session begins, or goes on, where the log has it.
-    pub(crate) fn open_session(&mut self, connection: &mut Connection, key: u64) -> Then {
-        let Some(cluster) = &mut self.cluster else {
-            self.sums.refused("session");
-            connection.tell_in_order("refused session");
-            return Then::Wait;
+    pub(crate) fn open_session(&mut self, connection: &mut Connection, key: u64, is_attached: bool) -> Then {
+        let cluster = match &mut self.mode {
+            Mode::Alone(_) => return self.begin_session(connection, key, is_attached),
+            Mode::InLog(_) if is_attached => {
+                // where a client goes on with the next server, the end of a connection says nothing
+                self.sums.refused("session");
+                connection.tell_in_order("refused session");
+                return Then::Wait;
+            }
+            Mode::InLog(cluster) => cluster,
         };
         if connection.seat.is_some() {
             connection.tell_in_order(format_args!("refused {}", BadRequest::Rest(NotALine::Syntax)));
             return Then::Wait;
         }
-        connection.seat = Some(Seat { key, is_keyed: true, last: 0, has_left: false });
+        connection.seat =
+            Some(Seat { key, is_keyed: true, last: 0, has_left: false, session: None, is_attached: false });
         connection.pending.push_back(Pending::Opening);
         let who = connection.identity();
         cluster.put(Line::Here(key, who));
@@ -44,11 +40,12 @@ impl Desk {
     /// The key of a client that says something for the log. It is drawn if the client gave none. A session that is new, or has
     /// left, begins before that.
     fn key(&mut self, connection: &mut Connection) -> Option<Key> {
-        let cluster = self.cluster.as_mut()?;
+        let cluster = self.mode.in_log_mut()?;
         let who = connection.identity();
         if connection.seat.is_none() {
             let key = cluster.draw().ok()?;
-            connection.seat = Some(Seat { key, is_keyed: false, last: 0, has_left: true });
+            connection.seat =
+                Some(Seat { key, is_keyed: false, last: 0, has_left: true, session: None, is_attached: false });
             cluster.owns.come(key, who, connection.client);
         }
         let seat = connection.seat.as_mut()?;
@@ -67,7 +64,7 @@ impl Desk {
         let Some(key) = self.key(connection) else { return };
         let number = number.unwrap_or_else(|| connection.next_number());
         connection.pending.push_back(Pending::Numbered(number, input));
-        if let Some(cluster) = &mut self.cluster {
+        if let Some(cluster) = self.mode.in_log_mut() {
             cluster.put(Line::Do(key, number, input));
         }
     }
@@ -77,7 +74,7 @@ impl Desk {
         self.sums.inputs += 1;
         let Some(key) = self.key(connection) else { return };
         connection.pending.push_back(Pending::Leaving(number.unwrap_or(0)));
-        if let Some(cluster) = &mut self.cluster {
+        if let Some(cluster) = self.mode.in_log_mut() {
             cluster.put(Line::Gone(key));
         }
         if let Some(seat) = &mut connection.seat {
@@ -85,7 +82,7 @@ impl Desk {
         }
     }
 
-    fn tell_stats(&mut self, connection: &mut Connection, lock: Lock) {
+    pub(crate) fn tell_stats(&mut self, connection: &mut Connection, lock: Lock) {
         let Some(sight) = self.board.lock(lock) else { return };
         let (machines, waiters, passes) = (sight.machines, sight.line.len() as u64, sight.passes);
         let (holder, token) = sight.holder.map_or((0, 0), |holder| (holder.client, holder.token));
@@ -95,7 +92,7 @@ impl Desk {
 
     /// Tells an operator where this server is in the log.
     pub(crate) fn tell_cluster(&mut self, connection: &mut Connection) {
-        let Some(cluster) = &self.cluster else {
+        let Some(cluster) = self.mode.in_log() else {
             self.sums.refused("cluster");
             connection.tell_in_order("refused cluster");
             return;
@@ -132,7 +129,7 @@ impl Desk {
 
     /// The session is here: what it holds and waits for.
     pub(crate) fn tell_here(&self, connection: &mut Connection, session: Session) {
-        let (Some(cluster), Some(seat)) = (&self.cluster, &connection.seat) else { return };
+        let (Some(cluster), Some(seat)) = (self.mode.in_log(), &connection.seat) else { return };
         if !matches!(connection.pending.front(), Some(Pending::Opening)) {
             return;
         }
@@ -173,7 +170,9 @@ impl Desk {
 
     /// The connection is gone. A client with a key may come back, here or at another server. Returns what it held.
     pub(crate) fn end_seat(&mut self, connection: &mut Connection, end: End) -> String {
-        let (Some(cluster), Some(seat)) = (&mut self.cluster, connection.seat.take()) else { return String::new() };
+        let (Some(cluster), Some(seat)) = (self.mode.in_log_mut(), connection.seat.take()) else {
+            return String::new();
+        };
         let held = cluster.standing(seat.key).holds;
         let held: Vec<&str> = held.into_iter().map(|(lock, _)| self.names.name(lock)).collect();
         let is_over = !seat.is_keyed && !matches!(end, End::Engine | End::Stop | End::Log | End::Moved);
@@ -190,7 +189,7 @@ impl Desk {
 
     /// Sessions whose clients have not come back are over.
     pub(crate) fn end_late_sessions(&mut self) {
-        let Some(cluster) = &mut self.cluster else { return };
+        let Some(cluster) = self.mode.in_log_mut() else { return };
         for key in cluster.owns.take_late(self.now) {
             let held = cluster.standing(key).holds;
             let held: Vec<&str> = held.into_iter().map(|(lock, _)| self.names.name(lock)).collect();

@@ -25,7 +25,7 @@ pub use digests::{Digests, Verdict};
 pub use entries::{is_name, Entry, Key, Line, Server, Session};
 pub use log::Told;
 pub use mirror::{Effect, Mirror, Standing};
-pub use owner::Who;
+pub use owner::{Owner, Who};
 pub use place::{Other, Place};
 pub use sessions::{draw, Owns};
 pub use words::{OverEtcd, ReadingOverEtcd};
@@ -40,7 +40,7 @@ use std::fs::File;
 use std::io;
 use std::rc::Rc;
 use std::time::{Duration, Instant};
-use wozgirt_engine::Client;
+use wozgirt_engine::{Client, StateLine};
 
 /// The longest line of the process that speaks to etcd.
 const LONGEST_LOG_LINE: usize = 8 << 20;
@@ -60,7 +60,7 @@ pub enum Phase {
     /// The last entry before a checkpoint is done, and it tells its state.
     Asking(Vec<String>),
     /// It has told this state, and is to end.
-    Ending(Vec<String>),
+    Ending(Vec<StateLine>),
 }
 
 /// An entry that was read.
@@ -106,7 +106,7 @@ pub struct Cluster {
     /// Whether it was ready once since the state was read from the checkpoint.
     pub is_restored: bool,
     /// The state that it begins with.
-    pub state: Vec<String>,
+    pub state: Vec<StateLine>,
     /// The last segment, and the position, of the last checkpoint.
     pub saved: (u64, u64),
     /// Entries that wait for the engine.
@@ -131,6 +131,8 @@ pub struct Cluster {
     first_sign: u64,
     /// When the last one was given.
     last_sign: Instant,
+    /// The number of the last connection.
+    pub last_client: Client,
     /// How often another server had other answers.
     pub contradictions: u64,
     writer: Writer,
@@ -173,6 +175,7 @@ impl Cluster {
             signs: VecDeque::new(),
             first_sign: 1,
             last_sign: now,
+            last_client: 0,
             contradictions: 0,
             writer: Writer::default(),
             random: File::open("/dev/urandom")?,

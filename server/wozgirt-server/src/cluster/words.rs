@@ -1,6 +1,7 @@
 //! The words of the command line for a server that is one of several.
 
 use super::is_name;
+use crate::options::EtcdName;
 use crate::settings::{seconds, BadWords};
 use std::time::Duration;
 
@@ -36,19 +37,18 @@ pub struct ReadingOverEtcd {
 }
 
 impl ReadingOverEtcd {
-    /// Nothing if it is not a value of this word.
-    pub fn put(&mut self, word: &str, value: &str) -> Option<()> {
-        match word {
-            "--etcd" => self.members = Some(value.into()),
-            "--name" => self.name = Some(value).filter(|name| is_name(name)).map(|name| Some(name.into()))?,
-            "--prefix" => self.prefix = Some(value.into()),
-            "--cacert" => self.files.push(("--cacert", value.into())),
-            "--cert" => self.files.push(("--cert", value.into())),
-            "--key" => self.files.push(("--key", value.into())),
-            "--host-lease" => self.host_lease = Some(seconds(value).filter(|time| time.as_secs() > 0)?),
-            "--checkpoint" => self.checkpoint = Some(value.parse().ok().filter(|&lines| lines > 0)?),
-            "--log-program" => self.log_program = Some(value.into()),
-            _ => return None,
+    /// Nothing if it is not a value of this option.
+    pub fn put(&mut self, name: EtcdName, value: &str) -> Option<()> {
+        match name {
+            EtcdName::Members => self.members = Some(value.into()),
+            EtcdName::Name => self.name = Some(value).filter(|name| is_name(name)).map(|name| Some(name.into()))?,
+            EtcdName::Prefix => self.prefix = Some(value.into()),
+            EtcdName::Authority => self.files.push(("--cacert", value.into())),
+            EtcdName::Certificate => self.files.push(("--cert", value.into())),
+            EtcdName::Key => self.files.push(("--key", value.into())),
+            EtcdName::HostLease => self.host_lease = Some(seconds(value).filter(|time| time.as_secs() > 0)?),
+            EtcdName::Checkpoint => self.checkpoint = Some(value.parse().ok().filter(|&lines| lines > 0)?),
+            EtcdName::Program => self.log_program = Some(value.into()),
         }
         Some(())
     }

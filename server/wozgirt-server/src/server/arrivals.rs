@@ -1,7 +1,7 @@
 //! Who comes: clients, operators, and visitors of the page.
 
 use super::{Server, CLIENTS, CONNECTIONS, NETWORK, OPERATORS, PAGE, VISITORS};
-use super::{LATE, MOST_COMERS, MOST_VISITORS, SHORTEST_TURN, SHUT};
+use super::{LATE, MOST_COMERS, MOST_VISITORS, SHORTEST_TURN, SHUT, TURNS};
 use crate::accounts::Accounts;
 use crate::connection::{Connection, Door, Visit};
 use crate::doors::{open_tcp, UnixDoor};
@@ -80,6 +80,7 @@ impl Server {
             OPERATORS => Door::Operators,
             _ => Door::Network,
         };
+        let until = Instant::now() + TURNS;
         for _ in 0..MOST_COMERS {
             let (stream, from) = match self.doors.accept(key) {
                 Ok(Some(come)) => come,
@@ -93,11 +94,14 @@ impl Server {
                 (None, None) => "nobody knows who".into(),
             };
             let guest = from.map_or(Guest::User(peer.as_ref().map(|peer| peer.user)), |from| Guest::at(from.ip()));
-            self.last_client += 1;
+            let client = self.desk.mode.next_client();
             let visit = Visit { stream, peer, who, guest };
-            let mut connection = Connection::new(self.last_client, door, visit, self.most_unread, self.desk.now);
+            let mut connection = Connection::new(client, door, visit, self.most_unread, self.desk.now);
             connection.lease = self.desk.first_lease(door);
             self.welcome(connection);
+            if Instant::now() >= until {
+                return;
+            }
         }
     }
 
@@ -111,6 +115,7 @@ impl Server {
             return;
         }
         let client = connection.client;
+        connection.tag = self.desk.questions.turns.newcomer();
         if self.poller.add(connection.stream(), CONNECTIONS + client, Interest::READS).is_err() {
             return self.places.give_back(door, guest); // no memory: the connection is closed
         }
@@ -119,7 +124,6 @@ impl Server {
             self.desk.log.say(&Event::Came { client, who: &connection.who });
         }
         self.connections.insert(client, connection);
-        self.desk.questions.clients = self.connections.len();
         self.note_deadline(client);
         self.touch(client);
     }
@@ -201,7 +205,7 @@ impl Server {
             engine_silence: self.desk.engine_silence(),
             is_engine_silent: self.is_engine_silent(),
             waiting_lines: self.desk.waiting_lines(),
-            in_log: self.desk.cluster.as_ref().map(|cluster| cluster.view()),
+            in_log: self.desk.mode.view(),
             journal: self.journal.size(),
             started: self.started,
             now: self.desk.now,

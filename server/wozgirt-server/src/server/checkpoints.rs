@@ -10,18 +10,18 @@ use crate::CannotServe;
 use std::mem;
 use std::rc::Rc;
 use std::time::Instant;
-use wozgirt_engine::decimal;
+use wozgirt_engine::StateLine;
 
 /// What the engine's state is before the first entry.
-fn first_state() -> Vec<String> {
-    vec![format!("at 0 {}", "0".repeat(64))]
+fn first_state() -> Vec<StateLine> {
+    vec![StateLine::At { place: 0, digest: "0".repeat(64) }]
 }
 
 impl Server {
     /// Reads the checkpoint, and prepares the engine's folder for it.
     pub(super) fn begin_cluster(&mut self) -> Result<(), CannotServe> {
         let now = self.desk.now;
-        let Some(cluster) = &mut self.desk.cluster else { return Ok(()) };
+        let Some(cluster) = self.desk.mode.in_log_mut() else { return Ok(()) };
         let (applied, state, segment) = match cluster.folder.read()? {
             None => (Applied::new(cluster.applied.most_lines), first_state(), 0),
             Some(text) => {
@@ -37,7 +37,7 @@ impl Server {
         check_settings(cluster, &settings)?;
         self.take_list(list(&settings))?;
         let desk = &mut self.desk;
-        let Some(cluster) = &mut desk.cluster else { return Ok(()) };
+        let Some(cluster) = desk.mode.in_log_mut() else { return Ok(()) };
         cluster.place.begin(applied.position);
         cluster.folder.restore(segment, applied.position, list(&settings))?;
         cluster.folder.write_holders(&holders(&state))?;
@@ -71,7 +71,7 @@ impl Server {
         desk.names = names;
         desk.settings.locks = Some(list.into());
         desk.engine.set_words(desk.settings.engine_words());
-        let (count, own) = (desk.names.count(), desk.cluster.as_ref().map_or(0, |cluster| cluster.count()));
+        let (count, own) = (desk.names.count(), desk.mode.in_log().map_or(0, Cluster::count));
         if count > own {
             desk.log.say(&Event::MoreLocks { count, own, list });
         }
@@ -81,7 +81,7 @@ impl Server {
     /// The engine has told its state and ended: that is the checkpoint, from which it starts again.
     pub(super) fn save(&mut self) -> Result<(), CannotServe> {
         let now = self.desk.now;
-        let Some(cluster) = &mut self.desk.cluster else { return Ok(()) };
+        let Some(cluster) = self.desk.mode.in_log_mut() else { return Ok(()) };
         let Phase::Ending(state) = mem::replace(&mut cluster.phase, Phase::Restoring(Vec::new())) else {
             return Ok(());
         };
@@ -110,22 +110,18 @@ impl Server {
 }
 
 /// Who holds and who waits in a state.
-fn put_state(cluster: &mut Cluster, board: &mut Board, state: &[String], now: Instant) {
+fn put_state(cluster: &mut Cluster, board: &mut Board, state: &[StateLine], now: Instant) {
     for line in state {
-        let words: Vec<&str> = line.split(' ').collect();
-        let number = |i: usize| words.get(i).and_then(|word| decimal(word).ok()).unwrap_or(0);
-        match words[..] {
-            ["hold", ..] => {
-                let (lock, token, session) = (number(1) as usize, number(2), number(3));
-                cluster.mirror.put_hold(session, lock, token);
-                board.holds(lock, session, token, now);
+        match *line {
+            StateLine::Hold { lock, token, client } => {
+                cluster.mirror.put_hold(client, lock, token);
+                board.holds(lock, client, token, now);
             }
-            [_, "acquire", ..] => {
-                let (session, lock, label) = (number(0), number(2) as usize, number(3));
-                cluster.mirror.put_wait(session, lock);
-                board.waits(lock, session, label, now);
+            StateLine::Wait { client, lock, label } => {
+                cluster.mirror.put_wait(client, lock);
+                board.waits(lock, client, label, now);
             }
-            _ => {}
+            StateLine::Did { .. } | StateLine::At { .. } => {}
         }
     }
 }

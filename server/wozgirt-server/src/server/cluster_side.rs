@@ -8,7 +8,7 @@ use crate::log::{End, Event};
 use crate::CannotServe;
 use std::mem;
 use std::process::ExitStatus;
-use wozgirt_engine::{Answer, Answered, Client, Input, NOBODY};
+use wozgirt_engine::{Answer, Answered, Client, Input, StateLine, NOBODY};
 use wozgirt_system::Interest;
 
 /// The status with which the process that speaks to etcd says that the log is not the one that is asked for.
@@ -20,7 +20,7 @@ impl Server {
         let (now, is_stopping) = (self.desk.now, self.stopping.is_some());
         let outcome = self.desk.engine.look(is_stopping, now)?;
         self.engine_ended(outcome)?;
-        let Some(cluster) = &mut self.desk.cluster else { return Ok(()) };
+        let Some(cluster) = self.desk.mode.in_log_mut() else { return Ok(()) };
         match cluster.log.look(is_stopping, now)? {
             Outcome::NotYet => {}
             Outcome::Again(status) | Outcome::Over(status) if status.code() == Some(LOST) && !is_stopping => {
@@ -41,7 +41,7 @@ impl Server {
 
     fn engine_ended(&mut self, outcome: Outcome) -> Result<(), CannotServe> {
         let is_planned = |phase: &Phase, status: &ExitStatus| matches!(phase, Phase::Ending(_)) && status.success();
-        let Some(cluster) = &self.desk.cluster else { return Ok(()) };
+        let Some(cluster) = self.desk.mode.in_log() else { return Ok(()) };
         match outcome {
             Outcome::NotYet => {}
             Outcome::Again(status) if is_planned(&cluster.phase, &status) => self.save()?,
@@ -66,7 +66,7 @@ impl Server {
     fn start_engine(&mut self) -> Result<(), CannotServe> {
         let desk = &mut self.desk;
         let Some(process) = desk.engine.start(desk.now).map_err(CannotServe::Engine)? else { return Ok(()) };
-        let Some(cluster) = &mut desk.cluster else { return Ok(()) };
+        let Some(cluster) = desk.mode.in_log_mut() else { return Ok(()) };
         if !cluster.is_restored {
             desk.log.say(&Event::EngineStarted { process, grace: desk.settings.grace });
         }
@@ -80,7 +80,7 @@ impl Server {
         if cluster.saved.1 == 0 {
             desk.engine.ask_line("at 0");
         } else {
-            for line in cluster.state.iter().filter(|line| !line.starts_with("hold ")) {
+            for line in cluster.state.iter().filter(|line| !matches!(line, StateLine::Hold { .. })) {
                 desk.engine.ask_line(line);
             }
         }
@@ -101,7 +101,7 @@ impl Server {
             Ok(()) => {}
             Err(Unheard::Ended) => {
                 let is_planned =
-                    self.desk.cluster.as_ref().is_some_and(|cluster| matches!(cluster.phase, Phase::Ending(_)));
+                    self.desk.mode.in_log().is_some_and(|cluster| matches!(cluster.phase, Phase::Ending(_)));
                 if is_planned && self.stopping.is_none() {
                     self.desk.engine.give_up(true, self.desk.now);
                 } else {
@@ -120,7 +120,7 @@ impl Server {
     fn hear_line(&mut self, line: String) -> Result<bool, CannotServe> {
         let now = self.desk.now;
         let desk = &mut self.desk;
-        let Some(cluster) = &mut desk.cluster else { return Ok(false) };
+        let Some(cluster) = desk.mode.in_log_mut() else { return Ok(false) };
         cluster.has_answered = true;
         match &mut cluster.phase {
             Phase::Restoring(lines) | Phase::Asking(lines) => {
@@ -153,7 +153,7 @@ impl Server {
 
     /// The engine has told its whole state.
     fn hear_state(&mut self) -> Result<(), CannotServe> {
-        let Some(cluster) = &mut self.desk.cluster else { return Ok(()) };
+        let Some(cluster) = self.desk.mode.in_log_mut() else { return Ok(()) };
         let phase = mem::replace(&mut cluster.phase, Phase::Following);
         let is_asked = matches!(phase, Phase::Asking(_));
         let (Phase::Restoring(mut lines) | Phase::Asking(mut lines)) = phase else { return Ok(()) };
@@ -162,7 +162,11 @@ impl Server {
             self.lose_engine_for("state".into());
             return Ok(());
         };
-        let state = lines.split_off(start);
+        let state = lines.split_off(start).iter().map(|line| line.parse()).collect::<Result<Vec<StateLine>, _>>();
+        let Ok(state) = state else {
+            self.lose_engine_for("state".into());
+            return Ok(());
+        };
         if is_asked {
             cluster.phase = Phase::Ending(state);
             self.desk.engine.end();
@@ -177,21 +181,19 @@ impl Server {
     /// The engine has the state of the checkpoint, and has said this besides.
     fn restored(&mut self, lines: &[String]) -> Result<(), CannotServe> {
         let desk = &mut self.desk;
-        let Some(cluster) = &mut desk.cluster else { return Ok(()) };
+        let Some(cluster) = desk.mode.in_log_mut() else { return Ok(()) };
         for line in lines {
             if let Ok(Answered { answer: Answer::Stats(stats), .. }) = line.parse() {
                 desk.board.note_stats(&stats);
             }
         }
-        if let Some(digest) = cluster.state.last().and_then(|line| line.rsplit(' ').next()) {
-            if !cluster.is_restored {
-                cluster.place.done(cluster.applied.position, digest)?;
-                cluster.digests.note(cluster.applied.position, digest.into());
-            }
+        if let (Some(StateLine::At { digest, .. }), false) = (cluster.state.last(), cluster.is_restored) {
+            cluster.place.done(cluster.applied.position, digest)?;
+            cluster.digests.note(cluster.applied.position, digest.clone());
         }
         desk.engine.note_ready();
         if !mem::replace(&mut cluster.is_restored, true) {
-            let held = cluster.state.iter().filter(|line| line.starts_with("hold ")).count();
+            let held = cluster.state.iter().filter(|line| matches!(line, StateLine::Hold { .. })).count();
             desk.log.say(&Event::EngineReady { held });
         }
         self.start_log()?;
@@ -211,7 +213,7 @@ impl Server {
         }
         self.part_all(End::Engine);
         self.leave_log(false);
-        if let Some(cluster) = &mut self.desk.cluster {
+        if let Some(cluster) = self.desk.mode.in_log_mut() {
             cluster.is_restored = false;
             cluster.blocks.clear();
             cluster.mirror.forget();
@@ -224,7 +226,7 @@ impl Server {
         loop {
             let waiting = self.desk.engine.waiting();
             let now = self.desk.now;
-            let Some(cluster) = &mut self.desk.cluster else { return Ok(()) };
+            let Some(cluster) = self.desk.mode.in_log_mut() else { return Ok(()) };
             let Some(read) = cluster.next_read(waiting) else { return Ok(cluster.place.write(now)?) };
             cluster.place.read(read.position, read.revision)?;
             self.give(read)?;
@@ -234,7 +236,7 @@ impl Server {
     /// Gives the engine one entry.
     fn give(&mut self, read: Read) -> Result<(), CannotServe> {
         let desk = &mut self.desk;
-        let Some(cluster) = &mut desk.cluster else { return Ok(()) };
+        let Some(cluster) = desk.mode.in_log_mut() else { return Ok(()) };
         let Read { position, revision, entry } = read;
         let is_first = cluster.applied.settings.is_none();
         let step = cluster.applied.apply(position, revision, entry.as_ref());
@@ -269,7 +271,7 @@ impl Server {
     /// Servers that are over at this position, and sessions that have gone on elsewhere.
     fn note_ends(&mut self, position: u64, over: &[LogServer], moved: &[(Key, LogServer)]) {
         let desk = &mut self.desk;
-        let Some(cluster) = &mut desk.cluster else { return };
+        let Some(cluster) = desk.mode.in_log_mut() else { return };
         let me = cluster.me.clone();
         let owns = &mut cluster.owns;
         let moved = moved.iter().filter(|(_, before)| Some(before) == me.as_ref());
@@ -288,7 +290,7 @@ impl Server {
     /// What the engine said is told to whom it concerns.
     fn tell_effect(&mut self, effect: Effect) -> Result<(), CannotServe> {
         let (desk, connections) = (&mut self.desk, &mut self.connections);
-        let Some(cluster) = &mut desk.cluster else { return Ok(()) };
+        let Some(cluster) = desk.mode.in_log_mut() else { return Ok(()) };
         let client = match &effect {
             Effect::Done { position, digest } => return self.done(*position, digest.clone()),
             Effect::Left(session, _) => {
@@ -336,7 +338,7 @@ impl Server {
     /// The session has come here. A client may have come twice, and is told what it has where it came last.
     fn opened(&mut self, key: Key, effect: Effect) -> Result<(), CannotServe> {
         let (now, lease) = (self.desk.now, self.desk.settings.longest_lease);
-        let Some(cluster) = &mut self.desk.cluster else { return Ok(()) };
+        let Some(cluster) = self.desk.mode.in_log_mut() else { return Ok(()) };
         let (Some(client), Effect::Here(_, session)) = (cluster.opening.pop_front(), effect) else { return Ok(()) };
         let Some(connection) = self.connections.get_mut(&client) else {
             cluster.owns.await_gone(key, now + lease);
@@ -357,7 +359,7 @@ impl Server {
     /// The engine has done an entry.
     fn done(&mut self, position: u64, digest: String) -> Result<(), CannotServe> {
         let desk = &mut self.desk;
-        let Some(cluster) = &mut desk.cluster else { return Ok(()) };
+        let Some(cluster) = desk.mode.in_log_mut() else { return Ok(()) };
         cluster.place.done(position, &digest)?;
         cluster.digests.note(position, digest);
         let Some(block) = cluster.blocks.pop_front() else { return Ok(()) };
@@ -381,7 +383,7 @@ impl Server {
 
     /// Ends both processes when all that was asked is answered.
     pub(super) fn stop_cluster(&mut self) {
-        let Some(cluster) = &mut self.desk.cluster else { return };
+        let Some(cluster) = self.desk.mode.in_log_mut() else { return };
         if cluster.is_idle() || cluster.me.is_none() {
             cluster.log.end();
             self.desk.engine.end();

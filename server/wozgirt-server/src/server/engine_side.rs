@@ -3,6 +3,7 @@
 use super::{Server, ENGINE, ENGINE_INPUT};
 use crate::engine::{Outcome, Unheard};
 use crate::log::{End, Event};
+use crate::mode::Mode;
 use crate::questions::Own;
 use crate::CannotServe;
 use std::time::{Duration, Instant};
@@ -15,7 +16,19 @@ const SILENCE: Duration = Duration::from_secs(2);
 const TIMES_AT_START: u32 = 10;
 
 impl Server {
-    pub(super) fn hear_engine(&mut self) {
+    /// What the engine has told.
+    pub(super) fn hear_engine(&mut self) -> Result<(), CannotServe> {
+        match self.desk.mode {
+            Mode::Alone(_) => {
+                self.hear_engine_alone();
+                self.write_sessions();
+                Ok(())
+            }
+            Mode::InLog(_) => self.hear_engine_of_cluster(),
+        }
+    }
+
+    fn hear_engine_alone(&mut self) {
         let mut answered = Vec::new();
         let heard = self.desk.engine.read(&mut answered);
         for it in answered {
@@ -25,6 +38,7 @@ impl Server {
         }
         match heard {
             Ok(()) => {}
+            Err(Unheard::Ended) if self.is_turning() => self.desk.engine.give_up(true, self.desk.now),
             Err(Unheard::Ended) => self.lose_engine(true),
             Err(Unheard::Unreadable(line, fault)) => {
                 self.desk.log.say(&Event::EngineUnreadable { line, fault: Some(fault) });
@@ -41,7 +55,9 @@ impl Server {
                 false => answer,
             }
         } else {
-            let Some(connection) = self.connections.get_mut(&client) else { return true };
+            let Some(connection) = self.connections.get_mut(&client).filter(|it| it.seat.is_none()) else {
+                return self.answer_session(client, &answer).is_ok() || self.give_up_for(Answered { client, answer });
+            };
             let kept = answer.clone();
             match self.desk.tell_answer(connection, answer) {
                 Ok(ended) => {
@@ -55,7 +71,12 @@ impl Server {
                 Err(_) => kept,
             }
         };
-        let line = Answered { client, answer: line }.to_string();
+        self.give_up_for(Answered { client, answer: line })
+    }
+
+    /// The engine answers what nobody asked, and is given up: false.
+    fn give_up_for(&mut self, answered: Answered) -> bool {
+        let line = answered.to_string();
         self.desk.log.say(&Event::EngineUnreadable { line, fault: None });
         self.lose_engine(false);
         false
@@ -74,10 +95,16 @@ impl Server {
             if self.desk.board.begin(stats, self.desk.now) {
                 self.held_before.push(lock);
             }
-            if self.desk.questions.has_begun() {
+            self.desk.note_token(lock, stats.token);
+            if self.desk.questions.has_begun() && self.has_begun() {
                 self.is_begun = true;
                 self.desk.engine.note_ready();
                 self.desk.log.say(&Event::EngineReady { held: self.held_before.len() });
+                if let Some((sessions, held)) = self.desk.alone().map(|it| (it.count(), it.holds().count())) {
+                    if sessions > 0 {
+                        self.desk.log.say(&Event::SessionsKept { sessions, held });
+                    }
+                }
                 self.touch_all();
             }
         }
@@ -89,8 +116,10 @@ impl Server {
         if holder == NOBODY {
             self.desk.questions.put(Own::End(operator, lock, token));
             self.desk.engine.ask(Asked { client: NOBODY, input: Input::Release { lock, token } });
-        } else if let Some(connection) = self.connections.get_mut(&holder) {
+        } else if let Some(connection) = self.connections.get_mut(&holder).filter(|it| it.seat.is_none()) {
             self.desk.ask_to_end(connection, operator, lock, token);
+        } else {
+            self.desk.ask_session_to_end(operator, holder, lock, token);
         }
     }
 
@@ -115,7 +144,7 @@ impl Server {
     pub(super) fn watch_engine(&mut self, seen: Option<Instant>) {
         let now = self.desk.now;
         let Some(seen) = seen else { return };
-        if self.desk.cluster.is_some() || self.stopping.is_some() || !self.desk.engine.is_running() {
+        if self.desk.mode.in_log().is_some() || self.stopping.is_some() || !self.desk.engine.is_running() {
             return;
         }
         let patience = self.desk.settings.engine_patience;
@@ -154,12 +183,21 @@ impl Server {
 
     /// The engine ended, or has to: all that was held is its past, and every connection hears that by its end.
     pub(super) fn lose_engine(&mut self, is_ended: bool) {
-        if self.desk.cluster.is_some() {
-            self.lose_log("it ends", false);
-            return self.lose_engine_of_cluster(is_ended);
+        match self.desk.mode {
+            Mode::Alone(_) => self.lose_engine_alone(is_ended),
+            Mode::InLog(_) => {
+                self.lose_log("it ends", false);
+                self.lose_engine_of_cluster(is_ended);
+            }
         }
+    }
+
+    fn lose_engine_alone(&mut self, is_ended: bool) {
         self.desk.engine.give_up(is_ended, self.desk.now);
         self.part_all(if self.stopping.is_some() { End::Stop } else { End::Engine });
+        if let Mode::Alone(alone) = &mut self.desk.mode {
+            alone.lose_engine(&self.desk.board, self.is_begun);
+        }
         self.desk.board.forget();
         self.desk.questions.forget(self.desk.now);
         self.is_begun = false;
@@ -168,13 +206,19 @@ impl Server {
         self.grace_until = None;
     }
 
+    /// Whether it has ended, and whether it is to be started.
     pub(super) fn look_at_engine(&mut self) -> Result<(), CannotServe> {
-        if self.desk.cluster.is_some() {
-            return self.look_at_cluster();
+        match self.desk.mode {
+            Mode::Alone(_) => self.look_at_engine_alone(),
+            Mode::InLog(_) => self.look_at_cluster(),
         }
+    }
+
+    fn look_at_engine_alone(&mut self) -> Result<(), CannotServe> {
         let now = self.desk.now;
         match self.desk.engine.look(self.stopping.is_some(), now)? {
             Outcome::NotYet => {}
+            Outcome::Again(status) if self.is_turning() && status.success() => self.desk.engine.start_at_once(now),
             Outcome::Again(status) => self.desk.log.say(&Event::EngineEnded { status: status.to_string() }),
             Outcome::Over(status) => {
                 self.desk.log.say(&Event::EngineEnded { status: status.to_string() });
@@ -184,6 +228,10 @@ impl Server {
         if self.stopping.is_some() {
             return Ok(());
         }
+        if !self.desk.engine.is_due(now) {
+            return Ok(());
+        }
+        self.prepare_engine()?;
         let Some(process) = self.desk.engine.start(now).map_err(CannotServe::Engine)? else { return Ok(()) };
         let grace = self.desk.settings.grace;
         self.desk.log.say(&Event::EngineStarted { process, grace });
@@ -193,10 +241,7 @@ impl Server {
         }
         self.engine_since = now;
         self.grace_until = Some(now + grace);
-        for lock in 0..self.desk.names.count() {
-            self.desk.questions.put(Own::Begin(lock));
-            self.desk.engine.ask(Asked { client: NOBODY, input: Input::Stats { lock } });
-        }
+        self.begin_engine();
         Ok(())
     }
 

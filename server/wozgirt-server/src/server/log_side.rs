@@ -12,7 +12,7 @@ impl Server {
     /// Starts the process that speaks to etcd, if the engine is ready.
     pub(super) fn start_log(&mut self) -> Result<(), CannotServe> {
         let desk = &mut self.desk;
-        let Some(cluster) = desk.cluster.as_mut().filter(|cluster| cluster.is_restored) else { return Ok(()) };
+        let Some(cluster) = desk.mode.in_log_mut().filter(|cluster| cluster.is_restored) else { return Ok(()) };
         let Some(process) = cluster.log.start(desk.now).map_err(CannotServe::Log)? else { return Ok(()) };
         desk.log.say(&Event::LogStarted { process });
         cluster.log.ask_line(cluster.known());
@@ -35,7 +35,7 @@ impl Server {
 
     pub(super) fn leave_log(&mut self, is_ended: bool) {
         let now = self.desk.now;
-        if let Some(cluster) = &mut self.desk.cluster {
+        if let Some(cluster) = self.desk.mode.in_log_mut() {
             cluster.leave();
             cluster.log.give_up(is_ended, now);
         }
@@ -44,7 +44,7 @@ impl Server {
     /// What the log has told.
     pub(super) fn hear_log(&mut self) -> Result<(), CannotServe> {
         let mut lines = Vec::new();
-        let Some(cluster) = &mut self.desk.cluster else { return Ok(()) };
+        let Some(cluster) = self.desk.mode.in_log_mut() else { return Ok(()) };
         let heard = cluster.log.read_lines(&mut lines);
         for line in lines {
             if !self.hear_log_line(&line)? {
@@ -65,7 +65,7 @@ impl Server {
     /// One line of it. False if nothing more of it is heard.
     fn hear_log_line(&mut self, line: &str) -> Result<bool, CannotServe> {
         let desk = &mut self.desk;
-        let Some(cluster) = &mut desk.cluster else { return Ok(false) };
+        let Some(cluster) = desk.mode.in_log_mut() else { return Ok(false) };
         let is_right = match line.parse() {
             Ok(Told::Log { identity, incarnation }) => return self.join_log(identity, incarnation).map(|()| true),
             Ok(Told::Entry { position, revision, text }) => {
@@ -106,7 +106,7 @@ impl Server {
 
     fn join_log(&mut self, identity: String, incarnation: u64) -> Result<(), CannotServe> {
         let desk = &mut self.desk;
-        let (Some(cluster), Some(words)) = (&mut desk.cluster, &desk.settings.cluster) else { return Ok(()) };
+        let (Some(cluster), Some(words)) = (desk.mode.in_log_mut(), &desk.settings.cluster) else { return Ok(()) };
         cluster.place.join(&identity, incarnation)??;
         cluster.is_full = false;
         let (position, revision) = (cluster.applied.position, cluster.applied.revision);
@@ -121,11 +121,11 @@ impl Server {
 
     /// etcd has no room for entries, so nothing can be put into the log until an operator makes some. False: nothing more is heard of it.
     fn fill_log(&mut self) -> bool {
-        let Some(cluster) = &mut self.desk.cluster else { return false };
+        let Some(cluster) = self.desk.mode.in_log_mut() else { return false };
         if !mem::replace(&mut cluster.is_full, true) {
             self.desk.log.say(&Event::LogFull);
         }
-        let is_in_log = self.desk.cluster.as_ref().is_some_and(|cluster| cluster.me.is_some());
+        let is_in_log = self.desk.mode.in_log().is_some_and(|cluster| cluster.me.is_some());
         if is_in_log {
             self.lose_log("etcd has no room", false);
         }
@@ -136,7 +136,7 @@ impl Server {
     pub(super) fn sweep_cluster(&mut self) {
         let (now, grace) = (self.desk.now, self.desk.settings.grace);
         self.desk.end_late_sessions();
-        if let (Some(cluster), Some(words)) = (&mut self.desk.cluster, &self.desk.settings.cluster) {
+        if let (Some(cluster), Some(words)) = (self.desk.mode.in_log_mut(), &self.desk.settings.cluster) {
             cluster.declare(grace, now);
             if now >= cluster.next_alive(words.host_lease) {
                 cluster.say_alive(now);
@@ -147,7 +147,7 @@ impl Server {
     /// Who does not know that its lease lives may have been declared over, as one that was stopped for a while.
     pub(super) fn check_lease(&mut self) {
         let is_over = |cluster: &Cluster| cluster.lease.is_some_and(|until| until <= self.desk.now);
-        if self.desk.cluster.as_deref().is_some_and(is_over) {
+        if self.desk.mode.in_log().is_some_and(is_over) {
             self.lose_log("its lease in etcd was not renewed in time", false);
         }
     }
@@ -155,7 +155,7 @@ impl Server {
     /// Puts what clients have said into the log.
     pub(super) fn write_log(&mut self) -> Result<(), CannotServe> {
         let waiting = self.desk.engine.waiting();
-        let Some(cluster) = &mut self.desk.cluster else { return Ok(()) };
+        let Some(cluster) = self.desk.mode.in_log_mut() else { return Ok(()) };
         while let Some(entry) = cluster.next_entry(self.desk.now) {
             cluster.log.ask_line(format_args!("append {entry}"));
         }

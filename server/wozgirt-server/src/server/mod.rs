@@ -6,11 +6,13 @@ mod cluster_side;
 mod engine_side;
 mod log_side;
 mod opening;
+mod session_side;
 mod talks;
 
 pub use opening::CannotServe;
 
 use crate::accounts::Accounts;
+use crate::awake::{Awake, For};
 use crate::board::Board;
 use crate::cluster::Cluster;
 use crate::connection::{Connection, SHARE};
@@ -19,6 +21,7 @@ use crate::engine::{Engine, ROOM};
 use crate::journal::Journal;
 use crate::log::{End, Event, Log};
 use crate::memory::most_unread;
+use crate::mode::Mode;
 use crate::notify::Notify;
 use crate::pages::Visitor;
 use crate::places::Places;
@@ -27,12 +30,13 @@ use crate::retention::{self, Removal};
 use crate::settings::Settings;
 use crate::sums::Sums;
 use arrivals::Doors;
-use opening::{check_files, read_names, read_rules};
+use opening::{check_files, open_sessions, read_names, read_rules};
 use std::collections::{HashMap, VecDeque};
+use std::io;
 use std::rc::Rc;
 use std::sync::mpsc::Receiver;
 use std::time::{Duration, Instant};
-use wozgirt_engine::{Client, Lock, NOBODY};
+use wozgirt_engine::{Client, Lock};
 use wozgirt_system::{Event as Ready, Interest, Poller, Signal, Signals};
 
 /// Keys of the poller: what is there once, then connections, then visitors.
@@ -57,9 +61,9 @@ const OTHER_FILES: usize = 32;
 /// How long an end in good order may take; and how long after that the server waits for its processes to be gone.
 const LONGEST_STOP: Duration = Duration::from_secs(10);
 const LONGEST_KILL: Duration = Duration::from_secs(2);
-/// How long lines are taken in a round, of those who have just spoken, and then of those whose turn comes again: each has its part
-/// of that.
-const TURNS: Duration = Duration::from_millis(2);
+/// How long lines are taken in a round, of those who have just spoken, of those who waited for the engine, and then of those whose
+/// turn comes again: each has its part of that. So long at most some come in, too.
+const TURNS: Duration = Duration::from_millis(1);
 const SHORTEST_TURN: Duration = Duration::from_micros(20);
 const LONGEST_TURN: Duration = Duration::from_micros(500);
 /// How long after its deadline a connection is looked at, and the time between such looks.
@@ -69,10 +73,16 @@ const LONGEST_PAUSE: Duration = Duration::from_millis(250);
 /// How long a door is shut when the system has no place for a connection.
 const SHUT: Duration = Duration::from_millis(50);
 
+/// Whether somebody comes in there, but to the page.
+fn is_door(key: u64) -> bool {
+    matches!(key, CLIENTS | OPERATORS | NETWORK)
+}
+
 /// The server.
 pub struct Server {
     desk: Desk,
     poller: Poller,
+    awake: Awake,
     signals: Signals,
     doors: Doors,
     accounts: Accounts,
@@ -85,8 +95,9 @@ pub struct Server {
     notify: Notify,
     /// What becomes of old segments, if not all are kept.
     removals: Option<Receiver<Removal>>,
-    last_client: Client,
     last_visitor: u64,
+    /// Whether the log says that sessions are not kept.
+    says_unkept: bool,
     /// Who is told something at the end of this round.
     dirty: Vec<Client>,
     /// Who has just spoken, and who has said more than was taken in its turn.
@@ -133,16 +144,20 @@ impl Server {
         let doors = Doors::open(&settings, &poller, &mut log)?;
         let engine = Engine::new(settings.engine.clone(), settings.engine_words(), ROOM, now);
         let cluster = Cluster::new(&settings, &names, now)
-            .map_err(|fault| CannotServe::Folder(settings.journal.clone(), fault))?
-            .map(Box::new);
+            .map_err(|fault| CannotServe::Folder(settings.journal.clone(), fault))?;
+        let mode = match cluster {
+            Some(cluster) => Mode::InLog(Box::new(cluster)),
+            None => Mode::Alone(open_sessions(&settings, &names, &mut log)?),
+        };
         let kept = settings.keep_segments;
         let removals = kept.map(|kept| retention::start(settings.engine_journal(), kept)).transpose()?;
         let board = Board::new(names.count());
-        let (questions, sums, is_full) = (Questions::new(now), Sums::default(), false);
-        let desk = Desk { settings, names, rules, engine, questions, is_full, board, sums, log, cluster, now };
+        let (questions, sums, is_full) = (Questions::new(now, names.count()), Sums::default(), false);
+        let desk = Desk { settings, names, rules, engine, questions, is_full, board, sums, log, mode, now };
         Ok(Server {
             desk,
             poller,
+            awake: Awake::new(),
             signals,
             doors,
             accounts,
@@ -153,8 +168,8 @@ impl Server {
             journal: Journal::new(now),
             notify: Notify::from_environment(now),
             removals,
-            last_client: NOBODY,
             last_visitor: 0,
+            says_unkept: false,
             dirty: Vec::new(),
             fresh: VecDeque::new(),
             backlog: VecDeque::new(),
@@ -181,18 +196,38 @@ impl Server {
         self.look_at_engine()?;
         while !self.is_over() && !self.is_late() {
             let before = Instant::now();
-            let is_all = self.poller.wait(Some(self.next_time()), &mut events)?;
+            let is_all = self.wait(&mut events)?;
             self.desk.now = Instant::now();
             self.check_lease();
-            for event in &events {
+            let (comers, others): (Vec<_>, Vec<_>) = events.iter().partition(|event| is_door(event.key));
+            for event in others {
                 self.happened(event, &mut buffer)?;
             }
             self.take_turns();
+            if !comers.is_empty() || !self.backlog.is_empty() {
+                self.write_all(&mut buffer)?; // nobody waits for those who come, or who say much
+                comers.into_iter().for_each(|event| self.let_in(event.key));
+                self.take_backlog();
+            }
             self.pass_time(is_all.then_some(before), &mut buffer)?;
             self.write_all(&mut buffer)?;
         }
         self.desk.log.say(&Event::Stopped);
         Ok(())
+    }
+
+    /// Waits for what happens: true if that is all.
+    fn wait(&mut self, events: &mut Vec<Ready>) -> io::Result<bool> {
+        let time = self.next_time();
+        let whom = if self.desk.questions.askers > 0 { For::Engine } else { For::Clients };
+        if let Some(moment) = self.awake.look(whom, time) {
+            let is_all = self.poller.look(moment, events)?;
+            self.awake.note(whom, !events.is_empty());
+            if !events.is_empty() {
+                return Ok(is_all);
+            }
+        }
+        self.poller.wait(Some(time), events)
     }
 
     fn happened(&mut self, event: &Ready, buffer: &mut [u8; SHARE]) -> Result<(), CannotServe> {
@@ -202,11 +237,9 @@ impl Server {
                     self.hear(signal);
                 }
             }
-            ENGINE if self.desk.cluster.is_some() => self.hear_engine_of_cluster()?,
-            ENGINE => self.hear_engine(),
+            ENGINE => self.hear_engine()?,
             LOG => self.hear_log()?,
             ENGINE_INPUT | LOG_INPUT => {} // what they take is written at the end of each round
-            CLIENTS | OPERATORS | NETWORK => self.let_in(event.key),
             PAGE => self.let_visitors_in(),
             key if key >= VISITORS => self.visit(key),
             key => self.read(key - CONNECTIONS, event, buffer),
@@ -216,7 +249,7 @@ impl Server {
 
     /// Whether all processes have ended, and are not started any more.
     fn is_over(&self) -> bool {
-        self.desk.engine.is_over() && self.desk.cluster.as_ref().map_or(true, |cluster| cluster.log.is_over())
+        self.desk.engine.is_over() && self.desk.mode.is_over()
     }
 
     /// Whether the server was to end long ago: a process may stand still in the system, where nothing ends it.
@@ -226,10 +259,7 @@ impl Server {
 
     /// Whether the engine has answered how all locks are, or this server is in the log that it has with others.
     fn is_engine_ready(&self) -> bool {
-        match &self.desk.cluster {
-            None => self.desk.engine.is_running() && self.is_begun,
-            Some(cluster) => cluster.is_ready(),
-        }
+        self.desk.mode.is_ready(self.desk.engine.is_running() && self.is_begun)
     }
 
     fn touch(&mut self, client: Client) {
@@ -247,14 +277,13 @@ impl Server {
     }
 
     fn next_time(&self) -> Duration {
-        if !self.fresh.is_empty() || !self.backlog.is_empty() {
+        let has_turns = !self.fresh.is_empty() || !self.backlog.is_empty();
+        if has_turns || self.desk.has_next_turn(self.stopping.is_some()) {
             return Duration::ZERO;
         }
         let now = self.desk.now;
         let grace = self.grace_until.filter(|_| self.is_engine_ready());
-        let log = self.desk.cluster.as_ref().and_then(|cluster| cluster.log.next_look(now));
-        let log = log.filter(|_| self.desk.cluster.as_ref().is_some_and(|cluster| cluster.is_restored));
-        let entry = self.desk.cluster.as_ref().and_then(|cluster| cluster.entry_due());
+        let [log, entry] = self.desk.mode.next_times(now);
         let times = [self.desk.engine.next_look(now), log, entry, grace, self.shut_until, self.stopping];
         let next = times.into_iter().flatten().fold(self.next_sweep, Instant::min);
         next.saturating_duration_since(now)
@@ -315,6 +344,9 @@ impl Server {
             }
         }
         self.sweep_cluster();
+        if self.is_engine_ready() {
+            self.desk.end_absent_sessions();
+        }
         self.visitors.retain(|_, visitor| visitor.deadline() > now);
         next = self.visitors.values().map(|visitor| visitor.deadline() + LATE).fold(next, Instant::min);
         self.next_sweep = next.max(now + LEAST_PAUSE);
@@ -362,7 +394,7 @@ impl Server {
         self.stopping = Some(self.desk.now + LONGEST_STOP);
         self.doors = Doors::default();
         self.touch_all();
-        if !self.desk.engine.is_running() && self.desk.cluster.is_none() {
+        if !self.desk.engine.is_running() && self.desk.mode.in_log().is_none() {
             self.part_all(End::Stop);
         }
     }
@@ -372,9 +404,9 @@ impl Server {
         if until <= self.desk.now {
             self.lose_engine(false);
         }
-        match self.desk.cluster {
-            None => self.desk.engine.end(),
-            Some(_) => self.stop_cluster(),
+        match self.desk.mode {
+            Mode::Alone(_) => self.desk.engine.end(),
+            Mode::InLog(_) => self.stop_cluster(),
         }
     }
 }

@@ -2,9 +2,11 @@
 
 use super::{MOST_VISITORS, OTHER_FILES};
 use crate::accounts::Accounts;
+use crate::alone::{Alone, Store};
 use crate::cluster::{NoFolder, Other, LONGEST_LIST};
 use crate::doors::CannotListen;
 use crate::engine::CannotStart;
+use crate::log::{Event, Log};
 use crate::names::{BadNames, Names};
 use crate::places::Places;
 use crate::rules::{BadRule, Rules};
@@ -15,6 +17,9 @@ use std::io;
 use std::path::PathBuf;
 use std::process::ExitStatus;
 use wozgirt_system::permit_files;
+
+/// How many sessions there may be for each connection: those of clients that are away are some.
+const SESSIONS_EACH: usize = 8;
 
 /// Why the server does not serve.
 #[derive(Debug)]
@@ -42,6 +47,8 @@ pub enum CannotServe {
     Engine(CannotStart),
     /// The engine keeps ending before it is ready.
     EngineEnds(ExitStatus),
+    /// What is kept of sessions cannot be read or written.
+    Sessions(io::Error),
     /// The folder cannot be had.
     Folder(PathBuf, NoFolder),
     /// There is no process that speaks to etcd.
@@ -91,6 +98,7 @@ impl fmt::Display for CannotServe {
             }
             CannotServe::Listen(fault) => fault.fmt(f),
             CannotServe::Engine(fault) => fault.fmt(f),
+            CannotServe::Sessions(fault) => write!(f, "what is kept of sessions, beside the journal: {fault}"),
             CannotServe::Folder(path, NoFolder::InUse) => write!(f, "{}: another server has this folder", path.display()),
             CannotServe::Folder(path, NoFolder::Alone) => write!(
                 f,
@@ -185,6 +193,19 @@ pub(super) fn read_rules(settings: &Settings, names: &Names, accounts: &Accounts
     let Some(path) = &settings.rules else { return Ok(Rules::default()) };
     let text = fs::read_to_string(path).map_err(|fault| CannotServe::Rules(path.clone(), fault))?;
     Rules::parse(&text, names, accounts).map_err(|fault| CannotServe::Rule(path.clone(), fault))
+}
+
+/// The sessions that are kept beside the journal of a server that is alone. Where nothing can be kept there, it has none.
+pub(super) fn open_sessions(settings: &Settings, names: &Names, log: &mut Log) -> Result<Alone, CannotServe> {
+    let store = match Store::open(&settings.journal) {
+        Ok(store) => Some(store),
+        Err(NoFolder::System(fault)) => {
+            log.say(&Event::SessionsUnkept { fault: &fault });
+            None
+        }
+        Err(fault) => return Err(CannotServe::Folder(settings.journal.clone(), fault)),
+    };
+    Alone::new(store, names.count(), SESSIONS_EACH * settings.connections).map_err(CannotServe::Sessions)
 }
 
 /// The system's limit of open files, which is raised as far as it may be.

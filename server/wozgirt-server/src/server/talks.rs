@@ -4,10 +4,11 @@ use super::{Server, CONNECTIONS, ENGINE_INPUT, LONGEST_TURN, SHORTEST_TURN, TURN
 use crate::connection::{Connection, Door, Reading, SHARE};
 use crate::desk::Then;
 use crate::log::End;
+use crate::turns::Turn;
 use crate::CannotServe;
 use std::collections::VecDeque;
 use std::time::Instant;
-use wozgirt_engine::{Answer, Client, Lock};
+use wozgirt_engine::{Answer, Client, Input};
 use wozgirt_system::Event as Ready;
 
 impl Server {
@@ -92,14 +93,34 @@ impl Server {
         connection.is_queued
     }
 
-    /// Takes lines of those who have just spoken, and then of those who have said more; each time for a while.
+    /// Takes lines of those who have just spoken, and of those who waited until the engine had done enough; each time for a while.
     pub(super) fn take_turns(&mut self) {
         let fresh = std::mem::take(&mut self.fresh);
         self.fresh = self.take_some(fresh);
+        self.take_next();
+    }
+
+    /// Takes lines of those who have said more.
+    pub(super) fn take_backlog(&mut self) {
         let backlog = std::mem::take(&mut self.backlog);
         let mut rest = self.take_some(backlog);
         rest.append(&mut self.backlog);
         self.backlog = rest;
+    }
+
+    fn take_next(&mut self) {
+        let until = Instant::now() + TURNS;
+        while let Some((client, turn)) = self.desk.next_turn(self.stopping.is_some()) {
+            if turn == Turn::Gone {
+                self.desk.ask_engine(client, Input::Leave);
+            } else if let Some(connection) = self.connections.get_mut(&client) {
+                connection.place = None;
+                self.take_lines(client, until);
+            }
+            if Instant::now() >= until {
+                return;
+            }
+        }
     }
 
     /// Those who had no turn.
@@ -122,13 +143,12 @@ impl Server {
         line
     }
 
-    /// Whether the engine has got too much to do, or has done enough: then nobody is heard, or all are again.
+    /// Whether the log has got too much, or has done enough: then nobody is heard, or all are again.
     fn note_full(&mut self) {
         if self.desk.is_free_again() {
             self.desk.is_full = false;
         }
-        // who is here has a turn before others come in
-        let keeps_out = self.desk.is_full || self.keeps_out && !self.desk.has_little_to_do();
+        let keeps_out = self.desk.keeps_out(self.keeps_out);
         if std::mem::replace(&mut self.keeps_out, keeps_out) != keeps_out {
             self.set_doors();
         }
@@ -146,12 +166,12 @@ impl Server {
         clients.sort_unstable_by_key(|connection| connection.client);
         let mut text = format!("clients {}", clients.len());
         for it in clients {
-            let (holds, waits_for) = self.standing(it);
+            let (holds, waits_for) = self.desk.mode.standing(it);
             let names: Vec<&str> = holds.iter().map(|lock| self.desk.names.name(*lock)).collect();
             let holds = if names.is_empty() { "-".into() } else { names.join(",") };
             let waits = waits_for.map_or("-", |lock| self.desk.names.name(lock));
             let lease = it.lease.map_or(0, |lease| lease.as_millis());
-            let client = self.number(it);
+            let client = self.desk.mode.number(it);
             text.push_str(&format!("\nclient {client} {lease} {holds} {waits} {}", it.who));
         }
         text
@@ -159,7 +179,7 @@ impl Server {
 
     /// An operator has this client go, by the number by which it is shown.
     fn kick(&mut self, operator: Client, number: Client) {
-        let shown = |connection: &&Connection| number > 0 && self.number(connection) == number;
+        let shown = |connection: &&Connection| number > 0 && self.desk.mode.number(connection) == number;
         let found = self.connections.values().find(shown).map(|connection| connection.client);
         if let Some(connection) = self.connections.get_mut(&operator) {
             match found {
@@ -175,29 +195,9 @@ impl Server {
         }
     }
 
-    /// The number by which a client is shown: that of its session, where the log gives numbers.
-    fn number(&self, connection: &Connection) -> Client {
-        match &self.desk.cluster {
-            None => connection.client,
-            Some(cluster) => connection.seat.as_ref().and_then(|seat| cluster.owns.session(seat.key)).unwrap_or(0),
-        }
-    }
-
-    /// What a client holds and waits for.
-    fn standing(&self, connection: &Connection) -> (Vec<Lock>, Option<Lock>) {
-        match (&self.desk.cluster, &connection.seat) {
-            (Some(cluster), Some(seat)) => {
-                let standing = cluster.standing(seat.key);
-                (standing.holds.into_iter().map(|(lock, _)| lock).collect(), standing.waits)
-            }
-            _ => (connection.holds.clone(), connection.waits_for),
-        }
-    }
-
     pub(super) fn part(&mut self, client: Client, end: End) {
         if let Some(mut connection) = self.connections.remove(&client) {
             self.places.give_back(connection.door, connection.guest);
-            self.desk.questions.clients = self.connections.len();
             for (operator, lock, token) in connection.ended() {
                 self.tell_ended(operator, client, lock, token, &Answer::Released { lock });
                 // it leaves all
@@ -214,10 +214,14 @@ impl Server {
 
     pub(super) fn write_all(&mut self, buffer: &mut [u8; SHARE]) -> Result<(), CannotServe> {
         self.note_full();
-        for client in std::mem::take(&mut self.dirty) {
+        self.write_sessions();
+        // it works while the clients are told
+        self.desk.engine.write();
+        // mostly the last one was granted what the one before it gave back: others wait for that
+        for client in std::mem::take(&mut self.dirty).into_iter().rev() {
             self.write(client, buffer);
         }
-        self.desk.engine.write();
+        self.desk.engine.write(); // those who have left
         if let Some((input, interest)) = self.desk.engine.awaited_input() {
             self.poller.change(input, ENGINE_INPUT, interest)?;
         }

@@ -2,7 +2,7 @@ use Rattle.std.proofs.Common.{◌∙◌, refl, ap, subst}
 use Rattle.ring_model.specs.declared.events.Survey.{Survey}
 use Rattle.ring_chains.specs.Tallies.{base_with}
 use Rattle.ring_endless.specs.Endless.{EndlessView, IsNext}
-use Rattle.ring_endless.proofs.Segments.{tally_of, end_small, no_next, next_base_is, next_is}
+use Rattle.ring_endless.proofs.Segments.{tally_of, end_small, no_next, has_next, next_base_is, next_is}
 use Rattle.ring_endless.proofs.rings.EndlessRing.next.Goals as goal
 
 pub next-requires-clause-grants : goal.next-requires-clause-grants
@@ -19,3 +19,11 @@ returns-clause-ok c =
 
 pub returns-in_default-clause-full : goal.returns-in_default-clause-full
 returns-in_default-clause-full c = λ e. no_next c.self.inside.base c.tally.result c.self.inside.ring c.glance.result c.args.self.now c.self.invariant.is.ring (tally_of c.self.inside.base c.self.inside.ring c.args.self.now c.tally.result c.self.view_is c.tally.ensures) c.glance.ensures c.self.view_is (c.in_default.ensures.none refl)
+
+pub returns-in_default-successor-clause-memory : goal.returns-in_default-successor-clause-memory
+returns-in_default-successor-clause-memory c = λ e.
+    has_next c.self.inside.base c.in-Some.base c.self.inside.ring c.args.self.now c.self.view_is
+    (c.in-Some.ensures.next
+    ∙ ap (λ (v : Survey). base_with c.self.inside.base c.tally.result v) c.glance.ensures
+    ∙ next_base_is c.self.inside.base c.tally.result c.self.inside.ring c.self.invariant.is.ring (tally_of c.self.inside.base c.self.inside.ring c.args.self.now c.tally.result c.self.view_is c.tally.ensures))
+    c.in-Some.ensures.room

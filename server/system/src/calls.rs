@@ -1,0 +1,372 @@
+//! The calls of the system themselves: the only unsafe code of the workspace, each call behind a safe function that says why it is
+//! sound. What it means is said in the modules that use it.
+//!
+//! Every number, struct and function that is declared here is the system's own: `server/tests/test_declarations.py` compares them
+//! with its headers. They are those of the processors below; some others have other numbers.
+
+use std::ffi::{c_char, c_long, c_ulong, c_void};
+use std::io;
+use std::mem::{size_of, size_of_val, MaybeUninit};
+use std::os::fd::{AsRawFd, BorrowedFd, FromRawFd, OwnedFd};
+use std::os::unix::process::CommandExt;
+use std::process::Command;
+use std::ptr;
+use std::time::Duration;
+
+#[cfg(not(all(
+    target_os = "linux",
+    any(
+        target_arch = "x86_64",
+        target_arch = "x86",
+        target_arch = "aarch64",
+        target_arch = "arm",
+        target_arch = "riscv64",
+        target_arch = "s390x"
+    )
+)))]
+compile_error!("wozgirt-system has the numbers of Linux on x86-64, x86, ARM, RISC-V and s390x only");
+
+pub const EPOLLIN: u32 = 0x001;
+pub const EPOLLOUT: u32 = 0x004;
+pub const EPOLLERR: u32 = 0x008;
+pub const EPOLLHUP: u32 = 0x010;
+pub const EPOLL_CTL_ADD: i32 = 1;
+pub const EPOLL_CTL_DEL: i32 = 2;
+pub const EPOLL_CTL_MOD: i32 = 3;
+const EPOLL_CLOEXEC: i32 = 0o2_000_000;
+const POLLIN: i16 = 1;
+
+pub const SIGHUP: i32 = 1;
+pub const SIGINT: i32 = 2;
+pub const SIGQUIT: i32 = 3;
+pub const SIGKILL: i32 = 9;
+pub const SIGPIPE: i32 = 13;
+pub const SIGTERM: i32 = 15;
+pub const SIGCHLD: i32 = 17;
+/// The code of a signal that the kernel sent of its own accord, as it does for a key of the terminal.
+pub const SI_KERNEL: i32 = 0x80;
+pub const SIG_BLOCK: i32 = 0;
+pub const SIG_SETMASK: i32 = 2;
+const SIG_DFL: usize = 0;
+const SIG_ERR: usize = usize::MAX;
+const SFD_CLOEXEC: i32 = 0o2_000_000;
+const SFD_NONBLOCK: i32 = 0o4_000;
+
+const F_GETFD: i32 = 1;
+const F_SETFD: i32 = 2;
+const F_GETFL: i32 = 3;
+const F_SETFL: i32 = 4;
+pub const FD_CLOEXEC: i32 = 1;
+pub const O_NONBLOCK: i32 = 0o4_000;
+const LOCK_EX: i32 = 2;
+const LOCK_NB: i32 = 4;
+const RLIMIT_NOFILE: i32 = 7;
+
+const AF_UNIX: u16 = 1;
+const SOCK_STREAM: i32 = 1;
+const SOCK_CLOEXEC: i32 = 0o2_000_000;
+const SOL_SOCKET: i32 = 1;
+const SO_PEERCRED: i32 = 17;
+const SO_PEERGROUPS: i32 = 59;
+
+/// `struct epoll_event`, which is packed on this one kind of processor.
+#[cfg_attr(target_arch = "x86_64", repr(C, packed))]
+#[cfg_attr(not(target_arch = "x86_64"), repr(C))]
+#[derive(Clone, Copy)]
+pub struct EpollEvent {
+    pub events: u32,
+    pub data: u64,
+}
+
+impl EpollEvent {
+    pub const NONE: EpollEvent = EpollEvent { events: 0, data: 0 };
+}
+
+/// `struct pollfd`.
+#[repr(C)]
+struct PollFile {
+    fd: i32,
+    events: i16,
+    revents: i16,
+}
+
+/// `struct timespec`.
+#[repr(C)]
+struct Time {
+    tv_sec: c_long,
+    tv_nsec: c_long,
+}
+
+/// `sigset_t`: 1,024 bits, in glibc and in musl.
+#[repr(C)]
+pub struct SignalSet {
+    bits: [c_ulong; 1024 / c_ulong::BITS as usize],
+}
+
+/// `struct ucred`.
+#[repr(C)]
+pub struct Credentials {
+    pub pid: i32,
+    pub uid: u32,
+    pub gid: u32,
+}
+
+/// `struct sockaddr_un`.
+#[repr(C)]
+struct UnixName {
+    sun_family: u16,
+    sun_path: [c_char; 108],
+}
+
+/// `rlim_t`.
+#[cfg(not(target_env = "musl"))]
+pub type LimitCount = c_ulong;
+/// `rlim_t`.
+#[cfg(target_env = "musl")]
+pub type LimitCount = u64;
+
+/// `struct rlimit`: the limit that holds, and how far the process may raise it.
+#[repr(C)]
+pub struct Limit {
+    pub rlim_cur: LimitCount,
+    pub rlim_max: LimitCount,
+}
+
+extern "C" {
+    fn epoll_create1(flags: i32) -> i32;
+    fn epoll_ctl(epoll: i32, operation: i32, file: i32, event: *mut EpollEvent) -> i32;
+    fn epoll_wait(epoll: i32, events: *mut EpollEvent, most: i32, milliseconds: i32) -> i32;
+    fn ppoll(files: *mut PollFile, count: c_ulong, time: *const Time, mask: *const SignalSet) -> i32;
+    fn sigemptyset(set: *mut SignalSet) -> i32;
+    fn sigfillset(set: *mut SignalSet) -> i32;
+    fn sigaddset(set: *mut SignalSet, signal: i32) -> i32;
+    fn pthread_sigmask(how: i32, set: *const SignalSet, old: *mut SignalSet) -> i32;
+    fn signalfd(file: i32, set: *const SignalSet, flags: i32) -> i32;
+    fn signal(signal: i32, handler: usize) -> usize;
+    fn raise(signal: i32) -> i32;
+    fn kill(process: i32, signal: i32) -> i32;
+    fn fcntl(file: i32, command: i32, ...) -> i32;
+    fn flock(file: i32, operation: i32) -> i32;
+    fn umask(without: u32) -> u32;
+    fn getrlimit(of: i32, limit: *mut Limit) -> i32;
+    fn setrlimit(of: i32, limit: *const Limit) -> i32;
+    fn getsockopt(socket: i32, level: i32, name: i32, value: *mut c_void, length: *mut u32) -> i32;
+    fn socket(family: i32, kind: i32, protocol: i32) -> i32;
+    fn connect(socket: i32, address: *const UnixName, length: u32) -> i32;
+}
+
+/// The result of a call that answers -1 where it fails.
+fn checked(result: i32) -> io::Result<i32> {
+    if result == -1 {
+        Err(io::Error::last_os_error())
+    } else {
+        Ok(result)
+    }
+}
+
+pub fn create_epoll() -> io::Result<OwnedFd> {
+    // SAFETY: no memory is passed; the new file is nobody else's.
+    Ok(unsafe { OwnedFd::from_raw_fd(checked(epoll_create1(EPOLL_CLOEXEC))?) })
+}
+
+pub fn control_epoll(
+    epoll: BorrowedFd<'_>,
+    operation: i32,
+    file: BorrowedFd<'_>,
+    mut event: EpollEvent,
+) -> io::Result<()> {
+    // SAFETY: the event is valid, and the call keeps no pointer to it.
+    checked(unsafe { epoll_ctl(epoll.as_raw_fd(), operation, file.as_raw_fd(), &mut event) }).map(drop)
+}
+
+/// How many events came, at the beginning of `events`.
+pub fn wait_for_epoll(epoll: BorrowedFd<'_>, events: &mut [EpollEvent], milliseconds: i32) -> io::Result<usize> {
+    let most = i32::try_from(events.len()).unwrap_or(i32::MAX);
+    // SAFETY: there are `most` writable events, and any bytes are an event.
+    checked(unsafe { epoll_wait(epoll.as_raw_fd(), events.as_mut_ptr(), most, milliseconds) })
+        .map(|count| count as usize)
+}
+
+/// Waits until the file can be read, something is wrong with it, a signal comes, or for so long: which of these is not told.
+pub fn wait_until_readable(file: BorrowedFd<'_>, time: Duration) {
+    let mut file = PollFile { fd: file.as_raw_fd(), events: POLLIN, revents: 0 };
+    let seconds = c_long::try_from(time.as_secs()).unwrap_or(c_long::MAX);
+    let time = Time { tv_sec: seconds, tv_nsec: c_long::from(time.subsec_nanos() as i32) };
+    // SAFETY: `file` is one valid entry, the time is only read, and null means that the mask stays as it is.
+    unsafe { ppoll(&mut file, 1, &time, ptr::null()) };
+}
+
+impl SignalSet {
+    pub fn empty() -> io::Result<SignalSet> {
+        let mut set = MaybeUninit::uninit();
+        // SAFETY: the call writes the whole set.
+        unsafe {
+            checked(sigemptyset(set.as_mut_ptr()))?;
+            Ok(set.assume_init())
+        }
+    }
+
+    pub fn full() -> io::Result<SignalSet> {
+        let mut set = MaybeUninit::uninit();
+        // SAFETY: the call writes the whole set.
+        unsafe {
+            checked(sigfillset(set.as_mut_ptr()))?;
+            Ok(set.assume_init())
+        }
+    }
+
+    pub fn add(&mut self, signal: i32) -> io::Result<()> {
+        // SAFETY: the set is valid, and a number that is no signal is refused.
+        checked(unsafe { sigaddset(self, signal) }).map(drop)
+    }
+
+    /// Changes which signals this thread does not hear.
+    pub fn mask(&self, how: i32) -> io::Result<()> {
+        // SAFETY: the set is valid, and the old one is not asked for.
+        match unsafe { pthread_sigmask(how, self, ptr::null_mut()) } {
+            0 => Ok(()),
+            number => Err(io::Error::from_raw_os_error(number)),
+        }
+    }
+
+    /// Has the program that the command starts begin with this mask.
+    pub fn mask_program(self, command: &mut Command) {
+        // SAFETY: between fork and exec the closure makes one call that may be made there, and allocates nothing.
+        unsafe {
+            command.pre_exec(move || self.mask(SIG_SETMASK));
+        }
+    }
+
+    /// A file from which these signals are read.
+    pub fn file(&self) -> io::Result<OwnedFd> {
+        // SAFETY: the set is valid; the new file is nobody else's.
+        Ok(unsafe { OwnedFd::from_raw_fd(checked(signalfd(-1, self, SFD_CLOEXEC | SFD_NONBLOCK))?) })
+    }
+}
+
+/// Has the signal do to this program what it does by default.
+pub fn reset_signal(number: i32) -> io::Result<()> {
+    // SAFETY: the default is no function of this program.
+    match unsafe { signal(number, SIG_DFL) } {
+        SIG_ERR => Err(io::Error::last_os_error()),
+        _ => Ok(()),
+    }
+}
+
+/// Sends the signal to this thread.
+pub fn raise_signal(number: i32) -> io::Result<()> {
+    // SAFETY: no memory is passed.
+    checked(unsafe { raise(number) }).map(drop)
+}
+
+/// Sends the signal to a process, or to those of the group that has the number without its sign.
+pub fn send(process: i32, signal: i32) -> io::Result<()> {
+    // SAFETY: no memory is passed.
+    checked(unsafe { kill(process, signal) }).map(drop)
+}
+
+/// The flags of the descriptor, which no other has.
+pub fn descriptor_flags(file: BorrowedFd<'_>) -> io::Result<i32> {
+    // SAFETY: no memory is passed, and this command takes no further argument.
+    checked(unsafe { fcntl(file.as_raw_fd(), F_GETFD) })
+}
+
+pub fn set_descriptor_flags(file: BorrowedFd<'_>, flags: i32) -> io::Result<()> {
+    // SAFETY: no memory is passed, and this command takes a number.
+    checked(unsafe { fcntl(file.as_raw_fd(), F_SETFD, flags) }).map(drop)
+}
+
+/// Sets which modes what is created from now on lacks. Returns those that it lacked until now.
+pub fn set_umask(without: u32) -> u32 {
+    // SAFETY: no memory is passed, and the call cannot fail.
+    unsafe { umask(without) }
+}
+
+/// The flags of the open file, which all its descriptors have.
+pub fn file_flags(file: BorrowedFd<'_>) -> io::Result<i32> {
+    // SAFETY: no memory is passed, and this command takes no further argument.
+    checked(unsafe { fcntl(file.as_raw_fd(), F_GETFL) })
+}
+
+pub fn set_file_flags(file: BorrowedFd<'_>, flags: i32) -> io::Result<()> {
+    // SAFETY: no memory is passed, and this command takes a number.
+    checked(unsafe { fcntl(file.as_raw_fd(), F_SETFL, flags) }).map(drop)
+}
+
+/// Locks the file without waiting.
+pub fn lock_file(file: BorrowedFd<'_>) -> io::Result<()> {
+    // SAFETY: no memory is passed.
+    checked(unsafe { flock(file.as_raw_fd(), LOCK_EX | LOCK_NB) }).map(drop)
+}
+
+/// How many files may be open.
+pub fn limit_of_files() -> io::Result<Limit> {
+    let mut limit = Limit { rlim_cur: 0, rlim_max: 0 };
+    // SAFETY: the limit is valid, and the call writes to it alone.
+    checked(unsafe { getrlimit(RLIMIT_NOFILE, &mut limit) })?;
+    Ok(limit)
+}
+
+pub fn set_limit_of_files(limit: &Limit) -> io::Result<()> {
+    // SAFETY: the limit is valid, and the call only reads it.
+    checked(unsafe { setrlimit(RLIMIT_NOFILE, limit) }).map(drop)
+}
+
+/// Who made the other end of a socket.
+pub fn peer_credentials(socket: BorrowedFd<'_>) -> io::Result<Credentials> {
+    let mut credentials = Credentials { pid: 0, uid: 0, gid: 0 };
+    let (value, mut length) = (ptr::addr_of_mut!(credentials).cast(), size_of::<Credentials>() as u32);
+    // SAFETY: `value` points to `length` writable bytes, and any bytes are a `Credentials`.
+    checked(unsafe { getsockopt(socket.as_raw_fd(), SOL_SOCKET, SO_PEERCRED, value, &mut length) })?;
+    Ok(credentials)
+}
+
+/// The supplementary groups of who made the other end of a socket, at the beginning of `groups`; and how many there are, also if the
+/// call fails because there is no room for them.
+pub fn peer_groups(socket: BorrowedFd<'_>, groups: &mut [u32]) -> (io::Result<()>, usize) {
+    let mut length = u32::try_from(size_of_val(groups)).unwrap_or(u32::MAX);
+    let value = groups.as_mut_ptr().cast();
+    // SAFETY: `value` points to `length` writable bytes, and any bytes are numbers.
+    let result = checked(unsafe { getsockopt(socket.as_raw_fd(), SOL_SOCKET, SO_PEERGROUPS, value, &mut length) });
+    (result.map(drop), length as usize / size_of::<u32>())
+}
+
+/// The name of a Unix socket.
+pub struct UnixAddress {
+    name: UnixName,
+    length: u32,
+}
+
+impl UnixAddress {
+    /// None where no socket can have this name: it is empty, too long, or has a zero.
+    pub fn new(path: &[u8]) -> Option<UnixAddress> {
+        let mut name = UnixName { sun_family: AF_UNIX, sun_path: [0; 108] };
+        if path.is_empty() || path.len() >= name.sun_path.len() || path.contains(&0) {
+            return None;
+        }
+        for (to, from) in name.sun_path.iter_mut().zip(path) {
+            *to = *from as c_char;
+        }
+        Some(UnixAddress { name, length: (size_of::<u16>() + path.len() + 1) as u32 })
+    }
+}
+
+pub fn create_unix_socket() -> io::Result<OwnedFd> {
+    // SAFETY: no memory is passed; the new file is nobody else's.
+    Ok(unsafe { OwnedFd::from_raw_fd(checked(socket(AF_UNIX.into(), SOCK_STREAM | SOCK_CLOEXEC, 0))?) })
+}
+
+pub fn connect_unix_socket(socket: BorrowedFd<'_>, address: &UnixAddress) -> io::Result<()> {
+    // SAFETY: the name has `length` readable bytes.
+    checked(unsafe { connect(socket.as_raw_fd(), &address.name, address.length) }).map(drop)
+}
+
+/// How many may wait at a socket that listens.
+#[cfg(test)]
+pub fn set_backlog(socket: BorrowedFd<'_>, waiting: i32) -> io::Result<()> {
+    extern "C" {
+        fn listen(socket: i32, waiting: i32) -> i32;
+    }
+    // SAFETY: no memory is passed.
+    checked(unsafe { listen(socket.as_raw_fd(), waiting) }).map(drop)
+}

@@ -1,0 +1,300 @@
+//! Between the connections and the engine: what the client of a session says, and what it is told.
+
+use super::{Alone, Ask, At, NoSession, What};
+use crate::cluster::Key;
+use crate::connection::{Connection, Pending, Seat};
+use crate::desk::{Desk, Then, Unasked};
+use crate::log::{End, Event};
+use crate::mode::Mode;
+use crate::requests::BadRequest;
+use std::fmt::Write as _;
+use wozgirt_engine::{Answer, Answered, Client, Input, Lock, NotALine, Token};
+
+impl Desk {
+    pub(crate) fn alone(&mut self) -> Option<&mut Alone> {
+        match &mut self.mode {
+            Mode::Alone(alone) => Some(alone),
+            Mode::InLog(_) => None,
+        }
+    }
+
+    /// The client gives its key. Its session begins, or goes on. One that is attached is over when the client closes the connection.
+    pub(crate) fn begin_session(&mut self, connection: &mut Connection, key: Key, is_attached: bool) -> Then {
+        if connection.seat.is_some() || connection.has_asked {
+            connection.tell_in_order(format_args!("refused {}", BadRequest::Rest(NotALine::Syntax)));
+            return Then::Wait;
+        }
+        let (who, lease) = (connection.identity(), connection.lease.unwrap_or(self.settings.longest_lease));
+        let client = connection.client;
+        let come = self.alone().map_or(Err(NoSession::Full), |alone| alone.come(key, who, lease, client));
+        let (session, before) = match come {
+            Ok(come) => come,
+            Err(why) => return self.refuse_session(connection, why),
+        };
+        if !is_attached {
+            connection.lease = Some(lease);
+        }
+        let seat = Seat { key, is_keyed: true, last: 0, has_left: false, session: Some(session), is_attached };
+        connection.seat = Some(seat);
+        connection.pending.push_back(Pending::Opening);
+        self.tell_opened(connection);
+        before.map_or(Then::Wait, Then::Moved)
+    }
+
+    fn refuse_session(&mut self, connection: &mut Connection, why: NoSession) -> Then {
+        self.sums.refused("session");
+        if why == NoSession::Others {
+            self.log.say(&Event::SessionRefused { who: &connection.who });
+        }
+        connection.tell_in_order("refused session");
+        Then::Wait
+    }
+
+    /// Tells the client of a session what that has, as soon as the engine has answered all that was asked for it.
+    pub(crate) fn tell_opened(&mut self, connection: &mut Connection) {
+        let (Mode::Alone(alone), Some(seat)) = (&self.mode, &connection.seat) else { return };
+        let Some(session) = seat.session.and_then(|number| alone.session(number)) else { return };
+        if !session.asked.is_empty() {
+            return;
+        }
+        let count = session.holds.len() + usize::from(session.waits.is_some());
+        let mut text = format!("session {} {count}", seat.key);
+        if seat.is_attached {
+            let lease = connection.lease.map_or(0, |lease| lease.as_millis());
+            let _ = write!(text, " {lease} {}", session.lease.as_millis());
+        } else {
+            text.push_str(" alone"); // else a client of several servers would take this one's locks for those of all
+        }
+        for (lock, token) in &session.holds {
+            let _ = write!(text, "\nholds {} {token}", self.names.name(*lock));
+        }
+        if let Some(place) = session.waits {
+            let _ = write!(text, "\nwaits {}", self.names.name(place.lock));
+        }
+        connection.tell_in_place(|it| matches!(it, Pending::Opening), text);
+    }
+
+    /// The session of a client that says something. One that has left begins anew.
+    fn session_of(&mut self, connection: &mut Connection) -> Option<Client> {
+        let (who, lease) = (connection.identity(), connection.lease.unwrap_or(self.settings.longest_lease));
+        let client = connection.client;
+        let seat = connection.seat.as_mut()?;
+        if seat.session.is_none() {
+            let come = self.alone()?.come(seat.key, who, lease, client);
+            seat.session = come.ok().map(|(session, _)| session);
+        }
+        seat.session
+    }
+
+    /// An input of a session goes to the engine, with its number.
+    pub(crate) fn ask_for_session(&mut self, connection: &mut Connection, number: u64, input: Input) {
+        let Some(session) = self.session_of(connection) else {
+            return connection.tell_in_order(format_args!("{number} refused session"));
+        };
+        let client = connection.client;
+        if let Some(it) = self.alone().and_then(|alone| alone.session_mut(session)) {
+            let is_new = it.last_asked.map_or(true, |last| number > last);
+            it.last_asked = it.last_asked.max(Some(number));
+            it.asked.push_back(Ask { client, what: What::Input(number, input, is_new) });
+        }
+        self.ask_engine_line(format_args!("{session} {number} {session} {input}"));
+        self.note_asked(connection, Pending::Numbered(number, input));
+    }
+
+    /// A session ends. What its client says next is another one.
+    pub(crate) fn ask_session_to_leave(&mut self, connection: &mut Connection, number: u64) {
+        self.sums.inputs += 1;
+        let client = connection.client;
+        let Some(session) = connection.seat.as_mut().and_then(|seat| seat.session.take()) else {
+            return connection.tell_in_order(format_args!("{number} left"));
+        };
+        self.tell_engine_of_end(session);
+        // the engine does not answer a leave: a question behind it shows when it is done
+        self.ask_engine_line(format_args!("{session} {}", Input::Stats { lock: 0 }));
+        if let Some(alone) = self.alone() {
+            alone.end(session);
+            if let Some(it) = alone.session_mut(session) {
+                it.asked.push_back(Ask { client, what: What::Leave(number) });
+            }
+        }
+        self.note_asked(connection, Pending::Leaving(number));
+    }
+
+    fn tell_engine_of_end(&mut self, session: Client) {
+        self.ask_engine(session, Input::Leave);
+        let last = self.alone().and_then(|alone| alone.session(session)).and_then(|it| it.last_asked);
+        if let Some(last) = last {
+            self.engine.ask_line(format_args!("{session} {last} forget"));
+        }
+    }
+
+    /// The session is over: its locks are free. Returns what it held, as a list of names.
+    fn end_session(&mut self, session: Client) -> String {
+        self.tell_engine_of_end(session);
+        if let Some(alone) = self.alone() {
+            alone.end(session);
+        }
+        self.forget_session(session)
+    }
+
+    /// Nothing is known of the session any more. Returns what it held.
+    pub(crate) fn forget_session(&mut self, session: Client) -> String {
+        let Some(it) = self.alone().and_then(|alone| alone.forget(session)) else { return String::new() };
+        if let Some(place) = it.waits {
+            self.board.waits_no_longer(place.lock, session);
+        }
+        for (lock, _) in &it.holds {
+            self.board.left(*lock, session);
+        }
+        self.names_of(it.holds.iter().map(|(lock, _)| *lock))
+    }
+
+    fn names_of(&self, locks: impl Iterator<Item = Lock>) -> String {
+        locks.map(|lock| self.names.name(lock)).collect::<Vec<_>>().join(",")
+    }
+
+    /// The connection of a session is gone: its client may come back, unless it has ended it. Returns what it held.
+    pub(crate) fn leave_session(&mut self, connection: &mut Connection, end: End) -> String {
+        let (now, longest) = (self.now, self.settings.longest_lease);
+        let Some(seat) = connection.seat.take() else { return String::new() };
+        let Some((alone, number)) = self.alone().zip(seat.session) else { return String::new() };
+        let Some(session) = alone.session_mut(number).filter(|it| it.at == At::Here(connection.client)) else {
+            return String::new(); // it is at another connection
+        };
+        let is_engine_gone = matches!(end, End::Engine | End::Stop);
+        let is_over = matches!(end, End::Lease | End::Kicked) || seat.is_attached || session.is_blank();
+        if is_over && !is_engine_gone {
+            return self.end_session(number);
+        }
+        let until = now + connection.lease.unwrap_or(longest);
+        session.at = At::Away(Some(until).filter(|_| !is_engine_gone));
+        let held: Vec<Lock> = session.holds.iter().map(|(lock, _)| *lock).collect();
+        self.names_of(held.into_iter())
+    }
+
+    /// Sessions whose clients have not come back are over.
+    pub(crate) fn end_absent_sessions(&mut self) {
+        let now = self.now;
+        for session in self.alone().map(|alone| alone.late(now)).unwrap_or_default() {
+            let held = self.end_session(session);
+            self.log.say(&Event::SessionOver { session, held: if held.is_empty() { "nothing" } else { &held } });
+        }
+    }
+
+    /// An operator ends the hold of a session.
+    pub(crate) fn ask_session_to_end(&mut self, operator: Client, session: Client, lock: Lock, token: Token) {
+        if let Some(it) = self.alone().and_then(|alone| alone.session_mut(session)) {
+            it.asked.push_back(Ask { client: operator, what: What::End(operator, lock, token) });
+        }
+        self.ask_engine_line(format_args!("{session} {}", Input::Release { lock, token }));
+    }
+
+    /// The engine has granted a session the lock for which it waited.
+    pub(crate) fn granted_late(&mut self, session: Client, lock: Lock, token: Token) {
+        self.note_token(lock, token);
+        if let Some(alone) = self.alone() {
+            alone.hold(session, lock, token);
+        }
+        self.board.granted(lock, session, token, None, self.now);
+    }
+
+    /// A place in a line that the session had before the engine started.
+    pub(crate) fn placed(&mut self, session: Client, place: (Lock, u64), answer: &Answer) -> Result<(), Unasked> {
+        let (lock, label) = place;
+        match answer {
+            Answer::Waiting { lock: l, .. } if lock == *l => self.board.waits(lock, session, label, self.now),
+            Answer::Granted { lock: l, token } if lock == *l => {
+                self.board.waits(lock, session, label, self.now);
+                self.granted_late(session, lock, *token);
+            }
+            Answer::Refused { .. } => {
+                if let Some(alone) = self.alone() {
+                    alone.free(session, lock);
+                }
+            }
+            _ => return Err(Unasked),
+        }
+        Ok(())
+    }
+
+    /// A new input of a session was done.
+    pub(crate) fn done_for(
+        &mut self,
+        session: Client,
+        number: u64,
+        input: Input,
+        answer: &Answer,
+    ) -> Result<(), Unasked> {
+        self.note_on_board(session, input, answer)?;
+        let text = Answered { client: session, answer: answer.clone() }.to_string();
+        let Some(alone) = self.alone() else { return Ok(()) };
+        alone.did(session, number, text);
+        if let (Input::Acquire { lock, label }, Answer::Waiting { .. }) = (input, answer) {
+            alone.place(session, lock, label);
+        }
+        Ok(())
+    }
+
+    fn note_on_board(&mut self, session: Client, input: Input, answer: &Answer) -> Result<(), Unasked> {
+        match (input, answer) {
+            (Input::Acquire { lock, label } | Input::Try { lock, label }, Answer::Granted { lock: l, token })
+                if lock == *l =>
+            {
+                self.note_token(lock, *token);
+                self.board.granted(lock, session, *token, Some(label), self.now);
+            }
+            (Input::Acquire { lock, label }, Answer::Waiting { lock: l, .. }) if lock == *l => {
+                self.board.waits(lock, session, label, self.now);
+            }
+            (Input::Release { lock, .. }, Answer::Released { lock: l }) if lock == *l => {
+                self.board.released(lock, session);
+            }
+            (Input::Cancel { lock }, Answer::Cancelled { lock: l }) if lock == *l => {
+                self.board.waits_no_longer(lock, session);
+            }
+            (Input::Corrupt { lock, machine, value }, Answer::Corrupted { lock: l, old }) if lock == *l => {
+                self.board.fault(lock, machine, value, *old);
+                let (client, lock, old) = (session, self.names.name(lock), *old);
+                self.log.say(&Event::Fault { client, who: "a session", lock, machine, value, old });
+            }
+            (Input::Try { lock, .. }, Answer::Busy { lock: l }) if lock == *l => {}
+            (_, Answer::Refused { .. }) => {}
+            _ => return Err(Unasked),
+        }
+        Ok(())
+    }
+
+    /// Tells the client the answer to its input with this number.
+    pub(crate) fn tell_done(&mut self, connection: &mut Connection, number: u64, answer: &Answer) {
+        let its = |it: &Pending| match it {
+            Pending::Numbered(its, input) if *its == number => Some(*input),
+            _ => None,
+        };
+        let Some(at) = connection.pending.iter().position(|it| its(it).is_some()) else { return };
+        if let Some(Pending::Numbered(_, Input::Acquire { lock, .. })) = connection.pending.remove(at) {
+            self.board.asked_no_longer(lock);
+        }
+        self.note_answered(connection);
+        if let Answer::Refused { why, .. } = answer {
+            self.sums.refused(why.word());
+        }
+        connection.tell_numbered(number, self.line(answer));
+        connection.tell_what_waited();
+    }
+
+    /// Tells the client that its session has left.
+    pub(crate) fn tell_session_left(&mut self, connection: &mut Connection, number: u64) {
+        let its = |it: &Pending| matches!(it, Pending::Leaving(its) if *its == number);
+        if connection.pending.iter().any(its) {
+            self.note_answered(connection);
+            connection.tell_in_place(its, format_args!("{number} left"));
+        }
+    }
+
+    /// Somebody was granted the lock.
+    pub(crate) fn note_token(&mut self, lock: Lock, token: Token) {
+        if let Some(alone) = self.alone() {
+            alone.note_token(lock, token);
+        }
+    }
+}

@@ -1,0 +1,467 @@
+//! A server that is alone: the sessions of its clients, which outlive its engine and itself.
+//!
+//! An input of a session goes to the engine with the session's number as its key, so the journal has what was done last of each. A
+//! [`Store`] beside the journal has whose each session is, and what the engine told of it. When the engine starts, it tells which holds
+//! are open; where some of them are sessions', it is started once more, and reads a file that says whose they are.
+
+mod desk;
+mod session;
+mod store;
+
+pub use session::{Ask, At, Place, Session, What};
+pub use store::{boot, Line, Store};
+
+use crate::board::Board;
+use crate::cluster::{Key, Owner, Who};
+use std::collections::{BTreeMap, HashMap, HashSet};
+use std::io;
+use std::time::{Duration, Instant};
+use wozgirt_engine::{Client, Label, Lock, StateLine, Token};
+
+/// What the engine is started for.
+#[derive(Debug, Clone, Copy, PartialEq, Eq)]
+pub enum Start {
+    /// To tell which holds are open.
+    Looking,
+    /// It has told that, and is to end.
+    Turning,
+    /// To serve.
+    Serving,
+}
+
+/// Why there is no session of a key.
+#[derive(Debug, Clone, Copy, PartialEq, Eq)]
+pub enum NoSession {
+    /// It is somebody else's.
+    Others,
+    /// There are too many, or none can be kept.
+    Full,
+}
+
+/// The sessions of a server that is alone.
+pub struct Alone {
+    store: Option<Store>,
+    sessions: BTreeMap<Client, Session>,
+    keys: HashMap<Key, Client>,
+    /// How many there may be.
+    most: usize,
+    /// The last number that a client or a session was given.
+    pub last: Client,
+    last_order: u64,
+    /// What the engine runs for.
+    pub start: Start,
+    /// The greatest token of each lock that this server has heard of.
+    heard: Vec<Token>,
+    /// Who stood first in the line of each lock when the engine was lost.
+    firsts: Vec<Option<Client>>,
+    /// Of which locks clients without a session may have been told something since the engine started, or before.
+    plain: Vec<bool>,
+    /// Holds that were given up, where the engine may not have heard that.
+    given: Vec<(Lock, Token)>,
+    /// Holds of sessions that are over, and operators who wait to be told that.
+    ended: Vec<Ended>,
+}
+
+/// A hold that an operator ends.
+#[derive(Debug, Clone, Copy, PartialEq, Eq)]
+pub struct Ended {
+    /// The operator's connection.
+    pub operator: Client,
+    /// The session that had it.
+    pub session: Client,
+    /// The lock.
+    pub lock: Lock,
+    /// The token.
+    pub token: Token,
+}
+
+impl Alone {
+    /// With the sessions of this store; without one there are none.
+    pub fn new(store: Option<Store>, locks: usize, most: usize) -> io::Result<Alone> {
+        let mut alone = Alone {
+            sessions: BTreeMap::new(),
+            keys: HashMap::new(),
+            most,
+            last: 0,
+            last_order: 0,
+            start: Start::Serving,
+            heard: vec![0; locks],
+            firsts: vec![None; locks],
+            plain: vec![false; locks],
+            given: Vec::new(),
+            ended: Vec::new(),
+            store: None,
+        };
+        if let Some(store) = store {
+            let lines = store.read()?;
+            if !lines.contains(&Line::Boot(boot())) {
+                alone.plain.fill(true); // what was told last may be missing
+            }
+            lines.into_iter().for_each(|line| alone.read(line));
+            alone.store = Some(store);
+        }
+        Ok(alone)
+    }
+
+    /// One line of the store.
+    fn read(&mut self, line: Line) {
+        match line {
+            Line::Last(number) => self.last = self.last.max(number),
+            Line::Session(number, key, lease, owner) => {
+                self.last = self.last.max(number);
+                let known = self.sessions.entry(number);
+                let session = known.or_insert_with(|| Session::new(key, owner, lease, At::Away(None)));
+                (session.lease, session.owner) = (lease, owner);
+                self.keys.insert(key, number);
+            }
+            Line::Has(StateLine::Hold { lock, token, client }) => {
+                self.change(client, |session| session.hold(lock, token));
+            }
+            Line::Has(StateLine::Wait { client, lock, label }) => self.wait(client, lock, label),
+            Line::Has(StateLine::Did { key, number, answer }) => self.note_done(key, number, &answer),
+            Line::Has(StateLine::At { .. }) => {}
+            Line::Free(number, lock) => self.change(number, |session| {
+                session.lose(lock);
+                session.waits = session.waits.filter(|place| place.lock != lock);
+            }),
+            Line::Over(number) => {
+                let session = self.remove(number);
+                self.given.extend(session.into_iter().flat_map(|session| session.holds));
+            }
+            Line::Plain(lock) => self.plain.get_mut(lock).into_iter().for_each(|it| *it = true),
+            Line::Given(lock, token) => self.given.push((lock, token)),
+            Line::Boot(_) => {}
+        }
+    }
+
+    fn note_done(&mut self, session: Client, number: u64, answer: &str) {
+        self.last_order += 1;
+        let order = self.last_order;
+        self.change(session, |session| session.did(number, answer, order));
+    }
+
+    /// A client without a session asks for the lock.
+    pub fn note_plain(&mut self, lock: Lock) {
+        if self.plain.get(lock) == Some(&false) {
+            self.plain[lock] = true;
+            self.put(&Line::Plain(lock));
+        }
+    }
+
+    fn change(&mut self, number: Client, change: impl FnOnce(&mut Session)) {
+        if let Some(session) = self.sessions.get_mut(&number) {
+            change(session);
+        }
+    }
+
+    fn wait(&mut self, number: Client, lock: Lock, label: Label) {
+        self.last_order += 1;
+        let order = self.last_order;
+        self.change(number, |session| session.wait(Place { lock, label, order }));
+    }
+
+    fn remove(&mut self, number: Client) -> Option<Session> {
+        let session = self.sessions.remove(&number)?;
+        if self.keys.get(&session.key) == Some(&number) {
+            self.keys.remove(&session.key);
+        }
+        Some(session)
+    }
+
+    /// A number that no client has had.
+    pub fn next_number(&mut self) -> Client {
+        self.last += 1;
+        self.last
+    }
+
+    /// The session with this number.
+    pub fn session(&self, number: Client) -> Option<&Session> {
+        self.sessions.get(&number)
+    }
+
+    /// The same, to be changed.
+    pub fn session_mut(&mut self, number: Client) -> Option<&mut Session> {
+        self.sessions.get_mut(&number)
+    }
+
+    /// The client of this key has come to a connection: the number of its session, and the connection where it was.
+    pub fn come(
+        &mut self,
+        key: Key,
+        who: Who,
+        lease: Duration,
+        client: Client,
+    ) -> Result<(Client, Option<Client>), NoSession> {
+        let Some(store) = &mut self.store else { return Err(NoSession::Full) };
+        if let Some((number, session)) =
+            self.keys.get(&key).and_then(|number| Some((*number, self.sessions.get_mut(number)?)))
+        {
+            if !session.owner.admits(who) {
+                return Err(NoSession::Others);
+            }
+            let before = std::mem::replace(&mut session.at, At::Here(client));
+            store.put(&Line::Session(number, key, session.lease, session.owner));
+            return Ok((number, if let At::Here(before) = before { Some(before) } else { None }));
+        }
+        if self.sessions.len() >= self.most {
+            return Err(NoSession::Full);
+        }
+        let mut owner = Owner::default();
+        owner.admits(who);
+        // its connection has asked for nothing else; if that had another session, the engine may not have done with it
+        let is_taken = self.sessions.contains_key(&client);
+        self.last += Client::from(is_taken);
+        let number = if is_taken { self.last } else { client };
+        store.put(&Line::Session(number, key, lease, owner));
+        self.sessions.insert(number, Session::new(key, owner, lease, At::Here(client)));
+        self.keys.insert(key, number);
+        Ok((number, None))
+    }
+
+    /// The client may be away for so long.
+    pub fn set_lease(&mut self, number: Client, lease: Duration) {
+        if let Some(session) = self.sessions.get_mut(&number).filter(|session| session.lease != lease) {
+            session.lease = lease;
+            let line = Line::Session(number, session.key, lease, session.owner);
+            self.put(&line);
+        }
+    }
+
+    /// The session is over for its key; the engine may not have heard that.
+    pub fn end(&mut self, number: Client) {
+        if let Some(session) = self.sessions.get_mut(&number) {
+            session.is_left = true;
+            self.given.extend(&session.holds);
+            if self.keys.get(&session.key) == Some(&number) {
+                self.keys.remove(&session.key);
+            }
+            self.put(&Line::Over(number));
+        }
+    }
+
+    /// The session is over, and the engine has heard that. What it answers for it from now on is not heard.
+    pub fn forget(&mut self, number: Client) -> Option<Session> {
+        let session = self.remove(number)?;
+        self.ended.extend(session.asked.iter().filter_map(|ask| match ask.what {
+            What::End(operator, lock, token) => Some(Ended { operator, session: number, lock, token }),
+            _ => None,
+        }));
+        Some(session)
+    }
+
+    /// Holds of which operators are to be told that they ended with their sessions.
+    pub fn take_ended(&mut self) -> Vec<Ended> {
+        std::mem::take(&mut self.ended)
+    }
+
+    /// All sessions are over, since the engine cannot be told what they hold: that is nobody's.
+    pub fn end_all(&mut self) {
+        self.sessions.clear();
+        self.keys.clear();
+        self.plain.fill(true);
+        if let Some(store) = &mut self.store {
+            let _ = store.remove(); // if it stays, it is replaced next
+            store.put(&Line::Last(self.last));
+        }
+    }
+
+    /// Puts a line among those that are written next.
+    pub fn put(&mut self, line: &Line) {
+        if let Some(store) = &mut self.store {
+            store.put(line);
+        }
+    }
+
+    /// The session was granted what it waited for, or had before.
+    pub fn hold(&mut self, number: Client, lock: Lock, token: Token) {
+        self.change(number, |session| session.hold(lock, token));
+        self.put(&Line::Has(StateLine::Hold { lock, token, client: number }));
+    }
+
+    /// The session waits, and the input of which it was told so is done.
+    pub fn place(&mut self, number: Client, lock: Lock, label: Label) {
+        self.wait(number, lock, label);
+        self.put(&Line::Has(StateLine::Wait { client: number, lock, label }));
+    }
+
+    /// An input was done.
+    pub fn did(&mut self, number: Client, input: u64, answer: String) {
+        self.note_done(number, input, &answer);
+        self.put(&Line::Has(StateLine::Did { key: number, number: input, answer }));
+    }
+
+    /// The session holds the lock, or waits for it, no longer.
+    pub fn free(&mut self, number: Client, lock: Lock) {
+        let line = Line::Free(number, lock);
+        self.put(&line);
+        self.read(line);
+    }
+
+    /// Somebody was granted the lock.
+    pub fn note_token(&mut self, lock: Lock, token: Token) {
+        if let Some(heard) = self.heard.get_mut(lock) {
+            *heard = token.max(*heard);
+        }
+        self.given.retain(|&(given, before)| given != lock || before >= token);
+    }
+
+    /// Writes what is new, before anybody is told of it.
+    pub fn write(&mut self) -> io::Result<()> {
+        let Some(store) = &mut self.store else { return Ok(()) };
+        if store.write()? {
+            self.rewrite()
+        } else {
+            Ok(())
+        }
+    }
+
+    fn rewrite(&mut self) -> io::Result<()> {
+        let mut waits: Vec<(Client, Place)> =
+            self.sessions.iter().filter_map(|(number, session)| Some((*number, session.waits?))).collect();
+        waits.sort_unstable_by_key(|(_, place)| place.order);
+        let waits =
+            waits.into_iter().map(|(client, Place { lock, label, .. })| StateLine::Wait { client, lock, label });
+        let kept = || self.sessions.iter().filter(|(_, session)| !session.is_left);
+        let all = kept().map(|(number, it)| Line::Session(*number, it.key, it.lease, it.owner));
+        let has = kept().flat_map(|(number, session)| session.lines(*number));
+        let plain = self.plain.iter().enumerate().filter(|(_, is_plain)| **is_plain).map(|(lock, _)| Line::Plain(lock));
+        let given = self.given.iter().map(|&(lock, token)| Line::Given(lock, token));
+        let first = [Line::Boot(boot()), Line::Last(self.last)].into_iter();
+        let lines = first.chain(all).chain(has.chain(waits).map(Line::Has)).chain(plain).chain(given);
+        let Some(store) = &mut self.store else { return Ok(()) };
+        store.rewrite(lines)
+    }
+
+    /// The engine is lost, and all connections are. Who stood first in a line then, on this board, may have been granted the lock, and
+    /// nobody was told.
+    pub fn lose_engine(&mut self, board: &Board, was_serving: bool) {
+        self.start = Start::Serving;
+        if was_serving {
+            self.firsts = board.locks().iter().map(|sight| sight.line.front().map(|waiter| waiter.client)).collect();
+        }
+    }
+
+    /// The engine starts. What the journal says of inputs that were done counts, since it is told to nobody else. It is written to the
+    /// disk.
+    pub fn prepare(&mut self) -> io::Result<()> {
+        let Some(store) = &self.store else { return Ok(()) };
+        let remarks = if self.sessions.is_empty() { Vec::new() } else { store.remarks()? };
+        for line in remarks {
+            let StateLine::Did { key, number, answer } = line else { continue };
+            let label = self.session(key).and_then(|session| session.label(number));
+            self.note_done(key, number, &answer);
+            let lock = self.session(key).and_then(|session| session.unlabelled.as_ref()).map(|it| it.lock);
+            if let (Some(label), Some(lock)) = (label, lock) {
+                self.wait(key, lock, label);
+            }
+        }
+        self.sessions.retain(|_, session| !session.is_left);
+        for session in self.sessions.values_mut() {
+            session.forget_asked();
+            session.at = At::Away(None);
+        }
+        let has_some = |it: &Session| !it.holds.is_empty() || it.waits.is_some() || it.unlabelled.is_some();
+        let has_holds = self.sessions.values().any(has_some);
+        self.start = if has_holds { Start::Looking } else { Start::Serving };
+        if !has_holds {
+            self.plain.fill(false);
+            self.given.clear();
+        }
+        self.rewrite()
+    }
+
+    /// These holds are open. Only those that are sessions' are kept of theirs, and one that nobody was told of is that of who stood first
+    /// in the line. Whether any is a session's, and a file says so.
+    pub fn settle(&mut self, open: &[(Lock, Token)]) -> io::Result<bool> {
+        for session in self.sessions.values_mut() {
+            session.holds.retain(|hold| open.contains(hold));
+        }
+        let known: HashSet<(Lock, Token)> = self.holds().map(|(_, lock, token)| (lock, token)).collect();
+        let unknown = open.iter().copied().filter(|hold| !known.contains(hold));
+        let mut plain = vec![false; self.plain.len()];
+        for (lock, token) in unknown {
+            match self.heir(lock, token).and_then(|heir| self.sessions.get_mut(&heir)) {
+                Some(session) => session.hold(lock, token),
+                None => plain.get_mut(lock).into_iter().for_each(|it| *it = true),
+            }
+        }
+        self.plain = plain;
+        self.given.clear();
+        self.sessions.values_mut().for_each(|session| session.unlabelled = None);
+        self.firsts.fill(None);
+        self.rewrite()?;
+        let lines = self.sessions.iter().flat_map(|(number, session)| session.lines(*number));
+        let holds = lines.filter(|line| matches!(line, StateLine::Hold { .. }));
+        let text: String = holds.map(|line| format!("{line}\n")).collect();
+        if let Some(store) = self.store.as_ref().filter(|_| !text.is_empty()) {
+            store.write_holders(&text)?;
+        }
+        Ok(!text.is_empty())
+    }
+
+    /// Whose an open hold is that nobody was told of: who stood first in the line. Where no client is without a session, that is known of
+    /// each hold that is no session's; else if this server has heard of all tokens that were told.
+    fn heir(&self, lock: Lock, token: Token) -> Option<Client> {
+        if self.given.contains(&(lock, token)) {
+            return None;
+        }
+        if self.plain.get(lock) == Some(&false) {
+            let places = self.sessions.iter().filter_map(|(number, session)| Some((session.order(lock)?, *number)));
+            return places.min().map(|(_, number)| number);
+        }
+        let is_untold = self.heard.get(lock).is_some_and(|heard| *heard > 0 && token > *heard);
+        let first = self.firsts.get(lock).copied().flatten().filter(|_| is_untold)?;
+        self.session(first).filter(|session| session.order(lock).is_some()).map(|_| first)
+    }
+
+    /// Locks are held since before the engine started, and not by sessions.
+    pub fn note_held_before(&mut self, locks: &[Lock]) {
+        locks.iter().for_each(|lock| self.note_plain(*lock));
+    }
+
+    /// The file with the holds that are sessions'.
+    pub fn holders(&self) -> Option<std::path::PathBuf> {
+        self.store.as_ref().map(Store::holders)
+    }
+
+    /// What the engine is told first: what was done, and who waits, in their order.
+    pub fn lines(&mut self) -> Vec<StateLine> {
+        let mut lines = Vec::new();
+        let mut waits = Vec::new();
+        for (number, session) in &mut self.sessions {
+            lines.extend(session.lines(*number).filter(|line| matches!(line, StateLine::Did { .. })));
+            if let Some(Place { lock, label, order }) = session.waits {
+                waits.push((order, StateLine::Wait { client: *number, lock, label }));
+                session.asked.push_back(Ask { client: 0, what: What::Place(lock, label) });
+            }
+        }
+        waits.sort_unstable_by_key(|(order, _)| *order);
+        lines.extend(waits.into_iter().map(|(_, line)| line));
+        lines
+    }
+
+    /// All sessions with their holds, for a board.
+    pub fn holds(&self) -> impl Iterator<Item = (Client, Lock, Token)> + '_ {
+        self.sessions.iter().flat_map(|(number, it)| it.holds.iter().map(|(lock, token)| (*number, *lock, *token)))
+    }
+
+    /// How many sessions there are.
+    pub fn count(&self) -> usize {
+        self.sessions.len()
+    }
+
+    /// Clients can come back from now on.
+    pub fn begin(&mut self, now: Instant) {
+        for session in self.sessions.values_mut() {
+            if session.at == At::Away(None) {
+                session.at = At::Away(Some(now + session.lease));
+            }
+        }
+    }
+
+    /// Those whose clients have not come back in time.
+    pub fn late(&self, now: Instant) -> Vec<Client> {
+        let is_late = |it: &Session| !it.is_left && matches!(it.at, At::Away(Some(until)) if until <= now);
+        self.sessions.iter().filter(|(_, session)| is_late(session)).map(|(number, _)| *number).collect()
+    }
+}

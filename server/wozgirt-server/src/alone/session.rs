@@ -1,0 +1,241 @@
+//! A session of a server that is alone: what it has, and what it asked.
+
+use crate::cluster::{Key, Owner};
+use std::collections::VecDeque;
+use std::time::{Duration, Instant};
+use wozgirt_engine::{Answer, Answered, Client, Input, Label, Lock, StateLine, Token};
+
+/// Where the client of a session is.
+#[derive(Debug, Clone, Copy, PartialEq, Eq)]
+pub enum At {
+    /// At this connection.
+    Here(Client),
+    /// It may come back until then, once that is known: not before the engine is there.
+    Away(Option<Instant>),
+}
+
+/// What the engine was asked for a session.
+#[derive(Debug, Clone, Copy, PartialEq, Eq)]
+pub enum What {
+    /// An input of the client, with its number, and whether that is new.
+    Input(u64, Input, bool),
+    /// A place in a line that it had before the engine started.
+    Place(Lock, Label),
+    /// The end of its hold, by this operator.
+    End(Client, Lock, Token),
+    /// It leaves, with this number.
+    Leave(u64),
+}
+
+/// A question, and the connection that asked it.
+#[derive(Debug, Clone, Copy, PartialEq, Eq)]
+pub struct Ask {
+    /// The connection.
+    pub client: Client,
+    /// The question.
+    pub what: What,
+}
+
+/// The lock for which a session waits.
+#[derive(Debug, Clone, Copy, PartialEq, Eq)]
+pub struct Place {
+    /// The lock.
+    pub lock: Lock,
+    /// What the journal keeps of the hold.
+    pub label: Label,
+    /// Who has a smaller one came before.
+    pub order: u64,
+}
+
+/// An input that was told to wait, with a label that is not known.
+#[derive(Debug, Clone, PartialEq, Eq)]
+pub struct Unlabelled {
+    /// The lock.
+    pub lock: Lock,
+    /// Who has a smaller one came before.
+    pub order: u64,
+    /// The input's number, and its answer.
+    pub done: (u64, String),
+}
+
+/// A session.
+#[derive(Debug)]
+pub struct Session {
+    /// The word by which its client is known.
+    pub key: Key,
+    /// Whose it is.
+    pub owner: Owner,
+    /// How long its client may be away.
+    pub lease: Duration,
+    /// Where that is.
+    pub at: At,
+    /// The last number that was asked.
+    pub last_asked: Option<u64>,
+    /// The number of the last input that was done, and the first line of its answer.
+    pub last: Option<(u64, String)>,
+    /// The locks that it holds.
+    pub holds: Vec<(Lock, Token)>,
+    /// The lock for which it waits.
+    pub waits: Option<Place>,
+    /// What the engine has not answered, the oldest first.
+    pub asked: VecDeque<Ask>,
+    /// It leaves, and its key is another session's.
+    pub is_left: bool,
+    /// It was told to wait, and it is not known yet with which label.
+    pub unlabelled: Option<Unlabelled>,
+}
+
+impl Session {
+    /// A session that has nothing.
+    pub fn new(key: Key, owner: Owner, lease: Duration, at: At) -> Session {
+        Session {
+            key,
+            owner,
+            lease,
+            at,
+            last_asked: None,
+            last: None,
+            holds: Vec::new(),
+            waits: None,
+            asked: VecDeque::new(),
+            is_left: false,
+            unlabelled: None,
+        }
+    }
+
+    /// Whether nothing has to be kept of it.
+    pub fn is_blank(&self) -> bool {
+        self.last_asked.is_none() && self.holds.is_empty() && self.waits.is_none()
+    }
+
+    /// Whether it holds the lock.
+    pub fn has(&self, lock: Lock) -> bool {
+        self.holds.iter().any(|(held, _)| *held == lock)
+    }
+
+    /// It holds the lock, and waits for it no longer.
+    pub fn hold(&mut self, lock: Lock, token: Token) {
+        self.holds.retain(|(held, _)| *held != lock);
+        self.holds.push((lock, token));
+        self.waits = self.waits.filter(|place| place.lock != lock);
+        self.unlabelled.take().filter(|it| it.lock == lock).into_iter().for_each(|it| self.last = Some(it.done));
+    }
+
+    /// Its hold of the lock is over.
+    pub fn lose(&mut self, lock: Lock) {
+        self.holds.retain(|(held, _)| *held != lock);
+    }
+
+    /// It waits for the lock.
+    pub fn wait(&mut self, place: Place) {
+        self.waits = Some(place);
+        self.unlabelled.take().filter(|it| it.lock == place.lock).into_iter().for_each(|it| self.last = Some(it.done));
+    }
+
+    /// An input was done. One that was told to wait, with a label that is not known, counts as not done unless it is: nobody waits any
+    /// more when the engine has ended, and the client asks again. Its place would be behind those that have a smaller `order`.
+    pub fn did(&mut self, number: u64, answer: &str, order: u64) {
+        if self.last.as_ref().is_some_and(|(last, _)| number <= *last) {
+            return;
+        }
+        self.unlabelled = None;
+        match answer.parse().map(|it: Answered| it.answer) {
+            Ok(Answer::Granted { lock, token }) => self.hold(lock, token),
+            Ok(Answer::Released { lock }) => self.lose(lock),
+            Ok(Answer::Cancelled { lock }) => self.waits = self.waits.filter(|place| place.lock != lock),
+            Ok(Answer::Waiting { lock, .. }) if self.waits.map(|place| place.lock) != Some(lock) => {
+                self.unlabelled = Some(Unlabelled { lock, order, done: (number, answer.into()) });
+                return;
+            }
+            _ => {}
+        }
+        self.last = Some((number, answer.into()));
+    }
+
+    /// The label with which an input that has no answer asks for the lock.
+    pub fn label(&self, number: u64) -> Option<Label> {
+        self.asked.iter().find_map(|ask| match ask.what {
+            What::Input(its, Input::Acquire { label, .. }, true) if its == number => Some(label),
+            _ => None,
+        })
+    }
+
+    /// The order of its place in the line of the lock, if it has one, or may have.
+    pub fn order(&self, lock: Lock) -> Option<u64> {
+        let waits = self.waits.filter(|place| place.lock == lock).map(|place| place.order);
+        waits.or(self.unlabelled.as_ref().filter(|it| it.lock == lock).map(|it| it.order))
+    }
+
+    /// Nothing is asked any more: the engine is gone.
+    pub fn forget_asked(&mut self) {
+        self.asked.clear();
+        self.last_asked = self.last.as_ref().map(|(number, _)| *number);
+    }
+
+    /// The lines that bring back what it has, but for its place.
+    pub fn lines(&self, session: Client) -> impl Iterator<Item = StateLine> + '_ {
+        let did = self.last.iter().map(move |(number, answer)| StateLine::Did {
+            key: session,
+            number: *number,
+            answer: answer.clone(),
+        });
+        did.chain(self.holds.iter().map(move |&(lock, token)| StateLine::Hold { lock, token, client: session }))
+    }
+}
+
+#[cfg(test)]
+mod tests {
+    use super::*;
+
+    fn session() -> Session {
+        Session::new(7, Owner::default(), Duration::from_secs(1), At::Away(None))
+    }
+
+    #[test]
+    fn what_was_done() {
+        let mut it = session();
+        it.did(1, "5 granted 0 3", 9);
+        it.did(2, "5 granted 1 1", 9);
+        it.did(3, "5 released 0", 9);
+        it.did(2, "5 released 1", 9); // it was known
+        assert_eq!((it.holds.as_slice(), &it.last), ([(1, 1)].as_slice(), &Some((3, "5 released 0".into()))));
+        it.hold(0, 9);
+        assert!(it.has(0) && it.has(1) && !it.has(2));
+        let lines: Vec<String> = it.lines(5).map(|line| line.to_string()).collect();
+        assert_eq!(lines, ["5 3 did 5 released 0", "hold 1 1 5", "hold 0 9 5"]);
+    }
+
+    #[test]
+    fn who_waits_without_a_label_asks_again() {
+        let mut it = session();
+        it.did(4, "5 waiting 0 2", 9);
+        assert_eq!((it.waits, &it.last, it.order(0), it.order(1)), (None, &None, Some(9), None));
+        let place = Place { lock: 0, label: 8, order: 1 };
+        it.wait(place);
+        assert_eq!((it.waits, &it.last), (Some(place), &Some((4, "5 waiting 0 2".into()))));
+        it.did(5, "5 busy 1", 9);
+        it.did(6, "5 waiting 0 2", 9);
+        it.hold(0, 4);
+        assert_eq!((it.waits, it.last.as_ref().map(|(number, _)| *number)), (None, Some(6)));
+        it.did(7, "5 waiting 0 0", 9);
+        it.hold(0, 5);
+        assert_eq!((it.order(0), it.last.as_ref().map(|(number, _)| *number)), (None, Some(7)));
+        it.wait(Place { lock: 1, ..place });
+        it.did(8, "5 cancelled 1", 9);
+        assert_eq!(it.waits, None);
+    }
+
+    #[test]
+    fn a_label_is_that_of_what_was_asked() {
+        let mut it = session();
+        assert!(it.is_blank());
+        for (number, input) in [(1, "acquire 0 5"), (2, "cancel 0"), (3, "acquire 1 6")] {
+            it.asked.push_back(Ask { client: 1, what: What::Input(number, input.parse().unwrap(), true) });
+        }
+        it.last_asked = Some(3);
+        assert_eq!([1, 2, 3, 4].map(|number| it.label(number)), [Some(5), None, Some(6), None]);
+        it.did(1, "5 refused holds 0", 9);
+        it.forget_asked();
+        assert_eq!((it.last_asked, it.asked.len(), it.is_blank()), (Some(1), 0, false));
+    }
+}

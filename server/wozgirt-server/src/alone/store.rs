@@ -1,0 +1,331 @@
+//! The folder beside the journal, with what is kept of sessions.
+//!
+//! The file `sessions` has a line for each change. It is written before anybody is told of that, so it outlives the server; it is on the
+//! disk where the server starts its engine, which writes the last segment anew, without what that has of sessions.
+//!
+//! ```text
+//! wozgirt sessions 1
+//! boot WORD
+//! last NUMBER
+//! session NUMBER KEY LEASE USER ADDRESS
+//! NUMBER INPUT did ANSWER
+//! NUMBER acquire LOCK LABEL
+//! hold LOCK TOKEN NUMBER
+//! free NUMBER LOCK
+//! over NUMBER
+//! plain LOCK
+//! given LOCK TOKEN
+//! ```
+//!
+//! What was not on the disk when the machine lost its power is not there; WORD is another one then.
+
+use crate::cluster::{NoFolder, Owner};
+use std::ffi::OsString;
+use std::fmt;
+use std::fs::{self, File, OpenOptions};
+use std::io::{self, BufRead, BufReader, ErrorKind, Write};
+use std::path::{Path, PathBuf};
+use std::thread;
+use std::time::Duration;
+use wozgirt_engine::{decimal, Client, Lock, NotALine, StateLine, Token};
+use wozgirt_system::{inherit, try_lock};
+
+const FIRST: &str = "wozgirt sessions 1";
+/// How often the folder's lock is tried, and the pause between: the engine of a server that was killed may end a moment later.
+const TRIES: u32 = 500;
+const PAUSE: Duration = Duration::from_millis(20);
+/// A file to which more was added is written anew.
+const LONGEST: usize = 16 << 20;
+
+/// One line of the file.
+#[derive(Debug, Clone, PartialEq, Eq)]
+pub enum Line {
+    /// No session, and no client, has had a greater number.
+    Last(Client),
+    /// A session: its number, its key, how long its client may be away, and whose it is.
+    Session(Client, u64, Duration, Owner),
+    /// What one has.
+    Has(StateLine),
+    /// One holds the lock no longer, or waits for it no longer.
+    Free(Client, Lock),
+    /// It is over.
+    Over(Client),
+    /// Clients without a session may hold the lock, or wait for it.
+    Plain(Lock),
+    /// Who held the lock with this token has given it up; the engine may not have heard that.
+    Given(Lock, Token),
+    /// The start of the machine in which all this was written.
+    Boot(String),
+}
+
+impl fmt::Display for Line {
+    fn fmt(&self, f: &mut fmt::Formatter<'_>) -> fmt::Result {
+        match self {
+            Line::Last(number) => write!(f, "last {number}"),
+            Line::Session(number, key, lease, owner) => {
+                write!(f, "session {number} {key} {} {owner}", lease.as_millis())
+            }
+            Line::Has(line) => line.fmt(f),
+            Line::Free(number, lock) => write!(f, "free {number} {lock}"),
+            Line::Over(number) => write!(f, "over {number}"),
+            Line::Plain(lock) => write!(f, "plain {lock}"),
+            Line::Given(lock, token) => write!(f, "given {lock} {token}"),
+            Line::Boot(word) => write!(f, "boot {word}"),
+        }
+    }
+}
+
+impl std::str::FromStr for Line {
+    type Err = NotALine;
+
+    fn from_str(line: &str) -> Result<Line, NotALine> {
+        let words: Vec<&str> = line.split(' ').collect();
+        match words[..] {
+            ["last", number] => Ok(Line::Last(decimal(number)?)),
+            ["session", number, key, lease, user, address] => {
+                let lease = Duration::from_millis(decimal(lease)?);
+                Ok(Line::Session(decimal(number)?, decimal(key)?, lease, Owner::parse(user, address)?))
+            }
+            ["free", number, lock] => Ok(Line::Free(decimal(number)?, lock_of(lock)?)),
+            ["over", number] => Ok(Line::Over(decimal(number)?)),
+            ["plain", lock] => Ok(Line::Plain(lock_of(lock)?)),
+            ["given", lock, token] => Ok(Line::Given(lock_of(lock)?, decimal(token)?)),
+            ["boot", word] => Ok(Line::Boot(word.into())),
+            _ => line.parse().map(Line::Has),
+        }
+    }
+}
+
+fn lock_of(word: &str) -> Result<Lock, NotALine> {
+    usize::try_from(decimal(word)?).map_err(|_| NotALine::Number)
+}
+
+/// The word that the system has for this start of the machine.
+pub fn boot() -> String {
+    fs::read_to_string("/proc/sys/kernel/random/boot_id").map_or("unknown".into(), |word| word.trim().into())
+}
+
+/// The folder.
+#[derive(Debug)]
+pub struct Store {
+    folder: PathBuf,
+    journal: PathBuf,
+    /// The engine has it too, so that the journal is not read while another engine writes it.
+    _lock: File,
+    file: Option<File>,
+    /// How much was added to it.
+    size: usize,
+    /// Lines that are not written yet.
+    lines: Vec<u8>,
+}
+
+impl Store {
+    /// Makes what is not there, and has it for this server alone.
+    pub fn open(journal: &Path) -> Result<Store, NoFolder> {
+        let mut name: OsString = journal.file_name().ok_or(io::Error::from(ErrorKind::InvalidInput))?.to_owned();
+        name.push(".sessions");
+        let folder = journal.with_file_name(name);
+        fs::create_dir_all(&folder)?;
+        let lock = File::create(folder.join("lock"))?;
+        for tried in 1.. {
+            if try_lock(&lock)? {
+                break;
+            }
+            if tried == TRIES {
+                return Err(NoFolder::InUse);
+            }
+            thread::sleep(PAUSE);
+        }
+        inherit(&lock)?;
+        Ok(Store { folder, journal: journal.to_owned(), _lock: lock, file: None, size: 0, lines: Vec::new() })
+    }
+
+    fn sessions(&self) -> PathBuf {
+        self.folder.join("sessions")
+    }
+
+    /// The file with the open holds, which the engine reads.
+    pub fn holders(&self) -> PathBuf {
+        self.folder.join("holders")
+    }
+
+    /// Writes the open holds for the engine.
+    pub fn write_holders(&self, text: &str) -> io::Result<()> {
+        fs::write(self.holders(), text)
+    }
+
+    /// The lines of the file. What comes behind one that is none, as after a loss of power, does not count.
+    pub fn read(&self) -> io::Result<Vec<Line>> {
+        let text = match fs::read(self.sessions()) {
+            Err(fault) if fault.kind() == ErrorKind::NotFound => return Ok(Vec::new()),
+            other => other?,
+        };
+        let text = String::from_utf8_lossy(&text);
+        let mut lines = text.split_inclusive('\n').map_while(|line| line.strip_suffix('\n'));
+        if lines.next() != Some(FIRST) {
+            return Ok(Vec::new());
+        }
+        Ok(lines.map_while(|line| line.parse().ok()).collect())
+    }
+
+    /// What the last segment of the journal has of inputs that were done, in their order.
+    pub fn remarks(&self) -> io::Result<Vec<StateLine>> {
+        let names = fs::read_dir(&self.journal)?.flatten().filter_map(|file| file.file_name().into_string().ok());
+        let last = names.filter_map(|name| name.strip_suffix(".ring")?.parse::<u64>().ok()).max();
+        let Some(last) = last else { return Ok(Vec::new()) };
+        let mut file = BufReader::new(File::open(self.journal.join(format!("{last:010}.ring")))?);
+        let (mut found, mut line) = (Vec::new(), Vec::new());
+        while file.read_until(b'\n', &mut line)? > 0 {
+            let text = line.strip_suffix(b"\n").and_then(|line| line.strip_prefix(b"# "));
+            found.extend(text.and_then(|text| std::str::from_utf8(text).ok()?.parse().ok()));
+            line.clear();
+        }
+        Ok(found)
+    }
+
+    /// Puts a line among those that are written next.
+    pub fn put(&mut self, line: &Line) {
+        let _ = writeln!(self.lines, "{line}"); // a list takes whatever is written
+    }
+
+    /// Writes these. Whether all is to be written anew: much was added, or there is no file.
+    pub fn write(&mut self) -> io::Result<bool> {
+        if self.lines.is_empty() {
+            return Ok(false);
+        }
+        let Some(file) = &mut self.file else { return Ok(true) };
+        if let Err(fault) = file.write_all(&self.lines) {
+            return Err(self.without(fault));
+        }
+        self.size += self.lines.len();
+        self.lines.clear();
+        Ok(self.size > LONGEST)
+    }
+
+    /// A file that does not tell all would tell what is wrong: there is none, until all is written anew.
+    pub fn remove(&mut self) -> io::Result<()> {
+        self.file = None;
+        self.lines.clear();
+        fs::remove_file(self.sessions()).or_else(|fault| match fault.kind() {
+            ErrorKind::NotFound => Ok(()),
+            _ => Err(fault),
+        })
+    }
+
+    fn without(&mut self, fault: io::Error) -> io::Error {
+        self.remove().err().unwrap_or(fault)
+    }
+
+    /// Replaces the file; it is on the disk then.
+    pub fn rewrite(&mut self, lines: impl Iterator<Item = Line>) -> io::Result<()> {
+        self.replace(lines).map_err(|fault| self.without(fault))
+    }
+
+    fn replace(&mut self, lines: impl Iterator<Item = Line>) -> io::Result<()> {
+        let mut text = format!("{FIRST}\n").into_bytes();
+        for line in lines {
+            let _ = writeln!(text, "{line}"); // the same
+        }
+        let part = self.folder.join("sessions.part");
+        let mut file = OpenOptions::new().create(true).write(true).truncate(true).open(&part)?;
+        file.write_all(&text)?;
+        file.sync_all()?;
+        fs::rename(part, self.sessions())?;
+        File::open(&self.folder)?.sync_all()?;
+        (self.file, self.size) = (Some(file), 0);
+        self.lines.clear();
+        Ok(())
+    }
+}
+
+#[cfg(test)]
+mod tests {
+    use super::*;
+
+    #[test]
+    fn each_line() {
+        let second = Duration::from_secs(1);
+        for (text, line) in [
+            ("last 7", Line::Last(7)),
+            ("session 7 70 1000 u1 a::1", Line::Session(7, 70, second, Owner::parse("u1", "a::1").unwrap())),
+            ("free 7 1", Line::Free(7, 1)),
+            ("over 7", Line::Over(7)),
+            ("plain 1", Line::Plain(1)),
+            ("given 1 2", Line::Given(1, 2)),
+            ("boot x-1", Line::Boot("x-1".into())),
+            ("hold 1 2 7", Line::Has(StateLine::Hold { lock: 1, token: 2, client: 7 })),
+        ] {
+            assert_eq!((text.parse(), line.to_string()), (Ok(line), text.into()));
+        }
+        for line in ["", "last", "session 7 70 x - -", "free 7", "over"] {
+            assert!(line.parse::<Line>().is_err(), "{line:?}");
+        }
+    }
+
+    #[test]
+    fn a_folder() {
+        let journal = std::env::temp_dir().join(format!("wozgirt-store-{}", std::process::id()));
+        let _ = fs::remove_dir_all(&journal);
+        fs::create_dir(&journal).unwrap();
+        let mut store = Store::open(&journal).unwrap();
+        assert_eq!((store.read().unwrap(), store.remarks().unwrap()), (vec![], vec![]));
+        store.put(&Line::Over(1));
+        assert!(store.write().unwrap()); // there is no file yet
+        store.rewrite([Line::Last(9)].into_iter()).unwrap();
+        assert!(!store.write().unwrap());
+        store.put(&Line::Over(7));
+        assert!(!store.write().unwrap());
+        assert_eq!(store.read().unwrap(), [Line::Last(9), Line::Over(7)]);
+        let text = fs::read_to_string(store.sessions()).unwrap();
+        for (damaged, count) in [(format!("{text}over 8"), 2), (format!("{text}\0\0\nover 8\n"), 2), ("x\n".into(), 0)]
+        {
+            fs::write(store.sessions(), damaged).unwrap();
+            assert_eq!(store.read().unwrap().len(), count);
+        }
+        fs::write(journal.join("0000000009.ring"), "done 1\n# 1 1 did 1 busy 0\n").unwrap();
+        fs::write(journal.join("0000000010.ring"), "done 1\n# 7 1 did 7 busy 0\n0 p\n# 7 1 forget\n# 8 2 did ")
+            .unwrap();
+        assert_eq!(store.remarks().unwrap(), ["7 1 did 7 busy 0".parse().unwrap()]);
+        fs::remove_dir_all(&store.folder).unwrap();
+        fs::remove_dir_all(journal).unwrap();
+    }
+
+    /// An empty store, and the journal beside it.
+    fn new_store(name: &str) -> (Store, PathBuf) {
+        let journal = std::env::temp_dir().join(format!("wozgirt-store-{name}-{}", std::process::id()));
+        let _ = fs::remove_dir_all(&journal);
+        fs::create_dir(&journal).unwrap();
+        (Store::open(&journal).unwrap(), journal)
+    }
+
+    #[test]
+    fn a_long_file_is_not_written_anew_each_time() {
+        let (mut store, journal) = new_store("long");
+        let line = Line::Plain(usize::MAX);
+        let count = LONGEST / line.to_string().len();
+        store.rewrite(std::iter::repeat(line.clone()).take(count)).unwrap();
+        store.put(&line);
+        assert!(!store.write().unwrap());
+        (0..count).for_each(|_| store.put(&line));
+        assert!(store.write().unwrap()); // by now it has as much again
+        fs::remove_dir_all(&store.folder).unwrap();
+        fs::remove_dir_all(journal).unwrap();
+    }
+
+    #[test]
+    fn a_file_that_cannot_be_written_anew_is_none() {
+        let (mut store, journal) = new_store("full");
+        store.rewrite([Line::Last(9)].into_iter()).unwrap();
+        fs::create_dir(store.folder.join("sessions.part")).unwrap();
+        store.put(&Line::Over(7));
+        assert!(store.rewrite([Line::Last(9)].into_iter()).is_err() && store.lines.is_empty());
+        assert_eq!(store.read().unwrap(), []);
+        store.put(&Line::Over(8));
+        assert!(store.write().unwrap()); // all of it is to be written, and not to a file that has no name
+        fs::remove_dir(store.folder.join("sessions.part")).unwrap();
+        store.rewrite([Line::Last(10)].into_iter()).unwrap();
+        assert_eq!(store.read().unwrap(), [Line::Last(10)]);
+        fs::remove_dir_all(&store.folder).unwrap();
+        fs::remove_dir_all(journal).unwrap();
+    }
+}

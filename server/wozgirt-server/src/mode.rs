@@ -1,0 +1,132 @@
+//! How a server is run: alone, or as one of several that have one log. What differs stands here, event by event.
+
+use crate::alone::Alone;
+use crate::cluster::Cluster;
+use crate::connection::Connection;
+use crate::pages::InLog;
+use crate::questions::Questions;
+use std::time::Instant;
+use wozgirt_engine::{Client, Lock};
+
+/// With so many lines that wait to be put into the log, no more are taken.
+const MOST_FOR_LOG: usize = 10_000;
+
+/// How a server is run.
+pub enum Mode {
+    /// What clients ask goes to the engine.
+    Alone(Alone),
+    /// What clients ask goes into the log, and what is there goes to the engine.
+    InLog(Box<Cluster>),
+}
+
+impl Mode {
+    /// The log that this server has with others, if it has one.
+    pub fn in_log(&self) -> Option<&Cluster> {
+        match self {
+            Mode::Alone(_) => None,
+            Mode::InLog(cluster) => Some(cluster),
+        }
+    }
+
+    /// The same, to be changed.
+    pub fn in_log_mut(&mut self) -> Option<&mut Cluster> {
+        match self {
+            Mode::Alone(_) => None,
+            Mode::InLog(cluster) => Some(cluster),
+        }
+    }
+
+    /// A number for a client that comes: no client has had it, and no session of a server that is alone.
+    pub fn next_client(&mut self) -> Client {
+        match self {
+            Mode::Alone(alone) => alone.next_number(),
+            Mode::InLog(cluster) => {
+                cluster.last_client += 1;
+                cluster.last_client
+            }
+        }
+    }
+
+    /// Whether no process runs any more but the engine.
+    pub fn is_over(&self) -> bool {
+        self.in_log().map_or(true, |cluster| cluster.log.is_over())
+    }
+
+    /// Whether clients are heard: of a server that is alone, if its engine has begun.
+    pub fn is_ready(&self, has_begun: bool) -> bool {
+        self.in_log().map_or(has_begun, Cluster::is_ready)
+    }
+
+    /// When something is to be done for the log without being told.
+    pub fn next_times(&self, now: Instant) -> [Option<Instant>; 2] {
+        match self {
+            Mode::Alone(_) => [None, None],
+            Mode::InLog(cluster) => {
+                let look = cluster.log.next_look(now).filter(|_| cluster.is_restored);
+                [look, cluster.entry_due()]
+            }
+        }
+    }
+
+    /// What is shown of the log.
+    pub fn view(&self) -> Option<InLog> {
+        self.in_log().map(Cluster::view)
+    }
+
+    /// How many lines wait for the engine, or for the log.
+    pub fn waiting_lines(&self, questions: &Questions) -> usize {
+        self.in_log().map_or_else(|| questions.waiting(), Cluster::waiting_lines)
+    }
+
+    /// How many may wait for the log.
+    pub fn most_waiting(&self) -> Option<usize> {
+        self.in_log().map(|_| MOST_FOR_LOG)
+    }
+
+    /// Whether each client has a lease. Where servers share a log, the lock of a client that hears nothing of its server is given to
+    /// another by the next server.
+    pub fn gives_leases(&self) -> bool {
+        matches!(self, Mode::InLog(_))
+    }
+
+    /// The number by which a client is shown: that of its session, if it has one, or where the log gives numbers.
+    pub fn number(&self, connection: &Connection) -> Client {
+        match self {
+            Mode::Alone(_) => connection.seat.as_ref().and_then(|seat| seat.session).unwrap_or(connection.client),
+            Mode::InLog(cluster) => {
+                connection.seat.as_ref().and_then(|seat| cluster.owns.session(seat.key)).unwrap_or(0)
+            }
+        }
+    }
+
+    /// What a client holds and waits for, as far as the engine told.
+    pub fn standing(&self, connection: &Connection) -> (Vec<Lock>, Option<Lock>) {
+        match (self, &connection.seat) {
+            (Mode::InLog(cluster), Some(seat)) => {
+                let standing = cluster.standing(seat.key);
+                (standing.holds.into_iter().map(|(lock, _)| lock).collect(), standing.waits)
+            }
+            (Mode::Alone(alone), Some(seat)) => {
+                let session = seat.session.and_then(|number| alone.session(number));
+                session.map_or((Vec::new(), None), |it| {
+                    (it.holds.iter().map(|(lock, _)| *lock).collect(), it.waits.map(|place| place.lock))
+                })
+            }
+            _ => (connection.holds.clone(), connection.waits_for),
+        }
+    }
+
+    /// Whether the client holds the lock, as far as the engine told.
+    pub fn holds(&self, connection: &Connection, lock: Lock) -> bool {
+        match (self, &connection.seat) {
+            (Mode::Alone(alone), Some(seat)) => {
+                seat.session.and_then(|number| alone.session(number)).is_some_and(|session| session.has(lock))
+            }
+            (Mode::Alone(_), None) => connection.holds.contains(&lock),
+            (Mode::InLog(cluster), Some(seat)) => {
+                cluster.owns.session(seat.key).is_some_and(|session| cluster.mirror.holds(session, lock))
+            }
+            (Mode::InLog(_), None) => false,
+        }
+    }
+}

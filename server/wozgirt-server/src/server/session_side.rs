@@ -1,0 +1,177 @@
+//! A server that is alone: its sessions, at the start of the engine, and what the engine answers them.
+
+use super::Server;
+use crate::alone::{Ask, At, Start, What};
+use crate::desk::Unasked;
+use crate::log::Event;
+use crate::mode::Mode;
+use crate::questions::Own;
+use crate::CannotServe;
+use std::io;
+use wozgirt_engine::{Answer, Asked, Client, Input, Lock, Token, NOBODY};
+
+impl Server {
+    /// The engine answers a session.
+    pub(super) fn answer_session(&mut self, number: Client, answer: &Answer) -> Result<(), Unasked> {
+        let Some(session) = self.desk.alone().and_then(|alone| alone.session_mut(number)) else {
+            return Ok(()); // it is over
+        };
+        let is_place = matches!(session.asked.front(), Some(Ask { what: What::Place(..), .. }));
+        if let (Answer::Granted { lock, token }, Some(place), false) = (answer, session.waits, is_place) {
+            if *lock == place.lock {
+                self.granted_late(number, *lock, *token);
+                return Ok(());
+            }
+        }
+        let Ask { client, what } = session.asked.pop_front().ok_or(Unasked)?;
+        match what {
+            What::Place(lock, label) => self.desk.placed(number, (lock, label), answer)?,
+            What::Input(input_number, input, is_new) => {
+                if is_new {
+                    self.desk.done_for(number, input_number, input, answer)?;
+                }
+                if let Some(connection) = self.connections.get_mut(&client) {
+                    self.desk.tell_done(connection, input_number, answer);
+                }
+            }
+            What::End(operator, lock, token) => self.ended_for_session(number, operator, lock, token, answer),
+            What::Leave(leave) => {
+                self.desk.forget_session(number);
+                if let Some(connection) = self.connections.get_mut(&client) {
+                    self.desk.tell_session_left(connection, leave);
+                }
+            }
+        }
+        self.queue(client);
+        self.touch(client);
+        self.open_if_answered(number);
+        Ok(())
+    }
+
+    /// The connection where the session is.
+    fn client_of(&mut self, session: Client) -> Option<Client> {
+        let at = self.desk.alone().and_then(|alone| alone.session(session)).map(|session| session.at);
+        at.and_then(|at| if let At::Here(client) = at { Some(client) } else { None })
+    }
+
+    fn granted_late(&mut self, session: Client, lock: Lock, token: Token) {
+        self.desk.granted_late(session, lock, token);
+        let Some(client) = self.client_of(session) else { return };
+        let Some(connection) = self.connections.get_mut(&client) else { return };
+        if !connection.is_to_be_opened() {
+            self.desk.tell(connection, &Answer::Granted { lock, token });
+            self.touch(client);
+        }
+    }
+
+    /// Who has come back while something was on its way is told what the session has when that is answered.
+    fn open_if_answered(&mut self, session: Client) {
+        let Some(client) = self.client_of(session) else { return };
+        let Some(connection) = self.connections.get_mut(&client).filter(|it| it.is_to_be_opened()) else { return };
+        self.desk.tell_opened(connection);
+        self.queue(client);
+        self.touch(client);
+    }
+
+    fn ended_for_session(&mut self, session: Client, operator: Client, lock: Lock, token: Token, answer: &Answer) {
+        if matches!(answer, Answer::Released { .. }) {
+            if let Some(alone) = self.desk.alone() {
+                alone.free(session, lock);
+            }
+            self.desk.board.released(lock, session);
+        }
+        self.tell_ended(operator, session, lock, token, answer);
+    }
+
+    /// Writes what is new of sessions, before anybody is told of it. If that cannot be, they end with this server.
+    pub(super) fn write_sessions(&mut self) {
+        for it in self.desk.alone().map(|alone| alone.take_ended()).unwrap_or_default() {
+            // its session has left all
+            self.tell_ended(it.operator, it.session, it.lock, it.token, &Answer::Released { lock: it.lock });
+        }
+        if let Some(fault) = self.desk.alone().and_then(|alone| alone.write().err()) {
+            self.say_unkept(&fault);
+        }
+    }
+
+    fn say_unkept(&mut self, fault: &io::Error) {
+        if !std::mem::replace(&mut self.says_unkept, true) {
+            self.desk.log.say(&Event::SessionsUnkept { fault });
+        }
+    }
+
+    /// The engine is to be started: what it is started for is known, and what it reads then is written.
+    pub(super) fn prepare_engine(&mut self) -> Result<(), CannotServe> {
+        let mut words = self.desk.settings.engine_words();
+        let Mode::Alone(alone) = &mut self.desk.mode else { return Ok(()) };
+        if alone.start == Start::Turning {
+            alone.start = Start::Serving;
+            let holders = alone.holders().map(|path| path.to_string_lossy().into_owned());
+            words.extend(holders.into_iter().flat_map(|path| ["--holders".into(), path]));
+        } else {
+            alone.prepare().map_err(CannotServe::Sessions)?;
+        }
+        self.desk.engine.set_words(words);
+        Ok(())
+    }
+
+    /// The engine has started: it is asked how all locks are, and first told what was done and who waits, if it is to serve.
+    pub(super) fn begin_engine(&mut self) {
+        let now = self.desk.now;
+        self.desk.board.forget();
+        self.held_before.clear();
+        if let Mode::Alone(alone) = &mut self.desk.mode {
+            if alone.start == Start::Serving {
+                for (session, lock, token) in alone.holds() {
+                    self.desk.board.holds(lock, session, token, now);
+                }
+                for line in alone.lines() {
+                    self.desk.engine.ask_line(line);
+                }
+            }
+        }
+        for lock in 0..self.desk.names.count() {
+            self.desk.questions.put(Own::Begin(lock));
+            self.desk.engine.ask(Asked { client: NOBODY, input: Input::Stats { lock } });
+        }
+    }
+
+    /// The engine has told how all locks are: whether it serves from here on.
+    pub(super) fn has_begun(&mut self) -> bool {
+        let open = self.held_before.iter().filter_map(|lock| {
+            let holder = self.desk.board.lock(*lock)?.holder?;
+            Some((*lock, holder.token))
+        });
+        let open: Vec<(Lock, Token)> = open.collect();
+        let now = self.desk.now;
+        let Mode::Alone(alone) = &mut self.desk.mode else { return true };
+        if alone.start == Start::Serving {
+            alone.note_held_before(&self.held_before);
+            alone.begin(now);
+            return true;
+        }
+        let has_holds = match alone.settle(&open) {
+            Ok(has_holds) => has_holds,
+            Err(fault) => {
+                alone.end_all();
+                self.say_unkept(&fault);
+                false
+            }
+        };
+        if let Some(alone) = self.desk.alone() {
+            alone.start = if has_holds { Start::Turning } else { Start::Serving };
+        }
+        self.desk.engine.note_ready();
+        if has_holds {
+            self.desk.engine.end();
+        } else {
+            self.begin_engine();
+        }
+        false
+    }
+
+    /// Whether the engine ends since it is to be started with the holders.
+    pub(super) fn is_turning(&self) -> bool {
+        self.stopping.is_none() && matches!(&self.desk.mode, Mode::Alone(alone) if alone.start == Start::Turning)
+    }
+}
