@@ -1,6 +1,8 @@
 """Clients that ask for all they can: the server's memory stays within its bound, leases end on time, and others have their places and
 turns."""
 
+import array
+import fcntl
 import http.client
 import os
 import select
@@ -8,6 +10,7 @@ import signal
 import socket
 import subprocess
 import sys
+import termios
 import threading
 import time
 import unittest
@@ -18,6 +21,8 @@ MANY = "a,b," + ",".join(f"n{i}" for i in range(998))
 MIB = 1 << 20
 # so much more than at its start the server may have at any time in these tests: each is far below what --memory permits it
 MOST_GROWTH = 24 * MIB
+# and so much more where nobody stays who is given memory
+LEAST_GROWTH = 4 * MIB
 
 
 def memory(server):
@@ -80,6 +85,34 @@ class Flood:
         self.process.communicate()
 
 
+class Waits:
+    """For how long the server, its engine and this thread have wanted a processor and had none, as the system counts it, in seconds. What
+    somebody waits for is on time if it is so without that: a machine that is busy is late, and that is no fault. On one that has a
+    processor for each of them it is nearly nothing. Where two of them wait at once both times count, so on a busy machine a little of the
+    server's own delay passes."""
+
+    def __init__(self, server):
+        tasks = (server.process.pid, server.engine_number(), threading.get_native_id())
+        self.paths = [f"/proc/{task}/schedstat" for task in tasks]
+
+    def __call__(self):
+        waited = 0
+        for path in self.paths:
+            try:
+                with open(path, encoding="ascii") as file:
+                    waited += int(file.read().split()[1])
+            except OSError:
+                pass  # a system that does not count
+        return waited / 1e9
+
+
+def unread(sock):
+    """How many bytes have come that nobody has read."""
+    count = array.array("i", [0])
+    fcntl.ioctl(sock, termios.FIONREAD, count)
+    return count[0]
+
+
 def pour(socks, text, seconds):
     """Says it again and again, whole lines, on all of these connections, and reads nothing."""
     poller, by_number = select.poll(), {}
@@ -104,8 +137,8 @@ def pour(socks, text, seconds):
 class Memory(unittest.TestCase):
     """The bound holds for whatever is kept for a client, whether the engine runs or not."""
 
-    def check(self, growth):
-        self.assertLess(growth.most, MOST_GROWTH)
+    def check(self, growth, most=MOST_GROWTH):
+        self.assertLess(growth.most, most)
 
     def pour_and_check(self, text, count, stopped, **more):
         with Server(locks=MANY, **more) as server:
@@ -136,34 +169,30 @@ class Memory(unittest.TestCase):
     def test_half_lines(self):
         self.pour_and_check(b"x" * 255, 500, False)
 
-    def come_and_go(self, server, seconds):
-        end = time.monotonic() + seconds
-        while time.monotonic() < end:
-            socks = []
-            for _ in range(50):
-                sock = socket.socket(socket.AF_UNIX)
+    def come_and_go(self, server):
+        """So many that what is kept of each, though it is gone, would show."""
+        for _ in range(20_000):
+            with socket.socket(socket.AF_UNIX) as sock:
                 sock.setblocking(False)
                 try:
                     sock.connect(server.path)
                     sock.send(b"try a 1\n" * 128)
                 except OSError:
                     time.sleep(0.001)
-                socks.append(sock)
-            [sock.close() for sock in socks]
 
     def test_connections_that_come_and_go(self):
         with Server() as server, Growth(server) as growth:
-            self.come_and_go(server, 3)
+            self.come_and_go(server)
             begun = time.monotonic()
             server.operate("stats b")
             self.assertLess(time.monotonic() - begun, 2)
-            self.check(growth)
+            self.check(growth, LEAST_GROWTH)
 
     def test_connections_that_come_and_go_while_the_engine_stands_still(self):
         with Server() as server, Growth(server) as growth:
             with Stopped(server):
-                self.come_and_go(server, 3)
-            self.check(growth)
+                self.come_and_go(server)
+            self.check(growth, LEAST_GROWTH)
             with server.raw() as sock:
                 self.assertEqual(say(sock, "acquire b 1\n"), ["granted b 1"])
 
@@ -247,42 +276,44 @@ class OnTime(unittest.TestCase):
     """A lease ends within a twentieth of its length, or 50 ms, whatever the others do."""
 
     def lateness(self, server, lease):
-        """How late the lock of a silent client is free."""
+        """How late the lock of a silent client is free, without what was waited for a processor since just before that."""
+        waits = Waits(server)
         with server.raw() as silent, server.raw() as other:
             self.assertEqual(say(silent, f"lease {int(lease * 1000)}\n"), [f"lease {int(lease * 1000)}"])
             silent.sendall(b"acquire b 1\n")
-            begun = time.monotonic()
+            over = time.monotonic() + lease
             token = int(read_lines(silent, 1)[0].split()[2])
             self.assertEqual(say(other, "acquire b 1\n"), ["waiting b 0"])
+            time.sleep(max(0, over - 0.01 - time.monotonic()))
+            looked, waited = time.monotonic(), waits()
+            if looked < over - 0.005:
+                self.assertEqual(select.select([other], [], [], 0)[0], [], "the lock is free before the lease is over")
             self.assertEqual(read_lines(other, 1), [f"granted b {token + 1}"])
-            late = time.monotonic() - begun - lease
-            self.assertGreater(late, -0.01)
-            return late
+            return time.monotonic() - max(over, looked) - (waits() - waited)
 
-    def on_time(self, server, lease, longer):
-        late = min(self.lateness(server, lease) for _ in range(3))
-        self.assertLess(late, max(lease / 20, 0.05) * min(longer, 4))
+    def on_time(self, server, *leases):
+        for lease in leases:
+            self.assertLess(self.lateness(server, lease), max(lease / 20, 0.05))
 
-    @by_the_clock
-    def test_short_leases_beside_a_long_one(self, longer):
+    def test_short_leases_beside_a_long_one(self):
         with Server(lease="30") as server:
-            worst = max(self.lateness(server, lease) for lease in (0.05, 0.1, 0.2, 0.4) * 3)
-            self.assertLess(worst, 0.05 * min(longer, 2))
+            self.on_time(server, *(0.05, 0.1, 0.2, 0.4) * 3)
 
-    @by_the_clock
-    def test_while_hundreds_of_clients_are_busy(self, longer):
+    def test_while_hundreds_of_clients_are_busy(self):
         with Server(locks=MANY) as server, Flood(server, "ping", 600):
-            self.on_time(server, 1, longer)
+            self.on_time(server, 1, 1, 1)
 
-    @by_the_clock
-    def test_while_hundreds_of_clients_look_at_all_locks(self, longer):
+    def test_while_hundreds_of_clients_look_at_all_locks(self):
         with Server(locks=MANY) as server, Flood(server, "status", 400), Flood(server, "status", 400):
-            self.on_time(server, 1, longer)
+            self.on_time(server, 1, 1, 1)
 
-    @by_the_clock
-    def test_while_hundreds_of_clients_ask_the_engine(self, longer):
+    def test_while_hundreds_of_clients_ask_the_engine(self):
         with Server() as server, Flood(server, "try", 300):
-            self.on_time(server, 1, longer)
+            self.on_time(server, 1, 1, 1)
+
+    def test_while_clients_come_and_go(self):
+        with Server(locks=MANY) as server, Flood(server, "asked", 100):
+            self.on_time(server, 1, 1, 1)
 
     @by_the_clock
     def test_a_client_that_reads_slowly_is_not_deaf(self, _):
@@ -294,57 +325,73 @@ class OnTime(unittest.TestCase):
                 time.sleep(0.2)
             self.assertNotIn("went (deaf)", server.text_of_log())
 
-    @by_the_clock
-    def test_a_deaf_client_goes_on_time(self, longer):
+    def test_a_deaf_client_goes_on_time(self):
         with Server("--deaf", "1", locks=MANY) as server, Flood(server, "status", 300), server.raw() as deaf:
-            begun = time.monotonic()
+            waits, most, end, look = Waits(server), -1, time.monotonic() + PATIENCE, time.monotonic()
             pour([deaf], b"status\n" * 100, 0.3)
-            wait_until(lambda: "went (deaf)" in server.text_of_log())
-            self.assertLess(time.monotonic() - begun, 1.3 + 0.1 * longer)
+            while "went (deaf)" not in server.text_of_log():
+                self.assertLess(time.monotonic(), end)
+                before, look, told = look, time.monotonic(), unread(deaf)
+                if told > most:  # it came between the look before and this one
+                    most, earliest, latest, waited = told, before, look, waits()
+                elif look < latest + 0.99:
+                    waited = waits()
+                time.sleep(0.002)
+            gone = time.monotonic()
+            self.assertGreater(gone - earliest - 1, -0.02)
+            self.assertLess(gone - latest - 1 - (waits() - waited), 0.05)
 
 
 @needs_programs
 class Turns(unittest.TestCase):
-    def latency(self, server, seconds):
-        """The time in which 99 of 100 acquires are answered."""
-        times, end = [], time.monotonic() + seconds
-        with server.raw() as sock:
-            while time.monotonic() < end:
-                begun = time.monotonic()
-                token = say(sock, "acquire b 1\n")[0].split()[2]
-                times.append(time.monotonic() - begun)
-                self.assertEqual(say(sock, f"release b {token}\n"), ["released b"])
-        times.sort()
-        return times[len(times) * 99 // 100]
+    """Beside 20 clients that flood, 99 of 100 acquires of another one are answered within 20 ms; and who comes new has a turn."""
 
-    def check(self, kind, longer):
-        with Server(locks=MANY) as server, Flood(server, kind, 20):
-            time.sleep(0.5)
-            self.assertLess(min(self.latency(server, 1.5) for _ in range(3)), 0.02 * min(longer, 2))
+    WITHIN = 0.02
 
-    @by_the_clock
-    def test_beside_long_answers(self, longer):
-        self.check("status", longer)
+    def acquire(self, sock, waits=lambda: 0):
+        """Takes the lock and gives it back: how long the first takes, without what was waited for a processor."""
+        begun, waited = time.monotonic(), waits()
+        token = say(sock, "acquire b 1\n")[0].split()[2]
+        took = time.monotonic() - begun - (waits() - waited)
+        self.assertEqual(say(sock, f"release b {token}\n"), ["released b"])
+        return took
 
-    @by_the_clock
-    def test_beside_long_answers_that_are_not_read(self, longer):
-        self.check("untold-deaf", longer)
+    def check(self, kind):
+        with Server(locks=MANY) as server, server.raw() as sock:
+            self.acquire(sock)
+            with Flood(server, kind, 20):
+                time.sleep(0.5)
+                waits, times, end = Waits(server), [], time.monotonic() + 3
+                while time.monotonic() < end:
+                    times.append(self.acquire(sock, waits))
+                self.assertLess(sorted(times)[len(times) * 99 // 100], self.WITHIN)
+                for _ in range(5):
+                    with server.raw() as newcomer:
+                        self.assertLess(self.acquire(newcomer), 2)
 
-    @by_the_clock
-    def test_beside_short_answers(self, longer):
-        self.check("ping", longer)
+    def test_beside_long_answers(self):
+        self.check("status")
 
-    @by_the_clock
-    def test_beside_questions_for_the_engine(self, longer):
-        self.check("try", longer)
+    def test_beside_long_answers_that_are_not_read(self):
+        self.check("untold-deaf")
 
-    @by_the_clock
-    def test_beside_all_of_that(self, longer):
-        self.check("mixed", longer)
+    def test_beside_short_answers(self):
+        self.check("ping")
 
-    @by_the_clock
-    def test_beside_connections_that_come_and_go(self, longer):
-        self.check("come", longer)
+    def test_beside_questions_for_the_engine(self):
+        self.check("try")
+
+    def test_beside_leaves(self):
+        self.check("leave")
+
+    def test_beside_all_of_that(self):
+        self.check("mixed")
+
+    def test_beside_connections_that_come_and_go(self):
+        self.check("come")
+
+    def test_beside_connections_that_go_when_they_were_answered(self):
+        self.check("asked")
 
     def test_who_never_asked_costs_the_engine_nothing(self):
         with Server() as server:
@@ -424,14 +471,15 @@ class Places(unittest.TestCase):
             [sock.close() for sock in socks]
 
     @needs_loopback
-    @by_the_clock
-    def test_half_requests_end_on_time(self, longer):
+    def test_half_requests_end_on_time(self):
         with Server("--page", "127.0.0.1:0", locks=MANY) as server, Flood(server, "status", 300):
             with socket.create_connection(("127.0.0.1", server.port("page")), PATIENCE) as sock:
-                begun = time.monotonic()
+                begun, waits = time.monotonic(), Waits(server)
                 sock.sendall(b"GET / HTTP/1.1\r\n")
+                time.sleep(2.9)
+                waited = waits()
                 self.assertEqual(sock.recv(100), b"")
-                self.assertLess(time.monotonic() - begun, 3 + 0.15 * longer)
+                self.assertLess(time.monotonic() - begun - (waits() - waited), 3.15)
 
 
 if __name__ == "__main__":
