@@ -7,3 +7,4 @@ pub mod Entries
 pub mod Given
 pub mod Again
 pub mod JoinedLines
+pub mod Saying

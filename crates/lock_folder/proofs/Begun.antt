@@ -8,7 +8,7 @@ use Rattle.std.proofs.lemmas.Option.{slice_get-map, slice_get-get_or, slice_get_
 use Rattle.ring_saved.specs.declared.saved.SavedRing.{SavedRing}
 use Rattle.ring_chains.specs.declared.bases.Base.{Base}
 use Rattle.ring_endless.specs.Endless.{EndlessView}
-use Rattle.ring_locks.specs.Kept.{LockView}
+use Rattle.ring_locks.specs.Kept.{LockView, IsKeptRing}
 use Rattle.ring_locks.specs.Opened.{IsAdded, holder_behind, open_in}
 use Rattle.lock_lists.specs.declared.locks.ListedLock.{ListedLock}
 use Rattle.lock_lists.specs.Lists.{Listed, listed}
@@ -43,8 +43,8 @@ at_append {X} xs y i v h = by (cases_lt i (length xs))
 
 -- a lock more
 pub begun_more : (bs : List Base) (ss : List SavedRing) (ls : List Listed) (old new : List LockView) (place : ℕ) (l : Listed) (e : EndlessView) → length old ≡ place → AreEachBegun bs ss ls old → slice_get ls place ≡ Some l →
-    IsRingOf (slice_get bs place) (slice_get ss place) l e → IsAdded old new e → (length new ≡ place + 1) × AreEachBegun bs ss ls new
-begun_more bs ss ls old new place l e many each here ring added = (longer, more)
+    IsRingOf (slice_get bs place) (slice_get ss place) l e → IsKeptRing e → IsAdded old new e → (length new ≡ place + 1) × AreEachBegun bs ss ls new
+begun_more bs ss ls old new place l e many each here ring kept added = (longer, more)
   where
     v : LockView
     v = record { ring = added.ring; line = []; holder = holder_behind (open_in e) }
@@ -56,7 +56,7 @@ begun_more bs ss ls old new place l e many each here ring added = (longer, more)
     more i k w named is = by i k w named (at_append old v i w (subst (λ (x : List LockView). slice_get x i ≡ Some w) added.added is))
       where
         starts : (w : LockView) → w ≡ v → Starts e w
-        starts w same = subst (Starts e) (sym same) (record { repaired = added.repaired; line = refl; holder = refl })
+        starts w same = subst (Starts e) (sym same) (record { kept = kept; repaired = added.repaired; line = refl; holder = refl })
 
         ring_here : (i : ℕ) (k : Listed) → i ≡ place → slice_get ls i ≡ Some k → IsRingOf (slice_get bs i) (slice_get ss i) k e
         ring_here i k at named =

@@ -11,7 +11,7 @@ use Rattle.ring_endless.specs.Endless.{EndlessView}
 use Rattle.ring_locks.specs.Grants.{most_passes, repairs}
 use Rattle.ring_locks.specs.Locks.{Call}
 use Rattle.ring_locks.specs.Opened.{open_in, holder_behind}
-use Rattle.ring_locks.specs.Kept.{LockView, AreMade, state_of, seat_count}
+use Rattle.ring_locks.specs.Kept.{LockView, IsKeptRing, AreMade, state_of, seat_count}
 use Rattle.lock_lists.specs.Lists.{Listed}
 use Rattle.lock_folder.specs.declared.faults.StartFault.{StartFault}
 use Rattle.lock_folder.specs.declared.faults.StartFault.TheVariants as fault
@@ -31,9 +31,10 @@ pub record IsFreshRing (l : Listed) (e : EndlessView) : Type 0 where
   pub history : e.ring.book.history ≡ []
   pub clients : AreFresh seat_count e.ring.clients
 
--- The lock starts with this ring, repaired. Nobody waits for it; a hold that is open in the ring's
+-- The lock starts with this ring, which is kept, repaired. Nobody waits for it; a hold that is open in the ring's
 -- history is client 0's.
 pub record Starts (e : EndlessView) (v : LockView) : Type 0 where
+  pub kept : IsKeptRing e
   pub repaired : AreMade e
       (map Call (repairs (most_passes (length e.ring.book.now.ring.values)) (state_of e))) v.ring
   pub line : v.line ≡ []

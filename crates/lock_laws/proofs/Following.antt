@@ -13,7 +13,7 @@ use Rattle.ring_serve.specs.Standings.{Standing}
 use Rattle.ring_serve.specs.Saved.{IsRight}
 use Rattle.ring_serve.proofs.Recovering.{lines_of}
 use Rattle.ring_locks.specs.Lines.{Lock}
-use Rattle.ring_locks.specs.Locks.{Ask, Mark, Asked, Turn, Step, turn, step, step_at}
+use Rattle.ring_locks.specs.Locks.{Ask, Mark, Survey, Asked, Turn, Step, turn, step, step_at}
 use Rattle.ring_locks.specs.Promises.{AreRight, Alternate, token_of, marks_of, open_after}
 use Rattle.ring_locks.specs.Kept.{LockView, state_of, lock_of, locks_of, AreMade, ended_in}
 use Rattle.ring_locks.proofs.Moves.{move_of}
@@ -25,7 +25,7 @@ use Rattle.lock_laws.specs.Begun.{AreSmall}
 use Rattle.lock_laws.proofs.Shadows.{Shadows, open_of, shadows_same}
 use Rattle.lock_laws.proofs.Chains.{Chain}
 use Rattle.lock_laws.proofs.Answering.{AreShownIn, turn_in, tells_of}
-use Rattle.lock_laws.proofs.Marks.{IsSmallAsk, AreMarksOf, marks_of_move, marks_so}
+use Rattle.lock_laws.proofs.Marks.{IsSmallAsk, AreMarksOf, IsEndFirst, marks_of_move, marks_so}
 
 -- the ring that the journal tells is that of the lock, and shows its hold
 pub record Follows (s : Standing) (v : LockView) : Type 0 where
@@ -81,6 +81,8 @@ pub record IsTurnedSo (rings : List Standing) (ring : ℕ) (s : Standing) (old n
   pub follows : Follows behind new
   pub tells : AreShownIn s behind t.answers
   pub lines : lines_of calls ≡ end_line ring (ended_in old.ring t.marks) ++ event_lines ring (drop (length old.ring.ring.book.history) new.ring.ring.book.history)
+  pub counted : length calls ≡ length t.marks
+  pub first : (seat : ℕ) (more : List Mark) → t.marks ≡ Survey seat ∷ more → IsEndFirst rings ring old.ring calls
 
 pub turned_so : (rings : List Standing) (ring : ℕ) (s : Standing) (old new : LockView) (ls : List Lock) (c : ℕ) (ask : Ask) → length rings < 2 ^ 32 → slice_get rings ring ≡ Some s → IsRight s → Follows s old → AreRight ls → slice_get ls ring ≡ Some (lock_of old) → IsSmallAsk ask →
     AreMade old.ring (turn ls (lock_of old) c ask).marks new.ring → lock_of new ≡ (turn ls (lock_of old) c ask).lock → length new.ring.ring.book.history ≤ event_limit → IsTurnedSo rings ring s old new (turn ls (lock_of old) c ask)
@@ -98,6 +100,8 @@ turned_so rings ring s old new ls c ask few there right f locks at small made is
       };
       tells = turn_in s m.behind (state_of old.ring) c t m.es (tells_of ls (lock_of old) c ask) (locks.each ring (lock_of old) at).ring m.told m.shown m.ends;
       lines = m.lines;
+      counted = m.counted;
+      first = m.first;
     }
 
 -- a lock that stays as it is, room aside

@@ -28,3 +28,12 @@ pub mod StateStays
 pub mod WholeTexts
 pub mod WithoutRemarks
 pub mod RemarksBack
+pub mod Inputs
+pub mod GivenUp
+pub mod Cutting
+pub mod CutLines
+pub mod Life
+pub mod Lawful
+pub mod CutRemarks
+pub mod Around
+pub mod Started

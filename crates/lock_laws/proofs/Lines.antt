@@ -107,7 +107,7 @@ itself vs = record {
 
 -- ---- one lock is asked
 
-all_past : (i : ℕ) (xs : List Event) (m : ℕ) → length xs ≡ m → event_lines i (drop m xs) ≡ []
+pub all_past : (i : ℕ) (xs : List Event) (m : ℕ) → length xs ≡ m → event_lines i (drop m xs) ≡ []
 all_past i xs m e = ap (λ (k : ℕ). event_lines i (drop k xs)) (sym e) ∙ end xs
   where
     end : (ys : List Event) → event_lines i (drop (length ys) ys) ≡ []
@@ -243,7 +243,7 @@ noted_ask rings old new few f most c i Stats r d small = noted_done rings old ne
 
 -- ---- a client leaves all locks
 
-stays : (ls : List Lock) (c m j : ℕ) → m ≤ j → slice_get (locks_after ls (leaves c m)) j ≡ slice_get ls j
+pub stays : (ls : List Lock) (c m j : ℕ) → m ≤ j → slice_get (locks_after ls (leaves c m)) j ≡ slice_get ls j
 stays ls c zero j l = refl
 stays ls c (suc m) j l =
     let now : List Lock = locks_after ls (leaves c m) in
@@ -253,7 +253,7 @@ stays ls c (suc m) j l =
     go xs None = refl
     go xs (Some x) = get_set_other xs m j (turn xs x c Leave).lock (λ q. omega (arith, q, l))
 
-left_lock : (ls : List Lock) (c m j : ℕ) (l : Lock) → slice_get ls j ≡ Some l → j < m → slice_get (locks_after ls (leaves c m)) j ≡ Some (turn ls l c Leave).lock
+pub left_lock : (ls : List Lock) (c m j : ℕ) (l : Lock) → slice_get ls j ≡ Some l → j < m → slice_get (locks_after ls (leaves c m)) j ≡ Some (turn ls l c Leave).lock
 left_lock ls c zero j l e lt = absurd (omega (arith, lt))
 left_lock ls c (suc m) j l e lt =
     let now : List Lock = locks_after ls (leaves c m) in
@@ -274,11 +274,11 @@ left_many xs c (suc m) =
     ap (λ (x : List Lock). length x) (locks_append xs (leaves c m) (Asked c m Leave ∷ [])) ∙ (step_many (locks_after xs (leaves c m)) c m Leave ∙ left_many xs c m)
 
 -- the turn of a leave, of a client that holds the lock or does not
-abbrev left_turn : ℕ → LockView → Bool → Turn
+abbrev pub left_turn : ℕ → LockView → Bool → Turn
 left_turn c v b = if b then ended (state_of v.ring) (without c v.line) 2 [] else dropped (lock_of v) c []
 
 -- what is noted of one lock
-left_note : (c n : ℕ) (v w : LockView) (new : List LockView) → slice_get new n ≡ Some w → AreMade v.ring (turn [] (lock_of v) c Leave).marks w.ring →
+pub left_note : (c n : ℕ) (v w : LockView) (new : List LockView) → slice_get new n ≡ Some w → AreMade v.ring (turn [] (lock_of v) c Leave).marks w.ring →
     flat_map (note_of_left new) (left_at c n (Some v)) ≡ end_line n (ended_in v.ring (turn [] (lock_of v) c Leave).marks) ++ event_lines n (drop (length v.ring.ring.book.history) w.ring.ring.book.history)
 left_note c n v w new there made = go (is_held_by c v.holder) made
   where
@@ -290,7 +290,7 @@ left_note c n v w new there made = go (is_held_by c v.holder) made
     go false m = sym (all_past n w.ring.ring.book.history (length v.ring.ring.book.history) (ap (λ (b : BookView ℕ). length b.history) m.ring.book))
 
 -- the client has left the first of the locks
-record AreLeftSo (rings : List Standing) (old new : List LockView) (c n : ℕ) : Type 0 where
+pub record AreLeftSo (rings : List Standing) (old new : List LockView) (c n : ℕ) : Type 0 where
   pub calls : List JournalLine
   pub behind : List Standing
   pub chain : Chain rings calls behind
@@ -393,7 +393,7 @@ module _ (rings : List Standing) (old new : List LockView) (few : length rings <
         rest = λ j le. get_set_other a.behind n j t.behind (λ q. omega (arith, q, le)) ∙ a.rest j (omega (arith, le));
       }
 
-  left_so : (n : ℕ) → n ≤ length old → AreLeftSo rings old new c n
+  pub left_so : (n : ℕ) → n ≤ length old → AreLeftSo rings old new c n
   left_so zero l = record { calls = []; behind = rings; chain = refl; lines = refl; gone = λ j w lt e. absurd (omega (arith, lt)); tells = λ j v lt e. absurd (omega (arith, lt)); rest = λ j le. refl }
   left_so (suc n) l =
       let v = there_is old n (omega (arith, l)) in
@@ -436,7 +436,7 @@ module _ (rings : List Standing) (old new : List LockView) (few : length rings <
 
 -- ---- a line
 
-order_small : (make : ℕ → ℕ → asks.Ask) (lock order : ℕ) (x : asks.Ask) → of_two make (in_64_bits lock) (in_64_bits order) ≡ Some x → order < 2 ^ 64
+pub order_small : (make : ℕ → ℕ → asks.Ask) (lock order : ℕ) (x : asks.Ask) → of_two make (in_64_bits lock) (in_64_bits order) ≡ Some x → order < 2 ^ 64
 order_small make lock order x e = go (nat_lt order (2 ^ 64)) refl e
   where
     nothing : (o : Option ℕ) → of_two make o None ≡ Some x → ⊥

@@ -136,6 +136,7 @@ pub record AreCalledSo (rings : List Standing) (ring : ℕ) (s : Standing) (old 
   pub shown : shifted s.base es ≡ events_of ms
   pub grown : HasGrown s behind
   pub lines : lines_of calls ≡ event_lines ring es
+  pub counted : length calls ≡ length ms
 
 one_right : (ring : ℕ) (s : Standing) (old : EndlessView) (new : EndlessView) (seat : ℕ) (shown : Event) (c : IsCalledSo ring s old new seat shown) → IsRight (with_events s seat (c.local ∷ []))
 one_right ring s old new seat shown c = subst (λ (k : ℕ). IsRight (with_events s k (c.local ∷ []))) c.of_seat (subst (λ (es : List Event). IsRight (with_events s c.grew.seat es)) c.of_call c.grew.right)
@@ -155,6 +156,7 @@ module _ (ring : ℕ) where
     shown = refl;
     grown = grown_same s;
     lines = refl;
+    counted = refl;
   }
   calls_so rings s old new (Call e ∷ ms) few there right are m h most alt =
       let now : EndlessView = m.0 in
@@ -181,6 +183,7 @@ module _ (ring : ℕ) where
         shown = (let first : shifted_event s.base one.local ≡ e = one.is_shown ∙ m.5 in ap (λ (x : Event). x ∷ shifted s.base r.es) first ∙ ap (λ (x : List Event). e ∷ x) r.shown);
         grown = grown_then s s1 r.behind (with_more s e.seat (one.local ∷ [])) r.grown;
         lines = ap (λ (x : List ℕ). journal_line (line_of_event ring one.local) ++ x) r.lines;
+        counted = ap suc r.counted;
       }
     where
       call_at : (y : Standing) → IsRight y → Shadows y m.0 → length m.1.ring.book.history ≤ event_limit → IsCalledSo ring y m.0 m.1 e.seat m.2.event
@@ -191,6 +194,16 @@ module _ (ring : ℕ) where
 abbrev pub first_seat : List Mark → ℕ
 first_seat (Survey seat ∷ ms) = seat
 first_seat _ = 0
+
+-- the journal's line of the end of a hold, behind which the ring shows none
+pub record IsEndFirst (rings : List Standing) (ring : ℕ) (old : EndlessView) (calls : List JournalLine) : Type 0 where
+  pub call : JournalLine
+  pub later : List JournalLine
+  pub parts : calls ≡ call ∷ later
+  pub mid : Standing
+  pub chain : Chain rings (call ∷ []) (slice_set rings ring mid)
+  pub shadows : Shadows mid old
+  pub open_hold : open_of mid ≡ None
 
 -- what the journal gets of marks, from the ring before to the ring behind them
 pub record AreMarkedSo (rings : List Standing) (ring : ℕ) (s : Standing) (old new : EndlessView) (ms : List Mark) : Type 0 where
@@ -205,6 +218,8 @@ pub record AreMarkedSo (rings : List Standing) (ring : ℕ) (s : Standing) (old 
   pub ends : (seat : ℕ) (more : List Mark) → ms ≡ Survey seat ∷ more → HasGrown (with_survey s seat (survey_now s)) behind
   pub grown : HasGrown s behind
   pub lines : lines_of calls ≡ end_line ring (ended_in old ms) ++ event_lines ring (drop (length old.ring.book.history) new.ring.book.history)
+  pub counted : length calls ≡ length ms
+  pub first : (seat : ℕ) (more : List Mark) → ms ≡ Survey seat ∷ more → IsEndFirst rings ring old calls
 
 no_end : (old : EndlessView) (ms : List Mark) → AreCalls ms → ended_in old ms ≡ None
 no_end old [] are = refl
@@ -229,6 +244,8 @@ marks_so rings ring s old new ms few there right (Calls are) m h most alt =
       ends = λ seat more e. absurd (subst AreCalls e are);
       grown = r.grown;
       lines = r.lines ∙ (ap (λ (x : List Event). event_lines ring x) (sym (new_events old new r.es r.history)) ∙ ap (λ (x : Option HoldEnd). end_line ring x ++ event_lines ring (drop (length old.ring.book.history) new.ring.book.history)) (sym (no_end old ms are)));
+      counted = r.counted;
+      first = λ seat more e. absurd (subst AreCalls e are);
     }
 marks_so rings ring s old new ms few there right (EndsFirst seat more e is are) m h most alt =
     let parts : Alternate (open_of s) (Survey seat ∷ more) = subst (λ (x : List Mark). Alternate (open_of s) x) e alt in
@@ -255,4 +272,14 @@ marks_so rings ring s old new ms few there right (EndsFirst seat more e is are) 
       grown = grown_then s s1 r.behind (looked_more s seat) r.grown;
       lines = ap (λ (x : List ℕ). journal_line (line_of_survey ring seat (survey_now s)) ++ x) (r.lines ∙ ap (λ (x : List Event). event_lines ring x) (sym (new_events old new r.es r.history)))
           ∙ ap (λ (x : List ℕ). x ++ event_lines ring (drop (length old.ring.book.history) new.ring.book.history)) (sym ends);
+      counted = ap suc r.counted ∙ ap (λ (x : List Mark). length x) (sym e);
+      first = λ k ns f. record {
+        call = line_of_survey ring seat (survey_now s);
+        later = r.calls;
+        parts = refl;
+        mid = s1;
+        chain = (rings1, ended_one rings ring s old seat few there right one (parts.0, parts.1, tt), refl);
+        shadows = one.shadows;
+        open_hold = one.open_hold;
+      };
     }

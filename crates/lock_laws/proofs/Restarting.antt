@@ -146,7 +146,7 @@ module _ (place : ℕ) (s : Standing) (base : Base) (v : LockView) (e : EndlessV
 
 -- ---- all locks
 
-abbrev AllReturn : List Standing → List Base → List LockView → Type 0
+abbrev pub AllReturn : List Standing → List Base → List LockView → Type 0
 AllReturn [] bs [] = Unit {0}
 AllReturn [] bs (v ∷ vs) = ⊥
 AllReturn (s ∷ ss) bs [] = ⊥
@@ -161,7 +161,7 @@ all_return (s ∷ ss) bs [] n m f = absurd (omega (arith, n))
 all_return (s ∷ ss) [] (v ∷ vs) n m f = absurd (omega (arith, m))
 all_return (s ∷ ss) (b ∷ bs) (v ∷ vs) n m f = (f 0 s b v refl refl refl, all_return ss bs vs (omega (arith, n)) (omega (arith, m)) (λ i x y z p q r. f (suc i) x y z p q r))
 
-locks_back : (place : ℕ) (ss : List Standing) (bs : List Base) (vs : List LockView) (es : List EndlessView) (old made : List LockView) → AllReturn ss bs vs → AreMadeOf bs (blocks_from place ss) es → AreAdded old es made →
+pub locks_back : (place : ℕ) (ss : List Standing) (bs : List Base) (vs : List LockView) (es : List EndlessView) (old made : List LockView) → AllReturn ss bs vs → AreMadeOf bs (blocks_from place ss) es → AreAdded old es made →
     locks_of made ≡ locks_of old ++ map restarted (locks_of vs)
 locks_back place [] bs [] es old made r m a =
     let none : made ≡ old = subst (λ (x : List EndlessView). AreAdded old x made) m a in
@@ -222,7 +222,7 @@ module _ (old new : List LockView) (noted : List ℕ) (n : IsNotedSo (rings_of o
       let same : g.0 ≡ s = some_is g.0 s (sym g.1 ∙ p) in
       ap (λ (x : Standing). x.base) (sym same) ∙ (g.2.base ∙ sym (base_at old i w.0 before w.1 q))
 
-  return_all : AllReturn n.behind (bases_of (rings_of old)) new
+  pub return_all : AllReturn n.behind (bases_of (rings_of old)) new
   return_all =
       let size : length n.behind ≡ length (rings_of old) = chain_many (rings_of old) n.behind n.calls n.chain in
       let long : length (rings_of old) ≡ length old = rings_many old in

@@ -158,7 +158,7 @@ begun_ends r = inr (head_ends (content_of (locks_in r)))
 pub begun_no_hash : (r : Replica LockService) → HaveBegun (locks_in r) → HasNoHash (begun_text (locks_in r))
 begun_no_hash r begun = no_hash_head (content_of (locks_in r)) begun.text
 
-begun_goes : (old : Replica LockService) (rest : List ℕ) → HaveBegun (locks_in old) → IsSound old → without_remarks (begun_with_remarks old ++ rest) ≡ begun_text (locks_in old) ++ without_remarks rest
+pub begun_goes : (old : Replica LockService) (rest : List ℕ) → HaveBegun (locks_in old) → IsSound old → without_remarks (begun_with_remarks old ++ rest) ≡ begun_text (locks_in old) ++ without_remarks rest
 begun_goes old rest begun sound =
     one_goes (begun_text (locks_in old)) rest (own_lines old) (begun_ends old) (begun_no_hash old begun) (own_lines_are_lines IsServed old sound)
 

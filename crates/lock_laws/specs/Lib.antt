@@ -6,3 +6,7 @@ pub mod KeysBack
 pub mod WaitersBack
 pub mod StateBack
 pub mod Remarked
+pub mod Life
+pub mod Lawful
+pub mod Around
+pub mod Started

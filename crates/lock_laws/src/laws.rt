@@ -3,12 +3,16 @@
 //! the lines that bring a replica back: their statements are in `specs/KeysBack.antt`, `specs/WaitersBack.antt` and
 //! `specs/StateBack.antt`.
 
+ghost use Rattle.lock_laws.specs.Around.{ReplicaRunsAreStages, OtherLinesAreReplied};
 ghost use Rattle.lock_laws.specs.Begun.{ServedLinesAreAnswered, AnsweredLinesFollow};
 ghost use Rattle.lock_laws.specs.Equal.{EqualLinesGiveEqualAnswers, EqualSegmentsEndEqually};
 ghost use Rattle.lock_laws.specs.KeysBack.{FreshIsSound, OwnLinesAreLines, SoundStays, KeysComeBack, PlacesAreLast};
+ghost use Rattle.lock_laws.specs.Started.{StartedLocksAreFound};
 ghost use Rattle.lock_laws.specs.StateBack.{HoldsAreFirst, StateComesBack};
 ghost use Rattle.lock_laws.specs.WaitersBack.{HavingStateStays, WaitersComeBack};
 ghost use Rattle.lock_laws.specs.Remarked.{LocksOfReplicasComeBack, RemarksBringBack};
+ghost use Rattle.lock_laws.specs.Lawful.{ToldGrantsAreGrants, ToldTokensRise, ToldHoldsExclude, ToldGrantsAreKept};
+ghost use Rattle.lock_laws.specs.Life.{RunsAreALife};
 ghost use Rattle.lock_laws.specs.Recovered.{LocksComeBack, NothingToldIsLost, AddedLocksBegin, NextLocksBegin, HandedLocksBegin};
 
 use line_loop::AnswersLines;
@@ -88,4 +92,34 @@ pub fn waiters_come_back()
 pub fn state_comes_back()
     ensures first { HoldsAreFirst }
     ensures back { StateComesBack }
+{}
+
+/// Runs of locks over one folder, each ended at any moment, and the next begun of what was kept, are one life: there is one list
+/// of inputs of the machine of locks, with a restart between runs. What each run told is, in order, what the machine answers to
+/// the inputs of the told lines; and each run begins with the locks that are behind all inputs before it.
+pub fn runs_are_a_life()
+    ensures { RunsAreALife }
+{}
+
+/// So over the whole life the tokens that clients are told rise, and while no input ends a hold nobody is told of another one of
+/// that lock. Each grant and each release that was told is in the history that is recovered of what was kept.
+pub fn lives_are_lawful()
+    ensures grants { ToldGrantsAreGrants }
+    ensures rise { ToldTokensRise }
+    ensures exclude { ToldHoldsExclude }
+    ensures kept { ToldGrantsAreKept }
+{}
+
+/// A run of a replica of locks, whatever is kept of its segment's file, is a run of the locks inside: they were given the lines
+/// that are new, the file without its remarks is their journal, and what they say is what the replica says of these lines.
+/// And where the state is told of lines that ask for it, all other lines are answered by the replica, with the same notes.
+pub fn replica_runs_are_stages()
+    ensures runs { ReplicaRunsAreStages }
+    ensures others { OtherLinesAreReplied }
+{}
+
+/// The locks that start of a folder's last segment, none of them new, are those that are found in its journal: so a run of the
+/// program that begins of what another one left follows it in a life.
+pub fn started_locks_are_found()
+    ensures { StartedLocksAreFound }
 {}

@@ -12,5 +12,5 @@ returns-in-Err-add_ring-clause-err c = inr (c.loop-place.place, _, got c.args.li
 pub loop-place-preserved : goal.loop-place-preserved
 loop-place-preserved c =
     let inv = c.loop-place.invariant in
-    let b = begun_more c.args.bases.now c.args.rings.now (map listed c.args.list.now) _ _ c.loop-place.place _ _ inv.0 inv.2 (got c.args.list.now c.loop-place.place _ c.loop-place-test.true) c.in-Ok.ensures.ok c.in-Ok-add_ring.ensures.ok in
+    let b = begun_more c.args.bases.now c.args.rings.now (map listed c.args.list.now) _ _ c.loop-place.place _ _ inv.0 inv.2 (got c.args.list.now c.loop-place.place _ c.loop-place-test.true) c.in-Ok.ensures.ok c.in-Ok.ensures.kept c.in-Ok-add_ring.ensures.ok in
     (b.0, omega (arith, c.loop-place-test.true), b.1)
