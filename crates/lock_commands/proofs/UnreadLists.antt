@@ -11,6 +11,7 @@ use Rattle.line_loop.specs.declared.faults.LoopFault.{LoopFault}
 use Rattle.line_loop.specs.declared.faults.LoopFault.TheVariants as loop
 use Rattle.segment_loop.specs.declared.segmented.EndFault.{EndFault}
 use Rattle.segment_loop.specs.declared.segmented.EndFault.TheVariants as end
+use Rattle.ring_chains.specs.declared.bases.Base.{Base}
 use Rattle.ring_saved.specs.declared.saved.SavedRing.{SavedRing}
 use Rattle.lock_lists.specs.declared.locks.ListError.{ListError}
 use Rattle.lock_lists.specs.declared.locks.ListError.TheVariants as list
@@ -19,7 +20,7 @@ use Rattle.ring_locks.specs.declared.handing.Handover.{Handover}
 use Rattle.lock_folder.specs.declared.faults.StartFault.{StartFault}
 use Rattle.lock_folder.specs.declared.faults.StartFault.TheVariants as start
 use Rattle.lock_folder.specs.Folders.{Place, IsFileRefusal, IsListless, IsPlaceFault, IsHandingFault, IsStartRefusal, AreUnstarted}
-use Rattle.lock_folder.specs.Rings.{IsRingFault, AreRingsRefused}
+use Rattle.lock_folder.specs.Rings.{IsRingFault, IsFull, AreRingsRefused}
 use Rattle.ring_requests.specs.declared.requests.LocksWords.{LocksWords}
 use Rattle.tool_parts.specs.Chained.{IsFolderFault}
 use Rattle.tool_parts.specs.Worlds.{World}
@@ -39,22 +40,22 @@ is_list _ = false
 
 -- ---- a word that is a list is not refused as none
 
-of_ring : (place : ℕ) (s : Option SavedRing) (l : Listed) (e : ListError) →
-    IsRingFault place s l (start.Word e) ⊎ ((start.Word e ≡ start.Full place) ⊎ (start.Word e ≡ start.OutOfMemory)) → ⊥
-of_ring place None l e (inl h) = h
-of_ring place (Some s) l e (inl h) = h
-of_ring place s l e (inr (inl h)) = false≢true (sym (ap is_word h))
-of_ring place s l e (inr (inr h)) = false≢true (sym (ap is_word h))
+of_ring : (place : ℕ) (b : Option Base) (s : Option SavedRing) (l : Listed) (e : ListError) →
+    IsRingFault place s l (start.Word e) ⊎ (IsFull place b s l (start.Word e) ⊎ (start.Word e ≡ start.OutOfMemory)) → ⊥
+of_ring place b None l e (inl h) = h
+of_ring place b (Some s) l e (inl h) = h
+of_ring place b s l e (inr (inl h)) = false≢true (sym (ap is_word h.0))
+of_ring place b s l e (inr (inr h)) = false≢true (sym (ap is_word h))
 
-of_rings : (ss : List SavedRing) (ls : List Listed) (e : ListError) → AreRingsRefused ss ls (start.Word e) → ⊥
-of_rings ss ls e (inl (same, more)) = false≢true (sym (ap is_word same))
-of_rings ss ls e (inr (place, l, at, h)) = of_ring place (slice_get ss place) l e h
+of_rings : (bs : List Base) (ss : List SavedRing) (ls : List Listed) (e : ListError) → AreRingsRefused bs ss ls (start.Word e) → ⊥
+of_rings bs ss ls e (inl (same, more)) = false≢true (sym (ap is_word same))
+of_rings bs ss ls e (inr (place, l, at, h)) = of_ring place (slice_get bs place) (slice_get ss place) l e h
 
 of_place : (files : Option Held) (folder : List ℕ) (range : Option SegmentNumbers) (ls : List Listed) (e : ListError) → IsPlaceFault files folder range ls (start.Word e) → ⊥
-of_place files folder None ls e h = of_rings [] ls e h
+of_place files folder None ls e h = of_rings [] [] ls e h
 of_place files folder (Some r) ls e (inl (inl h)) = h
 of_place files folder (Some r) ls e (inl (inr (bytes, held, h))) = h
-of_place files folder (Some r) ls e (inr (segment, last, h)) = of_rings segment.saved.rings.items ls e h
+of_place files folder (Some r) ls e (inr (segment, last, h)) = of_rings segment.head.bases.items segment.saved.rings.items ls e h
 
 of_handing : (files : Option Held) (folder : List ℕ) (range : Option SegmentNumbers) (ls : List Listed) (holders : List Handover) (e : ListError) → IsHandingFault files folder range ls holders (start.Word e) → ⊥
 of_handing files folder range ls holders e (inl h) = of_place files folder range ls e h

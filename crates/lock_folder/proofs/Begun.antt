@@ -9,18 +9,16 @@ use Rattle.ring_saved.specs.declared.saved.SavedRing.{SavedRing}
 use Rattle.ring_chains.specs.declared.bases.Base.{Base}
 use Rattle.ring_endless.specs.Endless.{EndlessView}
 use Rattle.ring_locks.specs.Kept.{LockView, IsKeptRing}
-use Rattle.ring_locks.specs.Opened.{IsAdded, holder_behind, open_in}
+use Rattle.ring_locks.specs.Opened.{IsAdded, HaveNoRoom, holder_behind, open_in}
 use Rattle.lock_lists.specs.declared.locks.ListedLock.{ListedLock}
 use Rattle.lock_lists.specs.Lists.{Listed, listed}
-use Rattle.lock_folder.specs.Rings.{IsRingOf, Starts, AreEachBegun}
+use Rattle.lock_folder.specs.declared.faults.StartFault.{StartFault}
+use Rattle.lock_folder.specs.declared.faults.StartFault.TheVariants as fault
+use Rattle.lock_folder.specs.Rings.{IsRingOf, Starts, AreEachBegun, AreRingsRefused}
 
 -- the lock at a place of a list
 pub got : (locks : List ListedLock) (i : ℕ) (d : ListedLock) → i < length locks → slice_get (map listed locks) i ≡ Some (listed (get_or locks i d))
 got locks i d lt = slice_get-map listed locks i ∙ rw (slice_get-get_or locks i d lt) refl
-
--- a lock without a name, to read a list by
-pub blank : ListedLock
-blank = record { name = record { ref_ptr = (0, 0); now = [] }; n = 0; k = 0 }
 
 some_is : {X : Type 0} (x y : X) → Some x ≡ Some y → x ≡ y
 some_is x y e = cc
@@ -67,3 +65,9 @@ begun_more bs ss ls old new place l e many each here ring kept added = (longer, 
         by : (i : ℕ) (k : Listed) (w : LockView) → slice_get ls i ≡ Some k → ((i < length old) × (slice_get old i ≡ Some w)) ⊎ ((i ≡ length old) × (w ≡ v)) → (f : EndlessView) × IsRingOf (slice_get bs i) (slice_get ss i) k f × Starts f w
         by i k w named (inl before) = each i k w named before.1
         by i k w named (inr last) = (e, ring_here i k (last.0 ∙ many) named, starts w last.1)
+
+-- there is no room for it, or no memory
+pub not_added : (bs : List Base) (ss : List SavedRing) (ls : List Listed) (before : List LockView) (place : ℕ) (l : Listed) (e : EndlessView) (why : StartFault) → length before ≡ place → slice_get ls place ≡ Some l →
+    IsRingOf (slice_get bs place) (slice_get ss place) l e → IsKeptRing e → ((why ≡ fault.Full place) × HaveNoRoom before e) ⊎ (why ≡ fault.OutOfMemory) → AreRingsRefused bs ss ls why
+not_added bs ss ls before place l e why many here ring kept (inl (same, room)) = inr (place, l, here, inr (inl (same, (before, e, many, ring, kept, room))))
+not_added bs ss ls before place l e why many here ring kept (inr short) = inr (place, l, here, inr (inr short))

@@ -178,12 +178,14 @@ IsSegmentFault files folder n e =
 
 -- the locks do not start: the last segment is refused, or its rings are
 abbrev pub IsFirstFault : List Listed → StartFault → Type 0
-IsFirstFault ls e = AreRingsRefused [] ls e
+IsFirstFault ls e = AreRingsRefused [] [] ls e
 
 abbrev pub IsLastFault : Option Held → List ℕ → ℕ → List Listed → StartFault → Type 0
 IsLastFault files folder n ls e =
     IsSegmentFault files folder n e
-    ⊎ ((s : LastSegment) × IsAtLast files folder n s × AreRingsRefused s.saved.rings.items ls e)
+    ⊎ ((s : LastSegment)
+    × IsAtLast files folder n s
+    × AreRingsRefused s.head.bases.items s.saved.rings.items ls e)
 
 abbrev pub IsPlaceFault : Option Held → List ℕ → Option SegmentNumbers → List Listed → StartFault
     → Type 0

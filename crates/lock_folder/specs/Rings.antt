@@ -10,7 +10,7 @@ use Rattle.ring_desk.specs.Rings.{AreFresh}
 use Rattle.ring_endless.specs.Endless.{EndlessView}
 use Rattle.ring_locks.specs.Grants.{most_passes, repairs}
 use Rattle.ring_locks.specs.Locks.{Call}
-use Rattle.ring_locks.specs.Opened.{open_in, holder_behind}
+use Rattle.ring_locks.specs.Opened.{open_in, holder_behind, HaveNoRoom}
 use Rattle.ring_locks.specs.Kept.{LockView, IsKeptRing, AreMade, state_of, seat_count}
 use Rattle.lock_lists.specs.Lists.{Listed}
 use Rattle.lock_folder.specs.declared.faults.StartFault.{StartFault}
@@ -69,13 +69,25 @@ IsRingFault place (Some s) l (fault.OtherRing i) =
 IsRingFault place s l fault.OutOfMemory = Unit {0}
 IsRingFault place s l _ = ⊥
 
--- There are more rings than locks; or the ring of a lock is not of its size, or has no room for its
--- repair; or out of memory.
-abbrev pub AreRingsRefused : List SavedRing → List Listed → StartFault → Type 0
-AreRingsRefused ss ls e =
+-- There is no room for the lock at this place: there are as many before it as there may be, or its
+-- ring has no room for its repair.
+abbrev pub IsFull : ℕ → Option Base → Option SavedRing → Listed → StartFault → Type 0
+IsFull place b s l e =
+    (e ≡ fault.Full place)
+    × ((before : List LockView)
+    × (ring : EndlessView)
+    × (length before ≡ place)
+    × IsRingOf b s l ring
+    × IsKeptRing ring
+    × HaveNoRoom before ring)
+
+-- There are more rings than locks; or the ring of a lock is not of its size, or there is no room for
+-- it; or out of memory.
+abbrev pub AreRingsRefused : List Base → List SavedRing → List Listed → StartFault → Type 0
+AreRingsRefused bs ss ls e =
     ((e ≡ fault.OtherRing (length ls)) × (length ls < length ss))
     ⊎ ((place : ℕ)
     × (l : Listed)
     × (slice_get ls place ≡ Some l)
     × (IsRingFault place (slice_get ss place) l e
-    ⊎ ((e ≡ fault.Full place) ⊎ (e ≡ fault.OutOfMemory))))
+    ⊎ (IsFull place (slice_get bs place) (slice_get ss place) l e ⊎ (e ≡ fault.OutOfMemory))))

@@ -27,7 +27,7 @@ pub enum StartFault {
     Segment(u64, SegmentError),
     /// Its ring at this place is not of the size of its lock, or there is no such lock.
     OtherRing(usize),
-    /// Its ring at this place has no room for its repair.
+    /// There is no room for the lock at this place: its ring has none for its repair, or there are as many locks as there may be.
     Full(usize),
     /// The hold on this line of the holders, from 1, is not open.
     Holder(u64),

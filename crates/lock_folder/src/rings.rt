@@ -3,7 +3,7 @@
 ghost use Rattle.std.specs.Prelude.{◌≡◌, ◌⊎◌, ◌<◌, length, map, slice_get, Some, All, IfOk, IfErr, OnOk};
 ghost use Rattle.ring_chains.specs.Bases.{IsBase};
 ghost use Rattle.ring_locks.specs.Kept.{IsKeptRing};
-ghost use Rattle.ring_locks.specs.Opened.{IsAdded};
+ghost use Rattle.ring_locks.specs.Opened.{IsAdded, HaveNoRoom};
 ghost use Rattle.lock_lists.specs.Lists.{listed};
 ghost use Rattle.lock_folder.specs.Rings.{IsResumed, IsFreshRing, IsRingOf, AreBegun, IsRingFault, AreRingsRefused};
 
@@ -59,7 +59,8 @@ fn add_ring(
 ) -> Result<(), StartFault>
     requires { IsKeptRing ring }
     ensures ok { OnOk result (IsAdded locks.old locks.new ring) }
-    ensures err { IfErr result (λ e. (e ≡ StartFault.Full place) ⊎ (e ≡ StartFault.OutOfMemory)) }
+    ensures err { IfErr result (λ e. ((e ≡ StartFault.Full place) × HaveNoRoom locks.old ring)
+        ⊎ (e ≡ StartFault.OutOfMemory)) }
 {
     match locks.add(alloc, ring) {
         Ok(()) => Ok(()),
@@ -112,7 +113,7 @@ pub(crate) fn locks_of(
     requires bases { All IsBase bases.now }
     ensures ok { IfOk result (λ locks.
         AreBegun bases.now rings.now (map listed list.now) locks) }
-    ensures err { IfErr result (λ e. AreRingsRefused rings.now (map listed list.now) e) }
+    ensures err { IfErr result (λ e. AreRingsRefused bases.now rings.now (map listed list.now) e) }
 {
     if rings.len() > list.len() {
         return Err(StartFault::OtherRing(list.len()));

@@ -18,4 +18,9 @@ returns-in-Ok-locks_of-clause-ok g c = record {
 
 pub returns-clause-err : goal.returns-clause-err
 returns-clause-err g c =
-    inr (c.in-Ok.last, c.in-Ok.ensures.ok, subst (λ (r : List SavedRing). AreRingsRefused r (map listed c.args.list.now) c.in-Err-locks_of.fault) c.deref.ensures.value c.in-Err-locks_of.ensures.err)
+    inr (
+      c.in-Ok.last,
+      c.in-Ok.ensures.ok,
+      subst (λ (b : List Base). AreRingsRefused b c.in-Ok.last.saved.rings.items (map listed c.args.list.now) c.in-Err-locks_of.fault) c.deref-2.ensures.value
+          (subst (λ (r : List SavedRing). AreRingsRefused c.deref-2.result.now r (map listed c.args.list.now) c.in-Err-locks_of.fault) c.deref.ensures.value c.in-Err-locks_of.ensures.err),
+    )

@@ -1,13 +1,14 @@
 use Rattle.std.proofs.Common.{inl, inr, map, arith}
 use Rattle.lock_lists.specs.Lists.{listed}
-use Rattle.lock_folder.proofs.Begun.{blank, got, begun_more}
+use Rattle.lock_folder.proofs.Begun.{got, begun_more, not_added}
 use Rattle.lock_folder.proofs.rings.locks_of.Goals as goal
 
 pub returns-in-Err-clause-err : goal.returns-in-Err-clause-err
 returns-in-Err-clause-err c = inr (c.loop-place.place, _, got c.args.list.now c.loop-place.place _ c.loop-place-test.true, inl c.in-Err.ensures.err)
 
 pub returns-in-Err-add_ring-clause-err : goal.returns-in-Err-add_ring-clause-err
-returns-in-Err-add_ring-clause-err c = inr (c.loop-place.place, _, got c.args.list.now c.loop-place.place blank c.loop-place-test.true, inr c.in-Err-add_ring.ensures.err)
+returns-in-Err-add_ring-clause-err c =
+    not_added c.args.bases.now c.args.rings.now (map listed c.args.list.now) _ c.loop-place.place _ _ c.in-Err-add_ring.fault c.loop-place.invariant.0 (got c.args.list.now c.loop-place.place _ c.loop-place-test.true) c.in-Ok.ensures.ok c.in-Ok.ensures.kept c.in-Err-add_ring.ensures.err
 
 pub loop-place-preserved : goal.loop-place-preserved
 loop-place-preserved c =
