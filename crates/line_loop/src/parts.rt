@@ -102,8 +102,9 @@ fn serve_block<S: AnswersLines, D: Disk, J: Grow, W: Write>(
 /// line after which it is over. With `once` the part ends when the next block has been read.
 ///
 /// Each line is answered by the service, on the writer and with the disk. If there is a journal, it gets the notes of each line.
-/// Before more is read the journal is flushed, and then the writer: no answer leaves whose notes are not in the journal. What has
-/// begun of a line is kept from one part to the next. The bytes after the last LF are not a line, and are not answered.
+/// Before more is read they are added to the journal, and then the writer is flushed: no answer leaves whose notes are not in the
+/// journal, and last there if its file is synced. What has begun of a line is kept from one part to the next. The bytes after the
+/// last LF are not a line, and are not answered.
 ///
 /// # Errors
 ///

@@ -29,7 +29,7 @@ fn put_out<W: Write>(out: &mut W, bytes: &[u8]) -> bool
     out.flush().is_ok()
 }
 
-/// Adds all of these bytes to a journal, if there is one at least, and says whether it could.
+/// Adds all of these bytes to a journal, if there are any, and says whether it could.
 fn add_notes<J: Grow>(journal: &mut J, bytes: &[u8]) -> bool
     ensures all { IsTrue result
         → Appends (J.contents journal.old) (J.contents journal.new) bytes.now }
