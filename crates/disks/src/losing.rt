@@ -1,6 +1,6 @@
 //! A system in memory that loses what a loss of power may take.
 
-ghost use Rattle.std.specs.Prelude.{◌≡◌, ℕ, List, Some, IfOk, OnOk, OnErr, string_bytes};
+ghost use Rattle.std.specs.Prelude.{◌≡◌, ℕ, List, Some, IfOk, OnOk, OnErr, not, string_bytes};
 ghost use Rattle.disks.specs.Held.{Nothing};
 ghost use Rattle.disks.specs.Entries.{found, held_of};
 ghost use Rattle.disks.specs.Lasting.{ChangesOnly};
@@ -12,7 +12,7 @@ use crate::grown::EndFile;
 use crate::memory::{MemoryDisk, Stored, StoredEntry};
 use crate::system::SystemDisk;
 use std::alloc::Global;
-use std::io::{self, Cursor, Write};
+use std::io::{self, Cursor, ErrorKind, Write};
 use std::mem::swap;
 
 /// What a loss of power leaves of files in memory.
@@ -69,6 +69,15 @@ fn entries_left(files: Left) -> io::Result<Vec<StoredEntry>>
     }
 }
 
+/// Takes one of the syncs that succeed.
+fn take_sync(syncs: &mut u32) -> io::Result<()> {
+    let Some(rest) = syncs.checked_sub(1) else {
+        return Err(io::Error::from(ErrorKind::Other));
+    };
+    *syncs = rest;
+    Ok(())
+}
+
 /// A file of a `LosingDisk` that is written at its end.
 #[derive(Drop)]
 pub struct LosingEnd {
@@ -78,6 +87,10 @@ pub struct LosingEnd {
     settled: Vec<u8>,
     /// Where they are put when the file is let go.
     room: Box<Left>,
+    /// How many syncs succeed.
+    syncs: u32,
+    /// A sync has failed. As on a system, the next may succeed then, and put nothing on the disk.
+    failed: bool,
 }
 
 impl EndFile for LosingEnd {
@@ -85,12 +98,20 @@ impl EndFile for LosingEnd {
 
     ghost on_disk = { λ end. Some end.settled.items };
 
+    ghost is_sound = { λ end. not end.failed };
+
     fn put(&mut self, bytes: &[u8]) -> io::Result<usize> {
         self.bytes.write(bytes)
     }
 
     fn sync(&mut self) -> io::Result<()> {
+        if self.failed {
+            return Ok(());
+        }
+        self.failed = true;
+        take_sync(&mut self.syncs)?;
         self.settled = Vec::from_slice(self.alloc, self.bytes.as_slice())?;
+        self.failed = false;
         Ok(())
     }
 
@@ -105,6 +126,10 @@ impl EndFile for LosingEnd {
 pub struct LosingCalls {
     memory: MemoryDisk,
     after_loss: Left,
+    /// How many syncs of a file succeed, once it is opened.
+    file_syncs: u32,
+    /// How many syncs of folders succeed.
+    folder_syncs: u32,
 }
 
 /// Files in memory of which a loss of power takes all that it may: what is left of them is known.
@@ -116,7 +141,16 @@ impl LosingCalls {
         LosingCalls {
             memory,
             after_loss: Left::Start(on_disk),
+            file_syncs: u32::MAX,
+            folder_syncs: u32::MAX,
         }
+    }
+
+    /// The same, of which only so many syncs of each open file succeed, and so many of folders.
+    pub fn failing(mut self, file_syncs: u32, folder_syncs: u32) -> LosingCalls {
+        self.file_syncs = file_syncs;
+        self.folder_syncs = folder_syncs;
+        self
     }
 
     /// The files as a loss of power leaves them.
@@ -128,7 +162,9 @@ impl LosingCalls {
         ensures { IfOk result (λ disk. (name : List ℕ)
             → found Nothing disk.entries.items name ≡ left_at self.after_loss name) }
     {
-        let LosingCalls { memory, after_loss } = self;
+        let LosingCalls {
+            memory, after_loss, ..
+        } = self;
         Ok(MemoryDisk {
             alloc: memory.alloc,
             entries: entries_left(after_loss)?,
@@ -194,15 +230,19 @@ impl FileCalls for LosingCalls {
             bytes,
             settled: Vec::new(alloc),
             room,
+            syncs: self.file_syncs,
+            failed: false,
         })
     }
 
     fn sync_name(&mut self, end: &LosingEnd, name: &str) -> io::Result<()> {
+        take_sync(&mut self.folder_syncs)?;
         let alloc = self.memory.alloc;
         leave_copy(alloc, &mut self.after_loss, name, end.settled.as_slice())
     }
 
     fn close(&mut self, end: &LosingEnd, name: &str) -> io::Result<()> {
+        take_sync(&mut self.folder_syncs)?;
         let alloc = self.memory.alloc;
         let bytes = Vec::from_slice(alloc, end.bytes.as_slice())?;
         let settled = Vec::from_slice(alloc, end.settled.as_slice())?;
