@@ -1,5 +1,7 @@
 //! The calls of this system. No contract of theirs names a file, so they are what is trusted of it.
 
+ghost use Rattle.std.specs.Prelude.{None};
+
 use crate::calls::FileCalls;
 use crate::descriptors::is_standard;
 use crate::disk::FolderEntry;
@@ -46,8 +48,6 @@ impl<'a, R: Files<File = File> + AllocGlobal> FileCalls for SystemCalls<'a, R> {
     type Part = NewFile<'a, R>;
 
     type End = File;
-
-    ghost use Rattle.std.specs.Prelude.{None};
 
     ghost settled = { λ _. None };
 
