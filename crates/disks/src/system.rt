@@ -1,5 +1,10 @@
 //! The files of a system, by its calls.
 
+ghost use Rattle.std.specs.Prelude.{◌≡◌, IfErr, OnOk, OnErr};
+ghost use Rattle.disks.specs.Held.{Replaces};
+ghost use Rattle.disks.specs.Lasting.{Leaves};
+ghost use Rattle.disks.specs.GrownFile.{file_of};
+
 use crate::calls::FileCalls;
 use crate::disk::{Disk, FolderEntry};
 use crate::grown::GrownFile;
@@ -37,6 +42,26 @@ impl<C> SystemDisk<C> {
     }
 }
 
+/// Ends writing to a file of which all is on the disk, or gives it back.
+fn close_settled<C: FileCalls>(
+    calls: &mut C,
+    grown: GrownFile<C::End>,
+    name: &str,
+) -> Result<(), GrownFile<C::End>>
+    ensures closed { OnOk result (Replaces (C.holds calls.old) (C.holds calls.new) name.now
+        (C.End.written (file_of grown))) }
+    ensures kept { OnErr result (C.holds calls.new ≡ C.holds calls.old) }
+    ensures lasts { OnOk result (Leaves (C.leaves calls.old) (C.leaves calls.new) name.now
+        (C.End.on_disk (file_of grown))) }
+    ensures left { OnErr result (C.leaves calls.new ≡ C.leaves calls.old) }
+    ensures given { IfErr result (λ back. back ≡ grown) }
+{
+    match calls.close(grown.file(), name) {
+        Ok(()) => Ok(()),
+        Err(_) => Err(grown),
+    }
+}
+
 impl<C: FileCalls> Disk for SystemDisk<C> {
     type Reader = C::Reader;
 
@@ -70,8 +95,10 @@ impl<C: FileCalls> Disk for SystemDisk<C> {
 
     fn finish(&mut self, mut made: C::Part, name: &str) -> io::Result<()> {
         // A name that lasts is to have all of the bytes.
-        self.calls.sync_part(&mut made)?;
-        self.calls.rename(made, name)
+        match self.calls.sync_part(&mut made) {
+            Ok(()) => self.calls.rename(made, name),
+            Err(error) => Err(error),
+        }
     }
 
     fn create(&mut self, name: &str) -> io::Result<bool> {
@@ -88,8 +115,10 @@ impl<C: FileCalls> Disk for SystemDisk<C> {
         if !synced {
             return Ok(grown);
         }
-        self.calls.sync_name(grown.file(), name)?;
-        Ok(grown)
+        match self.calls.sync_name(grown.file(), name) {
+            Ok(()) => Ok(grown),
+            Err(fault) => Err(fault),
+        }
     }
 
     fn close_synced(
@@ -97,13 +126,10 @@ impl<C: FileCalls> Disk for SystemDisk<C> {
         mut grown: GrownFile<C::End>,
         name: &str,
     ) -> Result<(), GrownFile<C::End>> {
-        if grown.settle().is_err() {
-            return Err(grown);
+        match grown.settle() {
+            Ok(()) => close_settled(&mut self.calls, grown, name),
+            Err(_) => Err(grown),
         }
-        if self.calls.close(grown.file(), name).is_err() {
-            return Err(grown);
-        }
-        Ok(())
     }
 
     fn abandon(&mut self, grown: GrownFile<C::End>, name: String) {
