@@ -7,6 +7,4 @@ use Rattle.disks.proofs.Lasting.{left_over}
 use Rattle.disks.proofs.losing.leave.Goals as goal
 
 pub returns : goal.returns
-returns c =
-    left_over c.args.files.now _ (string_bytes c.args.name) c.args.bytes.items
-    (λ other. ap (λ (was : Left). cond (bytes_eq (string_bytes c.args.name) other) (File c.args.bytes.items) (left_at was other)) c.swap.ensures.y_after)
+returns c = ?

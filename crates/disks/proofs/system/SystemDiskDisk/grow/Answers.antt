@@ -7,13 +7,13 @@ use Rattle.disks.proofs.system.SystemDiskDisk.grow.Goals as goal
 
 pub returns-in_err-end-clause-left : goal.returns-in_err-end-clause-left
 returns-in_err-end-clause-left g c =
-    left_stays (g.C.FileCalls.leaves c.args.self.now.calls) (g.C.FileCalls.leaves c.open_end-end.new.self) c.args.name.now (bytes_in (g.C.FileCalls.holds c.args.self.now.calls) c.args.name.now)
-    c.open_end-end.ensures.left
+    left_stays (g.C.FileCalls.leaves c.args.self.now.calls) (g.C.FileCalls.leaves c.open_end.new.self) c.args.name.now (bytes_in (g.C.FileCalls.holds c.args.self.now.calls) c.args.name.now)
+    c.open_end.ensures.left
 
 pub returns-in_err-grown-clause-left : goal.returns-in_err-grown-clause-left
 returns-in_err-grown-clause-left g c =
-    left_stays (g.C.FileCalls.leaves c.args.self.now.calls) (g.C.FileCalls.leaves c.open_end-end.new.self) c.args.name.now (bytes_in (g.C.FileCalls.holds c.args.self.now.calls) c.args.name.now)
-    c.open_end-end.ensures.left
+    left_stays (g.C.FileCalls.leaves c.args.self.now.calls) (g.C.FileCalls.leaves c.open_end.new.self) c.args.name.now (bytes_in (g.C.FileCalls.holds c.args.self.now.calls) c.args.name.now)
+    c.open_end.ensures.left
 
 pub returns-then-not-synced-clause-opened : goal.returns-then-not-synced-clause-opened
 returns-then-not-synced-clause-opened g c =
@@ -24,8 +24,8 @@ returns-then-not-synced-clause-lasts g c = λ asked. absurd (false≢true (sym c
 
 pub returns-then-not-synced-clause-left : goal.returns-then-not-synced-clause-left
 returns-then-not-synced-clause-left g c =
-    left_stays (g.C.FileCalls.leaves c.args.self.now.calls) (g.C.FileCalls.leaves c.open_end-end.new.self) c.args.name.now (bytes_in (g.C.FileCalls.holds c.args.self.now.calls) c.args.name.now)
-    c.open_end-end.ensures.left
+    left_stays (g.C.FileCalls.leaves c.args.self.now.calls) (g.C.FileCalls.leaves c.open_end.new.self) c.args.name.now (bytes_in (g.C.FileCalls.holds c.args.self.now.calls) c.args.name.now)
+    c.open_end.ensures.left
 
 pub returns-in-Ok-clause-opened : goal.returns-in-Ok-clause-opened
 returns-in-Ok-clause-opened g c =
@@ -35,20 +35,20 @@ pub returns-in-Ok-clause-lasts : goal.returns-in-Ok-clause-lasts
 returns-in-Ok-clause-lasts g c = λ asked.
     let all = c.in_ok-grown.ensures.settled asked ∙ sym c.in_ok-grown.ensures.written in (
       all_lasts c.in_ok-grown.grown.synced (g.C.End.EndFile.on_disk c.in_ok-grown.grown.file) (g.C.End.EndFile.written c.in_ok-grown.grown.file) (c.in_ok-grown.ensures.mode ∙ asked) all,
-      leaves_same (g.C.FileCalls.leaves c.args.self.now.calls) (g.C.FileCalls.leaves c.open_end-end.new.self) (g.C.FileCalls.leaves c.sync_name.new.self) c.args.name.now
+      leaves_same (g.C.FileCalls.leaves c.args.self.now.calls) (g.C.FileCalls.leaves c.open_end.new.self) (g.C.FileCalls.leaves c.sync_name.new.self) c.args.name.now
           (g.C.End.EndFile.on_disk c.file.result.now) (g.C.End.EndFile.written c.in_ok-grown.grown.file)
-          c.open_end-end.ensures.left (ap g.C.End.EndFile.on_disk c.file.ensures ∙ all) c.in-Ok.ensures.lasts,
+          c.open_end.ensures.left (ap g.C.End.EndFile.on_disk c.file.ensures ∙ all) c.in-Ok.ensures.lasts,
     )
 
 pub returns-in-Ok-clause-left : goal.returns-in-Ok-clause-left
 returns-in-Ok-clause-left g c =
     opened_leaves (g.C.FileCalls.holds c.args.self.now.calls) (g.C.FileCalls.leaves c.args.self.now.calls) (g.C.FileCalls.leaves c.sync_name.new.self) c.args.name.now
     (g.C.End.EndFile.written c.in_ok-end.end) c.in_ok-end.ensures.opened
-    (leaves_same (g.C.FileCalls.leaves c.args.self.now.calls) (g.C.FileCalls.leaves c.open_end-end.new.self) (g.C.FileCalls.leaves c.sync_name.new.self) c.args.name.now
+    (leaves_same (g.C.FileCalls.leaves c.args.self.now.calls) (g.C.FileCalls.leaves c.open_end.new.self) (g.C.FileCalls.leaves c.sync_name.new.self) c.args.name.now
     (g.C.End.EndFile.on_disk c.file.result.now) (g.C.End.EndFile.written c.in_ok-end.end)
-    c.open_end-end.ensures.left (ap g.C.End.EndFile.on_disk c.file.ensures ∙ c.in_ok-grown.ensures.settled c.if-not-synced.false) c.in-Ok.ensures.lasts)
+    c.open_end.ensures.left (ap g.C.End.EndFile.on_disk c.file.ensures ∙ c.in_ok-grown.ensures.settled c.if-not-synced.false) c.in-Ok.ensures.lasts)
 
 pub returns-in-Err-clause-left : goal.returns-in-Err-clause-left
 returns-in-Err-clause-left g c =
     left_stays (g.C.FileCalls.leaves c.args.self.now.calls) (g.C.FileCalls.leaves c.sync_name.new.self) c.args.name.now (bytes_in (g.C.FileCalls.holds c.args.self.now.calls) c.args.name.now)
-    (c.in-Err.ensures.left ∙ c.open_end-end.ensures.left)
+    (c.in-Err.ensures.left ∙ c.open_end.ensures.left)
