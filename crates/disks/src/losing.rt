@@ -163,7 +163,9 @@ impl LosingCalls {
             → found Nothing disk.entries.items name ≡ left_at self.after_loss name) }
     {
         let LosingCalls {
-            memory, after_loss, ..
+            memory,
+            after_loss,
+            ..
         } = self;
         Ok(MemoryDisk {
             alloc: memory.alloc,
