@@ -133,7 +133,7 @@ def told(service, tallies):
     return "\n".join(lines)
 
 
-def judged(ended, seed):
+def judged(ended, cuts, seed):
     """Says what came of all parts. Returns how many services and mistakes passed and failed."""
     passed = failed = 0
     for service in dict.fromkeys(part.service for part, _, _ in ended):
@@ -143,7 +143,7 @@ def judged(ended, seed):
             print(told(service, [tally for _, tally, _ in plain]))
         for part, tally, room in plain:
             for wrong in tally.wrong[:5]:
-                print(f"WRONG: {wrong}\n  again: power.py {sum(it.cuts for it, _, _ in plain)} {seed} {part}; its folder: {room}")
+                print(f"WRONG: {wrong}\n  again: power.py {cuts} {seed} {part}; its folder: {room}")
         passed, failed = passed + bool(plain and not any(it[1].wrong for it in plain)), failed + any(it[1].wrong for it in plain)
         for part, tally, _ in (it for it in mine if it[0].mistake):
             found = is_found(tally)
@@ -170,7 +170,7 @@ def main(cuts="500", seed=None, *names):
             ended = list(pool.imap_unordered(play, jobs))
             pool.close()
             pool.join()
-    passed, failed = judged(sorted(ended, key=lambda it: list(SERVICES).index(it[0].service)), seed)
+    passed, failed = judged(sorted(ended, key=lambda it: list(SERVICES).index(it[0].service)), cuts, seed)
     print(f"seed {seed}, {time.monotonic() - begun:.0f} s\n{passed} passed, {failed} failed")
     return bool(failed)
 
