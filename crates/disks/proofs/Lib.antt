@@ -1,2 +1,4 @@
 pub mod Finding
 mod Listing
+mod Growing
+mod Lasting

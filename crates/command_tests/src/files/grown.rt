@@ -2,8 +2,8 @@
 
 use crate::files::memory::{bytes_of, no_files, put};
 use crate::files::system::{expect_bytes, expect_count, folder_of, within};
-use disks::{Disk, SystemDisk};
-use std::io::{ErrorKind, Write};
+use disks::{Disk, Grow, SystemDisk};
+use std::io::ErrorKind;
 use std::process::Abort;
 use std::test::Fail;
 
@@ -15,6 +15,16 @@ fn expect_refused<D: Disk>(rt: &impl Abort, disk: &mut D, name: &str, kind: Erro
     assert!(rt; fault.kind() == kind);
 }
 
+/// Adds these bytes to a file.
+pub fn add<G: Grow>(rt: &impl Abort, grown: &mut G, bytes: &[u8]) {
+    assert!(rt; grown.add(bytes).is_ok());
+}
+
+/// Closes a file of this name.
+pub fn close<D: Disk>(rt: &impl Abort, disk: &mut D, grown: D::Grown, name: &str) {
+    assert!(rt; disk.close_synced(grown, name).is_ok());
+}
+
 #[test]
 fn a_file_grows_by_one_hand_alone(rt: HostRuntime) -> Result<(), Fail> {
     let folder = folder_of(&rt, "grown")?;
@@ -23,14 +33,13 @@ fn a_file_grows_by_one_hand_alone(rt: HostRuntime) -> Result<(), Fail> {
     expect_refused(&rt, &mut disk, &name, ErrorKind::NotFound);
     assert!(rt; disk.create(&name)?);
     let mut first = disk.grow(&name, true)?;
-    first.write_all(b"one")?;
-    first.flush()?;
+    add(&rt, &mut first, b"one");
     expect_bytes(&rt, &name, b"one")?;
     expect_refused(&rt, &mut disk, &name, ErrorKind::WouldBlock);
-    disk.close_synced(first, &name)?;
+    close(&rt, &mut disk, first, &name);
     let mut again = disk.grow(&name, false)?;
-    again.write_all(b" two")?;
-    disk.close_synced(again, &name)?;
+    add(&rt, &mut again, b" two");
+    close(&rt, &mut disk, again, &name);
     expect_bytes(&rt, &name, b"one two")?;
     expect_refused(&rt, &mut disk, &folder, ErrorKind::IsADirectory);
     expect_refused(&rt, &mut disk, "/dev/null", ErrorKind::InvalidInput);
@@ -43,10 +52,10 @@ fn a_grown_file_in_memory_holds_what_was_written(rt: HostRuntime) -> Result<(), 
     let mut disk = no_files(rt.alloc());
     put(&mut disk, "a", b"one")?;
     let mut grown = disk.grow("a", true)?;
-    grown.write_all(b" two")?;
+    add(&rt, &mut grown, b" two");
     let held = bytes_of(rt.alloc(), &disk, "a")?;
     assert!(rt; held.as_slice() == b"one".as_slice());
-    disk.close_synced(grown, "a")?;
+    close(&rt, &mut disk, grown, "a");
     let held = bytes_of(rt.alloc(), &disk, "a")?;
     assert!(rt; held.as_slice() == b"one two".as_slice());
     expect_refused(&rt, &mut disk, "b", ErrorKind::NotFound);
