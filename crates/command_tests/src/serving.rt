@@ -1,12 +1,12 @@
 //! How `serve` uses its journal: when it is locked, opened, synced and left.
 
 use crate::files::memory::{bytes_of, no_files, put};
-use disks::{Disk, FolderEntry, MemoryDisk};
+use disks::{Disk, FolderEntry, Grow, MemoryDisk};
 use ring_requests::ServeWords;
 use serve_commands::serve::run;
 use std::alloc::Global;
 use std::cell::Cell;
-use std::io::{self, Cursor, ErrorKind, Read, Write};
+use std::io::{self, Cursor, ErrorKind, Read};
 use std::process::Abort;
 use std::test::Fail;
 use tool_parts::faults::ToolError;
@@ -41,14 +41,9 @@ impl Opened<'_> {
     }
 }
 
-impl Write for Opened<'_> {
-    fn write(&mut self, bytes: &[u8]) -> io::Result<usize> {
-        self.held.extend_from_slice(bytes)?;
-        Ok(bytes.len())
-    }
-
-    fn flush(&mut self) -> io::Result<()> {
-        Ok(())
+impl Grow for Opened<'_> {
+    fn add(&mut self, bytes: &[u8]) -> Result<(), usize> {
+        self.held.add(bytes)
     }
 }
 
@@ -62,6 +57,17 @@ struct Watched<'a> {
     opened: &'a Cell<u32>,
     /// How many were opened to be synced.
     synced: u32,
+}
+
+impl<'a> Watched<'a> {
+    /// A file with these bytes that is open.
+    fn counted(&self, held: Vec<u8>) -> Opened<'a> {
+        self.opened.set(self.opened.get().saturating_add(1));
+        Opened {
+            held,
+            count: self.opened,
+        }
+    }
 }
 
 impl<'a> Disk for Watched<'a> {
@@ -107,18 +113,21 @@ impl<'a> Disk for Watched<'a> {
             return Err(io::Error::from(ErrorKind::WouldBlock));
         }
         let held = self.files.grow(name, synced)?;
-        self.opened.set(self.opened.get().saturating_add(1));
         if synced {
             self.synced = self.synced.saturating_add(1);
         }
-        Ok(Opened {
-            held,
-            count: self.opened,
-        })
+        Ok(self.counted(held))
     }
 
-    fn close_synced(&mut self, grown: Opened<'a>, name: &str) -> io::Result<()> {
-        self.files.close_synced(grown.closed(), name)
+    fn close_synced(&mut self, grown: Opened<'a>, name: &str) -> Result<(), Opened<'a>> {
+        match self.files.close_synced(grown.closed(), name) {
+            Ok(()) => Ok(()),
+            Err(held) => Err(self.counted(held)),
+        }
+    }
+
+    fn abandon(&mut self, grown: Opened<'a>, name: String) {
+        self.files.abandon(grown.closed(), name);
     }
 }
 

@@ -2,8 +2,8 @@
 
 use crate::files::memory::{bytes_of, no_files, put};
 use crate::files::system::{expect_bytes, expect_count, folder_of, within};
-use disks::{Disk, SystemDisk};
-use std::io::{ErrorKind, Write};
+use disks::{Disk, Grow, SystemDisk};
+use std::io::ErrorKind;
 use std::process::Abort;
 use std::test::Fail;
 
@@ -23,17 +23,32 @@ fn a_file_grows_by_one_hand_alone(rt: HostRuntime) -> Result<(), Fail> {
     expect_refused(&rt, &mut disk, &name, ErrorKind::NotFound);
     assert!(rt; disk.create(&name)?);
     let mut first = disk.grow(&name, true)?;
-    first.write_all(b"one")?;
-    first.flush()?;
+    assert!(rt; first.add(b"one").is_ok());
     expect_bytes(&rt, &name, b"one")?;
     expect_refused(&rt, &mut disk, &name, ErrorKind::WouldBlock);
-    disk.close_synced(first, &name)?;
+    assert!(rt; disk.close_synced(first, &name).is_ok());
     let mut again = disk.grow(&name, false)?;
-    again.write_all(b" two")?;
-    disk.close_synced(again, &name)?;
+    assert!(rt; again.add(b" two").is_ok());
+    assert!(rt; disk.close_synced(again, &name).is_ok());
     expect_bytes(&rt, &name, b"one two")?;
     expect_refused(&rt, &mut disk, &folder, ErrorKind::IsADirectory);
     expect_refused(&rt, &mut disk, "/dev/null", ErrorKind::InvalidInput);
+    expect_count(&rt, &folder, 1)?;
+    Ok(())
+}
+
+#[test]
+fn a_file_that_is_let_go_keeps_what_was_added(rt: HostRuntime) -> Result<(), Fail> {
+    let folder = folder_of(&rt, "let_go")?;
+    let name = within(&rt, &folder, "a")?;
+    let mut disk = SystemDisk::new(&rt);
+    assert!(rt; disk.create(&name)?);
+    let mut grown = disk.grow(&name, true)?;
+    assert!(rt; grown.add(b"one").is_ok());
+    disk.abandon(grown, within(&rt, &folder, "a")?);
+    expect_bytes(&rt, &name, b"one")?;
+    let again = disk.grow(&name, false)?;
+    assert!(rt; disk.close_synced(again, &name).is_ok());
     expect_count(&rt, &folder, 1)?;
     Ok(())
 }
@@ -43,10 +58,10 @@ fn a_grown_file_in_memory_holds_what_was_written(rt: HostRuntime) -> Result<(), 
     let mut disk = no_files(rt.alloc());
     put(&mut disk, "a", b"one")?;
     let mut grown = disk.grow("a", true)?;
-    grown.write_all(b" two")?;
+    assert!(rt; grown.add(b" two").is_ok());
     let held = bytes_of(rt.alloc(), &disk, "a")?;
     assert!(rt; held.as_slice() == b"one".as_slice());
-    disk.close_synced(grown, "a")?;
+    assert!(rt; disk.close_synced(grown, "a").is_ok());
     let held = bytes_of(rt.alloc(), &disk, "a")?;
     assert!(rt; held.as_slice() == b"one two".as_slice());
     expect_refused(&rt, &mut disk, "b", ErrorKind::NotFound);

@@ -145,7 +145,7 @@ fn a_folder_is_no_file(rt: HostRuntime) -> Result<(), Fail> {
         assert!(rt; !disk.discard(name)?);
         assert!(rt; is_of_a_folder(&put(&mut disk, name, b"text")));
         let grown = disk.grow("a", false)?;
-        assert!(rt; is_of_a_folder(&disk.close_synced(grown, name)));
+        assert!(rt; disk.close_synced(grown, name).is_err());
     }
     assert_eq!(rt; disk.entries.len(), 9);
     assert_eq!(rt; disk.list("f")?.len(), 3);

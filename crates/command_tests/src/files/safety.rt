@@ -4,7 +4,7 @@ use crate::files::memory::put;
 use crate::files::system::{
     expect, expect_bytes, expect_count, folder_of, link_in, put_in, within, write_in,
 };
-use disks::{Disk, SystemDisk};
+use disks::{Disk, Grow, SystemDisk};
 use std::fs;
 use std::io::{ErrorKind, Write};
 use std::test::Fail;
@@ -22,7 +22,7 @@ fn a_file_that_somebody_grows_is_not_replaced(rt: HostRuntime) -> Result<(), Fai
     };
     assert!(rt; fault.kind() == ErrorKind::WouldBlock);
     expect_bytes(&rt, &name, b"noted")?;
-    other.close_synced(grown, &name)?;
+    assert!(rt; other.close_synced(grown, &name).is_ok());
     put(&mut disk, &name, b"new")?;
     expect_bytes(&rt, &name, b"new")?;
     expect_count(&rt, &folder, 1)?;
@@ -38,8 +38,8 @@ fn whoever_grows_a_file_may_replace_it(rt: HostRuntime) -> Result<(), Fail> {
     let lock = disk.grow(&name, false)?;
     put(&mut disk, &name, b"new")?;
     let mut again = disk.grow(&name, false)?;
-    again.write_all(b" and more")?;
-    disk.close_synced(again, &name)?;
+    assert!(rt; again.add(b" and more").is_ok());
+    assert!(rt; disk.close_synced(again, &name).is_ok());
     drop(lock);
     expect_bytes(&rt, &name, b"new and more")?;
     expect_count(&rt, &folder, 1)?;
