@@ -1,3 +1,6 @@
 pub mod Entries
 pub mod Held
 pub mod Folders
+pub mod Lasting
+pub mod Calls
+pub mod GrownFile

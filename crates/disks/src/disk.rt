@@ -1,9 +1,12 @@
 //! The operations on files.
 
-ghost use Rattle.std.specs.Prelude.{◌≡◌, ℕ, List, Option, None, IfOk, IfSome, OnOk, OnErr, true, false};
+ghost use Rattle.std.specs.Prelude.{◌≡◌, ℕ, List, [], Option, None, Some, IfOk, IfErr, IfSome, OnOk, OnErr, true, false, string_bytes};
+ghost use Rattle.std.specs.Io.KnownBytes.{Keeps};
 ghost use Rattle.disks.specs.Held.{Held, is_folder, IsOneFile, Opens, Starts, Creates, Discards, Grows, Replaces};
 ghost use Rattle.disks.specs.Folders.{Lists, names_of};
+ghost use Rattle.disks.specs.Lasting.{bytes_in, Leaves, MayLeave, MayRemove, LeavesFront};
 
+use crate::grow::Grow;
 use std::io::{self, Read, Write};
 
 /// A name in a folder.
@@ -27,10 +30,14 @@ pub trait Disk {
     type New: Write + Drop;
 
     /// A file that is written at its end.
-    type Grown: Write + Drop;
+    type Grown: Grow + Drop;
 
     /// The folders and the content of the files, if that is known.
     ghost holds: { Self → Option Held } = { λ _. None };
+
+    /// The folders and the content of the files as a loss of power at this moment leaves them, if that is known. What it says of a
+    /// file that is being grown is so once its writer is let go; until then the writer says what lasts.
+    ghost leaves: { Self → Option Held } = { λ _. None };
 
     /// Opens the file of this name, which is no folder. The reader has the bytes that the file holds now.
     fn open(&self, name: &str) -> io::Result<Self::Reader>
@@ -67,7 +74,8 @@ pub trait Disk {
     /// Makes a new file, empty, beside the one of this name. No file changes.
     fn make(&mut self, name: &str) -> io::Result<Self::New>
         ensures empty { IfOk result (λ made. Starts (holds self.old) (Self.New.contents made)) }
-        ensures kept { holds self.new ≡ holds self.old };
+        ensures kept { holds self.new ≡ holds self.old }
+        ensures left { leaves self.new ≡ leaves self.old };
 
     /// Puts a new file into the place of the one of this name, for which it was made.
     ///
@@ -78,7 +86,9 @@ pub trait Disk {
     fn finish(&mut self, made: Self::New, name: &str) -> io::Result<()>
         ensures replaced { OnOk result
             (Replaces (holds self.old) (holds self.new) name.now (Self.New.contents made)) }
-        ensures kept { OnErr result (holds self.new ≡ holds self.old) };
+        ensures kept { OnErr result (holds self.new ≡ holds self.old) }
+        ensures left { MayLeave (leaves self.old) (leaves self.new) name.now
+            (Self.New.contents made) };
 
     /// Makes an empty file of this name, if there is none. Answers whether it did.
     ///
@@ -87,15 +97,17 @@ pub trait Disk {
     /// A folder has this name, or the file cannot be made.
     fn create(&mut self, name: &str) -> io::Result<bool>
         ensures created { IfOk result (Creates (holds self.old) (holds self.new) name.now) }
-        ensures kept { OnErr result (holds self.new ≡ holds self.old) };
+        ensures kept { OnErr result (holds self.new ≡ holds self.old) }
+        ensures left { MayLeave (leaves self.old) (leaves self.new) name.now (Some []) };
 
     /// Removes the file of this name, if it holds nothing. Answers whether it did.
     fn discard(&mut self, name: &str) -> io::Result<bool>
         ensures discarded { IfOk result (Discards (holds self.old) (holds self.new) name.now) }
-        ensures kept { OnErr result (holds self.new ≡ holds self.old) };
+        ensures kept { OnErr result (holds self.new ≡ holds self.old) }
+        ensures left { MayRemove (leaves self.old) (leaves self.new) name.now };
 
-    /// Opens a file that is there to be written at its end. Its writer has the content of the file. With `synced` each flush
-    /// puts the written bytes on the disk.
+    /// Opens a file that is there to be written at its end. Its writer has the content of the file. With `synced` that content,
+    /// under its name, and all that is added are put on the disk.
     ///
     /// # Errors
     ///
@@ -104,15 +116,32 @@ pub trait Disk {
     fn grow(&mut self, name: &str, synced: bool) -> io::Result<Self::Grown>
         ensures opened { IfOk result
             (λ grown. Grows (holds self.old) name.now (Self.Grown.contents grown)) }
-        ensures kept { holds self.new ≡ holds self.old };
+        ensures kept { holds self.new ≡ holds self.old }
+        ensures lasts { IfOk result (λ grown. synced ≡ true
+            → (Self.Grown.lasting grown ≡ Self.Grown.contents grown)
+            × Leaves (leaves self.old) (leaves self.new) name.now (Self.Grown.contents grown)) }
+        ensures left { MayLeave (leaves self.old) (leaves self.new) name.now
+            (bytes_in (holds self.old) name.now) };
 
-    /// Ends writing to a file of this name: it holds what its writer has.
+    /// Ends writing to a file of this name: it holds what its writer has, and a loss of power leaves just that.
     ///
     /// # Errors
     ///
-    /// It is not known to be on the disk.
-    fn close_synced(&mut self, grown: Self::Grown, name: &str) -> io::Result<()>
+    /// The writer, as it was: its file is not known to be on the disk under this name.
+    fn close_synced(&mut self, grown: Self::Grown, name: &str) -> Result<(), Self::Grown>
         ensures closed { OnOk result
             (Replaces (holds self.old) (holds self.new) name.now (Self.Grown.contents grown)) }
-        ensures kept { OnErr result (holds self.new ≡ holds self.old) };
+        ensures kept { OnErr result (holds self.new ≡ holds self.old) }
+        ensures lasts { OnOk result
+            (Leaves (leaves self.old) (leaves self.new) name.now (Self.Grown.contents grown)) }
+        ensures left { OnErr result (leaves self.new ≡ leaves self.old) }
+        ensures given { IfErr result (λ back.
+            (Self.Grown.contents back ≡ Self.Grown.contents grown)
+            × Keeps (Self.Grown.lasting grown) (Self.Grown.lasting back)) };
+
+    /// Lets a file of this name go as it is: it holds what it held when it was opened, and some of what was added.
+    fn abandon(&mut self, grown: Self::Grown, name: String)
+        ensures kept { holds self.new ≡ holds self.old }
+        ensures left { LeavesFront (leaves self.old) (leaves self.new) (string_bytes name)
+            (Self.Grown.lasting grown) };
 }

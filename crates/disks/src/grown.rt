@@ -1,55 +1,167 @@
 //! A file that is written at its end, under a lock.
 
+ghost use Rattle.std.specs.Prelude.{◌≡◌, ℕ, List, Option, None, Bool, true, false, if◌then◌else◌, OnOk};
+ghost use Rattle.std.specs.Io.{WritesAtMost};
+ghost use Rattle.std.specs.Io.KnownBytes.{WriteAppends, Keeps};
+ghost use Rattle.std.proofs.Props.{props};
+ghost use Rattle.disks.specs.Calls.{Syncs};
+ghost use Rattle.disks.specs.Lasting.{Adds};
+
+use crate::grow::Grow;
+use crate::part::sync_folder;
 use crate::same_file::{FileId, file_id, leads_to};
 use std::fs::{self, File, OpenOptions, TryLockError};
 use std::io::{self, ErrorKind, Write};
 use std::rt::Files;
 
-/// How many bytes a file that is not synced at each flush has written until the next flush puts them on the disk, so that little is
-/// left to be put there when it is closed.
+/// How many bytes a file that is not synced has added until they are put on the disk, so that little is left to be put there when
+/// it is closed.
 const AHEAD: u64 = 1 << 21;
+
+/// The calls on a file that is written at its end.
+pub trait EndFile {
+    /// The bytes that it holds, where they are known.
+    ghost written: { Self → Option (List ℕ) } = { λ _. None };
+
+    /// Those that a loss of power leaves at its beginning, whenever it comes from now on, where they are known.
+    ghost on_disk: { Self → Option (List ℕ) } = { λ _. None };
+
+    /// No sync has failed. After one has, what was written may be lost with no further error.
+    ghost is_sound: { Self → Bool } = { λ _. true };
+
+    /// Writes some of the first of these bytes, and says how many.
+    fn put(&mut self, bytes: &[u8]) -> io::Result<usize>
+        ensures bound { WritesAtMost result bytes.now }
+        ensures bytes { WriteAppends (written self.old) (written self.new) result bytes.now }
+        ensures on_disk { on_disk self.new ≡ on_disk self.old }
+        ensures sound { is_sound self.new ≡ is_sound self.old };
+
+    /// Puts the bytes on the disk.
+    fn sync(&mut self) -> io::Result<()>
+        ensures synced { Syncs result (is_sound self.old) (written self.old) (on_disk self.old)
+            (on_disk self.new) }
+        ensures written { written self.new ≡ written self.old }
+        ensures sound { OnOk result (is_sound self.new ≡ is_sound self.old) };
+
+    /// The same with all that is known of the file.
+    fn sync_whole(&mut self) -> io::Result<()>
+        ensures synced { Syncs result (is_sound self.old) (written self.old) (on_disk self.old)
+            (on_disk self.new) }
+        ensures written { written self.new ≡ written self.old }
+        ensures sound { OnOk result (is_sound self.new ≡ is_sound self.old) };
+}
+
+/// The system's. Nothing is said of its bytes.
+impl EndFile for File {
+    fn put(&mut self, bytes: &[u8]) -> io::Result<usize> {
+        self.write(bytes)
+    }
+
+    fn sync(&mut self) -> io::Result<()> {
+        self.sync_data()
+    }
+
+    fn sync_whole(&mut self) -> io::Result<()> {
+        self.sync_all()
+    }
+}
 
 /// A file that is open to be written at its end, and that nobody else has open so.
 #[derive(Drop)]
-pub struct GrownFile {
-    file: File,
-    /// How many written bytes a flush may leave that are not on the disk.
-    most: u64,
-    /// How many there may be.
+pub struct GrownFile<F: EndFile> {
+    file: F,
+    /// Whether all that is added is put on the disk.
+    synced: bool,
+    /// If not, how many bytes were added that are not there.
     behind: u64,
+    /// A call has failed: nothing more is added.
+    failed: bool,
+    ghost sound: { failed ≡ false → F.EndFile.is_sound file ≡ true } by { Prim.hlevel props },
+    ghost settled: { failed ≡ false → synced ≡ true
+        → F.EndFile.on_disk file ≡ F.EndFile.written file } by { Prim.hlevel props },
 }
 
-impl Write for GrownFile {
-    fn write(&mut self, buf: &[u8]) -> io::Result<usize> {
-        let count = self.file.write(buf)?;
-        self.behind = self.behind.saturating_add(count as u64);
-        Ok(count)
-    }
-
-    fn flush(&mut self) -> io::Result<()> {
-        self.file.flush()?;
-        if self.behind <= self.most {
-            return Ok(());
+/// Writes all of these bytes.
+///
+/// # Errors
+///
+/// How many of the first were written, where the file took no more.
+fn put_all<F: EndFile>(file: &mut F, bytes: &[u8]) -> Result<(), usize>
+    ensures added { Adds result (F.EndFile.written file.old) (F.EndFile.written file.new) bytes.now }
+    ensures on_disk { F.EndFile.on_disk file.new ≡ F.EndFile.on_disk file.old }
+    ensures sound { F.EndFile.is_sound file.new ≡ F.EndFile.is_sound file.old }
+{
+    let mut done = 0;
+    while done < bytes.len() {
+        match file.put(&bytes[done..]) {
+            Ok(0) => return Err(done),
+            Ok(n) => done += n,
+            Err(_) => return Err(done),
         }
-        self.file.sync_data()?;
-        self.behind = 0;
+    }
+    Ok(())
+}
+
+impl<F: EndFile> Grow for GrownFile<F> {
+    ghost contents = { λ g. F.EndFile.written g.file };
+
+    ghost lasting = { λ g. if g.synced then F.EndFile.on_disk g.file else None };
+
+    fn add(&mut self, bytes: &[u8]) -> Result<(), usize> {
+        if self.failed {
+            return Err(0);
+        }
+        self.failed = true;
+        put_all(&mut self.file, bytes)?;
+        if self.synced {
+            if self.file.sync().is_err() {
+                return Err(bytes.len());
+            }
+        } else {
+            self.behind = self.behind.saturating_add(bytes.len() as u64);
+            if self.behind > AHEAD {
+                if self.file.sync().is_err() {
+                    return Err(bytes.len());
+                }
+                self.behind = 0;
+            }
+        }
+        self.failed = false;
         Ok(())
     }
 }
 
-impl GrownFile {
+impl<F: EndFile> GrownFile<F> {
+    ghost use Rattle.disks.specs.GrownFile.{file_of, is_synced};
+
+    /// Puts all written bytes on the disk, with all that is known of the file.
+    pub(crate) fn settle(&mut self) -> io::Result<()>
+        ensures ok { OnOk result
+            (F.EndFile.on_disk (file_of self.new) ≡ F.EndFile.written (file_of self.old)) }
+        ensures written { F.EndFile.written (file_of self.new)
+            ≡ F.EndFile.written (file_of self.old) }
+        ensures lasting { Keeps
+            (if is_synced self.old then F.EndFile.on_disk (file_of self.old) else None)
+            (if is_synced self.new then F.EndFile.on_disk (file_of self.new) else None) }
+    {
+        if self.failed {
+            return Err(io::Error::from(ErrorKind::Other));
+        }
+        let done = self.file.sync_whole();
+        self.failed = done.is_err();
+        done
+    }
+}
+
+impl GrownFile<File> {
     /// What tells it from each other file.
     pub(crate) fn id(&self) -> io::Result<FileId> {
         Ok(file_id(&self.file.metadata()?))
     }
 
-    /// Puts all written bytes on the disk, if this name still leads to them.
-    pub(crate) fn close_synced<R: Files>(self, files: &R, name: &str) -> io::Result<()> {
-        self.file.sync_all()?;
-        if leads_to(files, name, &self.file)? {
-            return Ok(());
-        }
-        Err(io::Error::from(ErrorKind::NotFound))
+    /// Whether this name leads to it.
+    pub(crate) fn is_at<R: Files>(&self, files: &R, name: &str) -> bool {
+        matches!(leads_to(files, name, &self.file), Ok(true))
     }
 }
 
@@ -63,11 +175,12 @@ fn lock(file: &File) -> io::Result<()> {
 }
 
 /// Opens a regular file to be written at its end, and locks it. One that was replaced meanwhile is in use by whoever did that.
-pub(crate) fn grown<R: Files<File = File>>(
+/// With `synced` it is put on the disk, under its name.
+pub(crate) fn grown<R: Files<File = File> + AllocGlobal>(
     files: &R,
     name: &str,
     synced: bool,
-) -> io::Result<GrownFile> {
+) -> io::Result<GrownFile<File>> {
     let file = OpenOptions::new()
         .read(true)
         .append(true)
@@ -76,14 +189,20 @@ pub(crate) fn grown<R: Files<File = File>>(
         return Err(io::Error::from(ErrorKind::InvalidInput));
     }
     lock(&file)?;
-    if leads_to(files, name, &file)? {
-        return Ok(GrownFile {
-            file,
-            most: if synced { 0 } else { AHEAD },
-            behind: 0,
-        });
+    if !leads_to(files, name, &file)? {
+        return Err(io::Error::from(ErrorKind::WouldBlock));
     }
-    Err(io::Error::from(ErrorKind::WouldBlock))
+    if synced {
+        file.sync_all()?;
+        let target = fs::canonicalize(files, name)?.into_string();
+        sync_folder(files, target.as_str())?;
+    }
+    Ok(GrownFile {
+        file,
+        synced,
+        behind: 0,
+        failed: false,
+    })
 }
 
 /// Removes the regular file of this name, if it holds nothing and nobody writes at its end. Answers whether it did.

@@ -3,6 +3,7 @@
 
 mod descriptors;
 mod disk;
+mod grow;
 mod grown;
 mod memory;
 mod part;
@@ -12,7 +13,8 @@ mod system;
 
 pub use descriptors::take_low;
 pub use disk::{Disk, FolderEntry};
-pub use grown::GrownFile;
+pub use grow::Grow;
+pub use grown::{EndFile, GrownFile};
 pub use memory::{MemoryDisk, Stored, StoredEntry};
 pub use part::NewFile;
 pub use replacing::{Contents, ContentsFault, ReplaceFault, replace};

@@ -1,6 +1,6 @@
 //! Files and folders in memory.
 
-ghost use Rattle.std.specs.Prelude.{◌≡◌, ◌≢◌, ◌+◌, ◌||◌, ℕ, List, [], length, drop, false, Some, IsTrue, IsFalse, IfOk, OnOk, OnErr};
+ghost use Rattle.std.specs.Prelude.{◌≡◌, ◌≢◌, ◌+◌, ◌<◌, ◌||◌, ℕ, List, [], length, drop, false, Some, IsTrue, IsFalse, IfOk, OnOk, string_bytes, vec_len, vec_capacity};
 ghost use Rattle.std.specs.List.{AllByRecursion};
 ghost use Rattle.std.specs.Str.{bytes_eq};
 ghost use Rattle.disks.specs.Held.{Held, Nothing, File, is_a_folder, IsReplaced};
@@ -146,20 +146,33 @@ fn copied(alloc: Global, entries: &[StoredEntry], name: &str) -> io::Result<Vec<
     }
 }
 
-/// Puts a file at a name, in place of what has it, which is no folder.
-fn put_file(disk: &mut MemoryDisk, name: &str, bytes: Vec<u8>) -> io::Result<()>
-    ensures put { OnOk result
-        (IsReplaced (held_of disk.old.entries.items) (held_of disk.new.entries.items) name.now
-        bytes.items) }
-    ensures kept { OnErr result (disk.new.entries.items ≡ disk.old.entries.items) }
+/// The place of a file of this name, which is no folder's: the name, and room for an entry.
+fn place_for(disk: &mut MemoryDisk, name: &str) -> io::Result<String>
+    ensures named { IfOk result (λ place. string_bytes place ≡ name.now) }
+    ensures free { OnOk result
+        (is_a_folder (found Nothing disk.old.entries.items name.now) ≡ false) }
+    ensures room { OnOk result (vec_len disk.new.entries < vec_capacity disk.new.entries) }
+    ensures kept { disk.new.entries.items ≡ disk.old.entries.items }
 {
     if is_folder(&disk.entries, name) {
         return Err(io::Error::from(ErrorKind::IsADirectory));
     }
-    let name = String::from_str(disk.alloc, name)?;
-    let stored = Stored::File(bytes);
-    disk.entries.push(StoredEntry { name, stored })?;
-    Ok(())
+    let place = String::from_str(disk.alloc, name)?;
+    disk.entries.reserve(1)?;
+    Ok(place)
+}
+
+/// Puts a file at its place.
+fn put_file(disk: &mut MemoryDisk, place: String, bytes: Vec<u8>)
+    requires free { is_a_folder (found Nothing disk.old.entries.items (string_bytes place)) ≡ false }
+    requires room { vec_len disk.old.entries < vec_capacity disk.old.entries }
+    ensures { IsReplaced (held_of disk.old.entries.items) (held_of disk.new.entries.items)
+        (string_bytes place) bytes.items }
+{
+    disk.entries.push_reserved(StoredEntry {
+        name: place,
+        stored: Stored::File(bytes),
+    });
 }
 
 impl Disk for MemoryDisk {
@@ -191,15 +204,18 @@ impl Disk for MemoryDisk {
     }
 
     fn finish(&mut self, made: Vec<u8>, name: &str) -> io::Result<()> {
-        put_file(self, name, made)
+        let place = place_for(self, name)?;
+        put_file(self, place, made);
+        Ok(())
     }
 
     fn create(&mut self, name: &str) -> io::Result<bool> {
         if let Some(Stored::File(_)) = last(&self.entries, name) {
             return Ok(false);
         }
+        let place = place_for(self, name)?;
         let bytes = Vec::new(self.alloc);
-        put_file(self, name, bytes)?;
+        put_file(self, place, bytes);
         Ok(true)
     }
 
@@ -215,7 +231,15 @@ impl Disk for MemoryDisk {
         copied(self.alloc, &self.entries, name)
     }
 
-    fn close_synced(&mut self, grown: Vec<u8>, name: &str) -> io::Result<()> {
-        put_file(self, name, grown)
+    fn close_synced(&mut self, grown: Vec<u8>, name: &str) -> Result<(), Vec<u8>> {
+        match place_for(self, name) {
+            Ok(place) => {
+                put_file(self, place, grown);
+                Ok(())
+            }
+            Err(_) => Err(grown),
+        }
     }
+
+    fn abandon(&mut self, _grown: Vec<u8>, _name: String) {}
 }

@@ -114,16 +114,15 @@ fn put_beside<R: Files<File = File>>(
     let done = fs::rename(files, beside.part.as_str(), beside.target.as_str());
     drop(old);
     if done.is_ok() {
-        sync_folder(files, beside.target.as_str());
+        // The file is in its place by then, so a fault of the folder is not one of the file.
+        let _ = sync_folder(files, beside.target.as_str());
     }
     done
 }
 
-/// Syncs the folder of a file. The file is in its place by then, so a fault of the folder is not one of the file.
-fn sync_folder<R: Files<File = File>>(files: &R, target: &str) {
-    if let Ok(folder) = fs::open(files, folder_of(target)) {
-        let _ = folder.sync_all();
-    }
+/// Syncs the folder of a file.
+pub(crate) fn sync_folder<R: Files<File = File>>(files: &R, target: &str) -> io::Result<()> {
+    fs::open(files, folder_of(target))?.sync_all()
 }
 
 /// The name of a part in a folder, by its number. It is short, so that a name of any length can have one.

@@ -1,8 +1,9 @@
 //! A file that is replaced by one that is written as a whole.
 
-ghost use Rattle.std.specs.Prelude.{◌≡◌, ℕ, List, Some, OnOk, OnErr, IfOk, IfErr};
+ghost use Rattle.std.specs.Prelude.{◌≡◌, ℕ, List, Some, OnOk, OnErr, IfOk, IfErr, IfSome};
 ghost use Rattle.std.specs.Io.KnownBytes.{Appends};
 ghost use Rattle.disks.specs.Held.{Replaces};
+ghost use Rattle.disks.specs.Lasting.{MayLeave};
 
 use crate::disk::Disk;
 use std::alloc::Global;
@@ -91,6 +92,8 @@ pub fn replace<D: Disk, C: Contents>(
         (Replaces (D.holds disk.old) (D.holds disk.new) name.now (Some (C.bytes contents.now))) }
     ensures known { OnOk result (C.known contents.now) }
     ensures kept { OnErr result (D.holds disk.new ≡ D.holds disk.old) }
+    ensures left { IfSome (D.holds disk.old) (λ _. MayLeave (D.leaves disk.old) (D.leaves disk.new)
+        name.now (Some (C.bytes contents.now))) }
 {
     let Ok(made) = disk.make(name) else {
         return Err(ReplaceFault::Make);

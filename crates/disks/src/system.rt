@@ -32,7 +32,7 @@ impl<'a, R: Files<File = File> + AllocGlobal> Disk for SystemDisk<'a, R> {
 
     type New = NewFile<'a, R>;
 
-    type Grown = GrownFile;
+    type Grown = GrownFile<File>;
 
     fn open(&self, name: &str) -> io::Result<File> {
         let file = fs::open(self.files, name)?;
@@ -106,13 +106,18 @@ impl<'a, R: Files<File = File> + AllocGlobal> Disk for SystemDisk<'a, R> {
         }
     }
 
-    fn grow(&mut self, name: &str, synced: bool) -> io::Result<GrownFile> {
+    fn grow(&mut self, name: &str, synced: bool) -> io::Result<GrownFile<File>> {
         let file = grown(self.files, name, synced)?;
         self.own = Some(file.id()?);
         Ok(file)
     }
 
-    fn close_synced(&mut self, grown: GrownFile, name: &str) -> io::Result<()> {
-        grown.close_synced(self.files, name)
+    fn close_synced(&mut self, mut grown: GrownFile<File>, name: &str) -> Result<(), GrownFile<File>> {
+        if grown.settle().is_err() || !grown.is_at(self.files, name) {
+            return Err(grown);
+        }
+        Ok(())
     }
+
+    fn abandon(&mut self, _grown: GrownFile<File>, _name: String) {}
 }
