@@ -1,9 +1,9 @@
 //! `serve`: rings that resume from a saved text, driven by the lines of standard input.
 
-ghost use Rattle.std.specs.Prelude.{◌≡◌, ℕ, List, None, Some, Option, OnOk, IfOk, IfErr, length, ◌⊎◌};
+ghost use Rattle.std.specs.Prelude.{◌≡◌, ℕ, List, None, Some, Option, OnOk, OnErr, IfOk, IfErr, length, ◌⊎◌, string_bytes};
 ghost use Rattle.std.specs.Option.{option_map};
 ghost use Rattle.std.specs.Io.KnownBytes.{Appends};
-ghost use Rattle.disks.specs.Held.{Grows};
+ghost use Rattle.disks.specs.Held.{Grows, Replaces};
 ghost use Rattle.ring_saved.specs.declared.saved.Saved.{Saved};
 ghost use Rattle.ring_serve.specs.Standings.{Standing};
 ghost use Rattle.ring_serve.specs.Permits.{terms_of};
@@ -26,7 +26,7 @@ use ring_saved::Saved;
 use ring_serve::{Journal, Permits, Served, serve};
 use ring_text::put_total_line;
 use std::alloc::Global;
-use std::io::{Read, Sink, Write};
+use std::io::{Read, Write};
 use tool_parts::faults::ToolError;
 use tool_parts::locking::open_journal;
 use tool_parts::reading::names_stream;
@@ -89,24 +89,52 @@ fn serve_plain<D: Disk, I: Read, W: Write>(
         (D.holds disk.new) (I.remaining input.old) (I.remaining input.new) (W.contents out.old)
         (W.contents out.new) e) }
 {
-    let mut journal: Option<Journal<'_, Sink>> = None;
+    let mut journal: Option<Journal<'_, Vec<u8>>> = None;
     match serve(alloc, served, disk, &mut journal, permits, input, out) {
         Ok(()) => Ok(()),
         Err(fault) => Err(serving_refusal(fault, None)),
     }
 }
 
-/// Serves with a journal in the file of this name, which has been begun.
+/// Ends writing to the journal's file: it holds what its writer has, and is on the disk.
+///
+/// # Errors
+///
+/// `Save` if it is not known to be. No file has changed.
+fn settle_journal<'a, D: Disk>(
+    disk: &mut D,
+    writer: D::Grown,
+    name: &'a str,
+    file: String,
+) -> Result<(), ToolError<'a>>
+    requires named { string_bytes file ≡ name.now }
+    ensures ok { OnOk result (Replaces (D.holds disk.old) (D.holds disk.new) name.now
+        (D.Grown.contents writer)) }
+    ensures err { IfErr result (λ e. IsServingFault (Some name.now) e) }
+    ensures kept { OnErr result (D.holds disk.new ≡ D.holds disk.old) }
+{
+    match disk.close_synced(writer, name) {
+        Ok(()) => Ok(()),
+        Err(writer) => {
+            disk.abandon(writer, file);
+            Err(ToolError::Save(name))
+        }
+    }
+}
+
+/// Serves with a journal in the file of this name, which has been begun. `file` is the name too, for a file that is let go.
 fn serve_with_journal<'a, D: Disk, I: Read, W: Write>(
     alloc: Global,
     disk: &mut D,
     served: &mut Served,
     name: &'a str,
+    file: String,
     journal: D::Grown,
     permits: Permits<'_>,
     input: &mut I,
     out: &mut W,
 ) -> Result<(), ToolError<'a>>
+    requires named { string_bytes file ≡ name.now }
     ensures ok { OnOk result (IsServedOn permits.entry name.now served.old served.new
         (D.holds disk.old) (D.holds disk.new) (D.Grown.contents journal) (I.remaining input.old)
         (I.remaining input.new) (W.contents out.old) (W.contents out.new)) }
@@ -119,16 +147,20 @@ fn serve_with_journal<'a, D: Disk, I: Read, W: Write>(
         name,
         writer: journal,
     });
-    match serve(alloc, served, disk, &mut kept, permits, input, out) {
-        Ok(()) => {}
-        Err(fault) => return Err(serving_refusal(fault, Some(name))),
-    }
+    let ended = serve(alloc, served, disk, &mut kept, permits, input, out);
     let Some(Journal { writer, .. }) = kept else {
         unreachable!()
     };
-    match disk.close_synced(writer, name) {
+    match ended {
+        Ok(()) => {}
+        Err(fault) => {
+            disk.abandon(writer, file);
+            return Err(serving_refusal(fault, Some(name)));
+        }
+    }
+    match settle_journal(disk, writer, name, file) {
         Ok(()) => Ok(()),
-        Err(_) => Err(ToolError::Save(name)),
+        Err(fault) => Err(fault),
     }
 }
 
@@ -138,10 +170,12 @@ fn serve_begun<'a, D: Disk, I: Read, W: Write>(
     disk: &mut D,
     served: &mut Served,
     name: &'a str,
+    file: String,
     words: &ServeWords<'a>,
     input: &mut I,
     out: &mut W,
 ) -> Result<(), ToolError<'a>>
+    requires named { string_bytes file ≡ name.now }
     ensures ok { OnOk result ((first : Option (List ℕ))
         × Grows (D.holds disk.old) name.now first
         × IsServedOn (permits_of words.now) name.now served.old served.new (D.holds disk.old)
@@ -167,6 +201,7 @@ fn serve_begun<'a, D: Disk, I: Read, W: Write>(
         disk,
         served,
         name,
+        file,
         journal,
         permits_of(words),
         input,
@@ -263,11 +298,15 @@ fn run_with_journal<'a, D: Disk, I: Read, W: Write>(
         saved (I.remaining input.old) (I.remaining input.new) (W.contents out.old)
         (W.contents out.new) e) }
 {
+    // A journal is let go by its name, for which there has to be memory before one is begun.
+    let Ok(file) = String::from_str(alloc, name) else {
+        return Err(ToolError::OutOfMemory);
+    };
     let (lock, mut served) = match begin_journal(alloc, disk, saved, name) {
         Ok(begun) => begun,
         Err(fault) => return Err(fault),
     };
-    let ended = serve_begun(alloc, disk, &mut served, name, words, input, out);
+    let ended = serve_begun(alloc, disk, &mut served, name, file, words, input, out);
     drop(lock);
     match ended {
         Ok(()) => Ok(served),

@@ -25,7 +25,7 @@ use ring_saved::Saved;
 use ring_segments::{DIGEST_DIGITS, LastSegment, SegmentError, read_last};
 use ring_serve::{Refusal, Served};
 use segment_folder::{SegmentNumbers, list_name};
-use segment_loop::{OpenSegment, settle};
+use segment_loop::close_segment;
 use std::alloc::{AllocError, Global};
 use std::io::{Read, Write};
 use tool_parts::chain::{folder_numbers, segment_bytes};
@@ -297,9 +297,8 @@ fn serve_from<'a, D: Disk, I: Read, W: Write>(
         Ok(last) => last,
         Err(fault) => return Err(serving_refusal(fault, Some(rules.folder))),
     };
-    let OpenSegment { name, writer, .. } = last;
-    match settle(disk, writer, name.as_str()) {
-        Ok(_) => Ok(served),
+    match close_segment(disk, last) {
+        Ok(()) => Ok(served),
         Err(_) => Err(ToolError::Save(rules.folder)),
     }
 }

@@ -5,3 +5,4 @@ pub mod Leads
 pub mod Parents
 pub mod ListTexts
 pub mod LockedFolders
+pub mod LeftFiles

@@ -105,9 +105,13 @@ impl Disk for Full {
     }
 
     fn close_synced(&mut self, grown: Vec<u8>, name: &str) -> Result<(), Vec<u8>> {
-        self.files.close_synced(grown, name)?;
-        self.opened = self.opened.saturating_sub(1);
-        Ok(())
+        match self.files.close_synced(grown, name) {
+            Ok(()) => {
+                self.opened = self.opened.saturating_sub(1);
+                Ok(())
+            }
+            Err(grown) => Err(grown),
+        }
     }
 
     fn abandon(&mut self, grown: Vec<u8>, name: String) {

@@ -9,6 +9,7 @@ use Rattle.tool_parts.specs.declared.faults.ToolError.{ToolError}
 use Rattle.serve_commands.specs.Served.{permits_of, IsServedOn, IsServedNoted, IsServingFault, IsServedPart, IsBrokenOff}
 use Rattle.tool_parts.specs.Worlds.{IsUnserved}
 use Rattle.tool_parts.specs.Locking.{IsUnopenedJournal}
+use Rattle.serve_commands.proofs.Making.{as_before}
 use Rattle.serve_commands.proofs.StillThere.{part_still}
 use Rattle.serve_commands.proofs.serve.run_with_journal.Goals as goal
 
@@ -42,12 +43,16 @@ broken permits name start before begun after was is old new e put (inr h) = inr 
   },
 )
 
+-- there is no memory for the name
+pub returns-in-default-clause-err : goal.returns-in-default-clause-err
+returns-in-default-clause-err g c = inl ((refl, refl), inl (as_before (g.D.Disk.holds c.args.disk.now)), inl (inr tt))
+
 pub returns-in-Ok-ended-clause-ok : goal.returns-in-Ok-ended-clause-ok
 returns-in-Ok-ended-clause-ok g c =
-    let b = c.in-Ok.ensures.ok in
+    let b = c.in-Ok-begin_journal.ensures.ok in
     (b.0, b.1, _, b.2, noted (permits_of c.args.words.now) c.args.name.now _ _ (g.D.Disk.holds c.args.disk.now) _ _ _ _ _ _ b.3 c.in-Ok-ended.ensures.ok)
 
 pub returns-clause-err : goal.returns-clause-err
 returns-clause-err g c =
-    let b = c.in-Ok.ensures.ok in
+    let b = c.in-Ok-begin_journal.ensures.ok in
     inr (b.0, b.1, _, b.2, broken (permits_of c.args.words.now) c.args.name.now _ (g.D.Disk.holds c.args.disk.now) _ _ _ _ _ _ c.in-Err-ended.fault b.3 c.in-Err-ended.ensures.err)

@@ -11,6 +11,6 @@ returns-clause-err g c =
         end = _;
         journal = _;
         recovered = c.in-Ok-serve_segments.ensures.recovered;
-        served = inr (_, c.in-Ok-serve_segments.ensures.ok, c.in-Err-settle.ensures.kept);
+        served = inr (_, c.in-Ok-serve_segments.ensures.ok, c.in-Err-close_segment.ensures.kept);
       },
     )
