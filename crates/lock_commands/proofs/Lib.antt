@@ -2,3 +2,5 @@ mod HeldLeads
 mod HoldTexts
 mod Summing
 pub mod UnreadLists
+mod StartedLocks
+mod BegunSegments

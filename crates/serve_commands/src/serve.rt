@@ -1,9 +1,11 @@
 //! `serve`: rings that resume from a saved text, driven by the lines of standard input.
 
-ghost use Rattle.std.specs.Prelude.{◌≡◌, ℕ, List, None, Some, Option, OnOk, OnErr, IfOk, IfErr, length, ◌⊎◌, string_bytes};
+ghost use Rattle.std.specs.Prelude.{◌≡◌, ℕ, List, true, None, Some, Option, OnOk, OnErr, IfOk, IfErr, IfSome, IsSome, length, ◌⊎◌, string_bytes};
 ghost use Rattle.std.specs.Option.{option_map};
 ghost use Rattle.std.specs.Io.KnownBytes.{Appends};
 ghost use Rattle.disks.specs.Held.{Grows, Replaces};
+ghost use Rattle.disks.specs.Lasting.{HasFront};
+ghost use Rattle.line_loop.specs.Loop.{AllLasts};
 ghost use Rattle.ring_saved.specs.declared.saved.Saved.{Saved};
 ghost use Rattle.ring_serve.specs.Standings.{Standing};
 ghost use Rattle.ring_serve.specs.Permits.{terms_of};
@@ -11,6 +13,7 @@ ghost use Rattle.ring_serve.specs.Starting.{AreResumed};
 ghost use Rattle.ring_serve.specs.Totals.{totals_of};
 ghost use Rattle.ring_text.specs.Report.{total_line};
 ghost use Rattle.serve_commands.specs.Served.{permits_of, CanBeginWith, IsNoted, IsServedPlain, IsServedOn, IsServedNoted, journal_of, IsStartRefusal, IsServingFault, IsServedPart, IsPlainPart, IsRefusedFrom};
+ghost use Rattle.serve_commands.specs.Lasting.{JournalLasts, OpenedLasts, FileLasts, KeptLasts, CallsLast, ToldCallsLast};
 ghost use Rattle.tool_parts.specs.Worlds.{IsUnserved};
 ghost use Rattle.tool_parts.specs.Locking.{IsUnopenedJournal};
 ghost use Rattle.serve_commands.specs.ServeAnswer.{IsServedTo, IsServeAnswer, IsRefusedTo, IsUntold, IsServeRefusal};
@@ -112,6 +115,10 @@ fn settle_journal<'a, D: Disk>(
         (D.Grown.contents writer)) }
     ensures err { IfErr result (λ e. IsServingFault (Some name.now) e) }
     ensures kept { OnErr result (D.holds disk.new ≡ D.holds disk.old) }
+    ensures lasts { OnOk result (IfSome (D.leaves disk.new)
+        (λ held. HasFront held name.now (D.Grown.contents writer))) }
+    ensures left { OnErr result (IfSome (D.leaves disk.new)
+        (λ held. HasFront held name.now (D.Grown.lasting writer))) }
 {
     match disk.close_synced(writer, name) {
         Ok(()) => Ok(()),
@@ -142,6 +149,10 @@ fn serve_with_journal<'a, D: Disk, I: Read, W: Write>(
         × IsServedPart (terms_of (Some name.now) permits.entry) served.old (D.holds disk.old)
         (D.holds disk.new) (D.Grown.contents journal) (I.remaining input.old)
         (I.remaining input.new) (W.contents out.old) (W.contents out.new)) }
+    ensures lasts { AllLasts (D.Grown.contents journal) (D.Grown.lasting journal)
+        → JournalLasts permits.entry name.now served.old (D.holds disk.old)
+        (D.Grown.contents journal) (I.remaining input.old) (I.remaining input.new)
+        (W.contents out.old) (W.contents out.new) (D.leaves disk.new) }
 {
     let mut kept = Some(Journal {
         name,
@@ -191,6 +202,10 @@ fn serve_begun<'a, D: Disk, I: Read, W: Write>(
         × IsServedPart (terms_of (Some name.now) (permits_of words.now)) served.old
         (D.holds disk.old) (D.holds disk.new) first (I.remaining input.old)
         (I.remaining input.new) (W.contents out.old) (W.contents out.new))) }
+    ensures lasts { words.now.synced ≡ true → IsSome (D.holds disk.old)
+        → OpenedLasts (permits_of words.now) name.now served.old (D.holds disk.old)
+        (I.remaining input.old) (I.remaining input.new) (W.contents out.old) (W.contents out.new)
+        (D.leaves disk.new) }
 {
     let journal = match open_journal(disk, name, words.synced) {
         Ok(journal) => journal,
@@ -297,6 +312,10 @@ fn run_with_journal<'a, D: Disk, I: Read, W: Write>(
         IsRefusedFrom (permits_of words.now) (D.holds disk.old) (D.holds disk.new) (Some name.now)
         saved (I.remaining input.old) (I.remaining input.new) (W.contents out.old)
         (W.contents out.new) e) }
+    ensures lasts { words.now.synced ≡ true → IsSome (D.holds disk.old)
+        → FileLasts (permits_of words.now) name.now saved (D.holds disk.old)
+        (I.remaining input.old) (I.remaining input.new) (W.contents out.old) (W.contents out.new)
+        (D.leaves disk.new) }
 {
     // A journal is let go by its name, for which there has to be memory before one is begun.
     let Ok(file) = String::from_str(alloc, name) else {
@@ -332,6 +351,9 @@ fn run_kept<'a, D: Disk, I: Read, W: Write>(
     ensures err { IfErr result (λ e.
         IsRefusedTo words.now (D.holds disk.old) (D.holds disk.new) saved (I.remaining input.old)
         (I.remaining input.new) (W.contents out.old) (W.contents out.new) e) }
+    ensures lasts { words.now.synced ≡ true → IsSome (D.holds disk.old)
+        → KeptLasts words.now name.now saved (D.holds disk.old) (I.remaining input.old)
+        (I.remaining input.new) (W.contents out.old) (W.contents out.new) (D.leaves disk.new) }
 {
     if names_stream(name) {
         return Err(ToolError::Save(name));
@@ -364,6 +386,10 @@ fn run_on<'a, D: Disk, I: Read, W: Write>(
     ensures err { IfErr result (λ e.
         IsRefusedTo words.now (D.holds disk.old) (D.holds disk.new) saved (I.remaining input.old)
         (I.remaining input.new) (W.contents out.old) (W.contents out.new) e) }
+    ensures lasts { words.now.synced ≡ true → IsSome (D.holds disk.old)
+        → CallsLast words.now (journal_of words.now) saved (D.holds disk.old)
+        (I.remaining input.old) (I.remaining input.new) (W.contents out.old) (W.contents out.new)
+        (D.leaves disk.new) }
 {
     match words.journal {
         None => match run_without(alloc, disk, saved, permits_of(words), input, out) {
@@ -403,6 +429,13 @@ pub fn run<'a, D: Disk, I: Read, W: Write, E: Write>(
         (world (D.holds disk.old) (I.remaining input.old) (W.contents out.old) (E.contents err.old))
         (world (D.holds disk.new) (I.remaining input.new) (W.contents out.new)
         (E.contents err.new)) e) }
+
+    // Where each note is put on the disk, and the content of files is known: what was told is there whenever the power fails.
+    ensures lasts { words.now.synced ≡ true → IsSome (D.holds disk.old) → ToldCallsLast words.now
+        (world (D.holds disk.old) (I.remaining input.old) (W.contents out.old) (E.contents err.old))
+        (world (D.holds disk.new) (I.remaining input.new) (W.contents out.new)
+        (E.contents err.new))
+        (D.leaves disk.new) }
 {
     let saved = match given_history(alloc, disk, words.history) {
         Ok(saved) => saved,

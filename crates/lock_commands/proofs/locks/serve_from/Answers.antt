@@ -1,4 +1,11 @@
-use Rattle.std.proofs.Common.{refl, inl, inr}
+use Rattle.std.proofs.Common.{Option, List, ℕ, refl, sym, subst, inl, inr}
+use Rattle.std.specs.Prelude.{string_bytes}
+use Rattle.segment_loop.specs.Digested.{hashed}
+use Rattle.segment_loop.proofs.Hashing.{is_hashed}
+use Rattle.segment_loop.proofs.Lasting.{inner_lasts}
+use Rattle.tool_parts.proofs.LeftFiles.{BeginsThere, front_left, whole_left}
+use Rattle.lock_commands.specs.Locks.{folder_of, by_segments}
+use Rattle.lock_commands.proofs.BegunSegments.{begun_lasts}
 use Rattle.lock_commands.proofs.locks.serve_from.Goals as goal
 
 pub returns-in-Err-serve_segments-clause-err : goal.returns-in-Err-serve_segments-clause-err
@@ -20,3 +27,60 @@ returns-in-Err-serve_segments-clause-err g c =
 pub returns-clause-err : goal.returns-clause-err
 returns-clause-err g c =
     inr (_, record { service = c.in-Ok.service; begins = c.in-Ok.ensures.ok; begun = c.in-Ok-begin_segment.ensures.ok }, inr (_, c.in-Ok-serve_segments.ensures.ok, c.in-Err-close_segment.ensures.kept, refl))
+
+-- ---- what a loss of power leaves
+
+pub returns-in-Err-serve_segments-clause-lasts : goal.returns-in-Err-serve_segments-clause-lasts
+returns-in-Err-serve_segments-clause-lasts g c = λ synced some.
+    let begun = c.in-Ok-begin_segment.ensures.ok in
+    let w = c.in-Ok-begin_segment.first.writer in
+    let contents = g.D.Grown.Grow.contents w.inner in
+    let lasting = g.D.Grown.Grow.lasting w.inner in
+    let known = begun_lasts (folder_of c.args.words.now) c.args.start.number (by_segments.text c.in-Ok.service c.args.start.number c.args.start.behind) (g.D.Disk.holds c.args.disk.now) (g.D.Disk.holds c.begin_segment.new.disk) (hashed contents w.hasher) contents lasting
+    (λ bytes e. (is_hashed contents w.hasher bytes e).0) begun.file some (c.in-Ok-begin_segment.ensures.lasts synced) in
+    inr (
+      _,
+      _,
+      record { service = c.in-Ok.service; begins = c.in-Ok.ensures.ok; begun = begun },
+      c.in-Err-serve_segments.ensures.lasts synced known.0 known.1,
+    )
+
+pub returns-in-Ok-close_segment-clause-lasts : goal.returns-in-Ok-close_segment-clause-lasts
+returns-in-Ok-close_segment-clause-lasts g c = λ synced some.
+    let begun = c.in-Ok-begin_segment.ensures.ok in
+    let w = c.in-Ok-begin_segment.first.writer in
+    let contents = g.D.Grown.Grow.contents w.inner in
+    let lasting = g.D.Grown.Grow.lasting w.inner in
+    let known = begun_lasts (folder_of c.args.words.now) c.args.start.number (by_segments.text c.in-Ok.service c.args.start.number c.args.start.behind) (g.D.Disk.holds c.args.disk.now) (g.D.Disk.holds c.begin_segment.new.disk) (hashed contents w.hasher) contents lasting
+    (λ bytes e. (is_hashed contents w.hasher bytes e).0) begun.file some (c.in-Ok-begin_segment.ensures.lasts synced) in
+    let last = c.in-Ok-serve_segments.last in
+    let has = g.D.Grown.Grow.contents last.writer.inner in
+    let kept = g.D.Grown.Grow.lasting last.writer.inner in
+    let left = g.D.Disk.leaves c.close_segment.new.disk in
+    let same = inner_lasts has kept last.writer.hasher (c.in-Ok-serve_segments.ensures.whole synced known.0 known.1) in
+    let there = subst (λ (x : Option (List ℕ)). BeginsThere left (string_bytes last.name) x) (sym same)
+    (whole_left (g.D.Disk.leaves c.serve_segments.new.disk) left (string_bytes last.name) has c.in-Ok-close_segment.ensures.lasts) in
+    inr (
+      _,
+      _,
+      record { service = c.in-Ok.service; begins = c.in-Ok.ensures.ok; begun = begun },
+      c.in-Ok-serve_segments.ensures.lasts synced known.0 known.1 left there,
+    )
+
+pub returns-clause-lasts : goal.returns-clause-lasts
+returns-clause-lasts g c = λ synced some.
+    let begun = c.in-Ok-begin_segment.ensures.ok in
+    let w = c.in-Ok-begin_segment.first.writer in
+    let contents = g.D.Grown.Grow.contents w.inner in
+    let lasting = g.D.Grown.Grow.lasting w.inner in
+    let known = begun_lasts (folder_of c.args.words.now) c.args.start.number (by_segments.text c.in-Ok.service c.args.start.number c.args.start.behind) (g.D.Disk.holds c.args.disk.now) (g.D.Disk.holds c.begin_segment.new.disk) (hashed contents w.hasher) contents lasting
+    (λ bytes e. (is_hashed contents w.hasher bytes e).0) begun.file some (c.in-Ok-begin_segment.ensures.lasts synced) in
+    let last = c.in-Ok-serve_segments.last in
+    let left = g.D.Disk.leaves c.close_segment.new.disk in
+    let there = front_left (g.D.Disk.leaves c.serve_segments.new.disk) left (string_bytes last.name) (g.D.Grown.Grow.lasting last.writer.inner) c.in-Err-close_segment.ensures.left in
+    inr (
+      _,
+      _,
+      record { service = c.in-Ok.service; begins = c.in-Ok.ensures.ok; begun = begun },
+      c.in-Ok-serve_segments.ensures.lasts synced known.0 known.1 left there,
+    )

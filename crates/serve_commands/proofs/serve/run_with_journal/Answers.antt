@@ -9,6 +9,7 @@ use Rattle.tool_parts.specs.declared.faults.ToolError.{ToolError}
 use Rattle.serve_commands.specs.Served.{permits_of, IsServedOn, IsServedNoted, IsServingFault, IsServedPart, IsBrokenOff}
 use Rattle.tool_parts.specs.Worlds.{IsUnserved}
 use Rattle.tool_parts.specs.Locking.{IsUnopenedJournal}
+use Rattle.tool_parts.proofs.LockedFolders.{replaced_known}
 use Rattle.serve_commands.proofs.Making.{as_before}
 use Rattle.serve_commands.proofs.StillThere.{part_still}
 use Rattle.serve_commands.proofs.serve.run_with_journal.Goals as goal
@@ -56,3 +57,17 @@ pub returns-clause-err : goal.returns-clause-err
 returns-clause-err g c =
     let b = c.in-Ok-begin_journal.ensures.ok in
     inr (b.0, b.1, _, b.2, broken (permits_of c.args.words.now) c.args.name.now _ (g.D.Disk.holds c.args.disk.now) _ _ _ _ _ _ c.in-Err-ended.fault b.3 c.in-Err-ended.ensures.err)
+
+-- ---- what a loss of power leaves
+
+pub returns-in-Ok-ended-clause-lasts : goal.returns-in-Ok-ended-clause-lasts
+returns-in-Ok-ended-clause-lasts g c = λ synced some.
+    let b = c.in-Ok-begin_journal.ensures.ok in
+    let known = replaced_known (g.D.Disk.holds c.args.disk.now) (g.D.Disk.holds c.begin_journal.new.disk) c.args.name.now _ b.3 some in
+    inr (b.0, _, _, b.1, b.2, b.3, c.serve_begun-ended.ensures.lasts synced known)
+
+pub returns-clause-lasts : goal.returns-clause-lasts
+returns-clause-lasts g c = λ synced some.
+    let b = c.in-Ok-begin_journal.ensures.ok in
+    let known = replaced_known (g.D.Disk.holds c.args.disk.now) (g.D.Disk.holds c.begin_journal.new.disk) c.args.name.now _ b.3 some in
+    inr (b.0, _, _, b.1, b.2, b.3, c.serve_begun-ended.ensures.lasts synced known)
