@@ -1,13 +1,15 @@
 -- What the loop says of rings in segments, said of the rings.
 use Rattle.std.proofs.Common.{◌≡◌, ℕ, ◌+◌, Bool, true, false, List, [], ◌∷◌, ◌++◌, map, Option, None, Some, refl, sym, ap, subst, ◌∙◌, inl, inr}
-use Rattle.std.specs.Prelude.{is_some}
+use Rattle.std.specs.Prelude.{is_some, IfSome}
 use Rattle.std.specs.Io.KnownBytes.{Appends}
 use Rattle.std.specs.List.{AllByRecursion}
 use Rattle.std.proofs.lemmas.Bool.{false≢true}
-use Rattle.disks.specs.Held.{Held, Replaces}
+use Rattle.disks.specs.Held.{Held}
+use Rattle.disks.specs.Lasting.{HasFront, LeavesFront}
 use Rattle.text_lines.proofs.Writing.{appends_nil}
 use Rattle.line_loop.proofs.Telling.{consumes_nil}
 use Rattle.line_loop.specs.Answering as told
+use Rattle.line_loop.specs.Loop.{AllLasts}
 use Rattle.line_loop.specs.Answering.{joined_lines}
 use Rattle.line_loop.specs.Stands.{Stand, stand, by_stand}
 use Rattle.segment_loop.specs.declared.segmented.EndFault.{EndFault}
@@ -15,6 +17,8 @@ use Rattle.segment_loop.specs.declared.segmented.EndFault.TheVariants as end
 use Rattle.segment_loop.specs.Segments as at
 use Rattle.segment_loop.specs.Service as loop
 use Rattle.segment_loop.specs.Notes as notes
+use Rattle.segment_loop.specs.Lasting as lasting
+use Rattle.segment_loop.proofs.Lasting.{last_is, known_is, front_has}
 use Rattle.ring_serve.specs.declared.answers.Refusal.{Refusal}
 use Rattle.ring_serve.specs.Standings.{Standing}
 use Rattle.ring_serve.specs.Saved.{IsRight}
@@ -23,10 +27,9 @@ use Rattle.ring_serve.specs.Permits.{Terms}
 use Rattle.ring_serve.specs.Serving.{IsAnswered, Answers, Stops}
 use Rattle.ring_serve.proofs.Looped.{answers_of, stops_of}
 use Rattle.chain_serve.specs.declared.segments.SegmentRules.{SegmentRules}
-use Rattle.chain_serve.specs.Texts.{segment_text}
-use Rattle.chain_serve.specs.Segments.{Moment, moment_of, IsPut, HasEnded, IsCause, IsReady, IsLeft}
+use Rattle.chain_serve.specs.Segments.{Moment, file_of, moment_of, IsPut, HasEnded, IsCause, IsReady, IsLeft}
 use Rattle.chain_serve.specs.Service.{part_terms, Part, AreParts, all_lines, all_said, IsStopped, ServesSegments, ServesSomeSegments}
-use Rattle.chain_serve.specs.Recovered.{AnsweredCallsAreRecovered}
+use Rattle.chain_serve.specs.Recovered.{AnsweredCallsAreRecovered, LeavesSegment, AnsweredCallsLast}
 use Rattle.chain_serve.specs.Services.{ServiceView, service_of, terms_of, IsServed, IsNext, refusal_of, segmenting}
 use Rattle.chain_serve.proofs.Recovering.{AreRight, keeps_last}
 
@@ -262,6 +265,21 @@ recovered_in s a new input rest out after journal sound t =
       recovered = keeps_last s (moment_in a) (moment_in t.mid) (map part_in t.parts) t.mid.number t.mid.service.refusing t.untold.lines t.unsaid t.more t.back new.rings t.is all.rights all.served untold;
     }
 
+-- what a loss of power leaves
+leaves_in : (s : SegmentRules) (mid : at.Moment ServiceView) (bytes : List ℕ) (left : Option Held) → lasting.LeavesSegment segmenting s.folder.now mid bytes left → LeavesSegment s (moment_in mid) bytes left
+leaves_in s mid bytes None l = tt
+leaves_in s mid bytes (Some held) (inl h) = inl h
+leaves_in s mid bytes (Some held) (inr h) = inr (h.0.rings, h.1.rings, h.2)
+
+pub last_in : (s : SegmentRules) (a : at.Moment ServiceView) (new : ServiceView) (input rest out after : Option (List ℕ)) (left : Option Held) → IsSound s a.number a.service → lasting.ToldLinesLast IsServed segmenting s.folder.now a new input rest out after left →
+    AnsweredCallsLast s (moment_in a) new.rings input rest out after left
+unfolding recovered_in
+last_in s a new input rest out after left sound t = record {
+  journal = t.journal;
+  recovered = recovered_in s a new input rest out after (Some t.journal) sound t.noted;
+  left_is = leaves_in s t.noted.mid t.journal left t.left_is;
+}
+
 -- ---- from the service with which lines are served first
 
 module _ (s : SegmentRules) (v new : ServiceView) (rings others : List Standing) (files : Option Held) (number : ℕ) (journal input rest out after : Option (List ℕ)) (e : v ≡ service_of s rings number None) (right : AllByRecursion IsRight rings) (same : new.rings ≡ others) where
@@ -284,6 +302,13 @@ module _ (s : SegmentRules) (v new : ServiceView) (rings others : List Standing)
       let all = recovered_in s (at.moment_of v files number journal) new input rest out after holds (first_sound s rings number v e right) t in
       subst (λ (x : List Standing). AnsweredCallsAreRecovered s (moment_of rings files number journal) x input rest out after holds) same
       (subst (λ (x : List Standing). AnsweredCallsAreRecovered s (moment_of x files number journal) new.rings input rest out after holds) (ap (λ (y : ServiceView). y.rings) e) all)
+
+  pub last_from : (left : Option Held) → lasting.ToldLinesLast IsServed segmenting s.folder.now (at.moment_of v files number journal) new input rest out after left →
+      AnsweredCallsLast s (moment_of rings files number journal) others input rest out after left
+  last_from left t =
+      let all = last_in s (at.moment_of v files number journal) new input rest out after left (first_sound s rings number v e right) t in
+      subst (λ (x : List Standing). AnsweredCallsLast s (moment_of rings files number journal) x input rest out after left) same
+      (subst (λ (x : List Standing). AnsweredCallsLast s (moment_of x files number journal) new.rings input rest out after left) (ap (λ (y : ServiceView). y.rings) e) all)
 
 -- no line was answered
 pub none_in : (s : SegmentRules) (rings : List Standing) (files : Option Held) (number : ℕ) (journal : Option (List ℕ)) (input out : Option (List ℕ)) → ServesSomeSegments s (moment_of rings files number journal) rings files input input out out × AnsweredCallsAreRecovered s (moment_of rings files number journal) rings input input out out journal
@@ -315,3 +340,25 @@ none_in s rings files number journal input out = (
     recovered = keeps_last s (moment_of rings files number journal) (moment_of rings files number journal) [] number None [] [] [] [] rings files tt refl (refl, refl, refl, refl);
   },
 )
+
+front_segment : (s : SegmentRules) (a : Moment) (left : Option Held) (name bytes : List ℕ) → name ≡ file_of s a.number → IfSome left (λ (held : Held). HasFront held name (Some bytes)) → LeavesSegment s a bytes left
+front_segment s a None name bytes e h = tt
+front_segment s a (Some held) name bytes e h = inl (subst (λ (n : List ℕ). HasFront held n (Some bytes)) e h)
+
+none_last_of : (s : SegmentRules) (rings : List Standing) (files : Option Held) (number : ℕ) (bytes : List ℕ) (input out : Option (List ℕ)) (left : Option Held) → LeavesSegment s (moment_of rings files number (Some bytes)) bytes left →
+    AnsweredCallsLast s (moment_of rings files number (Some bytes)) rings input input out out left
+unfolding none_in
+none_last_of s rings files number bytes input out left h = record {
+  journal = bytes;
+  recovered = (none_in s rings files number (Some bytes) input out).1;
+  left_is = h;
+}
+
+-- the same of what a loss of power leaves, where all of a journal lasts and its file is let go
+pub none_last : (s : SegmentRules) (rings : List Standing) (files : Option Held) (number : ℕ) (journal kept : Option (List ℕ)) (input out : Option (List ℕ)) (was left : Option Held) (name : List ℕ) → name ≡ file_of s number → AllLasts journal kept → LeavesFront was left name kept →
+    AnsweredCallsLast s (moment_of rings files number journal) rings input input out out left
+none_last s rings files number journal kept input out was left name e all h =
+    let k = known_is journal kept all in
+    let front = subst (λ (j : Option (List ℕ)). IfSome left (λ (held : Held). HasFront held name j)) (last_is journal kept all ∙ k.1) (front_has was left name kept h) in
+    subst (λ (j : Option (List ℕ)). AnsweredCallsLast s (moment_of rings files number j) rings input input out out left) (sym k.1)
+    (none_last_of s rings files number k.0 input out left (front_segment s (moment_of rings files number (Some k.0)) left name k.0 e front))

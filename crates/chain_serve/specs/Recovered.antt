@@ -1,16 +1,21 @@
 -- Answered calls in the history that is recovered of the last segment (this project's own).
-use Rattle.std.specs.Prelude.{◌≡◌, ℕ, List, [], ◌∷◌, ◌++◌, Option}
+use Rattle.std.specs.Prelude.{◌≡◌, ℕ, ◌+◌, ◌⊎◌, List, [], ◌∷◌, ◌++◌, Option, Some, IfSome}
 use Rattle.std.specs.List.{AllByRecursion}
 use Rattle.std.specs.Io.KnownBytes.{Appends, Consumes}
 use Rattle.text_lines.specs.Writing.{Wrote}
+use Rattle.disks.specs.Held.{Held, bytes_of}
+use Rattle.disks.specs.Lasting.{HasFront}
+use Rattle.ring_segments.specs.Spelling.{digest_of}
 use Rattle.ring_saved.specs.Spelling.{Fits}
 use Rattle.ring_journal.specs.Spelling.{head_text as journal_text}
 use Rattle.ring_journal.specs.Recovery.{IsRecovered}
 use Rattle.ring_serve.specs.Standings.{Standing}
 use Rattle.ring_serve.specs.Saved.{content_of}
 use Rattle.ring_serve.specs.Recovered.{IsPrefix, HaveGrown, AreCallsIn}
+use Rattle.ring_serve.specs.Segments.{AreNext}
 use Rattle.chain_serve.specs.declared.segments.SegmentRules.{SegmentRules}
-use Rattle.chain_serve.specs.Segments.{Moment}
+use Rattle.chain_serve.specs.Segments.{Moment, file_of}
+use Rattle.chain_serve.specs.Texts.{segment_text}
 use Rattle.chain_serve.specs.Service.{part_terms, Part, AreParts, all_lines, all_said}
 
 -- the notes of all parts
@@ -67,3 +72,25 @@ pub record AnsweredCallsAreRecovered (s : SegmentRules) (a : Moment) (new : List
   pub wrote : Wrote out after (all_said parts) left
   pub wrote_notes : Appends mid.journal journal more
   pub recovered : KeepsLast s parts more new
+
+-- ---- what a loss of power leaves
+
+-- Where it is known what a loss of power leaves: the file of this moment's segment begins with these
+-- bytes, or that of the next one is there, with the whole text with which it begins behind them.
+abbrev pub LeavesSegment : SegmentRules → Moment → List ℕ → Option Held → Type 0
+LeavesSegment s a bytes left =
+    IfSome left
+    (λ held. HasFront held (file_of s a.number) (Some bytes)
+    ⊎ ((next : List Standing)
+    × AreNext a.rings next
+    × (bytes_of held (file_of s (a.number + 1))
+    ≡ Some (segment_text (a.number + 1) (digest_of bytes) next))))
+
+-- Wherever serving ended, and whenever the power fails then: the file of the last segment begins
+-- with these bytes, which have the notes of all lines that were told in it, and keep the answers to
+-- them; or that of the next one is there, which begins behind them.
+pub record AnsweredCallsLast (s : SegmentRules) (a : Moment) (new : List Standing)
+    (input rest out after : Option (List ℕ)) (left : Option Held) : Type 0 where
+  pub journal : List ℕ
+  pub recovered : AnsweredCallsAreRecovered s a new input rest out after (Some journal)
+  pub left_is : LeavesSegment s recovered.mid journal left

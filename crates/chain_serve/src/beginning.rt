@@ -1,6 +1,6 @@
 //! The first segment that is written.
 
-ghost use Rattle.std.specs.Prelude.{◌<◌, IfOk, IfErr, OnErr};
+ghost use Rattle.std.specs.Prelude.{◌≡◌, ◌<◌, true, IfOk, IfErr, OnErr};
 ghost use Rattle.ring_segments.specs.Spelling.{DigestFits};
 ghost use Rattle.segment_loop.specs.Digested.{hashed};
 ghost use Rattle.segment_loop.specs.Segments.{IsNamed};
@@ -41,6 +41,8 @@ pub fn begin_segment<D: Disk>(
     ensures err { IfErr result (λ why. IsCause why) }
     ensures left { OnErr result (IsLeftUnbegun rules.entry served.now number behind
         (D.holds disk.old) (D.holds disk.new)) }
+    ensures lasts { IfOk result (λ segment. rules.entry.synced ≡ true
+        → D.Grown.lasting segment.writer.inner ≡ D.Grown.contents segment.writer.inner) }
 {
     let text = match segment_text(alloc, number, behind, served) {
         Ok(text) => text,

@@ -9,7 +9,7 @@ pub struct SegmentRules<'n> {
     pub folder: &'n str,
     /// A segment is due once its journal has so many lines.
     pub limit: u64,
-    /// Whether each flush puts the journal on the disk.
+    /// Whether notes are put on the disk before their answers leave.
     pub synced: bool,
     /// What a line may do beside calling the rings.
     pub permits: Permits<'n>,

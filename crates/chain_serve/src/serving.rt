@@ -1,11 +1,14 @@
 //! Lines that are served in segments.
 
-ghost use Rattle.std.specs.Prelude.{◌≡◌, ◌≤◌, ℕ, List, Option, IfOk, IfErr, OnErr, MatchResult};
+ghost use Rattle.std.specs.Prelude.{◌≡◌, ◌≤◌, ℕ, List, Option, true, IfOk, IfErr, IfSome, IsSome, OnErr, MatchResult, string_bytes};
+ghost use Rattle.disks.specs.Held.{Held};
+ghost use Rattle.disks.specs.Lasting.{HasFront};
+ghost use Rattle.line_loop.specs.Loop.{AllLasts};
 ghost use Rattle.segment_loop.specs.Digested.{hashed};
 ghost use Rattle.segment_loop.specs.Segments.{IsNamed};
 ghost use Rattle.segment_loop.specs.Service.{IsFaultOf};
 ghost use Rattle.chain_serve.specs.Segments.{moment_of};
-ghost use Rattle.chain_serve.specs.Recovered.{AnsweredCallsAreRecovered};
+ghost use Rattle.chain_serve.specs.Recovered.{AnsweredCallsAreRecovered, AnsweredCallsLast};
 ghost use Rattle.chain_serve.specs.Service.{ServesSegments, ServesSomeSegments};
 
 use crate::segments::SegmentRules;
@@ -14,7 +17,7 @@ use disks::Disk;
 use line_loop::LoopFault;
 use ring_serve::{Served, are_right};
 use segment_folder::segment_file;
-use segment_loop::{OpenSegment, SegmentRules as FolderRules};
+use segment_loop::{OpenSegment, SegmentRules as FolderRules, abandon_segment};
 use std::alloc::Global;
 use std::io::{Read, Write};
 use std::mem;
@@ -72,8 +75,32 @@ pub fn serve_segments<D: Disk, I: Read, W: Write>(
         (hashed (D.Grown.contents first.writer.inner) first.writer.hasher)) served.new
         (I.remaining input.old) (I.remaining input.new) (W.contents out.old) (W.contents out.new)
         journal) }
+
+    // Where each note is put on the disk, and the content of files is known: what was told is there whenever the power fails.
+    ensures lasts { rules.entry.synced ≡ true → IsSome (D.holds disk.old)
+        → AllLasts (hashed (D.Grown.contents first.writer.inner) first.writer.hasher)
+        (D.Grown.lasting first.writer.inner)
+        → MatchResult result
+        (λ end. (left : Option Held) → IfSome left (λ held. HasFront held (string_bytes end.name)
+        (D.Grown.lasting end.writer.inner))
+        → AnsweredCallsLast rules.entry
+        (moment_of served.old (D.holds disk.old) first.number
+        (hashed (D.Grown.contents first.writer.inner) first.writer.hasher)) served.new
+        (I.remaining input.old) (I.remaining input.new) (W.contents out.old) (W.contents out.new)
+        left)
+        (λ _. AnsweredCallsLast rules.entry
+        (moment_of served.old (D.holds disk.old) first.number
+        (hashed (D.Grown.contents first.writer.inner) first.writer.hasher)) served.new
+        (I.remaining input.old) (I.remaining input.new) (W.contents out.old) (W.contents out.new)
+        (D.leaves disk.new)) }
+    ensures whole { IfOk result (λ end. rules.entry.synced ≡ true → IsSome (D.holds disk.old)
+        → AllLasts (hashed (D.Grown.contents first.writer.inner) first.writer.hasher)
+        (D.Grown.lasting first.writer.inner)
+        → AllLasts (hashed (D.Grown.contents end.writer.inner) end.writer.hasher)
+        (D.Grown.lasting end.writer.inner)) }
 {
     let Ok(name) = segment_file(alloc, rules.folder, first.number) else {
+        abandon_segment(disk, first);
         return Err(LoopFault::OutOfMemory);
     };
     are_right(served);

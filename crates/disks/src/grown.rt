@@ -147,9 +147,13 @@ impl<F: EndFile> GrownFile<F> {
         if self.failed {
             return Err(io::Error::from(ErrorKind::Other));
         }
-        let done = self.file.sync_whole();
-        self.failed = done.is_err();
-        done
+        match self.file.sync_whole() {
+            Ok(()) => Ok(()),
+            Err(fault) => {
+                self.failed = true;
+                Err(fault)
+            }
+        }
     }
 }
 

@@ -2,3 +2,4 @@ pub mod LongLines
 pub mod Standing
 pub mod Telling
 pub mod Parting
+mod Lasting

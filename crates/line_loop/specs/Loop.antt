@@ -19,6 +19,11 @@ abbrev pub held_by : {J : Type 0} → (J → Option (List ℕ)) → Option J →
 held_by contents None = None
 held_by contents (Some journal) = contents journal
 
+-- what a journal holds is known, and all of it lasts
+abbrev pub AllLasts : Option (List ℕ) → Option (List ℕ) → Type 0
+AllLasts None lasting = ⊥
+AllLasts (Some bytes) lasting = lasting ≡ Some bytes
+
 -- The lines up to the rest were answered and delivered: the output has all of the answers' text,
 -- and the journal all notes.
 pub record AreTold {S : Type 0} (A : Answering S) (old : S)

@@ -1,7 +1,7 @@
 //! The loop that answers the lines of a reader, one after the other: it is generic over what answers a line.
 //!
 //! The answers to the lines of a block, and their notes for a journal, are kept until the block has been read. Then the journal
-//! gets the notes, and is flushed; only after that do the answers leave.
+//! gets the notes; only after that do the answers leave.
 #![tactic(auto)]
 
 mod answering;

@@ -3,7 +3,7 @@
 ghost use Rattle.std.specs.Prelude.{◌≡◌, ◌≢◌, ℕ, List, [], ◌++◌, false, OnOk, OnErr, IfOk, IfErr, MatchResult, is_some};
 ghost use Rattle.line_loop.specs.declared.faults.LoopFault.TheVariants as fault;
 ghost use Rattle.line_loop.specs.Answering.{HasBegun};
-ghost use Rattle.line_loop.specs.Loop.{Written, GoesOn, Rests, Stops, IsTaken, ServesPart, IsEnding, ServesSomeOf, held_by, IsFaultOf};
+ghost use Rattle.line_loop.specs.Loop.{Written, GoesOn, Rests, Stops, IsTaken, ServesPart, IsEnding, ServesSomeOf, held_by, AllLasts, IsFaultOf};
 ghost use Rattle.line_loop.specs.Stands.{Stand, by_stand, stand};
 
 use crate::answering::AnswersLines;
@@ -12,7 +12,7 @@ use crate::pending::Pending;
 use crate::putting::put_pending;
 use crate::taking::take_bytes;
 use crate::unread::Unread;
-use disks::Disk;
+use disks::{Disk, Grow};
 use std::alloc::{AllocError, Global};
 use std::io::{Read, Write};
 
@@ -45,7 +45,7 @@ fn take_block<S: AnswersLines, D: Disk>(
 }
 
 /// The same, and all answers leave.
-fn serve_block<S: AnswersLines, D: Disk, J: Write, W: Write>(
+fn serve_block<S: AnswersLines, D: Disk, J: Grow, W: Write>(
     service: &mut S,
     disk: &mut D,
     line: &mut Vec<u8>,
@@ -72,6 +72,21 @@ fn serve_block<S: AnswersLines, D: Disk, J: Write, W: Write>(
         (record { journal = held_by J.contents journal.new; out = W.contents out.new })
         (bytes ++ unread.old)
         (stand service.new (D.holds disk.new))) }
+    ensures lasts { (old : Stand S) (before : Written) (bytes : List ℕ)
+        → Rests (by_stand S.is_answered) old before
+        (record { journal = held_by J.lasting journal.old; out = W.contents out.old })
+        bytes (stand service.old (D.holds disk.old)) line.old.items
+        → MatchResult result (λ over. IsTaken over unread.old unread.new
+        (λ taken. Rests (by_stand S.is_answered) old before
+        (record { journal = held_by J.lasting journal.new; out = W.contents out.new })
+        (bytes ++ taken) (stand service.new (D.holds disk.new)) line.new.items))
+        (λ _. Stops (by_stand S.is_answered) old before
+        (record { journal = held_by J.lasting journal.new; out = W.contents out.new })
+        (bytes ++ unread.old)
+        (stand service.new (D.holds disk.new))) }
+    ensures whole { OnOk result
+        (AllLasts (held_by J.contents journal.old) (held_by J.lasting journal.old)
+        → AllLasts (held_by J.contents journal.new) (held_by J.lasting journal.new)) }
 {
     let over = match take_block(service, disk, line, unread, pending) {
         Ok(over) => over,
@@ -87,15 +102,16 @@ fn serve_block<S: AnswersLines, D: Disk, J: Write, W: Write>(
 /// line after which it is over. With `once` the part ends when the next block has been read.
 ///
 /// Each line is answered by the service, on the writer and with the disk. If there is a journal, it gets the notes of each line.
-/// Before more is read the journal is flushed, and then the writer: no answer leaves whose notes are not in the journal. What has
-/// begun of a line is kept from one part to the next. The bytes after the last LF are not a line, and are not answered.
+/// Before more is read they are added to the journal, and then the writer is flushed: no answer leaves whose notes are not in the
+/// journal, and last there if its file is synced. What has begun of a line is kept from one part to the next. The bytes after the
+/// last LF are not a line, and are not answered.
 ///
 /// # Errors
 ///
 /// The first error of the reader, of the journal or of the writer; `OutOfMemory` where there was none for what a block is
 /// answered; `TooLong` where no more blocks are counted. The lines before were answered; the writer holds a prefix of their
 /// answers, and the journal the notes of each that was told.
-pub fn serve_part<S: AnswersLines, D: Disk, I: Read, J: Write, W: Write>(
+pub fn serve_part<S: AnswersLines, D: Disk, I: Read, J: Grow, W: Write>(
     alloc: Global,
     service: &mut S,
     disk: &mut D,
@@ -124,6 +140,23 @@ pub fn serve_part<S: AnswersLines, D: Disk, I: Read, J: Write, W: Write>(
     ensures long { IfErr result (λ e.
         IsFaultOf e (I.remaining input.old) (I.remaining input.new)) }
     ensures kept { is_some journal.new ≡ is_some journal.old }
+
+    // The same of the bytes that last: whenever the power fails, the journal has the notes of each line that was told.
+    ensures lasts { (begun : List ℕ) → HasBegun begun line.old.items
+        → MatchResult result
+        (λ ending. ServesPart ending (by_stand S.is_answered) (stand service.old (D.holds disk.old))
+        (stand service.new (D.holds disk.new)) begun unread.old unread.new line.new.items
+        (I.remaining input.old) (I.remaining input.new)
+        (record { journal = held_by J.lasting journal.old; out = W.contents out.old })
+        (record { journal = held_by J.lasting journal.new; out = W.contents out.new }))
+        (λ _. ServesSomeOf (by_stand S.is_answered) (stand service.old (D.holds disk.old))
+        (stand service.new (D.holds disk.new)) begun unread.old
+        (I.remaining input.old) (I.remaining input.new)
+        (record { journal = held_by J.lasting journal.old; out = W.contents out.old })
+        (record { journal = held_by J.lasting journal.new; out = W.contents out.new })) }
+    ensures whole { OnOk result
+        (AllLasts (held_by J.contents journal.old) (held_by J.lasting journal.old)
+        → AllLasts (held_by J.contents journal.new) (held_by J.lasting journal.new)) }
 {
     let mut pending = Pending {
         answers: Vec::new(alloc),

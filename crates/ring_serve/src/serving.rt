@@ -22,7 +22,7 @@ use crate::saving::save_rings;
 use crate::served::{LineAnswer, Served, answer_line, no_call};
 use crate::service::RingService;
 use crate::turns::Trace;
-use disks::Disk;
+use disks::{Disk, Grow};
 use line_loop::{LoopFault, Pending, Unread, serve_part};
 use ring_blocks::{put_events, put_survey};
 use std::alloc::{AllocError, Global};
@@ -314,17 +314,17 @@ pub fn are_right(served: &Served)
 /// Serves the lines of a reader to its end: each line is answered by one line on the writer. The bytes after the last LF are
 /// not a line, and are not answered.
 ///
-/// If there is a journal, it gets the lines of what each turn recorded, and no `save` replaces its file. Before more is read the
-/// journal is flushed, and then the writer: no answer leaves whose call is not in the journal. So of whatever is kept of a
-/// journal that had just begun, if it has the notes of the told lines, rings are recovered that have the call of each of them, with
-/// its answer.
+/// If there is a journal, it gets the lines of what each turn recorded, and no `save` replaces its file. Before more is read they
+/// are added to the journal, and then the writer is flushed: no answer leaves whose call is not in the journal, and lasts there if
+/// its file is synced. So of whatever is kept of a journal that had just begun, if it has the notes of the told lines, rings are
+/// recovered that have the call of each of them, with its answer; the same holds of the bytes that last.
 ///
 /// # Errors
 ///
 /// The first error of the reader, of the journal or of the writer; `OutOfMemory` where there was none for what a block is
 /// answered; `TooLong` where no more blocks are counted. The lines before were answered; the writer holds a beginning of their
 /// answers, and the journal the notes of each that was told.
-pub fn serve<D: Disk, I: Read, J: Write + Drop, W: Write>(
+pub fn serve<D: Disk, I: Read, J: Grow + Drop, W: Write>(
     alloc: Global,
     served: &mut Served,
     disk: &mut D,
@@ -351,6 +351,13 @@ pub fn serve<D: Disk, I: Read, J: Write + Drop, W: Write>(
         (I.remaining input.new)
         (record { journal = held_by J.contents journal.old; out = W.contents out.old })
         (record { journal = held_by J.contents journal.new; out = W.contents out.new }) }
+
+    // The same of the bytes that last: whenever the power fails, the calls of the told lines are recovered of the journal.
+    ensures lasts { AnsweredCallsAreRecovered (terms_of (named_by journal.old) permits.entry)
+        served.old served.new (D.holds disk.old) (D.holds disk.new) (I.remaining input.old)
+        (I.remaining input.new)
+        (record { journal = held_by J.lasting journal.old; out = W.contents out.old })
+        (record { journal = held_by J.lasting journal.new; out = W.contents out.new }) }
 {
     are_right(served);
     let name = file_of(journal);

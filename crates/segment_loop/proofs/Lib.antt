@@ -2,3 +2,4 @@ pub mod Hashing
 pub mod Changing
 pub mod Parts
 pub mod Noting
+pub mod Lasting

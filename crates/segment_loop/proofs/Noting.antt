@@ -5,6 +5,7 @@ use Rattle.std.specs.Io.KnownBytes.{Appends, Consumes}
 use Rattle.std.proofs.lemmas.List.{append-nil}
 use Rattle.std.proofs.lemmas.Bool.{false≢true}
 use Rattle.disks.specs.Held.{Held, Replaces}
+use Rattle.disks.specs.Lasting.{HasFront}
 use Rattle.text_lines.proofs.Writing.{appends_then, appends_nil}
 use Rattle.segment_folder.specs.Names.{segment_file}
 use Rattle.line_loop.specs.Answering.{Answers, AreAnswered, joined_lines}
@@ -16,6 +17,8 @@ use Rattle.segment_loop.specs.Segmenting.{Segmenting, KeepsKnown}
 use Rattle.segment_loop.specs.Segments.{Moment, moment_of, stand_of, IsReady}
 use Rattle.segment_loop.specs.Service.{Part, IsPart, AreParts, all_lines, all_said}
 use Rattle.segment_loop.specs.Notes.{all_noted, AreIn, KeepsLast, ToldLinesAreNoted}
+use Rattle.segment_loop.specs.Lasting.{LeavesSegment, ToldLinesLast}
+use Rattle.segment_loop.proofs.Lasting.{front_leaves}
 use Rattle.segment_loop.proofs.Parts.{Served, parts_more, lines_more, said_more}
 
 -- ---- within a segment
@@ -57,7 +60,7 @@ is_held : (files : Option Held) → IsSome files → (h : Held) × (files ≡ So
 is_held None some = absurd (false≢true some)
 is_held (Some h) some = (h, refl)
 
-lines_known : {S : Type 0} (A : AnsweringWith S) → KeepsKnown A → (old new : Stand S) (lines : List (List ℕ)) (said noted : List ℕ) → Answers (by_stand A) old lines said noted new → IsSome old.files → IsSome new.files
+pub lines_known : {S : Type 0} (A : AnsweringWith S) → KeepsKnown A → (old new : Stand S) (lines : List (List ℕ)) (said noted : List ℕ) → Answers (by_stand A) old lines said noted new → IsSome old.files → IsSome new.files
 lines_known A law old new [] said noted a some = subst (λ (x : Stand _). IsSome x.files) (sym a.2) some
 lines_known A law old new (line ∷ lines) said noted a some = lines_known A law a.0 new lines a.2 a.4 a.8 (law old.service a.0.service old.files a.0.files line a.1 a.3 a.5 some)
 
@@ -96,26 +99,42 @@ keeps_last A law G folder a mid parts more journal served got earlier first othe
 -- ---- wherever serving ends
 
 -- all that was answered was told
-pub all_told : {S : Type 0} (A : AnsweringWith S) → KeepsKnown A → (G : Segmenting S) (folder : List ℕ) (a b : Moment S) (unread line : List ℕ) (input rest out after : Option (List ℕ)) (new : S) (d : Served A G folder a b unread line input rest out after) → new ≡ b.service → ToldLinesAreNoted A G folder a new input rest out after b.journal
-all_told {S} A law G folder a b unread line input rest out after new d same = record {
-  parts = d.parts;
-  mid = b;
-  bytes = d.read;
-  behind = d.begun ++ unread;
-  left = [];
-  untaken = d.begun ++ unread;
-  unsaid = [];
-  more = [];
-  back = [];
-  told = d.served;
-  is = b.files;
-  untold = subst (λ (s : S). AreAnswered (by_stand A) (stand_of b) (d.begun ++ unread) (d.begun ++ unread) [] [] (stand s b.files)) (sym same) (none_answered (by_stand A) (stand_of b) (d.begun ++ unread));
-  read = d.consumed;
-  split = d.split;
-  wrote = (all_said d.parts, sym (append-nil (all_said d.parts)), d.wrote);
-  wrote_notes = appends_nil b.journal;
-  keeps = keeps_last A law G folder a b d.parts [] b.journal d.served (appends_nil b.journal);
-}
+module _ {S : Type 0} (A : AnsweringWith S) (law : KeepsKnown A) (G : Segmenting S) (folder : List ℕ) (a b : Moment S) (unread line : List ℕ) (input rest out after : Option (List ℕ)) (new : S) (d : Served A G folder a b unread line input rest out after) (same : new ≡ b.service) where
+  -- with the journal, or another value that it is
+  told_with : (journal : Option (List ℕ)) → b.journal ≡ journal → ToldLinesAreNoted A G folder a new input rest out after journal
+  told_with journal e =
+      let none = subst (λ (x : Option (List ℕ)). Appends b.journal x []) e (appends_nil b.journal) in
+      record {
+        parts = d.parts;
+        mid = b;
+        bytes = d.read;
+        behind = d.begun ++ unread;
+        left = [];
+        untaken = d.begun ++ unread;
+        unsaid = [];
+        more = [];
+        back = [];
+        told = d.served;
+        is = b.files;
+        untold = subst (λ (s : S). AreAnswered (by_stand A) (stand_of b) (d.begun ++ unread) (d.begun ++ unread) [] [] (stand s b.files)) (sym same) (none_answered (by_stand A) (stand_of b) (d.begun ++ unread));
+        read = d.consumed;
+        split = d.split;
+        wrote = (all_said d.parts, sym (append-nil (all_said d.parts)), d.wrote);
+        wrote_notes = none;
+        keeps = keeps_last A law G folder a b d.parts [] journal d.served none;
+      }
+
+  pub all_told : ToldLinesAreNoted A G folder a new input rest out after b.journal
+  all_told = told_with b.journal refl
+
+  -- the same, where a loss of power leaves the notes
+  pub all_last : (journal : List ℕ) → b.journal ≡ Some journal → (left : Option Held) → LeavesSegment G folder b journal left → ToldLinesLast A G folder a new input rest out after left
+  unfolding told_with
+  all_last journal e left l = record {
+    journal = journal;
+    noted = told_with (Some journal) e;
+    left_is = l;
+  }
 
 -- ---- where a part stopped
 
@@ -168,3 +187,14 @@ module _ {S : Type 0} (A : AnsweringWith S) (law : KeepsKnown A) (G : Segmenting
         wrote_notes = got;
         keeps = keeps_last A law G folder a part.to parts st.front journal served got;
       }
+
+  -- the same, where a loss of power leaves the notes
+  pub some_last : (new : S) (files : Option Held) (journal : List ℕ) (rest after : Option (List ℕ)) → (read : List ℕ) → Consumes input rest (d.read ++ read) →
+      Stops (by_stand A) (stand_of from) (record { journal = from.journal; out = before }) (record { journal = Some journal; out = after }) (d.begun ++ (unread ++ read)) (stand new files) →
+      (left : Option Held) (name : List ℕ) → name ≡ segment_file folder from.number → IfSome left (λ (held : Held). HasFront held name (Some journal)) → ToldLinesLast A G folder a new input rest out after left
+  unfolding some_told
+  some_last new files journal rest after read consumed st left name named l = record {
+    journal = journal;
+    noted = some_told new files (Some journal) rest after read consumed st;
+    left_is = front_leaves G folder (moment_of st.mid.service st.mid.files from.number (after_notes from.journal st.noted)) left name journal named l;
+  }

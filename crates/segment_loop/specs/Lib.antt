@@ -3,3 +3,4 @@ pub mod Digested
 pub mod Segments
 pub mod Service
 pub mod Notes
+pub mod Lasting

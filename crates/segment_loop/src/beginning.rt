@@ -1,6 +1,6 @@
 //! The first segment that is written.
 
-ghost use Rattle.std.specs.Prelude.{◌≡◌, ◌<◌, IfOk, OnErr};
+ghost use Rattle.std.specs.Prelude.{◌≡◌, ◌<◌, true, IfOk, OnErr};
 ghost use Rattle.ring_segments.specs.Spelling.{DigestFits};
 ghost use Rattle.segment_loop.specs.Digested.{hashed};
 ghost use Rattle.segment_loop.specs.Segments.{HasBegun, IsBegun, IsLeftUnbegun, IsNamed, moment_of};
@@ -34,6 +34,8 @@ pub fn begin_file<D: Disk>(
     ensures named { IfOk result (λ segment. IsNamed rules.entry.folder.now segment) }
     ensures left { OnErr result (IsLeftUnbegun rules.entry.folder.now number text.now
         (D.holds disk.old) (D.holds disk.new)) }
+    ensures lasts { IfOk result (λ segment. rules.entry.synced ≡ true
+        → D.Grown.lasting segment.writer.inner ≡ D.Grown.contents segment.writer.inner) }
 {
     let Ok(name) = segment_file(alloc, rules.folder, number) else {
         return Err(EndFault::OutOfMemory);
@@ -72,6 +74,8 @@ pub fn begin_segment<S: Segmented, D: Disk>(
     ensures named { IfOk result (λ segment. IsNamed rules.entry.folder.now segment) }
     ensures left { OnErr result (IsLeftUnbegun rules.entry.folder.now number
         (S.segmenting.text service.now number behind) (D.holds disk.old) (D.holds disk.new)) }
+    ensures lasts { IfOk result (λ segment. rules.entry.synced ≡ true
+        → D.Grown.lasting segment.writer.inner ≡ D.Grown.contents segment.writer.inner) }
 {
     let text = match service.text(alloc, number, behind) {
         Ok(text) => text,

@@ -5,10 +5,10 @@ ghost use Rattle.ring_segments.specs.Spelling.{digest_of, DigestFits};
 ghost use Rattle.sha2.specs.Hashers.{Holds256};
 ghost use Rattle.segment_loop.specs.Digested.{hashed};
 
+use disks::Grow;
 use ring_segments::{DIGEST_DIGITS, digits};
 use sha2::{Digest, Sha256};
 use std::alloc::AllocError;
-use std::io::{self, Write};
 
 /// A writer, and the hash of what it holds. Contracts see what the writer holds if that is known, and the hash is of just these
 /// bytes.
@@ -18,30 +18,33 @@ pub struct Digested<W> {
     pub(crate) hasher: Sha256,
 }
 
-impl<W: Write> Write for Digested<W> {
+impl<W: Grow> Grow for Digested<W> {
     ghost use Rattle.segment_loop.specs.Digested.{hashed};
 
     ghost contents = { λ d. hashed (W.contents d.inner) d.hasher };
 
-    fn write(&mut self, buf: &[u8]) -> io::Result<usize> {
-        let count = match self.inner.write(buf) {
-            Ok(count) => count,
-            Err(error) => return Err(error),
-        };
-        self.hasher.update(&buf[..count]);
-        Ok(count)
-    }
+    ghost lasting = { λ d. W.lasting d.inner };
 
-    fn flush(&mut self) -> io::Result<()> {
-        self.inner.flush()
+    fn add(&mut self, bytes: &[u8]) -> Result<(), usize> {
+        match self.inner.add(bytes) {
+            Ok(()) => {
+                self.hasher.update(bytes);
+                Ok(())
+            }
+            Err(count) => {
+                self.hasher.update(&bytes[..count]);
+                Err(count)
+            }
+        }
     }
 }
 
-impl<W: Write> Digested<W> {
+impl<W: Grow> Digested<W> {
     /// The writer, with a hasher that has taken in what it holds.
     pub fn new(inner: W, hasher: Sha256) -> Digested<W>
-        ensures { (bytes : List ℕ) → W.contents inner ≡ Some bytes → Holds256 hasher bytes
+        ensures known { (bytes : List ℕ) → W.contents inner ≡ Some bytes → Holds256 hasher bytes
             → hashed (W.contents result.inner) result.hasher ≡ Some bytes }
+        ensures inner { result.inner ≡ inner }
     {
         Digested { inner, hasher }
     }

@@ -1,16 +1,19 @@
 //! A segment that is due is ended, and the next one begun.
 
-ghost use Rattle.std.specs.Prelude.{◌≡◌, ◌+◌, ◌<◌, ℕ, List, true, false, IfOk, IfErr, IfSome, OnOk, OnErr, Some, string_bytes};
+ghost use Rattle.std.specs.Prelude.{◌≡◌, ◌+◌, ◌<◌, ℕ, List, true, false, IfOk, IfErr, IfSome, OnOk, OnErr, IsSome, Some, string_bytes};
+ghost use Rattle.std.specs.Io.KnownBytes.{Keeps};
 ghost use Rattle.disks.specs.Held.{Replaces, bytes_of};
+ghost use Rattle.disks.specs.Lasting.{bytes_in, Leaves, MayLeave, LeavesFront};
 ghost use Rattle.sha2.specs.Hashers.{Holds256};
 ghost use Rattle.line_loop.specs.declared.faults.LoopFault.TheVariants as fault;
 ghost use Rattle.segment_loop.specs.Digested.{hashed};
 ghost use Rattle.segment_loop.specs.Segments.{IsPrepared, IsNamed, IsReady, IsLeft, moment_of};
+ghost use Rattle.segment_loop.specs.Lasting.{LeavesSegment};
 
 use crate::digested::Digested;
 use crate::segmented::{EndFault, Segmented};
 use crate::segments::{OpenSegment, SegmentRules};
-use disks::{Contents, ContentsFault, Disk, ReplaceFault, replace};
+use disks::{Contents, ContentsFault, Disk, Grow, ReplaceFault, replace};
 use line_loop::LoopFault;
 use segment_folder::segment_file;
 use sha2::{Digest, Sha256};
@@ -36,7 +39,7 @@ pub struct Ready<W> {
 }
 
 /// What the next segment needs.
-fn prepare<S: Segmented, W: Write>(
+fn prepare<S: Segmented, W: Grow>(
     alloc: Global,
     service: &S,
     segment: &OpenSegment<W>,
@@ -95,24 +98,28 @@ impl Contents for Beginning<'_> {
 ///
 /// # Errors
 ///
-/// `Journal` if it is not known to be on the disk. No file has changed.
-pub fn settle<D: Disk>(
+/// The writer, as it was, if its file is not known to be on the disk. No file has changed.
+fn settle<D: Disk>(
     disk: &mut D,
     writer: Digested<D::Grown>,
     name: &str,
-) -> Result<Sha256, LoopFault>
+) -> Result<Sha256, D::Grown>
     ensures ok { IfOk result (λ hasher. Replaces (D.holds disk.old) (D.holds disk.new) name.now
         (hashed (D.Grown.contents writer.inner) writer.hasher)) }
     ensures hasher { IfOk result (λ hasher. (bytes : List ℕ)
         → hashed (D.Grown.contents writer.inner) writer.hasher ≡ Some bytes
         → Holds256 hasher bytes) }
-    ensures err { IfErr result (λ e. e ≡ fault.Journal) }
     ensures kept { OnErr result (D.holds disk.new ≡ D.holds disk.old) }
+    ensures lasts { OnOk result (Leaves (D.leaves disk.old) (D.leaves disk.new) name.now
+        (D.Grown.contents writer.inner)) }
+    ensures left { OnErr result (D.leaves disk.new ≡ D.leaves disk.old) }
+    ensures given { IfErr result (λ inner.
+        Keeps (D.Grown.lasting writer.inner) (D.Grown.lasting inner)) }
 {
     let Digested { inner, hasher } = writer;
     match disk.close_synced(inner, name) {
         Ok(()) => Ok(hasher),
-        Err(_) => Err(LoopFault::Journal),
+        Err(inner) => Err(inner),
     }
 }
 
@@ -135,12 +142,30 @@ pub fn close_segment<D: Disk>(disk: &mut D, segment: OpenSegment<D::Grown>) -> R
         (hashed (D.Grown.contents segment.writer.inner) segment.writer.hasher)) }
     ensures err { IfErr result (λ e. e ≡ fault.Journal) }
     ensures kept { OnErr result (D.holds disk.new ≡ D.holds disk.old) }
+    ensures lasts { OnOk result (Leaves (D.leaves disk.old) (D.leaves disk.new)
+        (string_bytes segment.name) (D.Grown.contents segment.writer.inner)) }
+    ensures left { OnErr result (LeavesFront (D.leaves disk.old) (D.leaves disk.new)
+        (string_bytes segment.name) (D.Grown.lasting segment.writer.inner)) }
 {
     let OpenSegment { name, writer, .. } = segment;
     match settle(disk, writer, name.as_str()) {
         Ok(_) => Ok(()),
-        Err(fault) => Err(fault),
+        Err(inner) => {
+            disk.abandon(inner, name);
+            Err(LoopFault::Journal)
+        }
     }
+}
+
+/// Lets the file of a segment go as it is.
+pub fn abandon_segment<D: Disk>(disk: &mut D, segment: OpenSegment<D::Grown>)
+    ensures kept { D.holds disk.new ≡ D.holds disk.old }
+    ensures left { LeavesFront (D.leaves disk.old) (D.leaves disk.new) (string_bytes segment.name)
+        (D.Grown.lasting segment.writer.inner) }
+{
+    let OpenSegment { name, writer, .. } = segment;
+    let Digested { inner, .. } = writer;
+    disk.abandon(inner, name);
 }
 
 /// Opens the file of a segment to write at its end. The hasher has taken in what the file holds.
@@ -162,6 +187,10 @@ pub fn open_segment<D: Disk>(
         → hashed (D.Grown.contents segment.writer.inner) segment.writer.hasher ≡ Some bytes)) }
     ensures kept { D.holds disk.new ≡ D.holds disk.old }
     ensures err { IfErr result (λ e. e ≡ fault.Journal) }
+    ensures lasts { IfOk result (λ segment. synced ≡ true
+        → D.Grown.lasting segment.writer.inner ≡ D.Grown.contents segment.writer.inner) }
+    ensures left { MayLeave (D.leaves disk.old) (D.leaves disk.new) (string_bytes name)
+        (bytes_in (D.holds disk.old) (string_bytes name)) }
 {
     let Ok(inner) = disk.grow(name.as_str(), synced) else {
         return Err(LoopFault::Journal);
@@ -201,6 +230,17 @@ fn change<S: Segmented, D: Disk>(
         (moment_of service.old (D.holds disk.old) segment.number
         (hashed (D.Grown.contents segment.writer.inner) segment.writer.hasher))
         (D.holds disk.new)) }
+    ensures lasts { IfOk result (λ ready. rules.entry.synced ≡ true
+        → D.Grown.lasting segment.writer.inner ≡ D.Grown.contents segment.writer.inner
+        → D.Grown.lasting ready.segment.writer.inner
+        ≡ D.Grown.contents ready.segment.writer.inner) }
+    ensures spared { OnErr result (IsSome (D.holds disk.old) → (bytes : List ℕ)
+        → hashed (D.Grown.contents segment.writer.inner) segment.writer.hasher ≡ Some bytes
+        → D.Grown.lasting segment.writer.inner ≡ Some bytes
+        → LeavesSegment S.segmenting rules.entry.folder.now
+        (moment_of service.old (D.holds disk.old) segment.number
+        (hashed (D.Grown.contents segment.writer.inner) segment.writer.hasher)) bytes
+        (D.leaves disk.new)) }
 {
     let OpenSegment {
         number,
@@ -209,7 +249,10 @@ fn change<S: Segmented, D: Disk>(
     } = segment;
     let hasher = match settle(disk, writer, name.as_str()) {
         Ok(hasher) => hasher,
-        Err(fault) => return Err(fault),
+        Err(inner) => {
+            disk.abandon(inner, name);
+            return Err(LoopFault::Journal);
+        }
     };
     let beginning = Beginning {
         text: next.text.as_slice(),
@@ -264,6 +307,17 @@ pub(crate) fn make_ready<S: Segmented, D: Disk>(
         (moment_of service.old (D.holds disk.old) segment.number
         (hashed (D.Grown.contents segment.writer.inner) segment.writer.hasher))
         (D.holds disk.new)) }
+    ensures lasts { IfOk result (λ ready. rules.entry.synced ≡ true
+        → D.Grown.lasting segment.writer.inner ≡ D.Grown.contents segment.writer.inner
+        → D.Grown.lasting ready.segment.writer.inner
+        ≡ D.Grown.contents ready.segment.writer.inner) }
+    ensures spared { OnErr result (IsSome (D.holds disk.old) → (bytes : List ℕ)
+        → hashed (D.Grown.contents segment.writer.inner) segment.writer.hasher ≡ Some bytes
+        → D.Grown.lasting segment.writer.inner ≡ Some bytes
+        → LeavesSegment S.segmenting rules.entry.folder.now
+        (moment_of service.old (D.holds disk.old) segment.number
+        (hashed (D.Grown.contents segment.writer.inner) segment.writer.hasher)) bytes
+        (D.leaves disk.new)) }
 {
     if !service.is_due() {
         return Ok(Ready {

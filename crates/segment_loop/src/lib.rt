@@ -10,7 +10,7 @@ mod service;
 
 pub use beginning::{begin_file, begin_segment};
 pub use digested::Digested;
-pub use ending::{close_segment, open_segment, settle};
+pub use ending::{abandon_segment, close_segment, open_segment};
 pub use segmented::{EndFault, Segmented};
 pub use segments::{OpenSegment, SegmentRules};
 pub use service::serve_segments;

@@ -7,7 +7,7 @@ use crate::digested::Digested;
 pub struct SegmentRules<'n> {
     /// The folder of the segments.
     pub folder: &'n str,
-    /// Whether each flush puts the journal on the disk.
+    /// Whether notes are put on the disk before their answers leave.
     pub synced: bool,
 }
 

@@ -1,15 +1,19 @@
 //! Lines that are served in segments.
 
-ghost use Rattle.std.specs.Prelude.{◌≡◌, ℕ, List, Option, false, IfOk, IfErr, OnErr, MatchResult, is_some, string_bytes};
+ghost use Rattle.std.specs.Prelude.{◌≡◌, ℕ, List, Option, true, false, IfOk, IfErr, IfSome, IsSome, OnErr, MatchResult, is_some, string_bytes};
+ghost use Rattle.disks.specs.Held.{Held};
+ghost use Rattle.disks.specs.Lasting.{HasFront};
 ghost use Rattle.line_loop.specs.Answering.{HasBegun};
 ghost use Rattle.line_loop.specs.Stands.{by_stand, stand};
-ghost use Rattle.line_loop.specs.Loop.{ServesPart, IsEnding, ServesSomeOf, IsFaultOf as IsPartFault};
+ghost use Rattle.line_loop.specs.Loop.{ServesPart, IsEnding, ServesSomeOf, AllLasts, IsFaultOf as IsPartFault};
 ghost use Rattle.segment_loop.specs.Digested.{hashed};
 ghost use Rattle.segment_loop.specs.Segments.{IsNamed, moment_of};
 ghost use Rattle.segment_loop.specs.Service.{ServesSegments, ServesSomeSegments, IsFaultOf};
 ghost use Rattle.segment_loop.specs.Notes.{ToldLinesAreNoted};
+ghost use Rattle.segment_loop.specs.Lasting.{ToldLinesLast};
 
-use crate::ending::{Ready, make_ready};
+use crate::digested::Digested;
+use crate::ending::{Ready, abandon_segment, make_ready};
 use crate::segmented::Segmented;
 use crate::segments::{OpenSegment, SegmentRules};
 use disks::Disk;
@@ -25,27 +29,27 @@ pub struct PartEnd<W> {
 }
 
 /// Serves a part of the lines: in a segment that goes on although it is due, up to the next block.
-fn serve_in<S: AnswersLines, D: Disk, J: Write + Drop, I: Read, W: Write>(
+fn serve_in<S: AnswersLines, D: Disk, I: Read, W: Write>(
     alloc: Global,
     service: &mut S,
     disk: &mut D,
-    ready: Ready<J>,
+    ready: Ready<D::Grown>,
     line: &mut Vec<u8>,
     unread: &mut Unread,
     input: &mut I,
     out: &mut W,
-) -> Result<PartEnd<J>, LoopFault>
+) -> Result<PartEnd<D::Grown>, LoopFault>
     requires { S.is_over service.old ≡ false }
     ensures ok { IfOk result (λ end. (begun : List ℕ) → HasBegun begun line.old.items
         → ServesPart end.ending (by_stand S.is_answered) (stand service.old (D.holds disk.old))
         (stand service.new (D.holds disk.new)) begun unread.old unread.new line.new.items
         (I.remaining input.old) (I.remaining input.new)
         (record {
-          journal = hashed (J.contents ready.segment.writer.inner) ready.segment.writer.hasher;
+          journal = hashed (D.Grown.contents ready.segment.writer.inner) ready.segment.writer.hasher;
           out = W.contents out.old;
         })
         (record {
-          journal = hashed (J.contents end.segment.writer.inner) end.segment.writer.hasher;
+          journal = hashed (D.Grown.contents end.segment.writer.inner) end.segment.writer.hasher;
           out = W.contents out.new;
         })) }
     ensures ends { IfOk result (λ end. IsEnding end.ending (S.is_over service.new)
@@ -58,12 +62,29 @@ fn serve_in<S: AnswersLines, D: Disk, J: Write + Drop, I: Read, W: Write>(
         (stand service.new (D.holds disk.new)) begun unread.old (I.remaining input.old)
         (I.remaining input.new)
         (record {
-          journal = hashed (J.contents ready.segment.writer.inner) ready.segment.writer.hasher;
+          journal = hashed (D.Grown.contents ready.segment.writer.inner) ready.segment.writer.hasher;
           out = W.contents out.old;
         })
         (record { journal = journal; out = W.contents out.new })) }
     ensures long { IfErr result (λ e.
         IsPartFault e (I.remaining input.old) (I.remaining input.new)) }
+    ensures whole { IfOk result (λ end.
+        AllLasts (hashed (D.Grown.contents ready.segment.writer.inner) ready.segment.writer.hasher)
+        (D.Grown.lasting ready.segment.writer.inner)
+        → AllLasts (hashed (D.Grown.contents end.segment.writer.inner) end.segment.writer.hasher)
+        (D.Grown.lasting end.segment.writer.inner)) }
+    ensures spared { OnErr result ((begun : List ℕ) → HasBegun begun line.old.items
+        → (journal : Option (List ℕ))
+        × ServesSomeOf (by_stand S.is_answered) (stand service.old (D.holds disk.old))
+        (stand service.new (D.holds disk.new)) begun unread.old (I.remaining input.old)
+        (I.remaining input.new)
+        (record {
+          journal = D.Grown.lasting ready.segment.writer.inner;
+          out = W.contents out.old;
+        })
+        (record { journal = journal; out = W.contents out.new })
+        × IfSome (D.leaves disk.new)
+        (λ held. HasFront held (string_bytes ready.segment.name) journal)) }
 {
     let Ready { segment, kept } = ready;
     let OpenSegment {
@@ -72,7 +93,7 @@ fn serve_in<S: AnswersLines, D: Disk, J: Write + Drop, I: Read, W: Write>(
         writer,
     } = segment;
     let mut journal = Some(writer);
-    let ending = match serve_part(
+    let served = serve_part(
         alloc,
         service,
         disk,
@@ -82,12 +103,17 @@ fn serve_in<S: AnswersLines, D: Disk, J: Write + Drop, I: Read, W: Write>(
         unread,
         input,
         out,
-    ) {
-        Ok(ending) => ending,
-        Err(fault) => return Err(fault),
-    };
+    );
     let Some(writer) = journal else {
         unreachable!()
+    };
+    let ending = match served {
+        Ok(ending) => ending,
+        Err(fault) => {
+            let Digested { inner, .. } = writer;
+            disk.abandon(inner, name);
+            return Err(fault);
+        }
     };
     Ok(PartEnd {
         ending,
@@ -152,6 +178,29 @@ pub fn serve_segments<S: Segmented, D: Disk, I: Read, W: Write>(
         (hashed (D.Grown.contents first.writer.inner) first.writer.hasher)) service.new
         (I.remaining input.old) (I.remaining input.new) (W.contents out.old) (W.contents out.new)
         journal) }
+
+    // Where each note is put on the disk, and the content of files is known: what was told is there whenever the power fails.
+    ensures lasts { rules.entry.synced ≡ true → IsSome (D.holds disk.old)
+        → AllLasts (hashed (D.Grown.contents first.writer.inner) first.writer.hasher)
+        (D.Grown.lasting first.writer.inner)
+        → MatchResult result
+        (λ end. (left : Option Held) → IfSome left (λ held. HasFront held (string_bytes end.name)
+        (D.Grown.lasting end.writer.inner))
+        → ToldLinesLast S.is_answered S.segmenting rules.entry.folder.now
+        (moment_of service.old (D.holds disk.old) first.number
+        (hashed (D.Grown.contents first.writer.inner) first.writer.hasher)) service.new
+        (I.remaining input.old) (I.remaining input.new) (W.contents out.old) (W.contents out.new)
+        left)
+        (λ _. ToldLinesLast S.is_answered S.segmenting rules.entry.folder.now
+        (moment_of service.old (D.holds disk.old) first.number
+        (hashed (D.Grown.contents first.writer.inner) first.writer.hasher)) service.new
+        (I.remaining input.old) (I.remaining input.new) (W.contents out.old) (W.contents out.new)
+        (D.leaves disk.new)) }
+    ensures whole { IfOk result (λ end. rules.entry.synced ≡ true → IsSome (D.holds disk.old)
+        → AllLasts (hashed (D.Grown.contents first.writer.inner) first.writer.hasher)
+        (D.Grown.lasting first.writer.inner)
+        → AllLasts (hashed (D.Grown.contents end.writer.inner) end.writer.hasher)
+        (D.Grown.lasting end.writer.inner)) }
 {
     let mut segment = first;
     let mut line = Vec::new(alloc);
@@ -179,5 +228,6 @@ pub fn serve_segments<S: Segmented, D: Disk, I: Read, W: Write>(
             Ending::Over | Ending::Block => segment = end.segment,
         }
     }
+    abandon_segment(disk, segment);
     Err(LoopFault::TooLong)
 }

@@ -2,7 +2,7 @@ use Rattle.std.proofs.Common.{◌≡◌, ◌≤◌, ℕ, List, [], length, false
 use Rattle.std.specs.Prelude.{is_some}
 use Rattle.std.specs.Io.KnownBytes.{Consumes}
 use Rattle.line_loop.specs.Answering.{HasBegun}
-use Rattle.line_loop.specs.Loop.{held_by}
+use Rattle.line_loop.specs.Loop.{held_by, AllLasts}
 use Rattle.line_loop.specs.Stands.{by_stand, stand}
 use Rattle.line_loop.proofs.Parting.{Going}
 use Rattle.line_loop.proofs.parts.serve_part.Given as goal
@@ -13,4 +13,7 @@ invariant-rounds g l =
     × (g.S.AnswersLines.is_over l.service ≡ false)
     × (l.pending.answers.items ≡ []) × (l.pending.notes.items ≡ []) × (is_some l.journal ≡ is_some l.initial.journal)
     × ((begun : List ℕ) → HasBegun begun l.initial.line.items →
-    Going (by_stand g.S.AnswersLines.is_answered) (stand l.initial.service (g.D.Disk.holds l.initial.disk)) begun l.initial.unread read l.unread l.line.items (record { journal = held_by g.J.Write.contents l.initial.journal; out = g.W.Write.contents l.initial.out }) (record { journal = held_by g.J.Write.contents l.journal; out = g.W.Write.contents l.out }) (stand l.service (g.D.Disk.holds l.disk)))
+    Going (by_stand g.S.AnswersLines.is_answered) (stand l.initial.service (g.D.Disk.holds l.initial.disk)) begun l.initial.unread read l.unread l.line.items (record { journal = held_by g.J.Grow.contents l.initial.journal; out = g.W.Write.contents l.initial.out }) (record { journal = held_by g.J.Grow.contents l.journal; out = g.W.Write.contents l.out }) (stand l.service (g.D.Disk.holds l.disk)))
+    × ((begun : List ℕ) → HasBegun begun l.initial.line.items →
+    Going (by_stand g.S.AnswersLines.is_answered) (stand l.initial.service (g.D.Disk.holds l.initial.disk)) begun l.initial.unread read l.unread l.line.items (record { journal = held_by g.J.Grow.lasting l.initial.journal; out = g.W.Write.contents l.initial.out }) (record { journal = held_by g.J.Grow.lasting l.journal; out = g.W.Write.contents l.out }) (stand l.service (g.D.Disk.holds l.disk)))
+    × (AllLasts (held_by g.J.Grow.contents l.initial.journal) (held_by g.J.Grow.lasting l.initial.journal) → AllLasts (held_by g.J.Grow.contents l.journal) (held_by g.J.Grow.lasting l.journal))

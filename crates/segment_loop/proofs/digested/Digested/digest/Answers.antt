@@ -7,5 +7,5 @@ use Rattle.segment_loop.proofs.digested.Digested.digest.Goals as goal
 
 pub returns-clause-value : goal.returns-clause-value
 returns-clause-value g c = λ bytes e.
-    let h = (is_hashed (g.W.Write.contents c.args.self.now.inner) c.args.self.now.hasher bytes e).1 in
+    let h = (is_hashed (g.W.Grow.contents c.args.self.now.inner) c.args.self.now.hasher bytes e).1 in
     c.digits.ensures.value ∙ ap encode_lower (c.finalize.ensures bytes (subst (λ (s : Sha256). Holds256 s bytes) (sym c.in_ok-hasher.ensures.cases) h))

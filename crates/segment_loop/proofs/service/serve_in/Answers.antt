@@ -1,0 +1,21 @@
+use Rattle.std.proofs.Common.{◌++◌, Option, subst, sym}
+use Rattle.std.specs.Prelude.{string_bytes}
+use Rattle.disks.specs.Held.{Held}
+use Rattle.line_loop.specs.Loop.{Stops, held_by}
+use Rattle.line_loop.specs.Stands.{by_stand, stand}
+use Rattle.segment_loop.proofs.Lasting.{front_has}
+use Rattle.segment_loop.proofs.service.serve_in.Goals as goal
+
+pub returns-in-Err-clause-spared : goal.returns-in-Err-clause-spared
+returns-in-Err-clause-spared g c = λ begun h.
+    let w = c.in-Some.writer in
+    let p = c.in-Err.ensures.lasts begun h in
+    let journal = g.D.Grown.Grow.lasting w.inner in
+    let before = g.D.Grown.Grow.lasting c.args.ready.segment.writer.inner in
+    let out = g.W.Write.contents c.args.out.now in
+    let after = g.W.Write.contents c.serve_part-served.new.out in
+    let bytes = begun ++ (c.args.unread.now ++ p.0) in
+    let old = stand c.args.service.now (g.D.Disk.holds c.args.disk.now) in
+    let told = subst (λ (j : Option _). Stops (by_stand g.S.AnswersLines.is_answered) old (record { journal = before; out = out }) (record { journal = held_by (λ d. g.D.Grown.Grow.lasting d.inner) j; out = after }) bytes (stand c.serve_part-served.new.service (g.D.Disk.holds c.serve_part-served.new.disk))) c.in-Some.is p.2 in
+    let stops = subst (λ (f : Option Held). Stops (by_stand g.S.AnswersLines.is_answered) old (record { journal = before; out = out }) (record { journal = journal; out = after }) bytes (stand c.serve_part-served.new.service f)) (sym c.abandon.ensures.kept) told in
+    (journal, (p.0, p.1, stops), front_has (g.D.Disk.leaves c.serve_part-served.new.disk) (g.D.Disk.leaves c.abandon.new.self) (string_bytes c.args.ready.segment.name) journal c.abandon.ensures.left)
