@@ -3,4 +3,3 @@ mod HoldTexts
 mod Summing
 pub mod UnreadLists
 mod StartedLocks
-mod BegunSegments

@@ -5,7 +5,7 @@ use Rattle.disks.specs.Held.{Held}
 use Rattle.ring_locks.specs.declared.handing.Handover.{Handover}
 use Rattle.lock_lists.specs.Lists.{Listed, file_text}
 use Rattle.lock_folder.specs.Folders.{Place, AreStarted, IsListSaved, locks_file}
-use Rattle.tool_parts.proofs.LockedFolders.{replaced_known}
+use Rattle.segment_loop.proofs.Lasting.{replaced_known}
 
 saved_known : (folder : List ℕ) (word : Option (List ℕ)) (locks : List Listed) (before after : Option Held) → IsListSaved folder word locks before after → IsSome before → IsSome after
 saved_known folder None locks before after same some = subst (λ (x : Option Held). IsSome x) (sym same) some

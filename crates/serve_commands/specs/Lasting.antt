@@ -1,11 +1,12 @@
 -- What a loss of power leaves of the journal of served rings (this project's own).
 use Rattle.std.specs.Prelude.{◌≡◌, ℕ, ◌⊎◌, List, Option, None, Some, IfSome, ⊤}
-use Rattle.disks.specs.Held.{Held, LeadsToFolder, Grows, Replaces}
+use Rattle.disks.specs.Held.{Held, LeadsToFolder, Replaces}
 use Rattle.disks.specs.Lasting.{HasFront}
 use Rattle.ring_saved.specs.declared.saved.Saved.{Saved}
 use Rattle.ring_journal.specs.Spelling.{head_text}
 use Rattle.ring_serve.specs.declared.permits.Permits.{Permits}
 use Rattle.ring_serve.specs.Permits.{terms_of}
+use Rattle.ring_serve.specs.Recovered.{AnsweredCallsAreRecovered}
 use Rattle.ring_serve.specs.Saved.{content_of}
 use Rattle.ring_serve.specs.Standings.{Standing}
 use Rattle.ring_serve.specs.Starting.{AreResumed}
@@ -16,7 +17,7 @@ use Rattle.chain_serve.specs.Recovered.{AnsweredCallsLast}
 use Rattle.ring_requests.specs.declared.requests.ServeWords.{ServeWords}
 use Rattle.tool_parts.specs.Locking.{IsLocked}
 use Rattle.tool_parts.specs.Worlds.{World, IsUnserved}
-use Rattle.serve_commands.specs.Served.{history_of, journal_of, permits_of, IsGivenHistory, IsNoted, IsServedPart}
+use Rattle.serve_commands.specs.Served.{history_of, journal_of, permits_of, IsGivenHistory, IsNoted}
 use Rattle.serve_commands.specs.ServedFolder.{Place, StandsIn, AreRules}
 
 -- ---- in a folder of segments
@@ -49,25 +50,18 @@ FolderLasts words folder saved before was is old new left =
 
 -- ---- in a file
 
--- Some of the lines were told, or all of them, from where the rings began and the journal's writer
--- had so much. Where it is known what is left, the file begins with that, and with the notes of each
--- told line behind it.
+-- Some of the lines were told, or all of them, from where the rings began and the journal's file had
+-- these bytes. Where it is known what a loss of power leaves, the file begins with them and with the
+-- notes of each told line behind them, and the rings that are recovered of it have its call.
 pub record JournalLasts (permits : Permits) (name : List ℕ) (start : List Standing)
-    (begun : Option Held) (first was is old new : Option (List ℕ)) (left : Option Held) : Type 0
-  where
-    pub ended : Option Held
-    pub part : IsServedPart (terms_of (Some name) permits) start begun ended first was is old new
-    pub left_is : IfSome left (λ held. HasFront held name part.last)
-
--- In the file of this name, which has the start of a journal of these rings: nothing was told; or it
--- was opened, and what was told lasts.
-abbrev pub OpenedLasts : Permits → List ℕ → List Standing → Option Held → Option (List ℕ)
-    → Option (List ℕ) → Option (List ℕ) → Option (List ℕ) → Option Held → Type 0
-OpenedLasts permits name start begun was is old new left =
-    IsUnserved was is old new
-    ⊎ ((first : Option (List ℕ))
-    × Grows begun name first
-    × JournalLasts permits name start begun first was is old new left)
+    (begun : Option Held) (first : List ℕ) (was is old new : Option (List ℕ))
+    (left : Option Held) : Type 0 where
+  pub end : List Standing
+  pub ended : Option Held
+  pub last : List ℕ
+  pub served : AnsweredCallsAreRecovered (terms_of (Some name) permits) start end begun ended was is
+      (record { journal = Some first; out = old }) (record { journal = Some last; out = new })
+  pub left_is : IfSome left (λ held. HasFront held name (Some last))
 
 -- In a file: nothing was told; or the rings began where the history or the journal has them, the
 -- journal was begun anew with them, and what was told lasts.
@@ -81,7 +75,7 @@ FileLasts permits name saved before was is old new left =
     × IsNoted before name saved from
     × AreResumed start from.rings.items
     × Replaces before begun name (Some (head_text (content_of start)))
-    × OpenedLasts permits name start begun was is old new left)
+    × JournalLasts permits name start begun (head_text (content_of start)) was is old new left)
 
 -- ---- either
 

@@ -4,8 +4,7 @@ ghost use Rattle.std.specs.Prelude.{◌≡◌, ℕ, List, true, None, Some, Opti
 ghost use Rattle.std.specs.Option.{option_map};
 ghost use Rattle.std.specs.Io.KnownBytes.{Appends};
 ghost use Rattle.disks.specs.Held.{Grows, Replaces};
-ghost use Rattle.disks.specs.Lasting.{HasFront};
-ghost use Rattle.line_loop.specs.Loop.{AllLasts};
+ghost use Rattle.disks.specs.Lasting.{HasFront, Leaves, bytes_in};
 ghost use Rattle.ring_saved.specs.declared.saved.Saved.{Saved};
 ghost use Rattle.ring_serve.specs.Standings.{Standing};
 ghost use Rattle.ring_serve.specs.Permits.{terms_of};
@@ -13,7 +12,7 @@ ghost use Rattle.ring_serve.specs.Starting.{AreResumed};
 ghost use Rattle.ring_serve.specs.Totals.{totals_of};
 ghost use Rattle.ring_text.specs.Report.{total_line};
 ghost use Rattle.serve_commands.specs.Served.{permits_of, CanBeginWith, IsNoted, IsServedPlain, IsServedOn, IsServedNoted, journal_of, IsStartRefusal, IsServingFault, IsServedPart, IsPlainPart, IsRefusedFrom};
-ghost use Rattle.serve_commands.specs.Lasting.{JournalLasts, OpenedLasts, FileLasts, KeptLasts, CallsLast, ToldCallsLast};
+ghost use Rattle.serve_commands.specs.Lasting.{JournalLasts, FileLasts, KeptLasts, CallsLast, ToldCallsLast};
 ghost use Rattle.tool_parts.specs.Worlds.{IsUnserved};
 ghost use Rattle.tool_parts.specs.Locking.{IsUnopenedJournal};
 ghost use Rattle.serve_commands.specs.ServeAnswer.{IsServedTo, IsServeAnswer, IsRefusedTo, IsUntold, IsServeRefusal};
@@ -115,8 +114,8 @@ fn settle_journal<'a, D: Disk>(
         (D.Grown.contents writer)) }
     ensures err { IfErr result (λ e. IsServingFault (Some name.now) e) }
     ensures kept { OnErr result (D.holds disk.new ≡ D.holds disk.old) }
-    ensures lasts { OnOk result (IfSome (D.leaves disk.new)
-        (λ held. HasFront held name.now (D.Grown.contents writer))) }
+    ensures lasts { OnOk result (Leaves (D.leaves disk.old) (D.leaves disk.new) name.now
+        (D.Grown.contents writer)) }
     ensures left { OnErr result (IfSome (D.leaves disk.new)
         (λ held. HasFront held name.now (D.Grown.lasting writer))) }
 {
@@ -149,10 +148,11 @@ fn serve_with_journal<'a, D: Disk, I: Read, W: Write>(
         × IsServedPart (terms_of (Some name.now) permits.entry) served.old (D.holds disk.old)
         (D.holds disk.new) (D.Grown.contents journal) (I.remaining input.old)
         (I.remaining input.new) (W.contents out.old) (W.contents out.new)) }
-    ensures lasts { AllLasts (D.Grown.contents journal) (D.Grown.lasting journal)
-        → JournalLasts permits.entry name.now served.old (D.holds disk.old)
-        (D.Grown.contents journal) (I.remaining input.old) (I.remaining input.new)
-        (W.contents out.old) (W.contents out.new) (D.leaves disk.new) }
+    ensures lasts { (first : List ℕ) → D.Grown.contents journal ≡ Some first
+        → D.Grown.lasting journal ≡ Some first
+        → JournalLasts permits.entry name.now served.old (D.holds disk.old) first
+        (I.remaining input.old) (I.remaining input.new) (W.contents out.old) (W.contents out.new)
+        (D.leaves disk.new) }
 {
     let mut kept = Some(Journal {
         name,
@@ -202,8 +202,11 @@ fn serve_begun<'a, D: Disk, I: Read, W: Write>(
         × IsServedPart (terms_of (Some name.now) (permits_of words.now)) served.old
         (D.holds disk.old) (D.holds disk.new) first (I.remaining input.old)
         (I.remaining input.new) (W.contents out.old) (W.contents out.new))) }
-    ensures lasts { words.now.synced ≡ true → IsSome (D.holds disk.old)
-        → OpenedLasts (permits_of words.now) name.now served.old (D.holds disk.old)
+    ensures lasts { words.now.synced ≡ true → (first : List ℕ)
+        → bytes_in (D.holds disk.old) name.now ≡ Some first
+        → IsUnserved (I.remaining input.old) (I.remaining input.new) (W.contents out.old)
+        (W.contents out.new)
+        ⊎ JournalLasts (permits_of words.now) name.now served.old (D.holds disk.old) first
         (I.remaining input.old) (I.remaining input.new) (W.contents out.old) (W.contents out.new)
         (D.leaves disk.new) }
 {

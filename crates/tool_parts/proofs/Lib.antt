@@ -5,4 +5,3 @@ pub mod Leads
 pub mod Parents
 pub mod ListTexts
 pub mod LockedFolders
-pub mod LeftFiles

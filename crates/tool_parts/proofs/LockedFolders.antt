@@ -6,7 +6,7 @@ use Rattle.disks.specs.Held.{Held, Replaces, Creates}
 use Rattle.disks.specs.Folders.{path_in}
 use Rattle.tool_parts.specs.Locking.{IsLocked}
 
-pub replaced_known : (was is : Option Held) (name : List ℕ) (contents : Option (List ℕ)) → Replaces was is name contents → IsSome was → IsSome is
+replaced_known : (was is : Option Held) (name : List ℕ) (contents : Option (List ℕ)) → Replaces was is name contents → IsSome was → IsSome is
 replaced_known None is name contents r some = absurd (false≢true some)
 replaced_known (Some was) None name contents r some = absurd r
 replaced_known (Some was) (Some is) name contents r some = refl

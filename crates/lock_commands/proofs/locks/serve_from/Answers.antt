@@ -1,11 +1,8 @@
-use Rattle.std.proofs.Common.{Option, List, ℕ, refl, sym, subst, inl, inr}
+use Rattle.std.proofs.Common.{Some, refl, inl, inr}
 use Rattle.std.specs.Prelude.{string_bytes}
-use Rattle.segment_loop.specs.Digested.{hashed}
-use Rattle.segment_loop.proofs.Hashing.{is_hashed}
-use Rattle.segment_loop.proofs.Lasting.{inner_lasts}
-use Rattle.tool_parts.proofs.LeftFiles.{BeginsThere, front_left, whole_left}
+use Rattle.segment_folder.specs.Names.{segment_file}
+use Rattle.segment_loop.proofs.Lasting.{begun_lasts, replaced_known, front_has, whole_has}
 use Rattle.lock_commands.specs.Locks.{folder_of, by_segments}
-use Rattle.lock_commands.proofs.BegunSegments.{begun_lasts}
 use Rattle.lock_commands.proofs.locks.serve_from.Goals as goal
 
 pub returns-in-Err-serve_segments-clause-err : goal.returns-in-Err-serve_segments-clause-err
@@ -34,53 +31,35 @@ pub returns-in-Err-serve_segments-clause-lasts : goal.returns-in-Err-serve_segme
 returns-in-Err-serve_segments-clause-lasts g c = λ synced some.
     let begun = c.in-Ok-begin_segment.ensures.ok in
     let w = c.in-Ok-begin_segment.first.writer in
-    let contents = g.D.Grown.Grow.contents w.inner in
-    let lasting = g.D.Grown.Grow.lasting w.inner in
-    let known = begun_lasts (folder_of c.args.words.now) c.args.start.number (by_segments.text c.in-Ok.service c.args.start.number c.args.start.behind) (g.D.Disk.holds c.args.disk.now) (g.D.Disk.holds c.begin_segment.new.disk) (hashed contents w.hasher) contents lasting
-    (λ bytes e. (is_hashed contents w.hasher bytes e).0) begun.file some (c.in-Ok-begin_segment.ensures.lasts synced) in
-    inr (
-      _,
-      _,
-      record { service = c.in-Ok.service; begins = c.in-Ok.ensures.ok; begun = begun },
-      c.in-Err-serve_segments.ensures.lasts synced known.0 known.1,
-    )
+    let was = g.D.Disk.holds c.args.disk.now in
+    let text = by_segments.text c.in-Ok.service c.args.start.number c.args.start.behind in
+    let known = replaced_known was (g.D.Disk.holds c.begin_segment.new.disk) (segment_file (folder_of c.args.words.now) c.args.start.number) (Some text) begun.file.put some in
+    let all = begun_lasts was (g.D.Grown.Grow.contents w.inner) (g.D.Grown.Grow.lasting w.inner) w.hasher text begun.file.journal some (c.in-Ok-begin_segment.ensures.lasts synced) in
+    inr (_, _, record { service = c.in-Ok.service; begins = c.in-Ok.ensures.ok; begun = begun }, c.in-Err-serve_segments.ensures.lasts synced known all)
 
 pub returns-in-Ok-close_segment-clause-lasts : goal.returns-in-Ok-close_segment-clause-lasts
 returns-in-Ok-close_segment-clause-lasts g c = λ synced some.
     let begun = c.in-Ok-begin_segment.ensures.ok in
     let w = c.in-Ok-begin_segment.first.writer in
-    let contents = g.D.Grown.Grow.contents w.inner in
-    let lasting = g.D.Grown.Grow.lasting w.inner in
-    let known = begun_lasts (folder_of c.args.words.now) c.args.start.number (by_segments.text c.in-Ok.service c.args.start.number c.args.start.behind) (g.D.Disk.holds c.args.disk.now) (g.D.Disk.holds c.begin_segment.new.disk) (hashed contents w.hasher) contents lasting
-    (λ bytes e. (is_hashed contents w.hasher bytes e).0) begun.file some (c.in-Ok-begin_segment.ensures.lasts synced) in
+    let was = g.D.Disk.holds c.args.disk.now in
+    let text = by_segments.text c.in-Ok.service c.args.start.number c.args.start.behind in
+    let known = replaced_known was (g.D.Disk.holds c.begin_segment.new.disk) (segment_file (folder_of c.args.words.now) c.args.start.number) (Some text) begun.file.put some in
+    let all = begun_lasts was (g.D.Grown.Grow.contents w.inner) (g.D.Grown.Grow.lasting w.inner) w.hasher text begun.file.journal some (c.in-Ok-begin_segment.ensures.lasts synced) in
     let last = c.in-Ok-serve_segments.last in
-    let has = g.D.Grown.Grow.contents last.writer.inner in
-    let kept = g.D.Grown.Grow.lasting last.writer.inner in
     let left = g.D.Disk.leaves c.close_segment.new.disk in
-    let same = inner_lasts has kept last.writer.hasher (c.in-Ok-serve_segments.ensures.whole synced known.0 known.1) in
-    let there = subst (λ (x : Option (List ℕ)). BeginsThere left (string_bytes last.name) x) (sym same)
-    (whole_left (g.D.Disk.leaves c.serve_segments.new.disk) left (string_bytes last.name) has c.in-Ok-close_segment.ensures.lasts) in
-    inr (
-      _,
-      _,
-      record { service = c.in-Ok.service; begins = c.in-Ok.ensures.ok; begun = begun },
-      c.in-Ok-serve_segments.ensures.lasts synced known.0 known.1 left there,
-    )
+    let there = whole_has (g.D.Disk.leaves c.serve_segments.new.disk) left (string_bytes last.name) (g.D.Grown.Grow.contents last.writer.inner) (g.D.Grown.Grow.lasting last.writer.inner) last.writer.hasher
+    c.in-Ok-close_segment.ensures.lasts (c.in-Ok-serve_segments.ensures.whole synced known all) in
+    inr (_, _, record { service = c.in-Ok.service; begins = c.in-Ok.ensures.ok; begun = begun }, c.in-Ok-serve_segments.ensures.lasts synced known all left there)
 
 pub returns-clause-lasts : goal.returns-clause-lasts
 returns-clause-lasts g c = λ synced some.
     let begun = c.in-Ok-begin_segment.ensures.ok in
     let w = c.in-Ok-begin_segment.first.writer in
-    let contents = g.D.Grown.Grow.contents w.inner in
-    let lasting = g.D.Grown.Grow.lasting w.inner in
-    let known = begun_lasts (folder_of c.args.words.now) c.args.start.number (by_segments.text c.in-Ok.service c.args.start.number c.args.start.behind) (g.D.Disk.holds c.args.disk.now) (g.D.Disk.holds c.begin_segment.new.disk) (hashed contents w.hasher) contents lasting
-    (λ bytes e. (is_hashed contents w.hasher bytes e).0) begun.file some (c.in-Ok-begin_segment.ensures.lasts synced) in
+    let was = g.D.Disk.holds c.args.disk.now in
+    let text = by_segments.text c.in-Ok.service c.args.start.number c.args.start.behind in
+    let known = replaced_known was (g.D.Disk.holds c.begin_segment.new.disk) (segment_file (folder_of c.args.words.now) c.args.start.number) (Some text) begun.file.put some in
+    let all = begun_lasts was (g.D.Grown.Grow.contents w.inner) (g.D.Grown.Grow.lasting w.inner) w.hasher text begun.file.journal some (c.in-Ok-begin_segment.ensures.lasts synced) in
     let last = c.in-Ok-serve_segments.last in
     let left = g.D.Disk.leaves c.close_segment.new.disk in
-    let there = front_left (g.D.Disk.leaves c.serve_segments.new.disk) left (string_bytes last.name) (g.D.Grown.Grow.lasting last.writer.inner) c.in-Err-close_segment.ensures.left in
-    inr (
-      _,
-      _,
-      record { service = c.in-Ok.service; begins = c.in-Ok.ensures.ok; begun = begun },
-      c.in-Ok-serve_segments.ensures.lasts synced known.0 known.1 left there,
-    )
+    let there = front_has (g.D.Disk.leaves c.serve_segments.new.disk) left (string_bytes last.name) (g.D.Grown.Grow.lasting last.writer.inner) c.in-Err-close_segment.ensures.left in
+    inr (_, _, record { service = c.in-Ok.service; begins = c.in-Ok.ensures.ok; begun = begun }, c.in-Ok-serve_segments.ensures.lasts synced known all left there)

@@ -1,14 +1,15 @@
 use Rattle.std.proofs.Common.{◌≡◌, ℕ, List, Option, Some, refl, sym, subst}
-use Rattle.std.specs.Prelude.{string_bytes}
+use Rattle.std.specs.Prelude.{IfSome}
 use Rattle.disks.specs.Held.{Held}
-use Rattle.segment_loop.proofs.Lasting.{last_is}
+use Rattle.disks.specs.Lasting.{HasFront, Leaves, LeavesFront}
+use Rattle.segment_loop.proofs.Lasting.{front_has}
 use Rattle.ring_serve.specs.declared.serving.Journal.{Journal}
 use Rattle.ring_serve.specs.Permits.{Terms}
 use Rattle.ring_serve.specs.Recovered.{AnsweredCallsAreRecovered}
 use Rattle.ring_serve.specs.Serving.{held_by, ServesAll}
 use Rattle.ring_serve.specs.Standings.{Standing}
-use Rattle.tool_parts.proofs.LeftFiles.{BeginsThere, front_left}
 use Rattle.serve_commands.specs.Served.{IsServedPart}
+use Rattle.serve_commands.proofs.BegunJournals.{told_of, closed_has}
 use Rattle.serve_commands.proofs.serve.serve_with_journal.Goals as goal
 
 -- what is recovered of a journal's writer, that began with these bytes, by these files
@@ -53,37 +54,41 @@ returns-clause-err g c = (
 -- ---- what a loss of power leaves
 
 pub returns-in-Err-clause-lasts : goal.returns-in-Err-clause-lasts
-unfolding part
-returns-in-Err-clause-lasts g c = λ all.
+returns-in-Err-clause-lasts g c = λ first had lasted.
     let kept = c.in-Some.field-0 in
-    let front = g.D.Grown.Grow.lasting kept.writer in
-    let left = g.D.Disk.leaves c.abandon.new.self in
-    let ended = g.D.Disk.holds c.serve-ended.new.disk in
-    let same = last_is (g.D.Grown.Grow.contents c.args.journal) (g.D.Grown.Grow.lasting c.args.journal) all in
+    let told = told_of g.D.Grown.Grow.lasting kept first c.in-Some.is lasted c.serve-ended.ensures.lasts in
+    let was = g.D.Disk.leaves c.serve-ended.new.disk in
+    let is = g.D.Disk.leaves c.abandon.new.self in
+    let front = subst (λ (n : List ℕ). LeavesFront was is n (g.D.Grown.Grow.lasting kept.writer)) c.requires.named c.abandon.ensures.left in
     record {
-      ended = ended;
-      part = part g.D.Grown.Grow.lasting kept (g.D.Grown.Grow.contents c.args.journal) ended c.in-Some.is same refl c.serve-ended.ensures.lasts;
-      left_is = subst (λ (n : List ℕ). BeginsThere left n front) c.requires.named
-      (front_left (g.D.Disk.leaves c.serve-ended.new.disk) left (string_bytes c.args.file) front c.abandon.ensures.left);
+      end = c.serve-ended.new.served;
+      ended = g.D.Disk.holds c.serve-ended.new.disk;
+      last = told.last;
+      served = told.served;
+      left_is = front_has was is c.args.name.now (Some told.last) (subst (λ (x : Option (List ℕ)). LeavesFront was is c.args.name.now x) told.has front);
     }
 
 pub returns-in-Ok-settle_journal-clause-lasts : goal.returns-in-Ok-settle_journal-clause-lasts
-unfolding part
-returns-in-Ok-settle_journal-clause-lasts g c = λ all.
-    let ended = g.D.Disk.holds c.serve-ended.new.disk in
+returns-in-Ok-settle_journal-clause-lasts g c = λ first had lasted.
+    let told = told_of g.D.Grown.Grow.contents c.in-Some.field-0 first c.in-Some.is had c.serve-ended.ensures.recovered in
+    let was = g.D.Disk.leaves c.serve-ended.new.disk in
+    let is = g.D.Disk.leaves c.settle_journal.new.disk in
     record {
-      ended = ended;
-      part = part g.D.Grown.Grow.contents c.in-Some.field-0 (g.D.Grown.Grow.contents c.args.journal) ended c.in-Some.is refl refl c.serve-ended.ensures.recovered;
-      left_is = c.in-Ok-settle_journal.ensures.lasts;
+      end = c.serve-ended.new.served;
+      ended = g.D.Disk.holds c.serve-ended.new.disk;
+      last = told.last;
+      served = told.served;
+      left_is = closed_has was is c.args.name.now told.last (subst (λ (x : Option (List ℕ)). Leaves was is c.args.name.now x) told.has c.in-Ok-settle_journal.ensures.lasts);
     }
 
 pub returns-clause-lasts : goal.returns-clause-lasts
-unfolding part
-returns-clause-lasts g c = λ all.
-    let ended = g.D.Disk.holds c.serve-ended.new.disk in
-    let same = last_is (g.D.Grown.Grow.contents c.args.journal) (g.D.Grown.Grow.lasting c.args.journal) all in
+returns-clause-lasts g c = λ first had lasted.
+    let told = told_of g.D.Grown.Grow.lasting c.in-Some.field-0 first c.in-Some.is lasted c.serve-ended.ensures.lasts in
+    let left = g.D.Disk.leaves c.settle_journal.new.disk in
     record {
-      ended = ended;
-      part = part g.D.Grown.Grow.lasting c.in-Some.field-0 (g.D.Grown.Grow.contents c.args.journal) ended c.in-Some.is same refl c.serve-ended.ensures.lasts;
-      left_is = c.in-Err-settle_journal.ensures.left;
+      end = c.serve-ended.new.served;
+      ended = g.D.Disk.holds c.serve-ended.new.disk;
+      last = told.last;
+      served = told.served;
+      left_is = subst (λ (x : Option (List ℕ)). IfSome left (λ (held : Held). HasFront held c.args.name.now x)) told.has c.in-Err-settle_journal.ensures.left;
     }
