@@ -2,4 +2,4 @@ pub mod JournalStarts
 pub mod Making
 pub mod ServeRefusals
 pub mod StillThere
-mod BegunJournals
+mod LastingJournals

@@ -2,7 +2,7 @@ use Rattle.std.proofs.Common.{Option, subst, inr, ◌∙◌}
 use Rattle.disks.specs.Held.{Held}
 use Rattle.serve_commands.specs.Served.{permits_of}
 use Rattle.serve_commands.specs.Lasting.{JournalLasts}
-use Rattle.serve_commands.proofs.BegunJournals.{opened_is}
+use Rattle.serve_commands.proofs.LastingJournals.{opened_is}
 use Rattle.serve_commands.proofs.serve.serve_begun.Goals as goal
 
 pub returns-in-Ok-serve_with_journal-clause-lasts : goal.returns-in-Ok-serve_with_journal-clause-lasts

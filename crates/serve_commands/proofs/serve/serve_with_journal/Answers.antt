@@ -9,7 +9,7 @@ use Rattle.ring_serve.specs.Recovered.{AnsweredCallsAreRecovered}
 use Rattle.ring_serve.specs.Serving.{held_by, ServesAll}
 use Rattle.ring_serve.specs.Standings.{Standing}
 use Rattle.serve_commands.specs.Served.{IsServedPart}
-use Rattle.serve_commands.proofs.BegunJournals.{told_of, closed_has}
+use Rattle.serve_commands.proofs.LastingJournals.{told_of, closed_has}
 use Rattle.serve_commands.proofs.serve.serve_with_journal.Goals as goal
 
 -- what is recovered of a journal's writer, that began with these bytes, by these files
