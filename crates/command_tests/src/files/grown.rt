@@ -15,6 +15,16 @@ fn expect_refused<D: Disk>(rt: &impl Abort, disk: &mut D, name: &str, kind: Erro
     assert!(rt; fault.kind() == kind);
 }
 
+/// Adds these bytes to a file.
+pub fn add<G: Grow>(rt: &impl Abort, grown: &mut G, bytes: &[u8]) {
+    assert!(rt; grown.add(bytes).is_ok());
+}
+
+/// Closes a file of this name.
+pub fn close<D: Disk>(rt: &impl Abort, disk: &mut D, grown: D::Grown, name: &str) {
+    assert!(rt; disk.close_synced(grown, name).is_ok());
+}
+
 #[test]
 fn a_file_grows_by_one_hand_alone(rt: HostRuntime) -> Result<(), Fail> {
     let folder = folder_of(&rt, "grown")?;
@@ -23,13 +33,13 @@ fn a_file_grows_by_one_hand_alone(rt: HostRuntime) -> Result<(), Fail> {
     expect_refused(&rt, &mut disk, &name, ErrorKind::NotFound);
     assert!(rt; disk.create(&name)?);
     let mut first = disk.grow(&name, true)?;
-    assert!(rt; first.add(b"one").is_ok());
+    add(&rt, &mut first, b"one");
     expect_bytes(&rt, &name, b"one")?;
     expect_refused(&rt, &mut disk, &name, ErrorKind::WouldBlock);
-    assert!(rt; disk.close_synced(first, &name).is_ok());
+    close(&rt, &mut disk, first, &name);
     let mut again = disk.grow(&name, false)?;
-    assert!(rt; again.add(b" two").is_ok());
-    assert!(rt; disk.close_synced(again, &name).is_ok());
+    add(&rt, &mut again, b" two");
+    close(&rt, &mut disk, again, &name);
     expect_bytes(&rt, &name, b"one two")?;
     expect_refused(&rt, &mut disk, &folder, ErrorKind::IsADirectory);
     expect_refused(&rt, &mut disk, "/dev/null", ErrorKind::InvalidInput);
@@ -44,11 +54,11 @@ fn a_file_that_is_let_go_keeps_what_was_added(rt: HostRuntime) -> Result<(), Fai
     let mut disk = SystemDisk::new(&rt);
     assert!(rt; disk.create(&name)?);
     let mut grown = disk.grow(&name, true)?;
-    assert!(rt; grown.add(b"one").is_ok());
+    add(&rt, &mut grown, b"one");
     disk.abandon(grown, within(&rt, &folder, "a")?);
     expect_bytes(&rt, &name, b"one")?;
     let again = disk.grow(&name, false)?;
-    assert!(rt; disk.close_synced(again, &name).is_ok());
+    close(&rt, &mut disk, again, &name);
     expect_count(&rt, &folder, 1)?;
     Ok(())
 }
@@ -58,10 +68,10 @@ fn a_grown_file_in_memory_holds_what_was_written(rt: HostRuntime) -> Result<(), 
     let mut disk = no_files(rt.alloc());
     put(&mut disk, "a", b"one")?;
     let mut grown = disk.grow("a", true)?;
-    assert!(rt; grown.add(b" two").is_ok());
+    add(&rt, &mut grown, b" two");
     let held = bytes_of(rt.alloc(), &disk, "a")?;
     assert!(rt; held.as_slice() == b"one".as_slice());
-    assert!(rt; disk.close_synced(grown, "a").is_ok());
+    close(&rt, &mut disk, grown, "a");
     let held = bytes_of(rt.alloc(), &disk, "a")?;
     assert!(rt; held.as_slice() == b"one two".as_slice());
     expect_refused(&rt, &mut disk, "b", ErrorKind::NotFound);

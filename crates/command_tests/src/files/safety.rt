@@ -1,10 +1,11 @@
 //! What could rob a file of the system: somebody who writes it, links that lead nowhere, parts and long names.
 
+use crate::files::grown::{add, close};
 use crate::files::memory::put;
 use crate::files::system::{
     expect, expect_bytes, expect_count, folder_of, link_in, put_in, within, write_in,
 };
-use disks::{Disk, Grow, SystemDisk};
+use disks::{Disk, SystemDisk};
 use std::fs;
 use std::io::{ErrorKind, Write};
 use std::test::Fail;
@@ -22,7 +23,7 @@ fn a_file_that_somebody_grows_is_not_replaced(rt: HostRuntime) -> Result<(), Fai
     };
     assert!(rt; fault.kind() == ErrorKind::WouldBlock);
     expect_bytes(&rt, &name, b"noted")?;
-    assert!(rt; other.close_synced(grown, &name).is_ok());
+    close(&rt, &mut other, grown, &name);
     put(&mut disk, &name, b"new")?;
     expect_bytes(&rt, &name, b"new")?;
     expect_count(&rt, &folder, 1)?;
@@ -38,8 +39,8 @@ fn whoever_grows_a_file_may_replace_it(rt: HostRuntime) -> Result<(), Fail> {
     let lock = disk.grow(&name, false)?;
     put(&mut disk, &name, b"new")?;
     let mut again = disk.grow(&name, false)?;
-    assert!(rt; again.add(b" and more").is_ok());
-    assert!(rt; disk.close_synced(again, &name).is_ok());
+    add(&rt, &mut again, b" and more");
+    close(&rt, &mut disk, again, &name);
     drop(lock);
     expect_bytes(&rt, &name, b"new and more")?;
     expect_count(&rt, &folder, 1)?;
