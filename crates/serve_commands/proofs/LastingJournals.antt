@@ -1,5 +1,5 @@
 -- A journal in a file, all of which lasts.
-use Rattle.std.proofs.Common.{◌≡◌, ℕ, List, [], Option, None, Some, refl, sym, ap, subst, ◌∙◌}
+use Rattle.std.proofs.Common.{◌≡◌, ℕ, List, [], ◌++◌, Option, None, Some, refl, sym, ap, subst, ◌∙◌}
 use Rattle.std.specs.Prelude.{IfSome}
 use Rattle.std.specs.Io.KnownBytes.{Appends}
 use Rattle.std.proofs.lemmas.List.{append-nil}
@@ -12,9 +12,12 @@ use Rattle.ring_serve.specs.Serving.{held_by}
 use Rattle.ring_serve.specs.Standings.{Standing}
 use Rattle.segment_loop.proofs.Lasting.{appended_known}
 
+none_some : (m : List ℕ) → None ≡ Some m → ⊥
+none_some m e = cc
+
 -- what a file holds that was opened to be written at its end
 pub opened_is : (files : Option Held) (name first : List ℕ) (contents : Option (List ℕ)) → Grows files name contents → bytes_in files name ≡ Some first → contents ≡ Some first
-opened_is None name first contents h e = cc
+opened_is None name first contents h e = absurd (none_some first e)
 opened_is (Some held) name first contents h e = h.2 ∙ (sym h.1 ∙ e)
 
 -- what is left of a file that was closed
@@ -35,7 +38,7 @@ pub told_of : {J : Type 0} (view : J → Option (List ℕ)) {terms : Terms} {sta
 told_of {J} view {terms} {start} {end} {before} {after} {was} {is} {old} {new} {had} {journal} kept first e f h =
     let moved = subst (λ (j : Option (Journal J)). AnsweredCallsAreRecovered terms start end before after was is (record { journal = Some first; out = old }) (record { journal = held_by view j; out = new })) e
     (subst (λ (x : Option (List ℕ)). AnsweredCallsAreRecovered terms start end before after was is (record { journal = x; out = old }) (record { journal = held_by view journal; out = new })) f h) in
-    let known = appended_known (Some first) (view kept.writer) first _ refl moved.ended.wrote_notes in
+    let known = appended_known (Some first) (view kept.writer) first (moved.ended.noted ++ moved.ended.front) refl moved.ended.wrote_notes in
     record {
       last = known.0;
       has = known.1;

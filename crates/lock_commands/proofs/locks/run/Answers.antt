@@ -36,12 +36,12 @@ returns-clause-err g c =
 
 pub returns-in-Err-run_in_folder-clause-lasts : goal.returns-in-Err-run_in_folder-clause-lasts
 returns-in-Err-run_in_folder-clause-lasts g c = λ synced some.
-    inr (c.in-Ok-holders_of.holders.items, c.in-Ok-holders_of.ensures.ok, rw c.as_slice.ensures.value at c.run_in_folder.ensures.lasts synced some)
+    inr (c.in-Ok-holders_of.holders.items, c.in-Ok-holders_of.ensures.ok, rw c.as_slice.ensures.value at (c.run_in_folder.ensures.lasts synced some))
 
 pub returns-in-Ok-tell_totals-clause-lasts : goal.returns-in-Ok-tell_totals-clause-lasts
 returns-in-Ok-tell_totals-clause-lasts g c = λ synced some.
-    inr (c.in-Ok-holders_of.holders.items, c.in-Ok-holders_of.ensures.ok, rw c.as_slice.ensures.value at c.run_in_folder.ensures.lasts synced some)
+    inr (c.in-Ok-holders_of.holders.items, c.in-Ok-holders_of.ensures.ok, rw c.as_slice.ensures.value at (c.run_in_folder.ensures.lasts synced some))
 
 pub returns-clause-lasts : goal.returns-clause-lasts
 returns-clause-lasts g c = λ synced some.
-    inr (c.in-Ok-holders_of.holders.items, c.in-Ok-holders_of.ensures.ok, rw c.as_slice.ensures.value at c.run_in_folder.ensures.lasts synced some)
+    inr (c.in-Ok-holders_of.holders.items, c.in-Ok-holders_of.ensures.ok, rw c.as_slice.ensures.value at (c.run_in_folder.ensures.lasts synced some))
