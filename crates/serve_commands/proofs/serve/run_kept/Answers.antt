@@ -49,5 +49,5 @@ returns-in-Err-clause-lasts g c = λ synced some.
 pub returns-in-Ok-run_with_journal-clause-lasts : goal.returns-in-Ok-run_with_journal-clause-lasts
 returns-in-Ok-run_with_journal-clause-lasts g c = λ synced some. inr (c.run_with_journal.ensures.lasts synced some)
 
-pub returns-clause-lasts : goal.returns-clause-lasts
-returns-clause-lasts g c = λ synced some. inr (c.run_with_journal.ensures.lasts synced some)
+pub returns-in-Err-run_with_journal-clause-lasts : goal.returns-in-Err-run_with_journal-clause-lasts
+returns-in-Err-run_with_journal-clause-lasts g c = λ synced some. inr (c.run_with_journal.ensures.lasts synced some)

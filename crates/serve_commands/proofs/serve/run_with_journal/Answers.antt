@@ -48,8 +48,11 @@ broken permits name start before begun after was is old new e put (inr h) = inr 
 )
 
 -- there is no memory for the name
-pub returns-in-default-clause-err : goal.returns-in-default-clause-err
-returns-in-default-clause-err g c = inl ((refl, refl), inl (as_before (g.D.Disk.holds c.args.disk.now)), inl (inr tt))
+pub returns-in_default-clause-err : goal.returns-in_default-clause-err
+returns-in_default-clause-err g c = inl ((refl, refl), inl (as_before (g.D.Disk.holds c.args.disk.now)), inl (inr tt))
+
+pub returns-in-Err-clause-err : goal.returns-in-Err-clause-err
+returns-in-Err-clause-err g c = inl ((refl, refl), c.in-Err.ensures.kept, c.in-Err.ensures.err)
 
 pub returns-in-Ok-ended-clause-ok : goal.returns-in-Ok-ended-clause-ok
 returns-in-Ok-ended-clause-ok g c =

@@ -45,8 +45,8 @@ returns-in-Ok-settle_journal-clause-ok g c = record {
   settled = c.in-Ok-settle_journal.ensures.ok;
 }
 
-pub returns-clause-err : goal.returns-clause-err
-returns-clause-err g c = (
+pub returns-in-Err-settle_journal-clause-err : goal.returns-in-Err-settle_journal-clause-err
+returns-in-Err-settle_journal-clause-err g c = (
   c.in-Err-settle_journal.ensures.err,
   part g.D.Grown.Grow.contents c.in-Some.field-0 (g.D.Grown.Grow.contents c.args.journal) (g.D.Disk.holds c.settle_journal.new.disk) c.in-Some.is refl c.in-Err-settle_journal.ensures.kept c.serve-ended.ensures.recovered,
 )
@@ -81,8 +81,8 @@ returns-in-Ok-settle_journal-clause-lasts g c = λ first had lasted.
       left_is = closed_has was is c.args.name.now told.last (subst (λ (x : Option (List ℕ)). Leaves was is c.args.name.now x) told.has c.in-Ok-settle_journal.ensures.lasts);
     }
 
-pub returns-clause-lasts : goal.returns-clause-lasts
-returns-clause-lasts g c = λ first had lasted.
+pub returns-in-Err-settle_journal-clause-lasts : goal.returns-in-Err-settle_journal-clause-lasts
+returns-in-Err-settle_journal-clause-lasts g c = λ first had lasted.
     let told = told_of g.D.Grown.Grow.lasting c.in-Some.field-0 first c.in-Some.is lasted c.serve-ended.ensures.lasts in
     let left = g.D.Disk.leaves c.settle_journal.new.disk in
     record {
