@@ -5,8 +5,8 @@ power.c writes down what they do with their files. Of that is made what a loss o
 part (cuts/disk.py). They start with it, and a reader that shares no code with them looks for all that was told. So for `serve` with a file
 and with a folder, for `locks`, and for wozgirt-server with a log that keeps its power: CUTS cuts in all, 500 without a word.
 
-The trial is tried too: where syncs of files, of folders or of both do nothing, where they come behind the answer, and with --no-sync, it
-has to find what is missing.
+Some are made where syncs fail. The trial is tried too: where syncs of files, of folders or of both do nothing, where they come behind the
+answer, and with --no-sync, it has to find what is missing.
 NAMEs are those of single parts, as a failure prints them. The last line is `N passed, M failed`."""
 
 import multiprocessing
@@ -34,9 +34,8 @@ SERVICES = {"file": (300, 25), "folder": (300, 25), "locks": (300, 25), "host": 
 #: what is done wrong: syncs that do nothing, of files (f) and folders (d), or that come behind the answer (l); and words of the engine
 MISTAKES = {"syncs-of-files": ("f", ()), "syncs-of-folders": ("d", ()), "syncs": ("fd", ()), "syncs-in-time": ("l", ()),
             "the-word": ("", ("--no-sync",))}
-#: syncs that fail: nothing that was told may be missing then. The engine passes over a failed sync of a folder, so these parts are
-#: played by their names alone: file-with-failing-files-0 and so on
-FAILING = {"files": "f", "folders": "d"}
+#: syncs that fail from some moment on, for so many of a thousand cuts each: nothing that was told may be missing then
+FAILING, FAILED = {"files": "f", "folders": "d"}, 40
 #: a mistake has to be found in so many cuts, which begin anew where something else is wrong
 ENOUGH, AGAIN = 100, 10
 
@@ -58,19 +57,15 @@ class Part:
 
 
 def parts(cuts):
-    """The parts of so many cuts, longest first, and those with mistakes."""
+    """The parts of so many cuts, longest first, those with syncs that fail, and those with mistakes."""
     found = []
     for service, (share, each) in SERVICES.items():
         left = max(1, cuts * share // 1000)
         found += [Part(service, "", at // each, min(each, left - at)) for at in range(0, left, each)]
+    found += [Part(service, "", 0, max(1, cuts * FAILED // 1000), kind) for service in SERVICES if service != "host" for kind in FAILING]
     for mistake, (losing, _) in MISTAKES.items():
         found += [Part(service, mistake, 0, ENOUGH) for service in SERVICES if service != "host" or losing not in ("", "l")]
     return sorted(found, key=lambda it: it.service != "host")
-
-
-def parts_by_name():
-    """Those that are played if they are named."""
-    return [Part(service, "", 0, ENOUGH, kind) for service in SERVICES if service != "host" for kind in FAILING]
 
 
 def trial_of(part, layer, draw, room):
@@ -168,7 +163,7 @@ def main(cuts="500", seed=None, *names):
         if not library:
             print("skipped: power: there is no C compiler\n0 passed, 0 failed")
             return 0
-        chosen = [it for it in [*parts(int(cuts)), *parts_by_name()] if str(it) in names] if names else parts(int(cuts))
+        chosen = [it for it in parts(int(cuts)) if not names or str(it) in names]
         jobs = [(part, seed, library) for part in chosen]
         with multiprocessing.Pool(min(len(jobs), len(os.sched_getaffinity(0)))) as pool:
             ended = list(pool.imap_unordered(play, jobs))

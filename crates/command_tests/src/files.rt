@@ -3,6 +3,7 @@
 mod folders;
 mod grown;
 mod joins;
+mod losing;
 pub mod memory;
 mod replacing;
 mod safety;

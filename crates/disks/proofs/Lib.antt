@@ -1,3 +1,4 @@
 pub mod Finding
 mod Listing
 mod Growing
+mod Lasting

@@ -4,3 +4,4 @@ pub mod Folders
 pub mod Lasting
 pub mod Calls
 pub mod GrownFile
+pub mod Left

@@ -1,6 +1,6 @@
 //! A file that is written at its end, under a lock.
 
-ghost use Rattle.std.specs.Prelude.{◌≡◌, ℕ, List, Option, None, Bool, true, false, if◌then◌else◌, OnOk};
+ghost use Rattle.std.specs.Prelude.{◌≡◌, ℕ, List, Option, None, Bool, true, false, if◌then◌else◌, IfOk, OnOk};
 ghost use Rattle.std.specs.Io.{WritesAtMost};
 ghost use Rattle.std.specs.Io.KnownBytes.{WriteAppends, Keeps};
 ghost use Rattle.std.proofs.Props.{props};
@@ -8,8 +8,7 @@ ghost use Rattle.disks.specs.Calls.{Syncs};
 ghost use Rattle.disks.specs.Lasting.{Adds};
 
 use crate::grow::Grow;
-use crate::part::sync_folder;
-use crate::same_file::{FileId, file_id, leads_to};
+use crate::same_file::leads_to;
 use std::fs::{self, File, OpenOptions, TryLockError};
 use std::io::{self, ErrorKind, Write};
 use std::rt::Files;
@@ -102,6 +101,31 @@ fn put_all<F: EndFile>(file: &mut F, bytes: &[u8]) -> Result<(), usize>
     Ok(())
 }
 
+/// Puts the bytes of a file that is not synced on the disk, once this many are not there. Answers how many are not there then.
+fn sync_ahead<F: EndFile>(file: &mut F, behind: u64) -> io::Result<u64>
+    ensures written { F.EndFile.written file.new ≡ F.EndFile.written file.old }
+    ensures sound { OnOk result (F.EndFile.is_sound file.new ≡ F.EndFile.is_sound file.old) }
+{
+    if behind <= AHEAD {
+        return Ok(behind);
+    }
+    file.sync()?;
+    Ok(0)
+}
+
+/// Puts a file on the disk, if that is asked.
+fn sync_asked<F: EndFile>(file: &mut F, synced: bool) -> io::Result<()>
+    ensures written { F.EndFile.written file.new ≡ F.EndFile.written file.old }
+    ensures sound { OnOk result (F.EndFile.is_sound file.new ≡ F.EndFile.is_sound file.old) }
+    ensures synced { OnOk result (synced ≡ true → F.EndFile.is_sound file.old ≡ true
+        → F.EndFile.on_disk file.new ≡ F.EndFile.written file.new) }
+{
+    if !synced {
+        return Ok(());
+    }
+    file.sync_whole()
+}
+
 impl<F: EndFile> Grow for GrownFile<F> {
     ghost contents = { λ g. F.EndFile.written g.file };
 
@@ -118,13 +142,11 @@ impl<F: EndFile> Grow for GrownFile<F> {
                 return Err(bytes.len());
             }
         } else {
-            self.behind = self.behind.saturating_add(bytes.len() as u64);
-            if self.behind > AHEAD {
-                if self.file.sync().is_err() {
-                    return Err(bytes.len());
-                }
-                self.behind = 0;
-            }
+            let behind = self.behind.saturating_add(bytes.len() as u64);
+            let Ok(after) = sync_ahead(&mut self.file, behind) else {
+                return Err(bytes.len());
+            };
+            self.behind = after;
         }
         self.failed = false;
         Ok(())
@@ -133,6 +155,41 @@ impl<F: EndFile> Grow for GrownFile<F> {
 
 impl<F: EndFile> GrownFile<F> {
     ghost use Rattle.disks.specs.GrownFile.{file_of, is_synced};
+
+    /// A file that was opened, to be added to. With `synced` it is put on the disk, and all that is added.
+    pub(crate) fn begin(mut file: F, synced: bool) -> io::Result<GrownFile<F>>
+    where
+        F: Drop,
+        requires { F.EndFile.is_sound file ≡ true }
+        ensures written { IfOk result (λ grown.
+            F.EndFile.written (file_of grown) ≡ F.EndFile.written file) }
+        ensures mode { IfOk result (λ grown. is_synced grown ≡ synced) }
+        ensures settled { IfOk result (λ grown. synced ≡ true
+            → F.EndFile.on_disk (file_of grown) ≡ F.EndFile.written file) }
+    {
+        sync_asked(&mut file, synced)?;
+        Ok(GrownFile {
+            file,
+            synced,
+            behind: 0,
+            failed: false,
+        })
+    }
+
+    /// The file that is written.
+    pub(crate) fn file(&self) -> &F
+        ensures { result.now ≡ file_of self.now }
+    {
+        &self.file
+    }
+
+    /// The file, to be let go.
+    pub(crate) fn into_file(self) -> F
+        ensures { result ≡ file_of self }
+    {
+        let GrownFile { file, .. } = self;
+        file
+    }
 
     /// Puts all written bytes on the disk, with all that is known of the file.
     pub(crate) fn settle(&mut self) -> io::Result<()>
@@ -157,18 +214,6 @@ impl<F: EndFile> GrownFile<F> {
     }
 }
 
-impl GrownFile<File> {
-    /// What tells it from each other file.
-    pub(crate) fn id(&self) -> io::Result<FileId> {
-        Ok(file_id(&self.file.metadata()?))
-    }
-
-    /// Whether this name leads to it.
-    pub(crate) fn is_at<R: Files>(&self, files: &R, name: &str) -> bool {
-        matches!(leads_to(files, name, &self.file), Ok(true))
-    }
-}
-
 /// Locks a file, without waiting.
 fn lock(file: &File) -> io::Result<()> {
     match file.try_lock() {
@@ -179,12 +224,7 @@ fn lock(file: &File) -> io::Result<()> {
 }
 
 /// Opens a regular file to be written at its end, and locks it. One that was replaced meanwhile is in use by whoever did that.
-/// With `synced` it is put on the disk, under its name.
-pub(crate) fn grown<R: Files<File = File> + AllocGlobal>(
-    files: &R,
-    name: &str,
-    synced: bool,
-) -> io::Result<GrownFile<File>> {
+pub(crate) fn opened_end<R: Files<File = File>>(files: &R, name: &str) -> io::Result<File> {
     let file = OpenOptions::new()
         .read(true)
         .append(true)
@@ -193,20 +233,10 @@ pub(crate) fn grown<R: Files<File = File> + AllocGlobal>(
         return Err(io::Error::from(ErrorKind::InvalidInput));
     }
     lock(&file)?;
-    if !leads_to(files, name, &file)? {
-        return Err(io::Error::from(ErrorKind::WouldBlock));
+    if leads_to(files, name, &file)? {
+        return Ok(file);
     }
-    if synced {
-        file.sync_all()?;
-        let target = fs::canonicalize(files, name)?.into_string();
-        sync_folder(files, target.as_str())?;
-    }
-    Ok(GrownFile {
-        file,
-        synced,
-        behind: 0,
-        failed: false,
-    })
+    Err(io::Error::from(ErrorKind::WouldBlock))
 }
 
 /// Removes the regular file of this name, if it holds nothing and nobody writes at its end. Answers whether it did.

@@ -1,21 +1,27 @@
 //! Files and folders by their names: the operations of a program on them, and what is there afterwards.
 #![tactic(auto)]
 
+mod calls;
 mod descriptors;
 mod disk;
 mod grow;
 mod grown;
+mod losing;
 mod memory;
 mod part;
 mod replacing;
 mod same_file;
 mod system;
+mod system_calls;
 
+pub use calls::FileCalls;
 pub use descriptors::take_low;
 pub use disk::{Disk, FolderEntry};
 pub use grow::Grow;
 pub use grown::{EndFile, GrownFile};
+pub use losing::{Left, LosingCalls, LosingDisk, LosingEnd};
 pub use memory::{MemoryDisk, Stored, StoredEntry};
 pub use part::NewFile;
 pub use replacing::{Contents, ContentsFault, ReplaceFault, replace};
 pub use system::SystemDisk;
+pub use system_calls::SystemCalls;

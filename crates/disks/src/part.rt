@@ -55,6 +55,14 @@ impl<R: Files> Write for NewFile<'_, R> {
 }
 
 impl<R: Files<File = File>> NewFile<'_, R> {
+    /// Puts its bytes on the disk. What is no regular file has them as they are written.
+    pub(crate) fn sync(&self) -> io::Result<()> {
+        if self.beside.is_none() {
+            return Ok(());
+        }
+        self.file.sync_all()
+    }
+
     /// Puts it into the place of its target, if this is the name that it was made for. A target that somebody writes at its end
     /// is not replaced, unless it is `own`.
     pub(crate) fn put(self, name: &str, own: Option<FileId>) -> io::Result<()> {
@@ -70,10 +78,11 @@ impl<R: Files<File = File>> NewFile<'_, R> {
         let Some(beside) = beside else {
             return Ok(());
         };
-        let done = put_beside(files, &file, &beside, own);
+        let done = renamed(files, &beside, own);
         if done.is_err() {
             let _ = fs::remove_file(files, beside.part.as_str());
         }
+        drop(file);
         done
     }
 }
@@ -102,19 +111,17 @@ fn locked_target<R: Files<File = File>>(
     }
 }
 
-/// Syncs the file, under its target's name.
-fn put_beside<R: Files<File = File>>(
+/// Renames a part to its target.
+fn renamed<R: Files<File = File>>(
     files: &R,
-    file: &File,
     beside: &Beside,
     own: Option<FileId>,
 ) -> io::Result<()> {
-    file.sync_all()?;
     let old = locked_target(files, beside.target.as_str(), own)?;
     let done = fs::rename(files, beside.part.as_str(), beside.target.as_str());
     drop(old);
     if done.is_ok() {
-        // The file is in its place by then, so a fault of the folder is not one of the file.
+        // The file is in its place by then, so a fault of the folder is not one of the file: whoever grows it asks again.
         let _ = sync_folder(files, beside.target.as_str());
     }
     done

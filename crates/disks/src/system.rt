@@ -1,123 +1,138 @@
-//! The system's files.
+//! The files of a system, by its calls.
 
-use crate::descriptors::is_standard;
+ghost use Rattle.std.specs.Prelude.{◌≡◌, IfErr, OnOk, OnErr};
+ghost use Rattle.disks.specs.Held.{Replaces};
+ghost use Rattle.disks.specs.Lasting.{Leaves};
+ghost use Rattle.disks.specs.GrownFile.{file_of};
+
+use crate::calls::FileCalls;
 use crate::disk::{Disk, FolderEntry};
-use crate::grown::{GrownFile, grown, removed_empty};
-use crate::part::{NewFile, made_for};
-use crate::same_file::{FileId, end_of_links, file_id, folder_of};
-use std::fs::{self, File};
-use std::io::{self, ErrorKind};
-use std::rt::Files;
+use crate::grown::GrownFile;
+use crate::system_calls::SystemCalls;
+use std::io;
 
-/// The system's files. Nothing is said of their content.
+/// The files of a system, by its calls: what these say of files, it says too.
 ///
-/// A regular file is replaced as a whole: the new one lies in the same folder, as `.wozgirt.part` (with a number after it if
-/// another is being made), and is renamed. Any other target (a device or a pipe) is written as it is.
+/// A regular file is replaced as a whole: the new one lies in the same folder, is put on the disk, and is renamed. Its name is put
+/// there when it is opened to be grown.
 #[derive(Drop)]
-pub struct SystemDisk<'a, R> {
-    files: &'a R,
-    /// The file that was opened last to be written at its end.
-    own: Option<FileId>,
+pub struct SystemDisk<C> {
+    calls: C,
 }
 
-impl<'a, R> SystemDisk<'a, R> {
-    /// The files of this system.
-    pub fn new(files: &'a R) -> SystemDisk<'a, R> {
-        SystemDisk { files, own: None }
+impl<'a, R> SystemDisk<SystemCalls<'a, R>> {
+    /// The files of this system. Nothing is said of their content.
+    pub fn new(files: &'a R) -> SystemDisk<SystemCalls<'a, R>> {
+        SystemDisk {
+            calls: SystemCalls::new(files),
+        }
     }
 }
 
-impl<'a, R: Files<File = File> + AllocGlobal> Disk for SystemDisk<'a, R> {
-    type Reader = File;
+impl<C> SystemDisk<C> {
+    /// The files of the system that has these calls.
+    pub fn over(calls: C) -> SystemDisk<C> {
+        SystemDisk { calls }
+    }
 
-    type New = NewFile<'a, R>;
+    /// The calls of the system.
+    pub fn into_calls(self) -> C {
+        let SystemDisk { calls } = self;
+        calls
+    }
+}
 
-    type Grown = GrownFile<File>;
+/// Ends writing to a file of which all is on the disk, or gives it back.
+fn close_settled<C: FileCalls>(
+    calls: &mut C,
+    grown: GrownFile<C::End>,
+    name: &str,
+) -> Result<(), GrownFile<C::End>>
+    ensures closed { OnOk result (Replaces (C.holds calls.old) (C.holds calls.new) name.now
+        (C.End.written (file_of grown))) }
+    ensures kept { OnErr result (C.holds calls.new ≡ C.holds calls.old) }
+    ensures lasts { OnOk result (Leaves (C.leaves calls.old) (C.leaves calls.new) name.now
+        (C.End.on_disk (file_of grown))) }
+    ensures left { OnErr result (C.leaves calls.new ≡ C.leaves calls.old) }
+    ensures given { IfErr result (λ back. back ≡ grown) }
+{
+    match calls.close(grown.file(), name) {
+        Ok(()) => Ok(()),
+        Err(_) => Err(grown),
+    }
+}
 
-    fn open(&self, name: &str) -> io::Result<File> {
-        let file = fs::open(self.files, name)?;
-        if file.metadata()?.is_dir() {
-            return Err(io::Error::from(ErrorKind::IsADirectory));
-        }
-        Ok(file)
+impl<C: FileCalls> Disk for SystemDisk<C> {
+    type Reader = C::Reader;
+
+    type New = C::Part;
+
+    type Grown = GrownFile<C::End>;
+
+    ghost holds = { λ disk. C.holds disk.calls };
+
+    ghost leaves = { λ disk. C.leaves disk.calls };
+
+    fn open(&self, name: &str) -> io::Result<C::Reader> {
+        self.calls.open(name)
     }
 
     fn is_one_file(&self, one: &str, other: &str) -> io::Result<bool> {
-        let one = fs::metadata(self.files, one)?;
-        match fs::metadata(self.files, other) {
-            Ok(other) => Ok(file_id(&one) == file_id(&other)),
-            Err(e) if e.kind() == ErrorKind::NotFound => Ok(false),
-            Err(e) => Err(e),
-        }
+        self.calls.is_one_file(one, other)
     }
 
     fn is_standard(&self, name: &str) -> io::Result<bool> {
-        match fs::metadata(self.files, name) {
-            Ok(there) => Ok(is_standard(self.files, &there)),
-            Err(e) if e.kind() == ErrorKind::NotFound => {
-                let target = end_of_links(self.files, name)?;
-                fs::metadata(self.files, folder_of(target.as_str()))?;
-                Ok(false)
-            }
-            Err(e) => Err(e),
-        }
+        self.calls.is_standard(name)
     }
 
     fn list(&self, folder: &str) -> io::Result<Vec<FolderEntry>> {
-        let mut names = Vec::new(self.files.alloc());
-        for entry in fs::read_dir(&self.files, folder)? {
-            let entry = entry?;
-            names.push(FolderEntry {
-                name: String::from_str(self.files.alloc(), entry.file_name())?,
-                is_regular: entry.file_type()?.is_file(),
-            })?;
+        self.calls.list(folder)
+    }
+
+    fn make(&mut self, name: &str) -> io::Result<C::Part> {
+        self.calls.create_part(name)
+    }
+
+    fn finish(&mut self, mut made: C::Part, name: &str) -> io::Result<()> {
+        // A name that lasts is to have all of the bytes.
+        match self.calls.sync_part(&mut made) {
+            Ok(()) => self.calls.rename(made, name),
+            Err(error) => Err(error),
         }
-        Ok(names)
-    }
-
-    fn make(&mut self, name: &str) -> io::Result<NewFile<'a, R>> {
-        made_for(self.files, name)
-    }
-
-    fn finish(&mut self, made: NewFile<'a, R>, name: &str) -> io::Result<()> {
-        made.put(name, self.own)
     }
 
     fn create(&mut self, name: &str) -> io::Result<bool> {
-        match fs::metadata(self.files, name) {
-            Ok(there) if there.is_dir() => return Err(io::Error::from(ErrorKind::IsADirectory)),
-            Ok(_) => return Ok(false),
-            Err(e) if e.kind() == ErrorKind::NotFound => {}
-            Err(e) => return Err(e),
-        }
-        let target = end_of_links(self.files, name)?;
-        match File::create_new(self.files, target.as_str()) {
-            Ok(_) => Ok(true),
-            Err(e) if e.kind() == ErrorKind::AlreadyExists => Ok(false),
-            Err(e) => Err(e),
-        }
+        self.calls.create_empty(name)
     }
 
     fn discard(&mut self, name: &str) -> io::Result<bool> {
-        match fs::metadata(self.files, name) {
-            Ok(there) if there.is_file() => removed_empty(self.files, name),
-            Err(e) if e.kind() != ErrorKind::NotFound => Err(e),
-            _ => Ok(false),
+        self.calls.remove_empty(name)
+    }
+
+    fn grow(&mut self, name: &str, synced: bool) -> io::Result<GrownFile<C::End>> {
+        let end = self.calls.open_end(name)?;
+        let grown = GrownFile::begin(end, synced)?;
+        if !synced {
+            return Ok(grown);
+        }
+        match self.calls.sync_name(grown.file(), name) {
+            Ok(()) => Ok(grown),
+            Err(fault) => Err(fault),
         }
     }
 
-    fn grow(&mut self, name: &str, synced: bool) -> io::Result<GrownFile<File>> {
-        let file = grown(self.files, name, synced)?;
-        self.own = Some(file.id()?);
-        Ok(file)
-    }
-
-    fn close_synced(&mut self, mut grown: GrownFile<File>, name: &str) -> Result<(), GrownFile<File>> {
-        if grown.settle().is_err() || !grown.is_at(self.files, name) {
-            return Err(grown);
+    fn close_synced(
+        &mut self,
+        mut grown: GrownFile<C::End>,
+        name: &str,
+    ) -> Result<(), GrownFile<C::End>> {
+        match grown.settle() {
+            Ok(()) => close_settled(&mut self.calls, grown, name),
+            Err(_) => Err(grown),
         }
-        Ok(())
     }
 
-    fn abandon(&mut self, _grown: GrownFile<File>, _name: String) {}
+    fn abandon(&mut self, grown: GrownFile<C::End>, name: String) {
+        self.calls.let_go(grown.into_file(), name);
+    }
 }

@@ -1,0 +1,145 @@
+//! The calls of this system. No contract of theirs names a file, so they are what is trusted of it.
+
+ghost use Rattle.std.specs.Prelude.{None};
+
+use crate::calls::FileCalls;
+use crate::descriptors::is_standard;
+use crate::disk::FolderEntry;
+use crate::grown::{opened_end, removed_empty};
+use crate::part::{NewFile, made_for, sync_folder};
+use crate::same_file::{FileId, end_of_links, file_id, folder_of, leads_to};
+use std::fs::{self, File};
+use std::io::{self, ErrorKind};
+use std::rt::Files;
+
+/// The calls of this system. Nothing is said of the content of its files.
+///
+/// A new file is `.wozgirt.part` (with a number after it if another is being made in that folder). A target that is not a regular
+/// file (a device or a pipe) is written as it is.
+#[derive(Drop)]
+pub struct SystemCalls<'a, R> {
+    files: &'a R,
+    /// The file that was opened last to be written at its end.
+    own: Option<FileId>,
+}
+
+impl<'a, R> SystemCalls<'a, R> {
+    pub(crate) fn new(files: &'a R) -> SystemCalls<'a, R> {
+        SystemCalls { files, own: None }
+    }
+}
+
+/// Syncs the folder of an open file, if this name leads to it.
+fn sync_folder_of<R: Files<File = File> + AllocGlobal>(
+    files: &R,
+    file: &File,
+    name: &str,
+) -> io::Result<()> {
+    if !leads_to(files, name, file)? {
+        return Err(io::Error::from(ErrorKind::NotFound));
+    }
+    let target = fs::canonicalize(files, name)?.into_string();
+    sync_folder(files, target.as_str())
+}
+
+impl<'a, R: Files<File = File> + AllocGlobal> FileCalls for SystemCalls<'a, R> {
+    type Reader = File;
+
+    type Part = NewFile<'a, R>;
+
+    type End = File;
+
+    ghost settled = { λ _. None };
+
+    fn open(&self, name: &str) -> io::Result<File> {
+        let file = fs::open(self.files, name)?;
+        if file.metadata()?.is_dir() {
+            return Err(io::Error::from(ErrorKind::IsADirectory));
+        }
+        Ok(file)
+    }
+
+    fn is_one_file(&self, one: &str, other: &str) -> io::Result<bool> {
+        let one = fs::metadata(self.files, one)?;
+        match fs::metadata(self.files, other) {
+            Ok(other) => Ok(file_id(&one) == file_id(&other)),
+            Err(e) if e.kind() == ErrorKind::NotFound => Ok(false),
+            Err(e) => Err(e),
+        }
+    }
+
+    fn is_standard(&self, name: &str) -> io::Result<bool> {
+        match fs::metadata(self.files, name) {
+            Ok(there) => Ok(is_standard(self.files, &there)),
+            Err(e) if e.kind() == ErrorKind::NotFound => {
+                let target = end_of_links(self.files, name)?;
+                fs::metadata(self.files, folder_of(target.as_str()))?;
+                Ok(false)
+            }
+            Err(e) => Err(e),
+        }
+    }
+
+    fn list(&self, folder: &str) -> io::Result<Vec<FolderEntry>> {
+        let mut names = Vec::new(self.files.alloc());
+        for entry in fs::read_dir(&self.files, folder)? {
+            let entry = entry?;
+            names.push(FolderEntry {
+                name: String::from_str(self.files.alloc(), entry.file_name())?,
+                is_regular: entry.file_type()?.is_file(),
+            })?;
+        }
+        Ok(names)
+    }
+
+    fn create_part(&self, name: &str) -> io::Result<NewFile<'a, R>> {
+        made_for(self.files, name)
+    }
+
+    fn sync_part(&self, part: &mut NewFile<'a, R>) -> io::Result<()> {
+        part.sync()
+    }
+
+    fn rename(&mut self, part: NewFile<'a, R>, name: &str) -> io::Result<()> {
+        part.put(name, self.own)
+    }
+
+    fn create_empty(&mut self, name: &str) -> io::Result<bool> {
+        match fs::metadata(self.files, name) {
+            Ok(there) if there.is_dir() => return Err(io::Error::from(ErrorKind::IsADirectory)),
+            Ok(_) => return Ok(false),
+            Err(e) if e.kind() == ErrorKind::NotFound => {}
+            Err(e) => return Err(e),
+        }
+        let target = end_of_links(self.files, name)?;
+        match File::create_new(self.files, target.as_str()) {
+            Ok(_) => Ok(true),
+            Err(e) if e.kind() == ErrorKind::AlreadyExists => Ok(false),
+            Err(e) => Err(e),
+        }
+    }
+
+    fn remove_empty(&mut self, name: &str) -> io::Result<bool> {
+        match fs::metadata(self.files, name) {
+            Ok(there) if there.is_file() => removed_empty(self.files, name),
+            Err(e) if e.kind() != ErrorKind::NotFound => Err(e),
+            _ => Ok(false),
+        }
+    }
+
+    fn open_end(&mut self, name: &str) -> io::Result<File> {
+        let file = opened_end(self.files, name)?;
+        self.own = Some(file_id(&file.metadata()?));
+        Ok(file)
+    }
+
+    fn sync_name(&mut self, end: &File, name: &str) -> io::Result<()> {
+        sync_folder_of(self.files, end, name)
+    }
+
+    fn close(&mut self, end: &File, name: &str) -> io::Result<()> {
+        sync_folder_of(self.files, end, name)
+    }
+
+    fn let_go(&mut self, _end: File, _name: String) {}
+}
