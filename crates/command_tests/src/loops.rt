@@ -1,10 +1,9 @@
 //! A service that says the same to each line, and keeps a file while it does, until it has answered enough of them.
 
 use crate::files::memory::no_files;
-use disks::Disk;
+use disks::{Disk, Grow};
 use line_loop::{AnswersLines, Ending, LoopFault, Pending, Unread, serve_part};
 use std::alloc::{AllocError, Global};
-use std::io::{self, ErrorKind, Write};
 
 #[derive(Drop)]
 struct Same {
@@ -39,17 +38,13 @@ impl AnswersLines for Same {
     }
 }
 
-/// A writer that takes nothing.
+/// A journal that takes nothing.
 #[derive(Drop)]
 struct Shut;
 
-impl Write for Shut {
-    fn write(&mut self, _buf: &[u8]) -> io::Result<usize> {
-        Err(io::Error::from(ErrorKind::BrokenPipe))
-    }
-
-    fn flush(&mut self) -> io::Result<()> {
-        Ok(())
+impl Grow for Shut {
+    fn add(&mut self, _bytes: &[u8]) -> Result<(), usize> {
+        Err(0)
     }
 }
 

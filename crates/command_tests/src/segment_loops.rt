@@ -162,8 +162,12 @@ impl Disk for Full {
         self.files.grow(name, synced)
     }
 
-    fn close_synced(&mut self, grown: Vec<u8>, name: &str) -> io::Result<()> {
+    fn close_synced(&mut self, grown: Vec<u8>, name: &str) -> Result<(), Vec<u8>> {
         self.files.close_synced(grown, name)
+    }
+
+    fn abandon(&mut self, grown: Vec<u8>, name: String) {
+        self.files.abandon(grown, name);
     }
 }
 

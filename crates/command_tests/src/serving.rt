@@ -1,12 +1,12 @@
 //! How `serve` uses its journal: when it is locked, opened, synced and left.
 
 use crate::files::memory::{bytes_of, no_files, put};
-use disks::{Disk, FolderEntry, MemoryDisk};
+use disks::{Disk, FolderEntry, Grow, MemoryDisk};
 use ring_requests::ServeWords;
 use serve_commands::serve::run;
 use std::alloc::Global;
 use std::cell::Cell;
-use std::io::{self, Cursor, ErrorKind, Read, Write};
+use std::io::{self, Cursor, ErrorKind, Read};
 use std::process::Abort;
 use std::test::Fail;
 use tool_parts::faults::ToolError;
@@ -41,14 +41,9 @@ impl Opened<'_> {
     }
 }
 
-impl Write for Opened<'_> {
-    fn write(&mut self, bytes: &[u8]) -> io::Result<usize> {
-        self.held.extend_from_slice(bytes)?;
-        Ok(bytes.len())
-    }
-
-    fn flush(&mut self) -> io::Result<()> {
-        Ok(())
+impl Grow for Opened<'_> {
+    fn add(&mut self, bytes: &[u8]) -> Result<(), usize> {
+        self.held.add(bytes)
     }
 }
 
@@ -62,6 +57,21 @@ struct Watched<'a> {
     opened: &'a Cell<u32>,
     /// How many were opened to be synced.
     synced: u32,
+    /// Whether no file can be closed.
+    is_full: bool,
+    /// How many were let go as they were.
+    let_go: u32,
+}
+
+impl<'a> Watched<'a> {
+    /// A file with these bytes that is open.
+    fn counted(&self, held: Vec<u8>) -> Opened<'a> {
+        self.opened.set(self.opened.get().saturating_add(1));
+        Opened {
+            held,
+            count: self.opened,
+        }
+    }
 }
 
 impl<'a> Disk for Watched<'a> {
@@ -107,18 +117,25 @@ impl<'a> Disk for Watched<'a> {
             return Err(io::Error::from(ErrorKind::WouldBlock));
         }
         let held = self.files.grow(name, synced)?;
-        self.opened.set(self.opened.get().saturating_add(1));
         if synced {
             self.synced = self.synced.saturating_add(1);
         }
-        Ok(Opened {
-            held,
-            count: self.opened,
-        })
+        Ok(self.counted(held))
     }
 
-    fn close_synced(&mut self, grown: Opened<'a>, name: &str) -> io::Result<()> {
-        self.files.close_synced(grown.closed(), name)
+    fn close_synced(&mut self, grown: Opened<'a>, name: &str) -> Result<(), Opened<'a>> {
+        if self.is_full {
+            return Err(grown);
+        }
+        match self.files.close_synced(grown.closed(), name) {
+            Ok(()) => Ok(()),
+            Err(held) => Err(self.counted(held)),
+        }
+    }
+
+    fn abandon(&mut self, grown: Opened<'a>, name: String) {
+        self.let_go = self.let_go.saturating_add(1);
+        self.files.abandon(grown.closed(), name);
     }
 }
 
@@ -136,6 +153,8 @@ fn files_with<'a>(
         used: false,
         opened,
         synced: 0,
+        is_full: false,
+        let_go: 0,
     })
 }
 
@@ -280,10 +299,36 @@ fn a_fault_leaves_the_journal(rt: HostRuntime) -> Result<(), Fail> {
         _ => panic!(rt; "the input fails"),
     }
     assert!(rt; out.as_slice() == b"granted 2 12\n".as_slice());
+    assert!(rt; disk.let_go == 1 && opened.get() == 0);
     // In memory a file holds what was written to it once it is closed: here it has what it began with.
     let begun =
         b"ringjournal 1\nringfarm 2\nring 0 3 3\nstart 0 0 0\np 0 0 5 g 1 5\nend 1\ndone 1\n";
     expect_held(&rt, &disk, "j", begun)?;
+    Ok(())
+}
+
+#[test]
+fn a_journal_that_cannot_be_closed_is_let_go(rt: HostRuntime) -> Result<(), Fail> {
+    let alloc = rt.alloc();
+    let opened = Cell::new(0);
+    let mut disk = files_with(alloc, &opened, "j", BEGUN.as_bytes())?;
+    disk.is_full = true;
+    let mut input: &[u8] = b"pass 0 0 0 5\n";
+    let mut out = Vec::new(alloc);
+    let mut err = Vec::new(alloc);
+    match run(
+        alloc,
+        &mut disk,
+        &words("j", true),
+        &mut input,
+        &mut out,
+        &mut err,
+    ) {
+        Err(ToolError::Save(name)) => assert!(rt; name == "j"),
+        _ => panic!(rt; "it cannot be closed"),
+    }
+    assert!(rt; out.as_slice() == b"granted 1 5\n".as_slice() && err.is_empty());
+    assert!(rt; disk.let_go == 1 && opened.get() == 0);
     Ok(())
 }
 

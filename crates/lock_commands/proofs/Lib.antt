@@ -2,3 +2,4 @@ mod HeldLeads
 mod HoldTexts
 mod Summing
 pub mod UnreadLists
+mod StartedLocks

@@ -2,5 +2,6 @@ pub mod Refusals
 pub mod HoldersFile
 pub mod Totals
 pub mod Locks
+pub mod Lasting
 pub mod HoldsAnswer
 pub mod HoldSteps

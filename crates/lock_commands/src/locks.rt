@@ -1,12 +1,13 @@
 //! `locks`: the locks of a folder answer the lines of standard input, with a journal in the folder's segments.
 
-ghost use Rattle.std.specs.Prelude.{◌≡◌, ◌<◌, OnOk, IfOk, IfErr};
+ghost use Rattle.std.specs.Prelude.{◌≡◌, ◌<◌, true, OnOk, IfOk, IfErr, IsSome};
 ghost use Rattle.std.specs.Option.{option_map};
 ghost use Rattle.ring_segments.specs.Spelling.{DigestFits};
 ghost use Rattle.lock_folder.specs.Folders.{place_of};
 ghost use Rattle.tool_parts.specs.Worlds.{world};
 ghost use Rattle.lock_commands.specs.Refusals.{IsListIf, IsNoListFor};
 ghost use Rattle.lock_commands.specs.Locks.{terms_of, BeginsWith, IsRun, IsServedIn, IsLocksAnswer, IsRunRefused, IsRefusedIn, IsLocksRefusal};
+ghost use Rattle.lock_commands.specs.Lasting.{RunLasts, FolderLasts, ToldLocksLast};
 
 use crate::holders::{holders_of, name_of};
 use crate::refusals::{begin_refusal, list_refusal, serving_refusal, start_refusal};
@@ -69,6 +70,9 @@ fn serve_from<'a, D: Disk, I: Read, W: Write>(
         IsRunRefused words.now (place_of start) (D.holds disk.old) (D.holds disk.new)
         (I.remaining input.old) (I.remaining input.new) (W.contents out.old) (W.contents out.new)
         e) }
+    ensures lasts { words.now.synced ≡ true → IsSome (D.holds disk.old)
+        → RunLasts words.now (place_of start) (D.holds disk.old) (I.remaining input.old)
+        (I.remaining input.new) (W.contents out.old) (W.contents out.new) (D.leaves disk.new) }
 {
     let Start {
         locks,
@@ -114,6 +118,9 @@ fn run_in_folder<'a, D: Disk, I: Read, W: Write>(
         IsRefusedIn words.now holders.now (D.holds disk.old) (D.holds disk.new)
         (I.remaining input.old) (I.remaining input.new) (W.contents out.old)
         (W.contents out.new) e) }
+    ensures lasts { words.now.synced ≡ true → IsSome (D.holds disk.old)
+        → FolderLasts words.now holders.now (D.holds disk.old) (I.remaining input.old)
+        (I.remaining input.new) (W.contents out.old) (W.contents out.new) (D.leaves disk.new) }
 {
     let lock = match lock_folder(alloc, disk, words.journal) {
         Ok(lock) => lock,
@@ -163,6 +170,13 @@ pub fn run<'a, D: Disk, I: Read, W: Write, E: Write>(
         (world (D.holds disk.old) (I.remaining input.old) (W.contents out.old) (E.contents err.old))
         (world (D.holds disk.new) (I.remaining input.new) (W.contents out.new)
         (E.contents err.new)) e) }
+
+    // Where each note is put on the disk, and the content of files is known: what was told is there whenever the power fails.
+    ensures lasts { words.now.synced ≡ true → IsSome (D.holds disk.old) → ToldLocksLast words.now
+        (world (D.holds disk.old) (I.remaining input.old) (W.contents out.old) (E.contents err.old))
+        (world (D.holds disk.new) (I.remaining input.new) (W.contents out.new)
+        (E.contents err.new))
+        (D.leaves disk.new) }
 {
     match check_named(alloc, words.locks) {
         Ok(()) => {}

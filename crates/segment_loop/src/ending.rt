@@ -99,11 +99,7 @@ impl Contents for Beginning<'_> {
 /// # Errors
 ///
 /// The writer, as it was, if its file is not known to be on the disk. No file has changed.
-fn settle<D: Disk>(
-    disk: &mut D,
-    writer: Digested<D::Grown>,
-    name: &str,
-) -> Result<Sha256, D::Grown>
+fn settle<D: Disk>(disk: &mut D, writer: Digested<D::Grown>, name: &str) -> Result<Sha256, D::Grown>
     ensures ok { IfOk result (λ hasher. Replaces (D.holds disk.old) (D.holds disk.new) name.now
         (hashed (D.Grown.contents writer.inner) writer.hasher)) }
     ensures hasher { IfOk result (λ hasher. (bytes : List ℕ)

@@ -2,3 +2,4 @@ pub mod JournalStarts
 pub mod Making
 pub mod ServeRefusals
 pub mod StillThere
+mod LastingJournals

@@ -1,3 +1,4 @@
 pub mod Served
 pub mod ServedFolder
 pub mod ServeAnswer
+pub mod Lasting

@@ -1,9 +1,10 @@
 //! `serve`: rings that resume from a saved text, driven by the lines of standard input.
 
-ghost use Rattle.std.specs.Prelude.{◌≡◌, ℕ, List, None, Some, Option, OnOk, IfOk, IfErr, length, ◌⊎◌};
+ghost use Rattle.std.specs.Prelude.{◌≡◌, ℕ, List, true, None, Some, Option, OnOk, OnErr, IfOk, IfErr, IfSome, IsSome, length, ◌⊎◌, string_bytes};
 ghost use Rattle.std.specs.Option.{option_map};
 ghost use Rattle.std.specs.Io.KnownBytes.{Appends};
-ghost use Rattle.disks.specs.Held.{Grows};
+ghost use Rattle.disks.specs.Held.{Grows, Replaces};
+ghost use Rattle.disks.specs.Lasting.{HasFront, Leaves, bytes_in};
 ghost use Rattle.ring_saved.specs.declared.saved.Saved.{Saved};
 ghost use Rattle.ring_serve.specs.Standings.{Standing};
 ghost use Rattle.ring_serve.specs.Permits.{terms_of};
@@ -11,6 +12,7 @@ ghost use Rattle.ring_serve.specs.Starting.{AreResumed};
 ghost use Rattle.ring_serve.specs.Totals.{totals_of};
 ghost use Rattle.ring_text.specs.Report.{total_line};
 ghost use Rattle.serve_commands.specs.Served.{permits_of, CanBeginWith, IsNoted, IsServedPlain, IsServedOn, IsServedNoted, journal_of, IsStartRefusal, IsServingFault, IsServedPart, IsPlainPart, IsRefusedFrom};
+ghost use Rattle.serve_commands.specs.Lasting.{JournalLasts, FileLasts, KeptLasts, CallsLast, ToldCallsLast};
 ghost use Rattle.tool_parts.specs.Worlds.{IsUnserved};
 ghost use Rattle.tool_parts.specs.Locking.{IsUnopenedJournal};
 ghost use Rattle.serve_commands.specs.ServeAnswer.{IsServedTo, IsServeAnswer, IsRefusedTo, IsUntold, IsServeRefusal};
@@ -26,7 +28,7 @@ use ring_saved::Saved;
 use ring_serve::{Journal, Permits, Served, serve};
 use ring_text::put_total_line;
 use std::alloc::Global;
-use std::io::{Read, Sink, Write};
+use std::io::{Read, Write};
 use tool_parts::faults::ToolError;
 use tool_parts::locking::open_journal;
 use tool_parts::reading::names_stream;
@@ -89,24 +91,56 @@ fn serve_plain<D: Disk, I: Read, W: Write>(
         (D.holds disk.new) (I.remaining input.old) (I.remaining input.new) (W.contents out.old)
         (W.contents out.new) e) }
 {
-    let mut journal: Option<Journal<'_, Sink>> = None;
+    let mut journal: Option<Journal<'_, Vec<u8>>> = None;
     match serve(alloc, served, disk, &mut journal, permits, input, out) {
         Ok(()) => Ok(()),
         Err(fault) => Err(serving_refusal(fault, None)),
     }
 }
 
-/// Serves with a journal in the file of this name, which has been begun.
+/// Ends writing to the journal's file: it holds what its writer has, and is on the disk.
+///
+/// # Errors
+///
+/// `Save` if it is not known to be. No file has changed.
+fn settle_journal<'a, D: Disk>(
+    disk: &mut D,
+    writer: D::Grown,
+    name: &'a str,
+    file: String,
+) -> Result<(), ToolError<'a>>
+    requires named { string_bytes file ≡ name.now }
+    ensures ok { OnOk result (Replaces (D.holds disk.old) (D.holds disk.new) name.now
+        (D.Grown.contents writer)) }
+    ensures err { IfErr result (λ e. IsServingFault (Some name.now) e) }
+    ensures kept { OnErr result (D.holds disk.new ≡ D.holds disk.old) }
+    ensures lasts { OnOk result (Leaves (D.leaves disk.old) (D.leaves disk.new) name.now
+        (D.Grown.contents writer)) }
+    ensures left { OnErr result (IfSome (D.leaves disk.new)
+        (λ held. HasFront held name.now (D.Grown.lasting writer))) }
+{
+    match disk.close_synced(writer, name) {
+        Ok(()) => Ok(()),
+        Err(writer) => {
+            disk.abandon(writer, file);
+            Err(ToolError::Save(name))
+        }
+    }
+}
+
+/// Serves with a journal in the file of this name, which has been begun. `file` is the name too, for a file that is let go.
 fn serve_with_journal<'a, D: Disk, I: Read, W: Write>(
     alloc: Global,
     disk: &mut D,
     served: &mut Served,
     name: &'a str,
+    file: String,
     journal: D::Grown,
     permits: Permits<'_>,
     input: &mut I,
     out: &mut W,
 ) -> Result<(), ToolError<'a>>
+    requires named { string_bytes file ≡ name.now }
     ensures ok { OnOk result (IsServedOn permits.entry name.now served.old served.new
         (D.holds disk.old) (D.holds disk.new) (D.Grown.contents journal) (I.remaining input.old)
         (I.remaining input.new) (W.contents out.old) (W.contents out.new)) }
@@ -114,21 +148,30 @@ fn serve_with_journal<'a, D: Disk, I: Read, W: Write>(
         × IsServedPart (terms_of (Some name.now) permits.entry) served.old (D.holds disk.old)
         (D.holds disk.new) (D.Grown.contents journal) (I.remaining input.old)
         (I.remaining input.new) (W.contents out.old) (W.contents out.new)) }
+    ensures lasts { (first : List ℕ) → D.Grown.contents journal ≡ Some first
+        → D.Grown.lasting journal ≡ Some first
+        → JournalLasts permits.entry name.now served.old (D.holds disk.old) first
+        (I.remaining input.old) (I.remaining input.new) (W.contents out.old) (W.contents out.new)
+        (D.leaves disk.new) }
 {
     let mut kept = Some(Journal {
         name,
         writer: journal,
     });
-    match serve(alloc, served, disk, &mut kept, permits, input, out) {
-        Ok(()) => {}
-        Err(fault) => return Err(serving_refusal(fault, Some(name))),
-    }
+    let ended = serve(alloc, served, disk, &mut kept, permits, input, out);
     let Some(Journal { writer, .. }) = kept else {
         unreachable!()
     };
-    match disk.close_synced(writer, name) {
+    match ended {
+        Ok(()) => {}
+        Err(fault) => {
+            disk.abandon(writer, file);
+            return Err(serving_refusal(fault, Some(name)));
+        }
+    }
+    match settle_journal(disk, writer, name, file) {
         Ok(()) => Ok(()),
-        Err(_) => Err(ToolError::Save(name)),
+        Err(fault) => Err(fault),
     }
 }
 
@@ -138,10 +181,12 @@ fn serve_begun<'a, D: Disk, I: Read, W: Write>(
     disk: &mut D,
     served: &mut Served,
     name: &'a str,
+    file: String,
     words: &ServeWords<'a>,
     input: &mut I,
     out: &mut W,
 ) -> Result<(), ToolError<'a>>
+    requires named { string_bytes file ≡ name.now }
     ensures ok { OnOk result ((first : Option (List ℕ))
         × Grows (D.holds disk.old) name.now first
         × IsServedOn (permits_of words.now) name.now served.old served.new (D.holds disk.old)
@@ -157,6 +202,13 @@ fn serve_begun<'a, D: Disk, I: Read, W: Write>(
         × IsServedPart (terms_of (Some name.now) (permits_of words.now)) served.old
         (D.holds disk.old) (D.holds disk.new) first (I.remaining input.old)
         (I.remaining input.new) (W.contents out.old) (W.contents out.new))) }
+    ensures lasts { words.now.synced ≡ true → (first : List ℕ)
+        → bytes_in (D.holds disk.old) name.now ≡ Some first
+        → IsUnserved (I.remaining input.old) (I.remaining input.new) (W.contents out.old)
+        (W.contents out.new)
+        ⊎ JournalLasts (permits_of words.now) name.now served.old (D.holds disk.old) first
+        (I.remaining input.old) (I.remaining input.new) (W.contents out.old) (W.contents out.new)
+        (D.leaves disk.new) }
 {
     let journal = match open_journal(disk, name, words.synced) {
         Ok(journal) => journal,
@@ -167,6 +219,7 @@ fn serve_begun<'a, D: Disk, I: Read, W: Write>(
         disk,
         served,
         name,
+        file,
         journal,
         permits_of(words),
         input,
@@ -262,12 +315,20 @@ fn run_with_journal<'a, D: Disk, I: Read, W: Write>(
         IsRefusedFrom (permits_of words.now) (D.holds disk.old) (D.holds disk.new) (Some name.now)
         saved (I.remaining input.old) (I.remaining input.new) (W.contents out.old)
         (W.contents out.new) e) }
+    ensures lasts { words.now.synced ≡ true → IsSome (D.holds disk.old)
+        → FileLasts (permits_of words.now) name.now saved (D.holds disk.old)
+        (I.remaining input.old) (I.remaining input.new) (W.contents out.old) (W.contents out.new)
+        (D.leaves disk.new) }
 {
+    // A journal is let go by its name, for which there has to be memory before one is begun.
+    let Ok(file) = String::from_str(alloc, name) else {
+        return Err(ToolError::OutOfMemory);
+    };
     let (lock, mut served) = match begin_journal(alloc, disk, saved, name) {
         Ok(begun) => begun,
         Err(fault) => return Err(fault),
     };
-    let ended = serve_begun(alloc, disk, &mut served, name, words, input, out);
+    let ended = serve_begun(alloc, disk, &mut served, name, file, words, input, out);
     drop(lock);
     match ended {
         Ok(()) => Ok(served),
@@ -293,6 +354,9 @@ fn run_kept<'a, D: Disk, I: Read, W: Write>(
     ensures err { IfErr result (λ e.
         IsRefusedTo words.now (D.holds disk.old) (D.holds disk.new) saved (I.remaining input.old)
         (I.remaining input.new) (W.contents out.old) (W.contents out.new) e) }
+    ensures lasts { words.now.synced ≡ true → IsSome (D.holds disk.old)
+        → KeptLasts words.now name.now saved (D.holds disk.old) (I.remaining input.old)
+        (I.remaining input.new) (W.contents out.old) (W.contents out.new) (D.leaves disk.new) }
 {
     if names_stream(name) {
         return Err(ToolError::Save(name));
@@ -325,6 +389,10 @@ fn run_on<'a, D: Disk, I: Read, W: Write>(
     ensures err { IfErr result (λ e.
         IsRefusedTo words.now (D.holds disk.old) (D.holds disk.new) saved (I.remaining input.old)
         (I.remaining input.new) (W.contents out.old) (W.contents out.new) e) }
+    ensures lasts { words.now.synced ≡ true → IsSome (D.holds disk.old)
+        → CallsLast words.now (journal_of words.now) saved (D.holds disk.old)
+        (I.remaining input.old) (I.remaining input.new) (W.contents out.old) (W.contents out.new)
+        (D.leaves disk.new) }
 {
     match words.journal {
         None => match run_without(alloc, disk, saved, permits_of(words), input, out) {
@@ -364,6 +432,13 @@ pub fn run<'a, D: Disk, I: Read, W: Write, E: Write>(
         (world (D.holds disk.old) (I.remaining input.old) (W.contents out.old) (E.contents err.old))
         (world (D.holds disk.new) (I.remaining input.new) (W.contents out.new)
         (E.contents err.new)) e) }
+
+    // Where each note is put on the disk, and the content of files is known: what was told is there whenever the power fails.
+    ensures lasts { words.now.synced ≡ true → IsSome (D.holds disk.old) → ToldCallsLast words.now
+        (world (D.holds disk.old) (I.remaining input.old) (W.contents out.old) (E.contents err.old))
+        (world (D.holds disk.new) (I.remaining input.new) (W.contents out.new)
+        (E.contents err.new))
+        (D.leaves disk.new) }
 {
     let saved = match given_history(alloc, disk, words.history) {
         Ok(saved) => saved,

@@ -1,6 +1,6 @@
 //! `serve` with a journal that is a folder of segments.
 
-ghost use Rattle.std.specs.Prelude.{◌≡◌, ◌⊎◌, ◌≤◌, ◌<◌, ℕ, List, length, codes, string_bytes, Option, Some, Ok, Err, IfOk, IfErr, OnOk, OnErr};
+ghost use Rattle.std.specs.Prelude.{◌≡◌, ◌⊎◌, ◌≤◌, ◌<◌, ℕ, List, length, codes, string_bytes, Option, true, Some, Ok, Err, IfOk, IfErr, IsSome, OnOk, OnErr};
 ghost use Rattle.std.specs.List.{All};
 ghost use Rattle.disks.specs.Folders.{path_in};
 ghost use Rattle.segment_folder.specs.declared.errors.FolderError.{FolderError};
@@ -13,6 +13,7 @@ ghost use Rattle.chain_serve.specs.Segments.{Moment};
 ghost use Rattle.tool_parts.specs.Chained.{IsFolderFault};
 ghost use Rattle.serve_commands.specs.Served.{IsFirstRefusal};
 ghost use Rattle.serve_commands.specs.ServedFolder.{place_of, IsFirst, IsLast, StandsAmong, StandsIn, IsServedIn, IsLastFault, IsLastRefusal, IsRun, IsRunRefused, IsUnknownAmong, IsUnknown, SavesApart, IsSavesRefusal, IsRefusedIn};
+ghost use Rattle.serve_commands.specs.Lasting.{RunLasts, FolderLasts};
 ghost use Rattle.tool_parts.specs.Locking.{IsUnkeptFolder, IsLocked, IsLockLeft};
 
 use crate::resuming::{needed, resume_rings};
@@ -25,7 +26,7 @@ use ring_saved::Saved;
 use ring_segments::{DIGEST_DIGITS, LastSegment, SegmentError, read_last};
 use ring_serve::{Refusal, Served};
 use segment_folder::{SegmentNumbers, list_name};
-use segment_loop::{OpenSegment, settle};
+use segment_loop::close_segment;
 use std::alloc::{AllocError, Global};
 use std::io::{Read, Write};
 use tool_parts::chain::{folder_numbers, segment_bytes};
@@ -283,6 +284,9 @@ fn serve_from<'a, D: Disk, I: Read, W: Write>(
     ensures err { IfErr result (λ e. IsRunRefused rules.entry (place_of place) (D.holds disk.old)
         (D.holds disk.new) (I.remaining input.old) (I.remaining input.new) (W.contents out.old)
         (W.contents out.new) e) }
+    ensures lasts { rules.entry.synced ≡ true → IsSome (D.holds disk.old)
+        → RunLasts rules.entry (place_of place) (D.holds disk.old) (I.remaining input.old)
+        (I.remaining input.new) (W.contents out.old) (W.contents out.new) (D.leaves disk.new) }
 {
     let Start {
         mut served,
@@ -297,9 +301,8 @@ fn serve_from<'a, D: Disk, I: Read, W: Write>(
         Ok(last) => last,
         Err(fault) => return Err(serving_refusal(fault, Some(rules.folder))),
     };
-    let OpenSegment { name, writer, .. } = last;
-    match settle(disk, writer, name.as_str()) {
-        Ok(_) => Ok(served),
+    match close_segment(disk, last) {
+        Ok(()) => Ok(served),
         Err(_) => Err(ToolError::Save(rules.folder)),
     }
 }
@@ -322,6 +325,9 @@ pub(crate) fn run_in_folder<'a, D: Disk, I: Read, W: Write>(
         IsRefusedIn words.now folder.now saved (D.holds disk.old) (D.holds disk.new)
         (I.remaining input.old) (I.remaining input.new) (W.contents out.old) (W.contents out.new)
         e) }
+    ensures lasts { words.now.synced ≡ true → IsSome (D.holds disk.old)
+        → FolderLasts words.now folder.now saved (D.holds disk.old) (I.remaining input.old)
+        (I.remaining input.new) (W.contents out.old) (W.contents out.new) (D.leaves disk.new) }
 {
     match keep_saves_apart(disk, folder, words) {
         Ok(()) => {}

@@ -4,3 +4,4 @@ pub mod HandedLines
 pub mod Leads
 pub mod Parents
 pub mod ListTexts
+pub mod LockedFolders

@@ -1,6 +1,6 @@
 //! The lock of a folder, and files that one process at a time writes at their end.
 
-ghost use Rattle.std.specs.Prelude.{◌≡◌, OnOk, OnErr, IfOk, IfErr, string_bytes, codes};
+ghost use Rattle.std.specs.Prelude.{◌≡◌, true, OnOk, OnErr, IfOk, IfErr, string_bytes, codes};
 ghost use Rattle.disks.specs.Held.{Grows};
 ghost use Rattle.disks.specs.Folders.{path_in};
 ghost use Rattle.tool_parts.specs.Locking.{IsUnopenedJournal, IsLocked, IsLockLeft, IsUnkeptFolder};
@@ -10,7 +10,7 @@ use disks::Disk;
 use std::alloc::{AllocError, Global};
 use std::io::ErrorKind;
 
-/// Opens the journal's file to write at its end.
+/// Opens the journal's file to write at its end. If it is synced, all that it has outlives a loss of power.
 pub fn open_journal<'a, D: Disk>(
     disk: &mut D,
     name: &'a str,
@@ -19,6 +19,8 @@ pub fn open_journal<'a, D: Disk>(
     ensures ok { IfOk result (λ grown. Grows (D.holds disk.old) name.now (D.Grown.contents grown)) }
     ensures kept { D.holds disk.new ≡ D.holds disk.old }
     ensures err { IfErr result (λ e. IsUnopenedJournal name.now e) }
+    ensures lasts { IfOk result (λ grown. synced ≡ true
+        → D.Grown.lasting grown ≡ D.Grown.contents grown) }
 {
     match disk.grow(name, synced) {
         Ok(grown) => Ok(grown),

@@ -8,7 +8,7 @@ ghost use Rattle.ring_serve.specs.Serving.{ServesAll};
 use disks::Disk;
 use ring_serve::{Journal, Permits, Served, serve};
 use std::alloc::Global;
-use std::io::{Read, sink};
+use std::io::Read;
 
 /// No answer leaves whose call is not in the journal: here all leave, and the journal has none. It gives up unless the first
 /// line is granted.
@@ -36,7 +36,7 @@ pub fn answers_before_the_journal<D: Disk, I: Read>(
     let mut out = Vec::new(alloc);
     let mut kept = Some(Journal {
         name,
-        writer: sink(),
+        writer: Vec::new(alloc),
     });
     match serve(alloc, served, disk, &mut kept, permits, input, &mut out) {
         Ok(()) => {}

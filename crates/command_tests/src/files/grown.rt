@@ -48,6 +48,22 @@ fn a_file_grows_by_one_hand_alone(rt: HostRuntime) -> Result<(), Fail> {
 }
 
 #[test]
+fn a_file_that_is_let_go_keeps_what_was_added(rt: HostRuntime) -> Result<(), Fail> {
+    let folder = folder_of(&rt, "let_go")?;
+    let name = within(&rt, &folder, "a")?;
+    let mut disk = SystemDisk::new(&rt);
+    assert!(rt; disk.create(&name)?);
+    let mut grown = disk.grow(&name, true)?;
+    add(&rt, &mut grown, b"one");
+    disk.abandon(grown, within(&rt, &folder, "a")?);
+    expect_bytes(&rt, &name, b"one")?;
+    let again = disk.grow(&name, false)?;
+    close(&rt, &mut disk, again, &name);
+    expect_count(&rt, &folder, 1)?;
+    Ok(())
+}
+
+#[test]
 fn a_grown_file_in_memory_holds_what_was_written(rt: HostRuntime) -> Result<(), Fail> {
     let mut disk = no_files(rt.alloc());
     put(&mut disk, "a", b"one")?;

@@ -104,9 +104,19 @@ impl Disk for Full {
         Ok(grown)
     }
 
-    fn close_synced(&mut self, grown: Vec<u8>, name: &str) -> io::Result<()> {
+    fn close_synced(&mut self, grown: Vec<u8>, name: &str) -> Result<(), Vec<u8>> {
+        match self.files.close_synced(grown, name) {
+            Ok(()) => {
+                self.opened = self.opened.saturating_sub(1);
+                Ok(())
+            }
+            Err(grown) => Err(grown),
+        }
+    }
+
+    fn abandon(&mut self, grown: Vec<u8>, name: String) {
         self.opened = self.opened.saturating_sub(1);
-        self.files.close_synced(grown, name)
+        self.files.abandon(grown, name);
     }
 }
 

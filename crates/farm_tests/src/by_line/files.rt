@@ -4,7 +4,7 @@ use super::served;
 use disks::{Disk, FolderEntry};
 use ring_serve::{Journal, Permits, serve};
 use std::alloc::Global;
-use std::io::{self, Cursor, ErrorKind, sink};
+use std::io::{self, Cursor, ErrorKind};
 
 /// Files that can never be finished.
 #[derive(Drop)]
@@ -51,9 +51,11 @@ impl Disk for Stuck {
         Err(io::Error::from(ErrorKind::PermissionDenied))
     }
 
-    fn close_synced(&mut self, _grown: Vec<u8>, _name: &str) -> io::Result<()> {
-        Err(io::Error::from(ErrorKind::PermissionDenied))
+    fn close_synced(&mut self, grown: Vec<u8>, _name: &str) -> Result<(), Vec<u8>> {
+        Err(grown)
     }
+
+    fn abandon(&mut self, _grown: Vec<u8>, _name: String) {}
 }
 
 #[test]
@@ -65,7 +67,7 @@ fn a_file_that_cannot_be_finished_is_a_refusal(rt: HostRuntime) {
     let mut out = Vec::new(alloc);
     let mut journal = Some(Journal {
         name: "j",
-        writer: sink(),
+        writer: Vec::new(alloc),
     });
     let permits = Permits {
         faults: false,

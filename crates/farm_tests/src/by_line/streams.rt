@@ -1,5 +1,6 @@
-//! A reader that gives a byte at a time, a writer whose room ends, and one that keeps all back until it is flushed.
+//! A reader that gives a byte at a time, a writer and a journal whose room ends, and a writer that keeps all back until it is flushed.
 
+use disks::Grow;
 use std::io::{self, ErrorKind, Read, Write};
 
 /// Gives one byte a call, and at the end fails or gives none.
@@ -38,6 +39,20 @@ impl Write for Narrow {
     }
 
     fn flush(&mut self) -> io::Result<()> {
+        Ok(())
+    }
+}
+
+impl Grow for Narrow {
+    fn add(&mut self, bytes: &[u8]) -> Result<(), usize> {
+        let taken = bytes.len().min(self.room);
+        if self.held.extend_from_slice(&bytes[..taken]).is_err() {
+            return Err(0);
+        }
+        self.room = self.room.saturating_sub(taken);
+        if taken < bytes.len() {
+            return Err(taken);
+        }
         Ok(())
     }
 }

@@ -31,3 +31,17 @@ returns-clause-err g c =
         inr (c.in-Ok-run_in_folder.end, rw c.as_slice.ensures.value at c.in-Ok-run_in_folder.ensures.ok, subst (λ (vs : List LockView). IsUntold vs (g.E.Write.contents c.args.err.now) (g.E.Write.contents c.tell_totals.new.err) c.in-Err-tell_totals.fault) (c.locks.ensures ∙ ap (λ (s : LockService). s.segment.locks) (c.inner-2.ensures ∙ ap (λ (r : Replica LockService). r.numbered.inner) c.inner.ensures)) c.in-Err-tell_totals.ensures.err),
       ),
     )
+
+-- ---- what a loss of power leaves
+
+pub returns-in-Err-run_in_folder-clause-lasts : goal.returns-in-Err-run_in_folder-clause-lasts
+returns-in-Err-run_in_folder-clause-lasts g c = λ synced some.
+    inr (c.in-Ok-holders_of.holders.items, c.in-Ok-holders_of.ensures.ok, rw c.as_slice.ensures.value at (c.run_in_folder.ensures.lasts synced some))
+
+pub returns-in-Ok-tell_totals-clause-lasts : goal.returns-in-Ok-tell_totals-clause-lasts
+returns-in-Ok-tell_totals-clause-lasts g c = λ synced some.
+    inr (c.in-Ok-holders_of.holders.items, c.in-Ok-holders_of.ensures.ok, rw c.as_slice.ensures.value at (c.run_in_folder.ensures.lasts synced some))
+
+pub returns-clause-lasts : goal.returns-clause-lasts
+returns-clause-lasts g c = λ synced some.
+    inr (c.in-Ok-holders_of.holders.items, c.in-Ok-holders_of.ensures.ok, rw c.as_slice.ensures.value at (c.run_in_folder.ensures.lasts synced some))

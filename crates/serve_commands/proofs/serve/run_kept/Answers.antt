@@ -1,4 +1,4 @@
-use Rattle.std.proofs.Common.{◌≡◌, ◌∙◌, ℕ, List, Option, Some, inl, inr, subst, sym}
+use Rattle.std.proofs.Common.{◌≡◌, ◌∙◌, ℕ, List, Option, Some, inl, inr, refl, subst, sym}
 use Rattle.disks.specs.Held.{Held}
 use Rattle.disks.specs.Folders.{names_of}
 use Rattle.ring_saved.specs.declared.saved.Saved.{Saved}
@@ -32,3 +32,22 @@ pub returns-in-Ok-run_with_journal-clause-ok : goal.returns-in-Ok-run_with_journ
 returns-in-Ok-run_with_journal-clause-ok g c =
     inl (noted c.args.words.now c.args.saved c.args.name.now c.in-Ok-run_with_journal.end (g.D.Disk.holds c.args.disk.now) (g.D.Disk.holds c.run_with_journal.new.disk) (g.I.Read.remaining c.args.input.now) (g.I.Read.remaining c.run_with_journal.new.input) (g.W.Write.contents c.args.out.now) (g.W.Write.contents c.run_with_journal.new.out)
     c.requires.named c.in-Ok-run_with_journal.ensures.ok)
+
+-- ---- what a loss of power leaves
+
+pub returns-then-names_stream-clause-lasts : goal.returns-then-names_stream-clause-lasts
+returns-then-names_stream-clause-lasts g c = λ synced some. inr (inl (refl, refl))
+
+pub returns-in-Ok-clause-lasts : goal.returns-in-Ok-clause-lasts
+returns-in-Ok-clause-lasts g c = λ synced some.
+    inl (listed_ok c.list.result (λ entries. names_of entries.items) (g.D.Disk.holds c.args.disk.now) c.args.name.now (sym c.is_ok.ensures.value ∙ c.if-is_ok.true) c.list.ensures, c.run_in_folder.ensures.lasts synced some)
+
+pub returns-in-Err-clause-lasts : goal.returns-in-Err-clause-lasts
+returns-in-Err-clause-lasts g c = λ synced some.
+    inl (listed_ok c.list.result (λ entries. names_of entries.items) (g.D.Disk.holds c.args.disk.now) c.args.name.now (sym c.is_ok.ensures.value ∙ c.if-is_ok.true) c.list.ensures, c.run_in_folder.ensures.lasts synced some)
+
+pub returns-in-Ok-run_with_journal-clause-lasts : goal.returns-in-Ok-run_with_journal-clause-lasts
+returns-in-Ok-run_with_journal-clause-lasts g c = λ synced some. inr (c.run_with_journal.ensures.lasts synced some)
+
+pub returns-in-Err-run_with_journal-clause-lasts : goal.returns-in-Err-run_with_journal-clause-lasts
+returns-in-Err-run_with_journal-clause-lasts g c = λ synced some. inr (c.run_with_journal.ensures.lasts synced some)

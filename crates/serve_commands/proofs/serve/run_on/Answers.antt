@@ -7,6 +7,7 @@ use Rattle.ring_serve.specs.Standings.{Standing}
 use Rattle.ring_serve.specs.Starting.{AreResumed}
 use Rattle.tool_parts.specs.declared.faults.ToolError.{ToolError}
 use Rattle.serve_commands.specs.Served.{journal_of, permits_of, BeginsAt, IsServedPlain, IsServed, IsServedFrom, IsRefusedFrom}
+use Rattle.serve_commands.specs.Lasting.{CallsLast}
 use Rattle.serve_commands.proofs.serve.run_on.Goals as goal
 
 plain : (words : ServeWords) (saved : Option Saved) (end : List Standing) (before after : Option Held) (was is old new : Option (List ℕ)) → journal_of words ≡ None →
@@ -32,3 +33,25 @@ pub returns-in-Err-clause-err : goal.returns-in-Err-clause-err
 returns-in-Err-clause-err g c =
     inl (refused c.args.words.now None c.args.saved (g.D.Disk.holds c.args.disk.now) (g.D.Disk.holds c.run_without.new.disk) (g.I.Read.remaining c.args.input.now) (g.I.Read.remaining c.run_without.new.input) (g.W.Write.contents c.args.out.now) (g.W.Write.contents c.run_without.new.out)
     c.in-Err.fault (ap (λ (j : Option _). option_map (λ name. name.now) j) c.in-None.is) (rw c.permits_of.ensures at c.in-Err.ensures.err))
+
+-- ---- what a loss of power leaves
+
+lasts_as : (words : ServeWords) (journal : Option (List ℕ)) (saved : Option Saved) (before : Option Held) (was is old new : Option (List ℕ)) (left : Option Held) → journal_of words ≡ journal →
+    CallsLast words journal saved before was is old new left → CallsLast words (journal_of words) saved before was is old new left
+lasts_as words journal saved before was is old new left same h = subst (λ (j : Option (List ℕ)). CallsLast words j saved before was is old new left) (sym same) h
+
+pub returns-in-Ok-clause-lasts : goal.returns-in-Ok-clause-lasts
+returns-in-Ok-clause-lasts g c = λ synced some.
+    lasts_as c.args.words.now None c.args.saved (g.D.Disk.holds c.args.disk.now) _ _ _ _ _ (ap (λ (j : Option _). option_map (λ name. name.now) j) c.in-None.is) tt
+
+pub returns-in-Err-clause-lasts : goal.returns-in-Err-clause-lasts
+returns-in-Err-clause-lasts g c = λ synced some.
+    lasts_as c.args.words.now None c.args.saved (g.D.Disk.holds c.args.disk.now) _ _ _ _ _ (ap (λ (j : Option _). option_map (λ name. name.now) j) c.in-None.is) tt
+
+pub returns-in-Ok-run_kept-clause-lasts : goal.returns-in-Ok-run_kept-clause-lasts
+returns-in-Ok-run_kept-clause-lasts g c = λ synced some.
+    lasts_as c.args.words.now (Some c.in-Some.name.now) c.args.saved (g.D.Disk.holds c.args.disk.now) _ _ _ _ _ (ap (λ (j : Option _). option_map (λ name. name.now) j) c.in-Some.is) (c.run_kept.ensures.lasts synced some)
+
+pub returns-in-Err-run_kept-clause-lasts : goal.returns-in-Err-run_kept-clause-lasts
+returns-in-Err-run_kept-clause-lasts g c = λ synced some.
+    lasts_as c.args.words.now (Some c.in-Some.name.now) c.args.saved (g.D.Disk.holds c.args.disk.now) _ _ _ _ _ (ap (λ (j : Option _). option_map (λ name. name.now) j) c.in-Some.is) (c.run_kept.ensures.lasts synced some)

@@ -10,7 +10,7 @@ returns-in-Some g c = record {
   wrong = λ bytes held known files h.
       let end = c.in-Some.end in
       let cut = is_cut c.requires.due c.in-Some.ensures.number known files h in
-      let journal : hashed (g.D.Grown.Write.contents end.writer.inner) end.writer.hasher ≡ Some (segment_text end.number c.digest.result c.cut.new.served) =
+      let journal : hashed (g.D.Grown.Grow.contents end.writer.inner) end.writer.hasher ≡ Some (segment_text end.number c.digest.result c.cut.new.served) =
       c.in-Some.ensures.journal bytes held known files ∙ ap (λ (x : List Standing). Some (segment_text end.number c.digest.result x)) (sym c.in-Some.ensures.rings) in
       c.requires.apart bytes known (sym c.digest.ensures.value ∙ one_digest c.digest.result journal cut);
 }

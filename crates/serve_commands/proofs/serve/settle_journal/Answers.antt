@@ -1,0 +1,17 @@
+use Rattle.std.proofs.Common.{ℕ, List, subst, ◌∙◌}
+use Rattle.std.specs.Prelude.{string_bytes}
+use Rattle.disks.specs.Lasting.{LeavesFront}
+use Rattle.segment_loop.proofs.Lasting.{front_has, front_kept}
+use Rattle.serve_commands.proofs.serve.settle_journal.Goals as goal
+
+pub returns-in-Err-clause-kept : goal.returns-in-Err-clause-kept
+returns-in-Err-clause-kept g c = c.abandon.ensures.kept ∙ c.in-Err.ensures.kept
+
+pub returns-in-Err-clause-left : goal.returns-in-Err-clause-left
+returns-in-Err-clause-left g c =
+    let was = g.D.Disk.leaves c.close_synced.new.self in
+    let is = g.D.Disk.leaves c.abandon.new.self in
+    let front = g.D.Grown.Grow.lasting c.args.writer in
+    let back = g.D.Grown.Grow.lasting c.in-Err.writer in
+    front_has was is c.args.name.now front
+    (subst (λ (n : List ℕ). LeavesFront was is n front) c.requires.named (front_kept was is (string_bytes c.args.file) front back c.in-Err.ensures.given.1 c.abandon.ensures.left))

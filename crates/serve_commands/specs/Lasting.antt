@@ -1,0 +1,103 @@
+-- What a loss of power leaves of the journal of served rings (this project's own).
+use Rattle.std.specs.Prelude.{◌≡◌, ℕ, ◌⊎◌, List, Option, None, Some, IfSome, ⊤}
+use Rattle.disks.specs.Held.{Held, LeadsToFolder, Replaces}
+use Rattle.disks.specs.Lasting.{HasFront}
+use Rattle.ring_saved.specs.declared.saved.Saved.{Saved}
+use Rattle.ring_journal.specs.Spelling.{head_text}
+use Rattle.ring_serve.specs.declared.permits.Permits.{Permits}
+use Rattle.ring_serve.specs.Permits.{terms_of}
+use Rattle.ring_serve.specs.Recovered.{AnsweredCallsAreRecovered}
+use Rattle.ring_serve.specs.Saved.{content_of}
+use Rattle.ring_serve.specs.Standings.{Standing}
+use Rattle.ring_serve.specs.Starting.{AreResumed}
+use Rattle.chain_serve.specs.declared.segments.SegmentRules.{SegmentRules}
+use Rattle.chain_serve.specs.Segments.{Moment}
+use Rattle.chain_serve.specs.Beginning.{HasBegun}
+use Rattle.chain_serve.specs.Recovered.{AnsweredCallsLast}
+use Rattle.ring_requests.specs.declared.requests.ServeWords.{ServeWords}
+use Rattle.tool_parts.specs.Locking.{IsLocked}
+use Rattle.tool_parts.specs.Worlds.{World, IsUnserved}
+use Rattle.serve_commands.specs.Served.{history_of, journal_of, permits_of, IsGivenHistory, IsNoted}
+use Rattle.serve_commands.specs.ServedFolder.{Place, StandsIn, AreRules}
+
+-- ---- in a folder of segments
+
+-- From a place on: nothing was told; or the first segment has begun, and this is left of the folder,
+-- with the notes of all lines that were told, and the call of each is in the rings that are recovered
+-- of it.
+abbrev pub RunLasts : SegmentRules → Place → Option Held → Option (List ℕ) → Option (List ℕ)
+    → Option (List ℕ) → Option (List ℕ) → Option Held → Type 0
+RunLasts s start files was is old new left =
+    IsUnserved was is old new
+    ⊎ ((first : Moment)
+    × (end : List Standing)
+    × HasBegun s start.rings start.number start.behind files first
+    × AnsweredCallsLast s first end was is old new left)
+
+-- In a folder: nothing was told; or it was locked, the rings began where they stand in it, and what
+-- was told lasts.
+abbrev pub FolderLasts : ServeWords → List ℕ → Option Saved → Option Held → Option (List ℕ)
+    → Option (List ℕ) → Option (List ℕ) → Option (List ℕ) → Option Held → Type 0
+FolderLasts words folder saved before was is old new left =
+    IsUnserved was is old new
+    ⊎ ((rules : SegmentRules)
+    × (there : Option Held)
+    × (start : Place)
+    × AreRules rules words folder
+    × IsLocked before there folder
+    × StandsIn there folder saved start
+    × RunLasts rules start there was is old new left)
+
+-- ---- in a file
+
+-- Some of the lines were told, or all of them, from where the rings began and the journal's file had
+-- these bytes. Where it is known what a loss of power leaves, the file begins with them and with the
+-- notes of each told line behind them, and the rings that are recovered of it have its call.
+pub record JournalLasts (permits : Permits) (name : List ℕ) (start : List Standing)
+    (begun : Option Held) (first : List ℕ) (was is old new : Option (List ℕ))
+    (left : Option Held) : Type 0 where
+  pub end : List Standing
+  pub ended : Option Held
+  pub last : List ℕ
+  pub served : AnsweredCallsAreRecovered (terms_of (Some name) permits) start end begun ended was is
+      (record { journal = Some first; out = old }) (record { journal = Some last; out = new })
+  pub left_is : IfSome left (λ held. HasFront held name (Some last))
+
+-- In a file: nothing was told; or the rings began where the history or the journal has them, the
+-- journal was begun anew with them, and what was told lasts.
+abbrev pub FileLasts : Permits → List ℕ → Option Saved → Option Held → Option (List ℕ)
+    → Option (List ℕ) → Option (List ℕ) → Option (List ℕ) → Option Held → Type 0
+FileLasts permits name saved before was is old new left =
+    IsUnserved was is old new
+    ⊎ ((from : Saved)
+    × (start : List Standing)
+    × (begun : Option Held)
+    × IsNoted before name saved from
+    × AreResumed start from.rings.items
+    × Replaces before begun name (Some (head_text (content_of start)))
+    × JournalLasts permits name start begun (head_text (content_of start)) was is old new left)
+
+-- ---- either
+
+-- what was told lasts, in a folder, if the journal's name was one's, or in a file
+abbrev pub KeptLasts : ServeWords → List ℕ → Option Saved → Option Held → Option (List ℕ)
+    → Option (List ℕ) → Option (List ℕ) → Option (List ℕ) → Option Held → Type 0
+KeptLasts words name saved before was is old new left =
+    (LeadsToFolder before name × FolderLasts words name saved before was is old new left)
+    ⊎ FileLasts (permits_of words) name saved before was is old new left
+
+-- without a journal nothing lasts
+abbrev pub CallsLast : ServeWords → Option (List ℕ) → Option Saved → Option Held
+    → Option (List ℕ) → Option (List ℕ) → Option (List ℕ) → Option (List ℕ) → Option Held → Type 0
+CallsLast words None saved before was is old new left = ⊤
+CallsLast words (Some name) saved before was is old new left =
+    KeptLasts words name saved before was is old new left
+
+-- Whenever the power fails behind the call: nothing was told; or the journal, if one is kept, is left
+-- with the notes of all lines whose answers the output got, from where the rings began.
+abbrev pub ToldCallsLast : ServeWords → World → World → Option Held → Type 0
+ToldCallsLast words was is left =
+    IsUnserved was.input is.input was.out is.out
+    ⊎ ((saved : Option Saved)
+    × IsGivenHistory was.files (history_of words) saved
+    × CallsLast words (journal_of words) saved was.files was.input is.input was.out is.out left)
