@@ -1,12 +1,14 @@
 """The command `wozgirt` with a server."""
 
+import functools
 import os
+import resource
 import signal
 import subprocess
 import time
 import unittest
 
-from harness import PATIENCE, COMMAND, Server, by_the_clock, needs_loopback, needs_programs, read_lines, say, wait_until
+from harness import PATIENCE, COMMAND, Server, by_the_clock, granted, needs_loopback, needs_programs, read_lines, say, wait_until
 
 
 def run(server, *words, **more):
@@ -50,7 +52,7 @@ class LockCommand(unittest.TestCase):
                 self.assertEqual(run(server, "lock", "--no-wait", "a", "--", "true").returncode, 1)
                 self.assertEqual(run(server, "try", "a", "--", "true").returncode, 1)
                 self.assertEqual(run(server, "lock", "-E", "9", "-w", "0.1", "a", "--", "true").returncode, 9)
-                self.assertEqual(server.waiters("a"), 0)
+                server.wait_for_waiters("a", 0)
             self.assertEqual(run(server, "lock", "-w", "10", "a", "--", "true").returncode, 0)
             server.stop()
             self.assertEqual(run(server, "lock", "--server-wait", "0", "a", "--", "true").returncode, 69)
@@ -95,7 +97,8 @@ class LockCommand(unittest.TestCase):
             command = int(it.stdout.readline())
             it.kill()
             it.wait()
-            self.assertEqual(say(sock, "acquire a 1\n")[0].split()[0], "granted")
+            sock.sendall(b"acquire a 1\n")
+            self.assertEqual(granted(sock), "granted a 2")
             os.kill(command, signal.SIGKILL)
             close(it)
 
@@ -182,10 +185,11 @@ class LockCommand(unittest.TestCase):
             server.process.send_signal(signal.SIGCONT)
             close(it)
 
-    def test_a_stopped_server_is_noticed_while_waiting(self):
+    @by_the_clock
+    def test_a_stopped_server_is_noticed_while_waiting(self, longer):
         with Server() as server, server.raw() as sock:
             say(sock, "acquire a 1\n")
-            it = start(server, "lock", "--lease", "0.8", "a", "--", "true")
+            it = start(server, "lock", "--lease", str(0.8 * longer), "a", "--", "true")
             server.wait_for_waiters("a", 1)
             server.process.send_signal(signal.SIGSTOP)
             self.assertEqual(it.wait(PATIENCE), 69)
@@ -244,8 +248,16 @@ class Looks(unittest.TestCase):
     def test_bench(self):
         with Server() as server:
             done = run(server, "bench", "4", "2", "0.2")
-            self.assertRegex(done.stdout, r"^clients 4 locks 2 seconds 0\.\d+ handovers/s \d+ acquire p50 .* ratio \d+\.\d+\n$")
+            self.assertRegex(done.stdout, r"^clients 4 locks 2 seconds \d+\.\d+ handovers/s \d+ acquire p50 .* ratio \d+\.\d+\n$")
             self.assertEqual(run(server, "bench", "1", "9", "0.1").stderr, "wozgirt: the server has 3 locks\n")
+
+    def test_bench_has_too_little_memory_for_its_threads(self):
+        """It says so, and ends."""
+        with Server() as server:
+            few = functools.partial(resource.setrlimit, resource.RLIMIT_AS, (32 << 20, 32 << 20))
+            done = run(server, "bench", "400", "1", "0.1", preexec_fn=few)
+            self.assertEqual((done.returncode, done.stdout), (1, ""))
+            self.assertRegex(done.stderr, r"^wozgirt: .* \(os error \d+\)\n$")
 
     def test_help_and_version(self):
         with Server() as server:

@@ -186,14 +186,14 @@ class Answers(unittest.TestCase):
                 self.assertEqual(self.said({"try": [line]}, "-n"), (76, "", f"wozgirt: the server said: {line}\n"))
         self.assertEqual(self.said({"try": ["busy a"]}, "-n"), (1, "", ""))
 
-    def test_to_a_cancel(self):
-        waits = {"acquire": ["waiting a 0"], "release": ["released a"]}
+    @by_the_clock
+    def test_to_a_cancel(self, longer):
+        waits, words = {"acquire": ["waiting a 0"], "release": ["released a"]}, ("-w", str(0.1 * longer))
         for line in ("cancelled b", "released a", "granted b 7", "waiting a 0"):
-            with self.subTest(line=line):
-                self.assertEqual(self.said({**waits, "cancel": [line]}, "-w", "0.1"), (76, "", f"wozgirt: the server said: {line}\n"))
-        self.assertEqual(self.said({**waits, "cancel": ["cancelled a"]}, "-w", "0.1"), (1, "", ""))
+            self.assertEqual(self.said({**waits, "cancel": [line]}, *words), (76, "", f"wozgirt: the server said: {line}\n"))
+        self.assertEqual(self.said({**waits, "cancel": ["cancelled a"]}, *words), (1, "", ""))
         came_first = ["granted a 7", "refused waiter a"]
-        self.assertEqual(self.said({**waits, "cancel": came_first}, "-w", "0.1"), (0, "in 7\n", ""))
+        self.assertEqual(self.said({**waits, "cancel": came_first}, *words), (0, "in 7\n", ""))
 
     @by_the_clock
     def test_a_sign_of_life_beside_a_cancel(self, longer):
