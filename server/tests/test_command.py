@@ -3,12 +3,14 @@
 import functools
 import os
 import resource
+import shutil
 import signal
 import subprocess
+import tempfile
 import time
 import unittest
 
-from harness import PATIENCE, COMMAND, Server, by_the_clock, granted, needs_loopback, needs_programs, read_lines, say, wait_until
+from harness import FOLDER, PATIENCE, COMMAND, Server, by_the_clock, granted, needs_loopback, needs_programs, read_lines, say, wait_until
 
 
 def run(server, *words, **more):
@@ -251,13 +253,21 @@ class Looks(unittest.TestCase):
             self.assertRegex(done.stdout, r"^clients 4 locks 2 seconds \d+\.\d+ handovers/s \d+ acquire p50 .* ratio \d+\.\d+\n$")
             self.assertEqual(run(server, "bench", "1", "9", "0.1").stderr, "wozgirt: the server has 3 locks\n")
 
-    def test_bench_has_too_little_memory_for_its_threads(self):
+    @unittest.skipUnless(os.getuid() == 0, "only root can be another user, and is not limited itself")
+    def test_bench_may_have_too_few_threads(self):
         """It says so, and ends."""
-        with Server() as server:
-            few = functools.partial(resource.setrlimit, resource.RLIMIT_AS, (32 << 20, 32 << 20))
-            done = run(server, "bench", "400", "1", "0.1", preexec_fn=few)
+        few = functools.partial(resource.setrlimit, resource.RLIMIT_NPROC, (20, 20))
+        with Server("--mode", "666") as server, tempfile.TemporaryDirectory(dir=FOLDER) as folder:
+            for path in (server.folder, folder):
+                os.chmod(path, 0o755)
+            words = [shutil.copy(COMMAND, folder), "bench", "--socket", server.path, "100", "1", "0.1"]
+            try:
+                done = subprocess.run(words, user=65534, group=65534, extra_groups=[], preexec_fn=few, capture_output=True, text=True,
+                                      timeout=PATIENCE, check=False)
+            except OSError as fault:
+                self.skipTest(f"this root cannot be another user: {fault}")
             self.assertEqual((done.returncode, done.stdout), (1, ""))
-            self.assertRegex(done.stderr, r"^wozgirt: .* \(os error \d+\)\n$")
+            self.assertEqual(done.stderr, "wozgirt: Resource temporarily unavailable (os error 11)\n")
 
     def test_help_and_version(self):
         with Server() as server:
