@@ -197,10 +197,14 @@ class Cuts(Commands):
             self.assertEqual(self.run_it("try", "a", *UP), (1, "", ""))
             self.assertEqual(self.verbs(), ["try", "leave"])
 
-    def test_a_cancel(self):
+    @by_the_clock
+    def test_a_cancel(self, longer):
+        """The next server has a moment to do it, and then the command ends."""
         self.arbiter.holders["a"] = 9, 5
-        for moment in self.each_moment():
-            it = self.start("lock", "-w", "0.2", "a", *UP)
+        for moment in ("before", "after"):
+            self.arbiter.done.clear()
+            self.doors[1].fails = None
+            it = self.start("lock", "-w", str(0.2 * longer), "a", *UP)
             wait_until(lambda: self.verbs() == ["acquire"])
             self.doors[0].fails = moment
             self.finish(it, 1, "")
