@@ -4,9 +4,7 @@ import filecmp
 import os
 import shutil
 import signal
-import socket
 import subprocess
-import sys
 import tempfile
 import threading
 import time

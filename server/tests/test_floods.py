@@ -2,7 +2,6 @@
 turns."""
 
 import array
-import contextlib
 import fcntl
 import http.client
 import os
@@ -11,15 +10,13 @@ import signal
 import socket
 import subprocess
 import sys
-import tempfile
 import termios
 import threading
 import time
 import unittest
-import unittest.mock
 
-import harness
-from harness import ENGINE, FOLDER, PATIENCE, Server, by_the_clock, needs_loopback, needs_programs, read_lines, say, wait_until
+from harness import ENGINE, PATIENCE, Server, by_the_clock, needs_loopback, needs_programs, read_lines, say, wait_until
+from waits import Waits, slow_engine
 
 MANY = "a,b," + ",".join(f"n{i}" for i in range(998))
 MIB = 1 << 20
@@ -87,62 +84,6 @@ class Flood:
     def __exit__(self, *_):
         self.process.kill()
         self.process.communicate()
-
-
-#: An engine for which each leave takes a while, as it does where there are very many locks.
-SLOW = """#!{python}
-import subprocess, sys, time
-engine = subprocess.Popen(["{engine}", *sys.argv[1:]], stdin=subprocess.PIPE, bufsize=0)
-for line in sys.stdin.buffer:
-    if line.endswith(b" leave\\n"):
-        time.sleep(0.001)
-    engine.stdin.write(line)
-engine.stdin.close()
-sys.exit(engine.wait())
-"""
-
-
-@contextlib.contextmanager
-def slow_engine():
-    """Servers that start meanwhile have it."""
-    with tempfile.TemporaryDirectory(dir=FOLDER) as folder:
-        engine = os.path.join(folder, "engine")
-        with open(engine, "w", encoding="utf-8") as file:
-            file.write(SLOW.format(python=sys.executable, engine=ENGINE))
-        os.chmod(engine, 0o700)
-        with unittest.mock.patch.object(harness, "ENGINE", engine):
-            yield
-
-
-def children(process):
-    """The numbers of its children, where the system tells them."""
-    try:
-        with open(f"/proc/{process}/task/{process}/children", encoding="ascii") as file:
-            return file.read().split()
-    except OSError:
-        return []
-
-
-class Waits:
-    """For how long the server, its engine and this thread have wanted a processor and had none, as the system counts it, in seconds. What
-    somebody waits for is on time if it is so without that: a machine that is busy is late, and that is no fault. On one that has a
-    processor for each of them it is nearly nothing. Where two of them wait at once both times count, so on a busy machine a little of the
-    server's own delay passes."""
-
-    def __init__(self, server):
-        engine = server.engine_number()
-        tasks = (server.process.pid, engine, *children(engine), threading.get_native_id())
-        self.paths = [f"/proc/{task}/schedstat" for task in tasks]
-
-    def __call__(self):
-        waited = 0
-        for path in self.paths:
-            try:
-                with open(path, encoding="ascii") as file:
-                    waited += int(file.read().split()[1])
-            except OSError:
-                pass  # a system that does not count
-        return waited / 1e9
 
 
 def unread(sock):

@@ -90,6 +90,7 @@ class Interrupts(Interrupted):
         client = self.client(door.path)
         client.jump(300, "acquire a 1 -1")
         self.assertEqual(client.ask("acquire b 1 -1")[1:4], (LOST, 0, errno.ECANCELED))
+        wait_until(lambda: door.heard)
         self.assertEqual(door.heard, ["acquire a 1"])
 
     @needs_programs

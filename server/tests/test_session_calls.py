@@ -172,7 +172,7 @@ class Interrupts(Calls):
                 self.arbiter.done.clear()
                 client = self.session()
                 client.jump(300, "acquire a 1 -1")
-                self.assertEqual(self.verbs(), ["acquire"])
+                wait_until(lambda: self.verbs() == ["acquire"])
                 self.assertEqual(client.ask(line).result, REFUSED if line.startswith("release") else DONE)
                 wait_until(lambda: self.arbiter.lines["a"] == [])
                 self.assertEqual(self.verbs()[:2], ["acquire", "leave"])

@@ -8,7 +8,7 @@ import sys
 import time
 import unittest
 
-from harness import COMMAND, PATIENCE, TOP, Server, by_the_clock, needs_loopback, needs_programs, read_lines, say, wait_until
+from harness import COMMAND, PATIENCE, TOP, Server, by_the_clock, needs_loopback, needs_programs, say, wait_until
 from test_cluster import Trial, needs_strict
 
 sys.path.insert(0, os.path.join(TOP, "python", "tests"))
