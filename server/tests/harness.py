@@ -127,10 +127,18 @@ def stop_all():
             shutil.rmtree(server.folder, ignore_errors=True)
 
 
+#: a server that was just started, and that nobody could end yet; and whether this program is to end as soon as somebody can
+STARTING, ENDING = [], []
+
+
 def unwind_at_sigterm():
     """SIGTERM, by which ./test ends what there is no time for, ends this program as an error does: what it has begun is ended, and its
     folders are removed."""
-    signal.signal(signal.SIGTERM, lambda *_: sys.exit(128 + signal.SIGTERM))
+    def end(*_):
+        ENDING.append(signal.SIGTERM)
+        if not STARTING:
+            sys.exit(128 + signal.SIGTERM)
+    signal.signal(signal.SIGTERM, end)
 
 
 @contextlib.contextmanager
@@ -157,10 +165,14 @@ class Server:
         more = ["--faults"] if faults else []
         self.words = [SERVER, "--engine", ENGINE, "--journal", self.journal, "--locks", locks, "--no-sync", "--socket", self.path,
                       "--operators", self.operators, "--longest-lease", str(lease), *more, *words]
+        STARTING.append(self)
         with open(self.log, "ab") as log:
             self.logged = log.seek(0, os.SEEK_END)  # by those that had the folder before
             self.process = subprocess.Popen(self.words, stderr=log)
         RUNNING.append(self)
+        STARTING.remove(self)
+        if ENDING:
+            sys.exit(128 + signal.SIGTERM)
         self.wait_until_it_answers(self.process)
 
     def wait_until_it_answers(self, process):
