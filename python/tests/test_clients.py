@@ -205,12 +205,13 @@ class Tasks(unittest.IsolatedAsyncioTestCase):
             await asyncio.gather(*(work() for _ in range(8)))
             self.assertEqual(tokens, list(range(1, 401)))
 
-    async def test_not_in_time_and_errors(self):
+    @by_the_clock
+    async def test_not_in_time_and_errors(self, longer):
         with Server() as server:
             one, two = await aio.Client.connect(server.path), await aio.Client.connect(server.path)
             token = await one.acquire("a", label=5)
             with self.assertRaises(NotInTime):
-                await two.acquire("a", wait=0.1)
+                await two.acquire("a", wait=0.1 * longer)
             self.assertIsNone(await two.try_acquire("a"))
             with self.assertRaises(NoSuchLock):
                 await two.acquire("nothing")

@@ -12,6 +12,7 @@ sys.path.insert(0, os.path.join(os.path.dirname(os.path.abspath(__file__)), ".."
 import interrupts  # noqa: E402
 from harness import PATIENCE, Server, needs_loopback, needs_programs, wait_until  # noqa: E402
 from interrupts import Interrupt  # noqa: E402
+from test_deadlines import tried_again  # noqa: E402
 from test_sessions import Arbiter, Door  # noqa: E402
 from wozgirt import Client, Lock, LockLost, Session  # noqa: E402
 
@@ -81,6 +82,7 @@ class OfOneServer(unittest.TestCase):
             with Client(server.path) as other:
                 other.acquire("a", wait=PATIENCE)
 
+    @tried_again
     def test_the_clean_up_is_interrupted_too(self):
         with Server() as server, Client(server.path) as client:
             engine = server.engine_number()

@@ -102,10 +102,10 @@ class LocksOfThreads(unittest.TestCase):
     def test_a_grant_that_crosses_the_end_of_the_wait(self):
         with Locks(1) as locks:
             token = locks.acquire(0)
-            late = Asker(locks, 0.1)
+            late = Asker(locks, 0.5)
             waiting(locks, 1)
             with locks._mutex:
-                time.sleep(0.5)  # the time is over, and the thread cannot say so yet
+                time.sleep(1)  # the time is over, and the thread cannot say so yet
                 locks._ask("release", threading.get_ident(), 0, token)
             waiting(locks, 0)
             late.end()

@@ -400,10 +400,11 @@ class Etcd(unittest.TestCase):
                 log.append("three")
                 wait_until(lambda: log.texts() == ["one", "two", "three"] and late.texts() == ["three"])
 
-    def test_one_server_of_a_name(self):
+    @by_the_clock
+    def test_one_server_of_a_name(self, longer):
         """A second one is refused while the first one is alive, waits where that may have ended, and a server's own starts are its own."""
         members = self.members()
-        with Log(members.urls(), lease=1, known="- 0 0 0") as first:
+        with Log(members.urls(), lease=longer, known="- 0 0 0") as first:
             is_over = threading.Event()
 
             def live():
@@ -412,10 +413,10 @@ class Etcd(unittest.TestCase):
                     if is_over.wait(0.1):
                         return
             threading.Thread(target=live, daemon=True).start()
-            with Log(members.urls(), lease=1, known="- 0 0 0") as second:
+            with Log(members.urls(), lease=longer, known="- 0 0 0") as second:
                 self.assertEqual((second.status(), second.lines), (1, ["taken 1"]))
             is_over.set()
-            with Log(members.urls(), lease=1, known="- 0 0 1") as again:
+            with Log(members.urls(), lease=longer, known="- 0 0 1") as again:
                 self.assertEqual(again.lines[0].split()[2], "2")
                 with Log(members.urls(), lease=30, known="- 0 0 0") as late:  # nobody says that the others are here
                     self.assertEqual(late.lines[0].split()[::2], ["log", "3"])

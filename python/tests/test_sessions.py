@@ -417,9 +417,10 @@ class OfOne(test_restarts.Trial):
             self.assertEqual(got, [token + 1])
             self.assertRaises(Holds, other.acquire, "a")
 
-    def test_a_hold_whose_client_was_away_is_lost(self):
-        server = self.server(lease="1")
-        with Session([server.path], lease=1) as client:
+    @by_the_clock
+    def test_a_hold_whose_client_was_away_is_lost(self, longer):
+        server = self.server(lease=str(longer))
+        with Session([server.path], lease=longer) as client:
             client.acquire("a")
             server.process.kill()
             server.process.wait()

@@ -1,6 +1,7 @@
 """The clients for asyncio: deadlines, cancellations, and servers that say what is wrong or nothing."""
 
 import asyncio
+import errno
 import functools
 import logging
 import os
@@ -20,14 +21,16 @@ logging.getLogger("asyncio").setLevel(logging.ERROR)  # that a server is started
 
 
 def tried_again(test):
-    """As that of test_deadlines, for a coroutine."""
+    """As that of test_deadlines, for a coroutine. It begins anew: what was asked before may be done later."""
     @functools.wraps(test)
     async def run(self):
         for _ in range(3):
             try:
                 return await test(self)
             except AssertionError:
-                pass
+                self.tearDown()
+                self.doCleanups()
+                self.setUp()
         return await test(self)
     return run
 
@@ -105,6 +108,8 @@ class Tasks(Timed):
                         token = await task
                     except asyncio.CancelledError:
                         token = None
+                        if client._undoing:  # the server took longer
+                            await asyncio.wait(list(client._undoing))
                     held = (await client.status())[0]
                     if token is not None:
                         self.assertEqual((held.token, held.label), (token, label))
@@ -118,6 +123,24 @@ class Tasks(Timed):
             async with await aio.Client.connect(server.path) as client:
                 for told in await asyncio.gather(*(client.status() for _ in range(20))):
                     self.assertEqual([it.name for it in told], ["a", "b"])
+
+    async def test_what_the_system_does_not_send_is_not_waited_for(self):
+        class Full:
+            """A socket whose other end is there, and that has no room."""
+
+            def send(self, _):
+                raise OSError(errno.ENOBUFS, "no room")
+
+        with Server() as server:
+            for call in ("acquire", "try_acquire", "release"):
+                client = await aio.Client.connect(server.path)
+                kept, client._sock = client._sock, Full()
+                with self.assertRaisesRegex(LockLost, "no room"):
+                    await asyncio.wait_for(getattr(client, call)("a", *[1] * (call == "release")), PATIENCE)
+                with self.assertRaises(LockLost):
+                    client.check()
+                await client.close()
+                kept.close()
 
     async def test_every_answer_is_life(self):
         with Server(lease=2) as server:
@@ -204,8 +227,6 @@ class Several(Timed):
 
     @tried_again
     async def test_servers_that_fall_silent(self):
-        for door in self.doors:
-            door.is_silent = False  # a try before may have failed
         async with await aio.Session.connect([it.place for it in self.doors]) as client:
             for door in self.doors:
                 door.is_silent = True

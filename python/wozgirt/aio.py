@@ -169,13 +169,16 @@ class Client(OfOneProcess):
 
     def _put(self, line: bytes) -> None:
         """Sends it. That the server has closed the connection is not said here: `_read` hears first what it said before. (A transport
-        whose write fails reads nothing more.)"""
+        whose write fails reads nothing more.) Where the system refuses it for something else, nobody would ever answer it."""
         if self._sock is not None and not self._writer.transport.get_write_buffer_size():
             try:
                 line = line[self._sock.send(line):]
             except BlockingIOError:
                 pass
-            except OSError:
+            except (BrokenPipeError, ConnectionResetError):
+                return
+            except OSError as fault:
+                self._drop(str(fault))
                 return
         if line:
             self._writer.write(line)

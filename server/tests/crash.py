@@ -20,7 +20,7 @@ import threading
 import time
 
 import journals
-from harness import ENGINE, IS_DOUBLE, PATIENCE, TOP, Server
+from harness import ENGINE, IS_DOUBLE, PATIENCE, TOP, Server, room
 
 from wozgirt import Client, LockError
 
@@ -163,7 +163,7 @@ def main():
     seconds = float(sys.argv[1]) if len(sys.argv) > 1 else 30
     seed = int(sys.argv[2]) if len(sys.argv) > 2 else random.randrange(1 << 32)
     draw, done = random.Random(seed), {}
-    with tempfile.TemporaryDirectory(prefix="wozgirt-crash-") as folder:
+    with room("crash") as folder:
         server = start(folder)
         trial = Trial(server.path)
         threads = [threading.Thread(target=trial.work, args=(number,), daemon=True) for number in range(1, CLIENTS + 1)]

@@ -14,16 +14,14 @@ ETCD, ETCDCTL = shutil.which("etcd"), shutil.which("etcdctl")
 PATIENCE = 50
 
 
-def free_ports(count):
-    """Ports of 127.0.0.1 that nobody uses now."""
-    doors = [socket.socket() for _ in range(count)]
-    try:
-        for door in doors:
-            door.bind(("127.0.0.1", 0))
-        return [door.getsockname()[1] for door in doors]
-    finally:
-        for door in doors:
-            door.close()
+def kept_ports(count):
+    """Sockets at ports of 127.0.0.1, which nobody gets by chance as long as these are open. A member can listen there, as each does that
+    permits others its address."""
+    guards = [socket.socket() for _ in range(count)]
+    for guard in guards:
+        guard.setsockopt(socket.SOL_SOCKET, socket.SO_REUSEADDR, 1)
+        guard.bind(("127.0.0.1", 0))
+    return guards
 
 
 class Members:
@@ -32,7 +30,8 @@ class Members:
 
     def __init__(self, folder, names="a", addresses=None, wrap=lambda name: [], tls=None, more=()):
         self.folder, self.names, self.wrap, self.tls, self.more = folder, list(names), wrap, tls, list(more)
-        ports = free_ports(2 * len(self.names)) if addresses is None else []
+        self.guards = kept_ports(2 * len(self.names)) if addresses is None else []
+        ports = [guard.getsockname()[1] for guard in self.guards]
         self.addresses = addresses or {name: ("127.0.0.1", ports[2 * i], ports[2 * i + 1]) for i, name in enumerate(self.names)}
         self.processes = {}
         os.makedirs(folder, exist_ok=True)

@@ -1,8 +1,10 @@
 #!/usr/bin/env python3
 """flood.py SOCKET KIND CLIENTS: so many clients say all that the server takes of them, until this process is ended. It says `up` when
 they have been answered for the first time. KIND is one of KINDS; clients of an odd number read nothing in those that end in `deaf`. In
-`come` and `asked` they come and go all the time: at once, and when they have been answered, so that the engine has to hear of it."""
+`come` and `asked` they come and go all the time: at once, and when they have been answered, so that the engine has to hear of it; in
+`attached` so that a session of each ends."""
 
+import itertools
 import select
 import socket
 import sys
@@ -18,6 +20,7 @@ KINDS = {
     "leave": b"try a 1\nleave\n" * 200,
     "come": b"try a 1\n" * 128,
     "asked": b"try a 1\n",
+    "attached": b"session KEY attached\n1 try a 1\n",
 }
 
 
@@ -59,15 +62,16 @@ def pour(path, kind, clients):
 
 def come_and_go(path, kind, clients):
     print("up", flush=True)
+    keys = itertools.count(1)
     while True:
         socks = []
         for _ in range(clients):
             try:
                 socks.append(connect(path))
-                socks[-1].send(KINDS[kind])
+                socks[-1].send(KINDS[kind].replace(b"KEY", str(next(keys)).encode()))
             except OSError:
                 pass
-        if kind == "asked":
+        if kind != "come":
             wait_for_answers(socks)
         for sock in socks:
             sock.close()
@@ -87,7 +91,7 @@ def wait_for_answers(socks):
 
 
 if __name__ == "__main__":
-    if sys.argv[2] in ("come", "asked"):
+    if sys.argv[2] in ("come", "asked", "attached"):
         come_and_go(*sys.argv[1:3], int(sys.argv[3]))
     else:
         pour(sys.argv[1], sys.argv[2], int(sys.argv[3]))

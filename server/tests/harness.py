@@ -8,7 +8,9 @@ is tried, as with leases, `by_the_clock` tries again with longer times: a machin
 
 import contextlib
 import functools
+import inspect
 import os
+import re
 import resource
 import shutil
 import signal
@@ -80,19 +82,33 @@ class TooEarly(Exception):
 
 
 def by_the_clock(test):
-    """The test is passed a number by which its times are longer: 1, and a greater one if it fails. It then begins anew: what it has
-    added to be cleaned up is, and it is set up again. (What fails in a subTest is not tried again.)"""
+    """The test, which may be a coroutine, is passed a number by which its times are longer: 1, and a greater one if it fails, as on a
+    machine that is late. It then begins anew: what it has added to be cleaned up is, and it is set up again. (What fails in a subTest is
+    not tried again.)"""
+    def begin_anew(self, fault):
+        if isinstance(fault, (TooEarly, unittest.SkipTest)):
+            raise fault
+        self.doCleanups()
+        self.setUp()
+
     @functools.wraps(test)
     def run(self):
         for longer in (1, 5):
             try:
                 return test(self, longer)
-            except (AssertionError, OSError, RuntimeError, IndexError):
-                pass  # the machine may have been late
-            self.doCleanups()
-            self.setUp()
+            except Exception as fault:  # pylint: disable=broad-except
+                begin_anew(self, fault)
         return test(self, 15)
-    return run
+
+    @functools.wraps(test)
+    async def run_coroutine(self):
+        for longer in (1, 5):
+            try:
+                return await test(self, longer)
+            except Exception as fault:  # pylint: disable=broad-except
+                begin_anew(self, fault)
+        return await test(self, 15)
+    return run_coroutine if inspect.iscoroutinefunction(test) else run
 
 
 #: servers, and groups of processes, that nobody has ended
@@ -111,6 +127,32 @@ def stop_all():
             shutil.rmtree(server.folder, ignore_errors=True)
 
 
+#: a server that was just started, and that nobody could end yet; and whether this program is to end as soon as somebody can
+STARTING, ENDING = [], []
+
+
+def unwind_at_sigterm():
+    """SIGTERM, by which ./test ends what there is no time for, ends this program as an error does: what it has begun is ended, and its
+    folders are removed."""
+    def end(*_):
+        ENDING.append(signal.SIGTERM)
+        if not STARTING:
+            sys.exit(128 + signal.SIGTERM)
+    signal.signal(signal.SIGTERM, end)
+
+
+@contextlib.contextmanager
+def room(name):
+    """A folder for a trial. However that ends, the servers that it started end before the folder is removed."""
+    unwind_at_sigterm()
+    folder = tempfile.mkdtemp(prefix=f"wozgirt-{name}-", dir=FOLDER)
+    try:
+        yield folder
+    finally:
+        stop_all()
+        shutil.rmtree(folder, ignore_errors=True)
+
+
 class Server:
     """A server that runs; a context manager that ends it and removes its folder."""
 
@@ -123,9 +165,14 @@ class Server:
         more = ["--faults"] if faults else []
         self.words = [SERVER, "--engine", ENGINE, "--journal", self.journal, "--locks", locks, "--no-sync", "--socket", self.path,
                       "--operators", self.operators, "--longest-lease", str(lease), *more, *words]
+        STARTING.append(self)
         with open(self.log, "ab") as log:
+            self.logged = log.seek(0, os.SEEK_END)  # by those that had the folder before
             self.process = subprocess.Popen(self.words, stderr=log)
         RUNNING.append(self)
+        STARTING.remove(self)
+        if ENDING:
+            sys.exit(128 + signal.SIGTERM)
         self.wait_until_it_answers(self.process)
 
     def wait_until_it_answers(self, process):
@@ -148,6 +195,12 @@ class Server:
     def text_of_log(self):
         with open(self.log, encoding="utf-8", errors="replace") as file:
             return file.read()
+
+    def own_log(self):
+        """What this one has logged."""
+        with open(self.log, "rb") as file:
+            file.seek(self.logged)
+            return file.read().decode(errors="replace")
 
     def raw(self, operator=False):
         sock = socket.socket(socket.AF_UNIX)
@@ -173,8 +226,8 @@ class Server:
 
     def port(self, of):
         """The port that its log names, of `clients` or of the `page`."""
-        wait_until(lambda: f"{of} at 127.0.0.1:" in self.text_of_log())
-        return int(self.text_of_log().split(f"{of} at 127.0.0.1:")[1].split("\n")[0])
+        wait_until(lambda: re.search(rf"{of} at 127\.0\.0\.1:\d+\n", self.own_log()))
+        return int(re.search(rf"{of} at 127\.0\.0\.1:(\d+)\n", self.own_log())[1])
 
     def engine_number(self):
         """The number of the engine's process, or None."""
@@ -231,6 +284,23 @@ def read_lines(sock, count):
 def say(sock, text, count=1):
     sock.sendall(text.encode())
     return read_lines(sock, count)
+
+
+def granted(sock):
+    """The line of the grant, which may come behind `waiting`, or with it."""
+    lines = [""]
+    while not lines[-1].startswith("granted "):
+        lines += read_lines(sock, 1) or [f"granted by nobody: {lines}"]
+    return lines[-1]
+
+
+def a_port(test):
+    """A port of 127.0.0.1 that nobody gets by chance until the test is over. A server can listen there, again and again."""
+    guard = socket.socket()
+    test.addCleanup(guard.close)
+    guard.setsockopt(socket.SOL_SOCKET, socket.SO_REUSEADDR, 1)
+    guard.bind(("127.0.0.1", 0))
+    return guard.getsockname()[1]
 
 
 def at_least(seconds, begun):

@@ -26,7 +26,7 @@ from cuts.host import Host
 from cuts.lending import Locks
 from cuts.lives import Layer, Tally, Trial
 from cuts.serving import Serve
-from harness import ENGINE, FOLDER, IS_DOUBLE, why_not as why_no_server
+from harness import ENGINE, FOLDER, IS_DOUBLE, unwind_at_sigterm, why_not as why_no_server
 
 HERE = os.path.dirname(os.path.abspath(__file__))
 SEGMENT = ("--segment", "40")
@@ -154,17 +154,23 @@ def judged(ended, cuts, seed):
 
 
 def main(cuts="500", seed=None, *names):
+    known = parts(int(cuts))
+    unknown = [name for name in names if name not in map(str, known)]
+    if unknown:
+        print(f"power.py: of {cuts} cuts there is no part {', '.join(unknown)}; there are {', '.join(map(str, known))}", file=sys.stderr)
+        return 2
     reason = why_not()
     if reason:
         print(f"skipped: power: {reason}\n0 passed, 0 failed")
         return 0
+    unwind_at_sigterm()
     seed, begun = int(seed) if seed else random.randrange(1 << 32), time.monotonic()
     with tempfile.TemporaryDirectory(prefix="wozgirt-layer-") as folder:
         library = library_in(folder)
         if not library:
             print("skipped: power: there is no C compiler\n0 passed, 0 failed")
             return 0
-        chosen = [it for it in parts(int(cuts)) if not names or str(it) in names]
+        chosen = [it for it in known if not names or str(it) in names]
         jobs = [(part, seed, library) for part in chosen]
         with multiprocessing.Pool(min(len(jobs), len(os.sched_getaffinity(0)))) as pool:
             ended = list(pool.imap_unordered(play, jobs))

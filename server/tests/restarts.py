@@ -15,12 +15,11 @@ import random
 import signal
 import socket
 import sys
-import tempfile
 import threading
 import time
 
 from crash import judge_chain
-from harness import PATIENCE, RUNNING, Server, stop_all
+from harness import PATIENCE, RUNNING, Server, room
 
 NAMES, LONGEST = "abcdefgh", 240
 #: the least lease, and how many times longer it is than a start
@@ -42,7 +41,7 @@ def start(folder, lease):
 
 def lease_of_this_machine():
     """A lease in which clients can be back, unless the machine is busy with others."""
-    with tempfile.TemporaryDirectory(prefix="wozgirt-restarts-") as folder:
+    with room("restarts") as folder:
         begun = time.monotonic()
         start(folder, SHORTEST).stop()
         return max(SHORTEST, STARTS * (time.monotonic() - begun))
@@ -317,7 +316,7 @@ def main():
     seed = int(words[2]) if len(words) > 2 else random.randrange(1 << 32)
     lease = float(words[3]) if len(words) > 3 else lease_of_this_machine()
     draw, done, begun = random.Random(seed), {}, time.monotonic()
-    with tempfile.TemporaryDirectory(prefix="wozgirt-restarts-") as folder:
+    with room("restarts") as folder:
         server = start(folder, lease)
         trial = Trial(server.path, lease)
         workers = [Worker(trial, number, number <= TRUANTS) for number in range(1, clients + 1)]
@@ -354,7 +353,4 @@ def main():
 
 
 if __name__ == "__main__":
-    try:
-        sys.exit(main())
-    finally:
-        stop_all()
+    sys.exit(main())

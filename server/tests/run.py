@@ -8,6 +8,7 @@ import collections
 import contextlib
 import os
 import re
+import shutil
 import signal
 import subprocess
 import sys
@@ -16,15 +17,17 @@ import time
 import unittest
 from concurrent.futures import ThreadPoolExecutor
 
-from harness import stop_all
+from harness import FOLDER, stop_all
 
 LIMIT, LAST_LIMIT = 120, 30
 # Most tests wait most of their time
 SIDE_BY_SIDE = 2 * (os.cpu_count() or 1)
 BUSY = ("test_floods.py", "test_noise.py")
 
-#: groups of the processes that run files
-RUNNING = set()
+#: groups of the processes that run files, and the folder for what they make
+RUNNING, ROOM = set(), []
+#: seconds that they have to end in order
+SOON = 2
 
 
 class Result(unittest.TextTestResult):
@@ -93,8 +96,35 @@ def end_group(group):
 def end_all(number, _):
     """What runs files is in other groups, so it is ended here where this process is told to end."""
     for group in list(RUNNING):
+        with contextlib.suppress(ProcessLookupError):
+            os.killpg(group, signal.SIGTERM)
+    end = time.monotonic() + SOON
+    while RUNNING and time.monotonic() < end:
+        time.sleep(0.02)
+    for group in list(RUNNING):
         end_group(group)
+    for folder in ROOM:
+        shutil.rmtree(folder, ignore_errors=True)
     os._exit(128 + number)
+
+
+def give_up_file(number, _):
+    """The same for the process that runs one."""
+    stop_all()
+    os._exit(128 + number)
+
+
+@contextlib.contextmanager
+def room():
+    """A folder for all that is made meanwhile. Other users may come through, as some tests want."""
+    folder = tempfile.mkdtemp(prefix="wozgirt-run-", dir=FOLDER)
+    os.chmod(folder, 0o755)
+    ROOM.append(folder)
+    os.environ["TMPDIR"] = folder
+    try:
+        yield
+    finally:
+        shutil.rmtree(folder, ignore_errors=True)
 
 
 def run_folder(folder, seconds):
@@ -102,9 +132,10 @@ def run_folder(folder, seconds):
     signal.signal(signal.SIGTERM, end_all)
     end = time.monotonic() + seconds
     files = sorted(it for it in os.listdir(folder) if it.startswith("test_") and it.endswith(".py"))
-    with ThreadPoolExecutor(SIDE_BY_SIDE) as pool:
-        ran = list(pool.map(lambda file: run_file(folder, file, end), (it for it in files if it not in BUSY)))
-    ran += [run_file(folder, file, end) for file in files if file in BUSY]
+    with room():
+        with ThreadPoolExecutor(SIDE_BY_SIDE) as pool:
+            ran = list(pool.map(lambda file: run_file(folder, file, end), (it for it in files if it not in BUSY)))
+        ran += [run_file(folder, file, end) for file in files if file in BUSY]
     reasons = collections.Counter()
     for lines, _ in ran:
         for line in lines:
@@ -124,6 +155,7 @@ def main():
     folder, seconds, *files = sys.argv[1:]
     if not files:
         sys.exit(run_folder(folder, float(seconds)))
+    signal.signal(signal.SIGTERM, give_up_file)
     tests = unittest.defaultTestLoader.discover(folder, pattern=files[0], top_level_dir=folder)
     result = Result(folder, tests, time.monotonic() + float(seconds))
     tests.run(result)

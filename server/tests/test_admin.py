@@ -21,12 +21,12 @@ class Admin(unittest.TestCase):
     def test_clients(self):
         with Server() as server, server.raw() as one, server.raw() as two:
             say(one, "acquire a 1\nacquire b 1\n", 2)
-            say(two, "lease 1500\nacquire a 1\n", 2)
+            say(two, "lease 29500\nacquire a 1\n", 2)
             status, table, errors = admin(server.operators, "clients")
             self.assertEqual((status, errors), (0, ""))
             rows = [line.split(None, 4) for line in table.splitlines()]
             self.assertEqual(table.splitlines()[0].split(), ["CLIENT", "LEASE", "HOLDS", "WAITS", "FOR", "WHO"])
-            self.assertEqual([row[1:4] for row in rows[1:3]], [["-", "a,b", "-"], ["1.5", "s", "-"]])
+            self.assertEqual([row[1:4] for row in rows[1:3]], [["-", "a,b", "-"], ["29.5", "s", "-"]])
             self.assertIn(f"process {os.getpid()}", rows[1][4])
             self.assertEqual(len(rows), 4)  # and this operator
 

@@ -4,28 +4,19 @@ import filecmp
 import os
 import shutil
 import signal
-import socket
 import subprocess
-import sys
 import tempfile
 import threading
 import time
 import unittest
 
-from harness import (ENGINE, FOLDER, IS_DOUBLE, PATIENCE, RUNNING, SERVER, TOP, Server, needs_programs, read_lines, say, wait_until)
+from harness import (ENGINE, FOLDER, IS_DOUBLE, PATIENCE, RUNNING, SERVER, TOP, Server, at_least, by_the_clock, granted, needs_programs,
+                     read_lines, say, wait_until)
 from log_double import Log
 
 RELAY = os.path.join(TOP, "server", "tests", "log_double.py")
 HELP = subprocess.run([ENGINE, "locks", "--help"], capture_output=True, text=True, check=False).stdout if not IS_DOUBLE else "--strict"
 needs_strict = unittest.skipUnless("--strict" in HELP, "this engine has no --strict")
-
-
-def granted(sock):
-    """The line of the grant, which may come behind `waiting`, or with it."""
-    lines = [""]
-    while not lines[-1].startswith("granted "):
-        lines += read_lines(sock, 1) or [f"granted by nobody: {lines}"]
-    return lines[-1]
 
 
 def granted_late(sock, *others):
@@ -178,8 +169,9 @@ class Several(Trial):
 @needs_programs
 @needs_strict
 class Ends(Trial):
-    def test_clients_of_a_killed_server_leave_or_go_on(self):
-        a, b = (self.server(name, lease="1", host_lease="1") for name in "ab")
+    @by_the_clock
+    def test_clients_of_a_killed_server_leave_or_go_on(self, longer):
+        a, b = (self.server(name, lease=str(longer), host_lease=longer) for name in "ab")
         plain, (keyed, _) = self.raw(a), self.session(a, 4)
         self.assertEqual(say(plain, "acquire a 1\n"), ["granted a 1"])
         self.assertEqual(say(keyed, "1 acquire b 1\n"), ["1 granted b 1"])
@@ -190,10 +182,10 @@ class Ends(Trial):
         again, lines = self.session(b, 4, 1)
         self.assertEqual(lines, ["holds b 1"])
         self.assertEqual(granted_late(other, again), "granted a 2")
-        self.assertGreater(time.monotonic() - begun, 1)
+        at_least(longer, begun)
         wait_until(lambda: "server a 1 is over at position " in b.text_of_log())
         self.assertEqual(say(again, "2 release b 1\n"), ["2 released b"])
-        a = self.server("a", lease="1", host_lease="1")
+        a = self.server("a", lease=str(longer), host_lease=longer)
         self.hand_over(a)
         self.assertIn("cluster a 3 ", a.operate("cluster"))
 
@@ -208,8 +200,9 @@ class Ends(Trial):
         self.hand_over(a)
         self.assertEqual(say(self.raw(b), "try a 1\n"), ["busy a"])  # until the grace is over
 
-    def test_a_stopped_server_tells_nothing_old(self):
-        a, b = (self.server(name, lease="1", host_lease="1") for name in "ab")
+    @by_the_clock
+    def test_a_stopped_server_tells_nothing_old(self, longer):
+        a, b = (self.server(name, lease=str(longer), host_lease=longer) for name in "ab")
         sock, other = self.raw(a), self.raw(b)
         self.assertEqual(say(other, "acquire a 1\n"), ["granted a 1"])
         self.assertEqual(say(sock, "acquire a 1\n"), ["waiting a 0"])

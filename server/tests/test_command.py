@@ -1,12 +1,16 @@
 """The command `wozgirt` with a server."""
 
+import functools
 import os
+import resource
+import shutil
 import signal
 import subprocess
+import tempfile
 import time
 import unittest
 
-from harness import PATIENCE, COMMAND, Server, by_the_clock, needs_loopback, needs_programs, read_lines, say, wait_until
+from harness import FOLDER, PATIENCE, COMMAND, Server, by_the_clock, granted, needs_loopback, needs_programs, read_lines, say, wait_until
 
 
 def run(server, *words, **more):
@@ -50,7 +54,7 @@ class LockCommand(unittest.TestCase):
                 self.assertEqual(run(server, "lock", "--no-wait", "a", "--", "true").returncode, 1)
                 self.assertEqual(run(server, "try", "a", "--", "true").returncode, 1)
                 self.assertEqual(run(server, "lock", "-E", "9", "-w", "0.1", "a", "--", "true").returncode, 9)
-                self.assertEqual(server.waiters("a"), 0)
+                server.wait_for_waiters("a", 0)
             self.assertEqual(run(server, "lock", "-w", "10", "a", "--", "true").returncode, 0)
             server.stop()
             self.assertEqual(run(server, "lock", "--server-wait", "0", "a", "--", "true").returncode, 69)
@@ -95,7 +99,8 @@ class LockCommand(unittest.TestCase):
             command = int(it.stdout.readline())
             it.kill()
             it.wait()
-            self.assertEqual(say(sock, "acquire a 1\n")[0].split()[0], "granted")
+            sock.sendall(b"acquire a 1\n")
+            self.assertEqual(granted(sock), "granted a 2")
             os.kill(command, signal.SIGKILL)
             close(it)
 
@@ -182,10 +187,11 @@ class LockCommand(unittest.TestCase):
             server.process.send_signal(signal.SIGCONT)
             close(it)
 
-    def test_a_stopped_server_is_noticed_while_waiting(self):
+    @by_the_clock
+    def test_a_stopped_server_is_noticed_while_waiting(self, longer):
         with Server() as server, server.raw() as sock:
             say(sock, "acquire a 1\n")
-            it = start(server, "lock", "--lease", "0.8", "a", "--", "true")
+            it = start(server, "lock", "--lease", str(0.8 * longer), "a", "--", "true")
             server.wait_for_waiters("a", 1)
             server.process.send_signal(signal.SIGSTOP)
             self.assertEqual(it.wait(PATIENCE), 69)
@@ -244,8 +250,24 @@ class Looks(unittest.TestCase):
     def test_bench(self):
         with Server() as server:
             done = run(server, "bench", "4", "2", "0.2")
-            self.assertRegex(done.stdout, r"^clients 4 locks 2 seconds 0\.\d+ handovers/s \d+ acquire p50 .* ratio \d+\.\d+\n$")
+            self.assertRegex(done.stdout, r"^clients 4 locks 2 seconds \d+\.\d+ handovers/s \d+ acquire p50 .* ratio \d+\.\d+\n$")
             self.assertEqual(run(server, "bench", "1", "9", "0.1").stderr, "wozgirt: the server has 3 locks\n")
+
+    @unittest.skipUnless(os.getuid() == 0, "only root can be another user, and is not limited itself")
+    def test_bench_may_have_too_few_threads(self):
+        """It says so, and ends."""
+        few = functools.partial(resource.setrlimit, resource.RLIMIT_NPROC, (20, 20))
+        with Server("--mode", "666") as server, tempfile.TemporaryDirectory(dir=FOLDER) as folder:
+            for path in (server.folder, folder):
+                os.chmod(path, 0o755)
+            words = [shutil.copy(COMMAND, folder), "bench", "--socket", server.path, "100", "1", "0.1"]
+            try:
+                done = subprocess.run(words, user=65534, group=65534, extra_groups=[], preexec_fn=few, capture_output=True, text=True,
+                                      timeout=PATIENCE, check=False)
+            except OSError as fault:
+                self.skipTest(f"this root cannot be another user: {fault}")
+            self.assertEqual((done.returncode, done.stdout), (1, ""))
+            self.assertEqual(done.stderr, "wozgirt: Resource temporarily unavailable (os error 11)\n")
 
     def test_help_and_version(self):
         with Server() as server:

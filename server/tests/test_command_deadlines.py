@@ -2,12 +2,13 @@
 
 import os
 import signal
+import socket
 import subprocess
 import time
 import unittest
 
 from doubles import Double, Full
-from harness import COMMAND, PATIENCE, Server, by_the_clock, needs_loopback, needs_programs, say
+from harness import COMMAND, PATIENCE, Server, by_the_clock, needs_loopback, needs_programs, say, wait_until
 from test_command import close, run, start
 from test_several import Arbiter, Commands, Door
 
@@ -186,14 +187,14 @@ class Answers(unittest.TestCase):
                 self.assertEqual(self.said({"try": [line]}, "-n"), (76, "", f"wozgirt: the server said: {line}\n"))
         self.assertEqual(self.said({"try": ["busy a"]}, "-n"), (1, "", ""))
 
-    def test_to_a_cancel(self):
-        waits = {"acquire": ["waiting a 0"], "release": ["released a"]}
+    @by_the_clock
+    def test_to_a_cancel(self, longer):
+        waits, words = {"acquire": ["waiting a 0"], "release": ["released a"]}, ("-w", str(0.1 * longer))
         for line in ("cancelled b", "released a", "granted b 7", "waiting a 0"):
-            with self.subTest(line=line):
-                self.assertEqual(self.said({**waits, "cancel": [line]}, "-w", "0.1"), (76, "", f"wozgirt: the server said: {line}\n"))
-        self.assertEqual(self.said({**waits, "cancel": ["cancelled a"]}, "-w", "0.1"), (1, "", ""))
+            self.assertEqual(self.said({**waits, "cancel": [line]}, *words), (76, "", f"wozgirt: the server said: {line}\n"))
+        self.assertEqual(self.said({**waits, "cancel": ["cancelled a"]}, *words), (1, "", ""))
         came_first = ["granted a 7", "refused waiter a"]
-        self.assertEqual(self.said({**waits, "cancel": came_first}, "-w", "0.1"), (0, "in 7\n", ""))
+        self.assertEqual(self.said({**waits, "cancel": came_first}, *words), (0, "in 7\n", ""))
 
     @by_the_clock
     def test_a_sign_of_life_beside_a_cancel(self, longer):
@@ -235,6 +236,27 @@ class Answers(unittest.TestCase):
         self.assertEqual(self.said_in_a_session(again), (0, "in 7\n", ""))
         told = "wozgirt: after COMMAND had ended: the server said: released b\n"
         self.assertEqual(self.said_in_a_session({"1": ["1 granted a 7"], "2": ["2 released b"]}), (0, "in 7\n", told))
+
+    def test_a_grant_that_comes_with_the_first_words_of_a_server(self):
+        """In one piece with what that says of a session that waits."""
+        begun = []
+
+        def begin(line):
+            begun.append(line.split()[1])
+            again = ["waits a", "granted a 7"] if len(begun) > 1 else []
+            return [f"session {begun[-1]} {len(again) // 2} 0 30000", *again]
+        with Double({"session": begin, "1": ["1 waiting a 0"], "2": ["2 released a"]}) as server:
+            it = start(server, "lock", "a", "--", "sh", "-c", "echo in $WOZGIRT_TOKEN")
+            try:
+                wait_until(lambda: any(line.startswith("1 acquire a ") for line in server.heard))
+                time.sleep(0.5)  # it has heard that it waits
+                server.socks[0].shutdown(socket.SHUT_RDWR)
+                self.assertEqual((it.wait(PATIENCE), it.stdout.read(), it.stderr.read()), (0, "in 7\n", ""))
+                self.assertEqual(len(begun), 2)
+            finally:
+                it.kill()
+                it.wait()
+                close(it)
 
     def test_to_a_release(self):
         for line in ("released b", "cancelled a", "refused holder b"):

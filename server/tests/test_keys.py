@@ -2,12 +2,13 @@
 
 import os
 import shutil
+import signal
 import socket
 import subprocess
 import sys
 import unittest
 
-from harness import PATIENCE, Server, needs_programs, read_lines, say, wait_until
+from harness import PATIENCE, Server, by_the_clock, granted, needs_loopback, needs_programs, read_lines, say, wait_until
 from test_cluster import Trial, granted_late, needs_strict
 
 #: What another user tries: the session's key, and then a lock of its own.
@@ -50,6 +51,18 @@ class Sessions(Trial):
         self.assertEqual(read_lines(again, 1), ["granted a 2"])
         self.assertEqual(say(again, "1 acquire a 2\n2 leave\n3 try a 4\n", 3), ["1 waiting a 0", "2 left", "3 granted a 3"])
 
+    def test_what_was_said_just_before_the_end_of_a_connection_is_done(self):
+        a, b = (self.server(name, lease="300") for name in "ab")
+        one, _ = self.session(a, 77)
+        self.assertEqual(say(one, "1 acquire a 5\n"), ["1 granted a 1"])
+        a.process.send_signal(signal.SIGSTOP)
+        one.sendall(b"2 release a 1\n")
+        one.close()
+        a.process.send_signal(signal.SIGCONT)
+        other = self.raw(b)
+        other.sendall(b"acquire a 1\n")
+        self.assertEqual(granted(other), "granted a 2")
+
     def test_who_comes_twice_is_told_once(self):
         a = self.server("a")
         socks = [self.raw(a) for _ in range(5)]
@@ -76,8 +89,9 @@ class Sessions(Trial):
         with self.raw(self.server("b")) as sock:
             self.assertEqual(say(sock, "acquire a 1\nsession 9\n", 2), ["granted a 1", "refused syntax"])
 
-    def test_one_who_does_not_come_back(self):
-        a, b = self.server("a", lease="0.5"), self.server("b", lease="0.5")
+    @by_the_clock
+    def test_one_who_does_not_come_back(self, longer):
+        a, b = (self.server(name, lease=str(0.5 * longer)) for name in "ab")
         (one, _), other = self.session(a, 3), self.raw(b)
         self.assertEqual(say(one, "1 acquire a 5\n"), ["1 granted a 1"])
         one.close()
@@ -86,12 +100,13 @@ class Sessions(Trial):
         wait_until(lambda: "did not come back; it held a" in a.text_of_log())
         self.session(b, 3)
 
-    def test_each_client_has_a_lease(self):
+    @by_the_clock
+    def test_each_client_has_a_lease(self, longer):
         """Since a server that stands still tells its clients nothing, and its locks go to others."""
-        a, b = self.server("a", lease="1"), self.server("b", lease="1")
-        silent, other = self.raw(a), self.raw(b)
-        self.assertEqual(say(silent, "lease\nacquire a 1\n", 2), ["lease 1000", "granted a 1"])
-        self.assertEqual(say(other, "lease 100000\nlease\nacquire a 2\n", 3), ["lease 1000", "lease 1000", "waiting a 0"])
+        a, b = (self.server(name, lease=str(longer)) for name in "ab")
+        silent, other, told = self.raw(a), self.raw(b), f"lease {1000 * longer}"
+        self.assertEqual(say(silent, "lease\nacquire a 1\n", 2), [told, "granted a 1"])
+        self.assertEqual(say(other, "lease 100000\nlease\nacquire a 2\n", 3), [told, told, "waiting a 0"])
         self.assertEqual((granted_late(other), silent.recv(10)), ("granted a 2", b""))
         self.assertIn(" went (lease): ", a.text_of_log())
         with Server() as alone, alone.raw() as sock:
@@ -121,6 +136,23 @@ class Sessions(Trial):
         self.assertEqual(one.recv(10), b"")
         two, lines = self.session(b, 77, 1)
         self.assertEqual((lines, say(two, "2 release a 1\n")), (["holds a 1"], ["2 released a"]))
+
+    @needs_loopback
+    def test_one_that_has_left_and_comes_back_to_a_session_of_somebody_else(self):
+        """What it asks would have no answer, so its connection ends; when it says its key again, it hears why."""
+        a, b = (self.server(name, "--tcp", "127.0.0.1:0") for name in "ab")
+
+        def over_tcp(server, source):
+            sock = socket.create_connection(("127.0.0.1", server.port("clients")), PATIENCE, (source, 0))
+            self.addCleanup(sock.close)
+            return sock
+        one, two = over_tcp(a, "127.0.0.1"), over_tcp(b, "127.0.0.2")
+        self.assertEqual(say(one, "session 77\n1 acquire a 5\n2 leave\n", 3), ["session 77 0", "1 granted a 1", "2 left"])
+        self.assertEqual(say(two, "session 77\n1 acquire a 5\n", 2), ["session 77 0", "1 granted a 2"])
+        one.settimeout(5)
+        self.assertEqual(say(one, "3 acquire b 5\n"), [])
+        self.assertEqual(say(over_tcp(a, "127.0.0.1"), "session 77\nping\n", 2), ["refused session", "pong"])
+        self.assertEqual(say(two, "2 release a 2\n"), ["2 released a"])
 
     def test_the_number_is_not_the_key(self):
         a = self.server("a")

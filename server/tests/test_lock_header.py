@@ -88,8 +88,9 @@ class Interrupts(Interrupted):
         door = Door("waiting a 0\n", "granted a 9\n")
         self.addCleanup(door.close)
         client = self.client(door.path)
-        client.jump(100, "acquire a 1 -1")
+        client.jump(300, "acquire a 1 -1")
         self.assertEqual(client.ask("acquire b 1 -1")[1:4], (LOST, 0, errno.ECANCELED))
+        wait_until(lambda: door.heard)
         self.assertEqual(door.heard, ["acquire a 1"])
 
     @needs_programs
@@ -128,22 +129,22 @@ class Deadlines(Clients):
         self.assertGreaterEqual(it.seconds, seconds - 0.002)
 
     @by_the_clock
-    def test_what_stands_still(self, _):
+    def test_what_stands_still(self, longer):
         for who in ("server", "engine"):
             with Server(locks="a,b") as server, server.raw() as holder:
                 say(holder, "acquire b 1\n")
-                waiter, *clients = [self.client(server.path, 400) for _ in range(5)]
-                waiter.tell("acquire b 1 700")
+                waiter, *clients = [self.client(server.path, 400 * longer) for _ in range(5)]
+                waiter.tell(f"acquire b 1 {700 * longer}")
                 server.wait_for_waiters("b", 1)
                 process = server.process.pid if who == "server" else server.engine_number()
                 os.kill(process, signal.SIGSTOP)
                 try:
                     it = waiter.hear()
                     self.assertEqual(it[1:4], (LOST, 0, errno.ETIMEDOUT))
-                    self.assertLessEqual(it.seconds, 0.7 + MARGIN)
-                    lines = [("acquire a 1 0", 0.4), ("acquire a 1 -1", 0.4), ("release a 1", 0.4)]
-                    for client, (line, seconds) in zip(clients, lines + [("check", 0.4)] * (who == "server")):
-                        self.is_lost(client, line, seconds)
+                    self.assertLessEqual(it.seconds, 0.7 * longer + MARGIN)
+                    lines = ["acquire a 1 0", "acquire a 1 -1", "release a 1"] + ["check"] * (who == "server")
+                    for client, line in zip(clients, lines):
+                        self.is_lost(client, line, 0.4 * longer)
                     for wait in (1, 300):
                         it = self.client(server.path, 5000).ask(f"acquire a 1 {wait}")
                         self.assertEqual(it[1:4], (LOST, 0, errno.ETIMEDOUT))

@@ -5,12 +5,12 @@ import contextlib
 import os
 import random
 import socket
-import threading
 import time
 import unittest
 import urllib.request
+from concurrent.futures import ThreadPoolExecutor
 
-from harness import PATIENCE, Server, needs_loopback, needs_programs, say
+from harness import PATIENCE, Server, granted, has_loopback, needs_programs
 
 from crash import judge_holds
 
@@ -18,6 +18,7 @@ WORDS = ["acquire", "try", "release", "cancel", "leave", "ping", "lease", "stats
          "0", "1", "7", "01", "-1", "18446744073709551615", "18446744073709551616", "x" * 300, "\u00e9", "\0", "\t", "%s%n"]
 SEEDS = range(6)
 CONNECTIONS = 500
+IS_REACHED = has_loopback()
 SECONDS = float(os.environ.get("WOZGIRT_NOISE_SECONDS", "0"))
 # pieces of a request to the page
 PIECES = ["GET", "POST", "HEAD", "PUT", " ", " ", "/", "/metrics", "//", "/%00", "?", " HTTP/1.1", " HTTP/1.0", "HTTP/9", "\r\n", "\r\n", "\n",
@@ -57,11 +58,11 @@ def send_in_pieces(draw, sock, text):
     sock.sendall(text[cut:])
 
 
-def make_noise(server, seed, until):
-    draw, port = random.Random(seed), server.port("clients")
+def make_noise(server, seed, until, port):
+    draw = random.Random(seed)
     for _ in goes_on(until):
         where = draw.random()
-        over_tcp = where > 0.8 and socket.create_connection(("127.0.0.1", port), PATIENCE)
+        over_tcp = where > 0.8 and port and socket.create_connection(("127.0.0.1", port), PATIENCE)
         with over_tcp or server.raw(where < 0.1) as sock, contextlib.suppress(OSError):  # it is closed for what it said, or says nothing
             sock.settimeout(0.05)
             for _ in range(draw.randrange(1, 40)):
@@ -70,8 +71,8 @@ def make_noise(server, seed, until):
                 sock.recv(1 << 16)
 
 
-def visit(server, seed, until):
-    draw, port = random.Random(seed), server.port("page")
+def visit(seed, until, port):
+    draw = random.Random(seed)
     for _ in goes_on(until):
         with socket.create_connection(("127.0.0.1", port), PATIENCE) as sock, contextlib.suppress(OSError):
             sock.settimeout(0.05)
@@ -80,24 +81,34 @@ def visit(server, seed, until):
                 sock.recv(1 << 16)
 
 
-@needs_loopback
 @needs_programs
 class Noise(unittest.TestCase):
+    def make_noise(self, server):
+        """Of all kinds, at once. What goes wrong on the side of who makes it is raised."""
+        until = time.monotonic() + SECONDS
+        over_tcp, page = (server.port(of) if IS_REACHED else None for of in ("clients", "page"))
+        with ThreadPoolExecutor(len(SEEDS) + 1) as pool:
+            made = [pool.submit(make_noise, server, seed, until, over_tcp) for seed in SEEDS]
+            if page is not None:
+                made.append(pool.submit(visit, len(SEEDS), until, page))
+        for it in made:
+            it.result()
+
     def test_the_server_goes_on_and_the_journal_is_right(self):
-        with Server("--tcp", "127.0.0.1:0", "--page", "127.0.0.1:0", locks="a,b") as server:
-            until = time.monotonic() + SECONDS
-            threads = [threading.Thread(target=make_noise, args=(server, seed, until)) for seed in SEEDS]
-            threads.append(threading.Thread(target=visit, args=(server, len(SEEDS), until)))
-            [t.start() for t in threads]
-            [t.join() for t in threads]
+        """Over TCP and at the page too, where 127.0.0.1 can be reached."""
+        with Server(*(("--tcp", "127.0.0.1:0", "--page", "127.0.0.1:0") if IS_REACHED else ()), locks="a,b") as server:
+            self.make_noise(server)
             self.assertIsNone(server.process.poll())
             log = server.text_of_log()
             self.assertEqual(log.count("engine started"), 1, log[-2000:])
             self.assertNotIn("panicked", log)
-            with urllib.request.urlopen(f"http://127.0.0.1:{server.port('page')}/metrics", timeout=PATIENCE) as answer:
-                self.assertIn(b"\nwozgirt_engine_starts_total 1\n", answer.read())
+            if IS_REACHED:
+                with urllib.request.urlopen(f"http://127.0.0.1:{server.port('page')}/metrics", timeout=PATIENCE) as answer:
+                    self.assertIn(b"\nwozgirt_engine_starts_total 1\n", answer.read())
             with server.raw() as sock:  # all who came are gone, and so are their holds
-                self.assertEqual([it.split()[0] for it in say(sock, "acquire a 1\nacquire b 1\n", 2)], ["granted", "granted"])
+                for name in "ab":
+                    sock.sendall(f"acquire {name} 1\n".encode())
+                    self.assertEqual(granted(sock).split()[:2], ["granted", name])
             server.stop()
             self.assertEqual(server.process.returncode, 0)
             self.assertGreater(len(server.calls()), 1000)

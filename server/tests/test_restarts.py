@@ -11,7 +11,8 @@ import unittest
 import unittest.mock
 
 import harness
-from harness import (FOLDER, PATIENCE, RUNNING, Server, at_least, by_the_clock, needs_loopback, needs_programs, read_lines, say, wait_until)
+from harness import (FOLDER, PATIENCE, RUNNING, Server, at_least, by_the_clock, granted, needs_loopback, needs_programs, read_lines, say,
+                     wait_until)
 from test_cluster import granted_late
 
 
@@ -31,6 +32,18 @@ for lines in iter(lambda: os.read(engine.stdout.fileno(), 65536), b""):
         os.write(1, lines)
     except OSError:
         pass  # the server is gone
+sys.exit(engine.wait())
+"""
+
+
+#: One that hears of nobody's leave while there is a file.
+DEAF = """#!{python}
+import os, subprocess, sys
+engine = subprocess.Popen(["{engine}", *sys.argv[1:]], stdin=subprocess.PIPE, bufsize=0)
+for line in sys.stdin.buffer:
+    if not (line.endswith((b" leave\\n", b" forget\\n")) and os.path.exists("{gate}")):
+        engine.stdin.write(line)
+engine.stdin.close()
 sys.exit(engine.wait())
 """
 
@@ -57,6 +70,10 @@ class Trial(unittest.TestCase):
         server.process.wait(PATIENCE)
         RUNNING.remove(server)
         return self.server(*words, **more)
+
+    def wait_for_clients(self, server, count):
+        """Until the server knows that so many are connected, and that the others are gone."""
+        wait_until(lambda: server.operate("clients").split("\n")[0] == f"clients {count + 1}")
 
     def raw(self, server):
         sock = server.raw()
@@ -135,24 +152,26 @@ class Restarts(Trial):
         self.session(server, 2 * longer)
         self.end(server)
 
-    def test_plain_clients_are_as_they_were(self):
+    @by_the_clock
+    def test_plain_clients_are_as_they_were(self, longer):
         """A hold of theirs stays for the grace of the next start, and then it is over; their number is no session's."""
-        server = self.server(lease="0.5")
+        lease = str(0.5 * longer)
+        server = self.server(lease=lease)
         plain, (one, _) = self.raw(server), self.session(server, 1)
         self.assertEqual(say(plain, "acquire a 1\n"), ["granted a 1"])
         self.assertEqual(say(one, "1 acquire b 5\n2 acquire a 6\n", 2), ["1 granted b 1", "2 waiting a 0"])
-        server = self.again(server, signal.SIGTERM, lease="0.5")
+        server = self.again(server, signal.SIGTERM, lease=lease)
         one, lines = self.session(server, 1, 2)
         self.assertEqual(lines, ["holds b 1", "waits a"])
         self.assertEqual(granted_late(one), "granted a 2")
         other = self.raw(server)
         self.assertEqual(say(other, "try a 1\ntry b 1\n", 2), ["busy a", "busy b"])
 
-    def behind_a_gate(self, lease):
-        """A server whose engine is told nothing while there is a file `gate`."""
+    def behind_a_gate(self, lease, text=GATED):
+        """A server whose engine tells nothing while there is a file `gate`, or does not hear all."""
         gate, engine = os.path.join(self.folder, "gate"), os.path.join(self.folder, "engine")
         with open(engine, "w", encoding="utf-8") as file:
-            file.write(GATED.format(python=sys.executable, gate=gate, engine=harness.ENGINE))
+            file.write(text.format(python=sys.executable, gate=gate, engine=harness.ENGINE))
         os.chmod(engine, 0o700)
         with unittest.mock.patch.object(harness, "ENGINE", engine):
             return self.server(lease=lease)
@@ -201,6 +220,26 @@ class Restarts(Trial):
         self.assertEqual(lines, ["waits a"])
         self.assertEqual(granted_late(two), "granted a 3")
 
+    def test_a_hold_of_one_that_is_gone_is_nobodys(self):
+        """It is granted when its session is over, and the server ends before the engine hears of that."""
+        server = self.behind_a_gate("4", DEAF)
+        (one, _), two, (three, _) = self.session(server, 1), self.raw(server), self.session(server, 3)
+        self.assertEqual(say(one, "1 acquire a 5\n"), ["1 granted a 1"])
+        self.assertEqual(say(two, "session 2 attached\n1 acquire a 6\n", 2)[1], "1 waiting a 0")
+        self.assertEqual(say(three, "1 acquire a 7\n"), ["1 waiting a 1"])
+        gate = os.path.join(self.folder, "gate")
+        with open(gate, "w", encoding="ascii"):
+            pass
+        two.close()
+        self.wait_for_clients(server, 2)
+        self.assertEqual(say(one, "2 release a 1\n"), ["2 released a"])
+        self.assertEqual(server.operate("stats a").split()[-1], "2")  # the grant was heard
+        server = self.again(server, signal.SIGKILL, lease="4")
+        os.remove(gate)
+        three, lines = self.session(server, 3, 1)
+        self.assertEqual(lines, ["waits a"])
+        self.assertEqual(granted_late(three), "granted a 3")
+
     def test_a_session_that_is_attached(self):
         """It is over as soon as its client closes the connection; not when the server or the engine ends."""
         server = self.server(lease="20")
@@ -210,12 +249,15 @@ class Restarts(Trial):
             one = self.raw(server)
             self.assertEqual(say(one, "session 1 attached\n", 2)[1:], ["holds a 1"])
         one.close()
+        other = self.raw(server)
+        other.sendall(b"acquire a 5\n")
+        self.assertEqual(granted(other), "granted a 2")
         two, _ = self.session(server, 2)
-        self.assertEqual(say(two, "1 acquire a 6\n"), ["1 granted a 2"])
+        self.assertEqual(say(two, "1 acquire b 6\n"), ["1 granted b 1"])
         self.assertEqual(say(two, "lease\n"), ["lease 30000"])
         two.close()
-        three, _ = self.session(server, 3)
-        self.assertEqual(say(three, "1 try a 6\n"), ["1 busy a"])
+        self.wait_for_clients(server, 1)
+        self.assertEqual(say(other, "try b 6\n"), ["busy b"])
 
     def test_another_connection_takes_the_session_over(self):
         server = self.server()
@@ -228,6 +270,40 @@ class Restarts(Trial):
         server = self.again(server, signal.SIGKILL)
         two, lines = self.session(server, 1, 1)
         self.assertEqual(lines, ["holds a 2"])
+
+    def test_one_that_has_left_takes_over_what_another_connection_has_begun(self):
+        server = self.server()
+        one, _ = self.session(server, 1)
+        self.assertEqual(say(one, "1 acquire a 5\n2 leave\n", 2), ["1 granted a 1", "2 left"])
+        two, _ = self.session(server, 1)
+        self.assertEqual(say(two, "1 acquire a 5\n"), ["1 granted a 2"])
+        self.assertEqual(say(one, "3 acquire b 5\n"), ["3 granted b 1"])
+        two.settimeout(5)
+        self.assertEqual(two.recv(10), b"")
+        self.assertEqual(say(one, "4 release a 2\n"), ["4 released a"])
+
+    def test_what_was_said_just_before_the_end_of_a_connection_is_done(self):
+        """The session goes on, so it counts; however much waits for the engine, and though nobody hears the answers."""
+        server = self.server(lease="300")
+        other = self.raw(server)
+        many = "".join(f"{number} cancel a\n" for number in range(2, 150))
+        for whom, lines in ((server.process.pid, "2 release a 1\n"), (server.engine_number(), many + "150 release a 3\n")):
+            one, _ = self.session(server, 1)
+            last = lines.splitlines()[-1]
+            self.assertEqual(say(one, "1 acquire a 5\n"), [f"1 granted a {last.split()[3]}"])
+            os.kill(whom, signal.SIGSTOP)
+            self.addCleanup(os.kill, whom, signal.SIGCONT)
+            one.sendall(lines.encode())
+            one.close()
+            if whom != server.process.pid:
+                self.assertEqual(server.operate("ping"), "pong")  # it knows that the client is gone
+            os.kill(whom, signal.SIGCONT)
+            other.sendall(b"acquire a 1\n")
+            token = int(granted(other).split()[2])
+            self.assertEqual(say(other, f"release a {token}\n"), ["released a"])
+            one, _ = self.session(server, 1)
+            self.assertEqual(say(one, f"{last}\n{int(last.split()[0]) + 1} leave\n", 2), [
+                f"{last.split()[0]} released a", f"{int(last.split()[0]) + 1} left"])
 
     def test_who_comes_twice_is_told_once(self):
         server = self.server()
@@ -250,22 +326,33 @@ class Restarts(Trial):
         with self.raw(self.server()) as sock:
             self.assertEqual(say(sock, "acquire b 1\nsession 9\n", 2), ["granted b 1", "refused syntax"])
 
+    def over_tcp(self, server, source):
+        """A connection from this address of the loopback."""
+        sock = socket.create_connection(("127.0.0.1", server.port("clients")), PATIENCE, (source, 0))
+        self.addCleanup(sock.close)
+        return sock
+
     @needs_loopback
     def test_a_session_is_not_another_addresss(self):
         server = self.server("--tcp", "127.0.0.1:0")
-        port = server.port("clients")
-
-        def over_tcp(source):
-            sock = socket.create_connection(("127.0.0.1", port), PATIENCE, (source, 0))
-            self.addCleanup(sock.close)
-            return sock
-        one = over_tcp("127.0.0.1")
+        one = self.over_tcp(server, "127.0.0.1")
         self.assertEqual(say(one, "session 77\n1 acquire a 5\n", 2), ["session 77 0 alone", "1 granted a 1"])
-        self.assertEqual(say(over_tcp("127.0.0.2"), "session 77\nping\n", 2), ["refused session", "pong"])
+        self.assertEqual(say(self.over_tcp(server, "127.0.0.2"), "session 77\nping\n", 2), ["refused session", "pong"])
         self.assertEqual(say(one, "ping\n"), ["pong"])
-        self.again(server, signal.SIGKILL, "--tcp", f"127.0.0.1:{port}")
-        self.assertEqual(say(over_tcp("127.0.0.2"), "session 77\n"), ["refused session"])
-        self.assertEqual(say(over_tcp("127.0.0.1"), "session 77\n", 2), ["session 77 1 alone", "holds a 1"])
+        server = self.again(server, signal.SIGKILL, "--tcp", "127.0.0.1:0")
+        self.assertEqual(say(self.over_tcp(server, "127.0.0.2"), "session 77\n"), ["refused session"])
+        self.assertEqual(say(self.over_tcp(server, "127.0.0.1"), "session 77\n", 2), ["session 77 1 alone", "holds a 1"])
+
+    @needs_loopback
+    def test_an_acquire_of_a_session_that_is_refused_leaves_no_place(self):
+        server = self.server("--tcp", "127.0.0.1:0", "--waiters", "2")
+        one, two = (self.over_tcp(server, source) for source in ("127.0.0.1", "127.0.0.2"))
+        self.assertEqual(say(one, "session 77\n1 leave\n", 2), ["session 77 0 alone", "1 left"])
+        self.assertEqual(say(two, "session 77\n1 acquire a 5\n", 2), ["session 77 0 alone", "1 granted a 1"])
+        numbers = range(2, 7)
+        asked = "".join(f"{number} acquire a 5\n" for number in numbers)
+        self.assertEqual(say(one, asked, len(numbers)), [f"{number} refused session" for number in numbers])
+        self.assertEqual(say(self.raw(server), "acquire a 5\n"), ["waiting a 0"])
 
     def test_operators_see_and_end_what_a_session_has(self):
         server = self.server()
@@ -300,29 +387,28 @@ class Restarts(Trial):
         engine = server.engine_number()
         os.kill(engine, signal.SIGSTOP)
         self.addCleanup(lambda: os.kill(engine, signal.SIGCONT))
-        two.sendall(b"2 leave\n")
-        time.sleep(0.2)
-        operator.sendall(b"end a 1\nend b 1\nping\n")
-        time.sleep(0.2)
-        one.close()
-        time.sleep(0.2)
+        for say_more in (lambda: two.sendall(b"2 leave\n"), lambda: operator.sendall(b"end a 1\nend b 1\nping\n"), one.close):
+            say_more()
+            self.assertEqual(server.operate("ping"), "pong")  # it has heard that
         os.kill(engine, signal.SIGCONT)
         self.assertEqual(read_lines(operator, 3), ["ended a", "ended b", "pong"])
         self.assertEqual(say(operator, "acquire a 1\nacquire b 1\n", 2), ["granted a 2", "granted b 2"])
 
-    def test_holds_that_cannot_be_written(self):
+    @by_the_clock
+    def test_holds_that_cannot_be_written(self, longer):
         """Then the sessions are over: what they held is nobody's, and nobody is told that it is theirs."""
-        server = self.server(lease="2")
+        lease = str(2 * longer)
+        server = self.server(lease=lease)
         one, _ = self.session(server, 1)
         self.assertEqual(say(one, "1 acquire a 5\n"), ["1 granted a 1"])
         os.mkdir(os.path.join(self.folder, "journal.sessions", "holders"))
-        server = self.again(server, signal.SIGKILL, lease="2")
+        server = self.again(server, signal.SIGKILL, lease=lease)
         self.assertIn("sessions-unkept", server.text_of_log())
         one, _ = self.session(server, 1)
         self.assertEqual(say(one, "1 acquire a 5\n"), ["1 waiting a 0"])
         self.assertEqual(granted_late(one), "granted a 2")
         os.rmdir(os.path.join(self.folder, "journal.sessions", "holders"))
-        server = self.again(server, signal.SIGKILL, lease="2")
+        server = self.again(server, signal.SIGKILL, lease=lease)
         self.assertEqual(self.session(server, 1, 1)[1], ["holds a 2"])
 
     def test_a_folder_that_cannot_be_written(self):

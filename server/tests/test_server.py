@@ -14,7 +14,7 @@ import threading
 import time
 import unittest
 
-from harness import (ENGINE, FILES, FOLDER, PATIENCE, SERVER, Server, at_least, by_the_clock, needs_loopback, needs_programs,
+from harness import (ENGINE, FILES, FOLDER, PATIENCE, SERVER, Server, at_least, by_the_clock, granted, needs_loopback, needs_programs,
                      read_lines, say, wait_until)
 
 
@@ -24,12 +24,6 @@ def run(*words, **more):
 
 def a_folder():
     return tempfile.TemporaryDirectory(dir=FOLDER)
-
-
-def read_until_granted(sock):
-    """The line of the grant, which may come at once or after `waiting`."""
-    line = read_lines(sock, 1)[0]
-    return line if line.startswith("granted") else read_lines(sock, 1)[0]
 
 
 @needs_programs
@@ -220,7 +214,7 @@ class Leases(unittest.TestCase):
             begun = time.monotonic()
             self.assertEqual(say(silent, "lease 300\nacquire a 1\n", 2), ["lease 300", "granted a 1"])
             other.sendall(b"acquire a 1\n")
-            self.assertEqual(read_until_granted(other), "granted a 2")
+            self.assertEqual(granted(other), "granted a 2")
             at_least(0.3, begun)
             self.assertEqual(silent.recv(10), b"")
             wait_until(lambda: "went (lease)" in server.text_of_log())
@@ -262,20 +256,22 @@ class Leases(unittest.TestCase):
             self.assertEqual(read_lines(last, 1), ["granted a 2"])
 
     @needs_loopback
-    def test_over_tcp_there_is_always_one(self):
-        with Server("--tcp", "127.0.0.1:0", lease="0.3") as server:
+    @by_the_clock
+    def test_over_tcp_there_is_always_one(self, longer):
+        with Server("--tcp", "127.0.0.1:0", lease=str(0.3 * longer)) as server:
             with socket.create_connection(("127.0.0.1", server.port("clients"))) as sock, server.raw() as unix:
                 sock.settimeout(PATIENCE)
                 self.assertEqual(say(sock, "acquire a 1\n"), ["granted a 1"])
                 unix.sendall(b"acquire a 1\n")
-                self.assertEqual(read_until_granted(unix), "granted a 2")
+                self.assertEqual(granted(unix), "granted a 2")
                 self.assertEqual(sock.recv(10), b"")
-                time.sleep(0.7)
+                time.sleep(0.7 * longer)
                 self.assertEqual(say(unix, "release a 2\n"), ["released a"])
 
-    def test_for_all(self):
-        with Server("--lease-for-all", lease="0.3") as server, server.raw() as sock:
-            say(sock, "acquire a 1\n")
+    @by_the_clock
+    def test_for_all(self, longer):
+        with Server("--lease-for-all", lease=str(0.3 * longer)) as server, server.raw() as sock:
+            self.assertEqual(say(sock, "acquire a 1\n"), ["granted a 1"])
             self.assertEqual(sock.recv(10), b"")
 
     def test_addresses_of_others_need_a_word(self):

@@ -171,8 +171,8 @@ class Interrupts(Calls):
             with self.subTest(line=line):
                 self.arbiter.done.clear()
                 client = self.session()
-                client.jump(100, "acquire a 1 -1")
-                self.assertEqual(self.verbs(), ["acquire"])
+                client.jump(300, "acquire a 1 -1")
+                wait_until(lambda: self.verbs() == ["acquire"])
                 self.assertEqual(client.ask(line).result, REFUSED if line.startswith("release") else DONE)
                 wait_until(lambda: self.arbiter.lines["a"] == [])
                 self.assertEqual(self.verbs()[:2], ["acquire", "leave"])
@@ -182,7 +182,7 @@ class Interrupts(Calls):
         """Its token was told to nobody."""
         client = self.session()
         self.silence()
-        client.jump(100, "acquire a 1 -1")
+        client.jump(300, "acquire a 1 -1")
         self.silence(False)
         wait_until(lambda: self.arbiter.holders)
         self.assertEqual(client.ask("acquire a 1 5000")[1:3], (DONE, 2))
@@ -192,7 +192,7 @@ class Interrupts(Calls):
         client = self.session()
         self.assertEqual(client.ask("acquire a 1 0").result, DONE)
         self.silence()
-        client.jump(100, "release a 1")
+        client.jump(300, "release a 1")
         self.silence(False)
         self.assertEqual(client.ask("acquire a 1 0")[1:3], (DONE, 2))
 

@@ -8,7 +8,7 @@ import sys
 import time
 import unittest
 
-from harness import COMMAND, PATIENCE, TOP, Server, by_the_clock, needs_loopback, needs_programs, read_lines, say, wait_until
+from harness import COMMAND, PATIENCE, TOP, Server, by_the_clock, needs_loopback, needs_programs, say, wait_until
 from test_cluster import Trial, needs_strict
 
 sys.path.insert(0, os.path.join(TOP, "python", "tests"))
@@ -68,11 +68,17 @@ class Several(Commands, Trial):
         holder = self.raw(b)
         self.assertEqual(say(holder, "acquire a 1\n"), ["granted a 3"])
         self.assertEqual(self.run_it("try", "a", "--", "true"), (1, "", ""))
-        self.assertEqual(self.run_it("lock", "-w", "0.05", "-E", "9", "a", "--", "true"), (9, "", ""))
         self.assertEqual(say(holder, "release a 3\n"), ["released a"])
         self.assertEqual(self.run_it("lock", "-w", "60", "a", "--", "true")[0], 0)
         self.catch_up(a, b)
         self.assertEqual(b.operate("clients").split()[1], "2")  # nobody of these is left: the holder, and this one
+
+    @by_the_clock
+    def test_not_in_time(self, longer):
+        _, b = self.pair()
+        self.assertEqual(say(self.raw(b), "acquire a 1\n"), ["granted a 1"])
+        self.assertEqual(self.run_it("lock", "-w", str(0.2 * longer), "-E", "9", "a", "--", "true"), (9, "", ""))
+        b.wait_for_waiters("a", 0)
 
     def test_a_command_goes_on_when_its_server_is_killed(self):
         a, b = self.pair()
@@ -118,21 +124,22 @@ class Several(Commands, Trial):
         self.kill(b)
         self.assertEqual(self.finish(it, 75, ""), "wozgirt: the lock is lost (no server answers); COMMAND is ended\n")
 
-    def test_one_server_of_several_by_its_socket(self):
+    @by_the_clock
+    def test_one_server_of_several_by_its_socket(self, longer):
         """Where the command asks for no lease, it keeps the one that the server gives: while it waits, and while COMMAND runs."""
-        a, b = self.pair(lease="1")
+        a, b = self.pair(lease=str(longer))
         self.places = [a.path]
         holder = self.raw(b)
         self.assertEqual(say(holder, "acquire a 1\n"), ["granted a 1"])
         it = self.start("lock", "a", *UP)
         begun = time.monotonic()
         a.wait_for_waiters("a", 1)
-        while time.monotonic() < begun + 2.5:
+        while time.monotonic() < begun + 1.5 * longer:
             self.assertEqual(say(holder, "ping\n"), ["pong"])
             time.sleep(0.1)
         self.assertEqual(say(holder, "release a 1\n"), ["released a"])
         self.assertEqual(it.stdout.readline(), "up 2\n")
-        time.sleep(2.5)
+        time.sleep(1.5 * longer)
         self.finish(it, 0, "down\n")
 
     def test_no_server_and_one_that_is_alone(self):
@@ -190,10 +197,14 @@ class Cuts(Commands):
             self.assertEqual(self.run_it("try", "a", *UP), (1, "", ""))
             self.assertEqual(self.verbs(), ["try", "leave"])
 
-    def test_a_cancel(self):
+    @by_the_clock
+    def test_a_cancel(self, longer):
+        """The next server has a moment to do it, and then the command ends."""
         self.arbiter.holders["a"] = 9, 5
-        for moment in self.each_moment():
-            it = self.start("lock", "-w", "0.2", "a", *UP)
+        for moment in ("before", "after"):
+            self.arbiter.done.clear()
+            self.doors[1].fails = None
+            it = self.start("lock", "-w", str(0.2 * longer), "a", *UP)
             wait_until(lambda: self.verbs() == ["acquire"])
             self.doors[0].fails = moment
             self.finish(it, 1, "")

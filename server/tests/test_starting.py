@@ -8,7 +8,7 @@ import tempfile
 import time
 import unittest
 
-from harness import COMMAND, ENGINE, FOLDER, PATIENCE, SERVER, Server, at_least, by_the_clock, needs_loopback, needs_programs
+from harness import COMMAND, ENGINE, FOLDER, PATIENCE, SERVER, Server, a_port, at_least, by_the_clock, needs_loopback, needs_programs
 from test_cluster import Trial, needs_strict
 from test_command import close
 
@@ -63,8 +63,7 @@ class Starting(unittest.TestCase):
 
     @needs_loopback
     def test_over_tcp(self):
-        with socket.create_server(("127.0.0.1", 0)) as door:
-            place = "127.0.0.1:%d" % door.getsockname()[1]
+        place = f"127.0.0.1:{a_port(self)}"
         each = self.begin_both("tcp:" + place)
         with Server("--tcp", place):
             self.both_end(each)

@@ -305,8 +305,13 @@ def main():
     words.folder = words.folder or tempfile.mkdtemp(prefix="wozgirt-cluster-")
     print(f"seed {words.seed}, {words.seconds:.0f} seconds, {words.clients} clients, folder {words.folder}", flush=True)
     locks = [f"l{i}" for i in range(max(1, words.clients // 3))]
-    bad = run(words, locks)
-    passed, failed = verify(words.folder, locks)
+    try:
+        bad = run(words, locks)
+        passed, failed = verify(words.folder, locks)
+    except SystemExit:  # by SIGTERM: no time is left
+        if is_own:
+            shutil.rmtree(words.folder, ignore_errors=True)
+        raise
     for it in bad:
         print("WRONG:", it)
     if not (bad or failed) and is_own:

@@ -13,7 +13,7 @@ import time
 
 sys.path.insert(0, os.path.dirname(os.path.dirname(os.path.abspath(__file__))))
 
-from harness import BIN, ENGINE, PATIENCE, TOP  # noqa: E402
+from harness import BIN, ENGINE, PATIENCE, TOP, unwind_at_sigterm  # noqa: E402
 
 SOCKETS = ("a.sock", "b.sock", "c.sock")
 
@@ -81,6 +81,7 @@ def main():
     if reason is not None:
         print(f"skipped: page: {reason}\n0 passed, 0 failed")
         return 0
+    unwind_at_sigterm()
     _, program, lock, looks = blocks()
     passed, wrong = 0, []
     with tempfile.TemporaryDirectory(prefix="wozgirt-page-") as folder:

@@ -6,6 +6,7 @@ line is `N passed, M failed`; where etcd is not installed it says why it is skip
 import json
 import os
 import shutil
+import signal
 import subprocess
 import sys
 import tempfile
@@ -26,7 +27,11 @@ HOST_LEASE = 3
 class Restores(unittest.TestCase):
     """A member, and servers as they are asked for."""
 
+    #: the trial that runs
+    now = None
+
     def setUp(self):
+        Restores.now = self
         self.folder = tempfile.mkdtemp(prefix="wozgirt-", dir=FOLDER)
         self.addCleanup(shutil.rmtree, self.folder, ignore_errors=True)
         self.members = self.etcd()
@@ -246,8 +251,15 @@ def main():
     loader = unittest.defaultTestLoader
     names = [f"Restores.{name}" for name in sys.argv[1:]]
     tests = loader.loadTestsFromNames(names, sys.modules[__name__]) if names else loader.loadTestsFromTestCase(Restores)
-    result = unittest.TextTestRunner(stream=sys.stdout, verbosity=2).run(tests)
-    stop_all()
+    # unittest takes another exception for that of the test
+    signal.signal(signal.SIGTERM, signal.default_int_handler)
+    try:
+        result = unittest.TextTestRunner(stream=sys.stdout, verbosity=2).run(tests)
+    except KeyboardInterrupt:
+        Restores.now.doCleanups()
+        return 128 + signal.SIGTERM
+    finally:
+        stop_all()
     failed = len(result.failures) + len(result.errors)
     print(f"{result.testsRun - failed} passed, {failed} failed")
     return 1 if failed else 0

@@ -118,6 +118,8 @@ pub struct Connection {
     pub ending: Option<End>,
     /// The other end says nothing more; it may still read.
     pub has_said_all: bool,
+    /// It does not read any more either: what it has said is done, and nobody hears what comes of it.
+    is_gone: bool,
     /// Something is to be written to it at the end of this round.
     pub is_dirty: bool,
     /// It stands in the line of those who have said more than was taken.
@@ -162,6 +164,7 @@ impl Connection {
             lease: None,
             ending: None,
             has_said_all: false,
+            is_gone: false,
             is_dirty: false,
             is_queued: false,
             tag: 0,
@@ -238,6 +241,21 @@ impl Connection {
     /// Whether a line is there that may be taken now, or one that can have no end.
     pub fn has_line(&self) -> bool {
         self.takes_more() && (self.input.contains(&b'\n') || self.has_endless_line())
+    }
+
+    /// Whether its client may come back to its session, at another connection.
+    pub fn may_be_left(&self) -> bool {
+        self.seat.as_ref().is_some_and(|seat| seat.is_keyed && !seat.is_attached)
+    }
+
+    /// The other end is gone, and is told nothing more. Reads its last share: whether something is to be done that it has said.
+    pub fn note_gone(&mut self, buffer: &mut [u8; SHARE]) -> bool {
+        if !self.is_read_enough() {
+            let count = self.stream.read(buffer).unwrap_or(0);
+            self.input.extend_from_slice(&buffer[..count]);
+        }
+        (self.is_gone, self.has_said_all) = (true, true);
+        self.input.contains(&b'\n')
     }
 
     /// Whether so much was read already that the rest waits at the system.
@@ -376,6 +394,10 @@ impl Connection {
 
     /// Writes what it takes.
     pub fn write(&mut self, now: Instant) -> io::Result<()> {
+        if self.is_gone {
+            self.outbox.clear();
+            return Ok(());
+        }
         let is_any = self.outbox.write_to(&mut self.stream)?;
         if self.outbox.is_empty() {
             self.stuck = None;
@@ -396,6 +418,9 @@ impl Connection {
 
     /// What is to be waited for at its socket, if that has changed.
     pub fn new_interest(&mut self, is_engine_there: bool) -> Option<Interest> {
+        if self.is_gone {
+            return None; // it is waited for no longer
+        }
         let reads = is_engine_there && !self.has_said_all && self.takes_more() && !self.is_read_enough();
         let interest = Interest { reads, writes: !self.outbox.is_empty() };
         let is_new = interest != self.interest;

@@ -93,6 +93,9 @@ impl Desk {
             connection.tag = self.questions.turns.charge(connection.tag, cost);
             taken += length + 1;
         }
+        if taken > 0 {
+            self.step_out(connection); // it stood there for the lines that were taken
+        }
         connection.put_back(input, taken);
         if then == Then::Wait && connection.has_endless_line() && connection.takes_more() {
             connection.tell_in_order("refused line");
@@ -153,7 +156,7 @@ impl Desk {
                 return self.refuse(connection, &BadRequest::Rest(NotALine::Syntax));
             }
             Ok(Request::Of(name, Verb::End(token))) => return self.end_hold(connection, name, token),
-            Ok(Request::Of(name, verb)) => self.ask(connection, number, name, verb),
+            Ok(Request::Of(name, verb)) => return self.ask(connection, number, name, verb),
             Ok(Request::Leave) => match self.mode {
                 Mode::Alone(_) => match number {
                     Some(number) => self.ask_session_to_leave(connection, number),
@@ -203,7 +206,7 @@ impl Desk {
         }
     }
 
-    fn ask(&mut self, connection: &mut Connection, number: Option<u64>, name: &str, verb: Verb) {
+    fn ask(&mut self, connection: &mut Connection, number: Option<u64>, name: &str, verb: Verb) -> Then {
         let input = match self.input(connection, name, verb) {
             Ok(input) => input,
             Err(why) => {
@@ -212,23 +215,22 @@ impl Desk {
                     None => connection.tell_in_order(format_args!("refused {why} {name}")),
                     Some(number) => connection.tell_in_order(format_args!("{number} refused {why} {name}")),
                 }
-                return;
+                return Then::Wait;
             }
         };
         if let Input::Acquire { lock, .. } = input {
             self.board.asked(lock);
         }
         self.sums.inputs += 1;
-        match self.mode {
-            Mode::Alone(_) => match number {
-                Some(number) => self.ask_for_session(connection, number, input),
-                None => match input {
-                    Input::Stats { lock } if connection.seat.is_some() => self.tell_stats(connection, lock),
-                    _ => self.ask_plainly(connection, input),
-                },
-            },
-            Mode::InLog(_) => self.put_input(connection, number, input),
+        match (&self.mode, number, input) {
+            (Mode::Alone(_), Some(number), _) => return self.ask_for_session(connection, number, input),
+            (Mode::Alone(_), None, Input::Stats { lock }) if connection.seat.is_some() => {
+                self.tell_stats(connection, lock);
+            }
+            (Mode::Alone(_), None, _) => self.ask_plainly(connection, input),
+            (Mode::InLog(_), _, _) => self.put_input(connection, number, input),
         }
+        Then::Wait
     }
 
     fn ask_plainly(&mut self, connection: &mut Connection, input: Input) {
@@ -418,9 +420,7 @@ impl Desk {
                 self.board.asked_no_longer(lock);
             }
         }
-        if let Some(place) = connection.place.take() {
-            self.questions.turns.step_out(connection.client, place);
-        }
+        self.step_out(connection);
         let held = match self.mode {
             Mode::Alone(_) => self.end_plain(connection, end),
             Mode::InLog(_) => self.end_seat(connection, end),
@@ -440,13 +440,26 @@ impl Desk {
         }
         // of one that never asked the engine knows nothing
         if connection.has_asked && !matches!(end, End::Engine | End::Stop) {
-            if self.questions.has_room(true) && self.questions.turns.is_next(connection.tag) {
-                self.ask_engine(connection.client, Input::Leave);
-            } else {
-                self.questions.turns.line_up(connection.client, connection.tag, Turn::Gone);
-            }
+            self.say_gone(connection.client, connection.tag, None);
         }
         self.forget(connection)
+    }
+
+    /// A client or a session with this tag is gone: the engine hears that now, or when its turn comes.
+    pub(crate) fn say_gone(&mut self, client: Client, tag: u64, last: Option<u64>) {
+        if self.questions.has_room(true) && self.questions.turns.is_next(tag) {
+            self.ask_to_forget(client, last);
+        } else {
+            self.questions.turns.line_up(client, tag, Turn::Gone(last));
+        }
+    }
+
+    /// The engine hears that a client or a session is gone. It keeps no note of the last input of a session, which has this number.
+    pub(crate) fn ask_to_forget(&mut self, client: Client, last: Option<u64>) {
+        self.ask_engine(client, Input::Leave);
+        if let Some(last) = last {
+            self.engine.ask_line(format_args!("{client} {last} forget"));
+        }
     }
 
     /// The lease of a new connection.

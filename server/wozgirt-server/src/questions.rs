@@ -269,7 +269,7 @@ mod tests {
         (1..FIRST_WANTED / LEAST_MARKS).for_each(|_| assert!(!questions.ask()));
         questions.answered(&stats(0), now + 2 * LONG);
         assert!(!questions.has_room(true) && questions.next_mark() == Some(now + PERIOD));
-        questions.turns.line_up(7, 0, crate::turns::Turn::Gone);
+        questions.turns.line_up(7, 0, crate::turns::Turn::Gone(None));
         assert_eq!(questions.next_mark(), Some(now));
         questions.mark(now + LONG);
         questions.answered(&stats(0), now + LONG);

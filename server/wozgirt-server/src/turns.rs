@@ -12,6 +12,8 @@ use wozgirt_engine::Client;
 const NEWCOMERS: u64 = 32;
 /// Who is no farther behind than this has asked for no more than its part, and may have one line at the engine at any time, but for a leave.
 const LIGHT: u64 = 16;
+/// The tag of one that has asked for nothing for a while.
+pub const FIRST_TAG: u64 = 0;
 /// So many that have left and wait for that keep others from coming in, until a quarter of them is left.
 const MOST_LEAVING: usize = 64;
 
@@ -22,14 +24,18 @@ pub enum Turn {
     Ask,
     /// The same, and a leave is what it asks first.
     AskToLeave,
-    /// It is gone, and the engine has to hear that.
-    Gone,
+    /// It is gone, and the engine has to hear that; of a session, with the number of its last input, of which the engine has a note.
+    Gone(Option<u64>),
 }
 
 impl Turn {
     /// Whether the engine is to be told a leave.
     pub fn is_leave(self) -> bool {
         self != Turn::Ask
+    }
+
+    fn is_of_one_gone(self) -> bool {
+        matches!(self, Turn::Gone(_))
     }
 }
 
@@ -71,7 +77,7 @@ impl Turns {
     pub fn line_up(&mut self, client: Client, tag: u64, turn: Turn) -> u64 {
         let place = tag.max(self.served);
         self.line.insert((place, client), turn);
-        self.leaving += usize::from(turn == Turn::Gone);
+        self.leaving += usize::from(turn.is_of_one_gone());
         place
     }
 
@@ -88,7 +94,7 @@ impl Turns {
     /// Takes out who is next.
     pub fn next(&mut self) -> Option<(Client, Turn)> {
         let ((place, client), turn) = self.line.pop_first()?;
-        if turn == Turn::Gone {
+        if turn.is_of_one_gone() {
             self.leaving -= 1;
             self.served = self.served.max(place);
         }
@@ -97,7 +103,7 @@ impl Turns {
 
     /// The engine is gone, and knows nothing of those who have left.
     pub fn forget_leaving(&mut self) {
-        self.line.retain(|_, turn| *turn != Turn::Gone);
+        self.line.retain(|_, turn| !turn.is_of_one_gone());
         self.leaving = 0;
     }
 
@@ -147,21 +153,24 @@ mod tests {
     fn who_steps_out_stands_there_no_longer() {
         let mut turns = Turns::default();
         let place = turns.line_up(1, 7, Turn::Ask);
-        turns.line_up(2, 9, Turn::Gone);
+        turns.line_up(2, 9, Turn::Gone(None));
         turns.step_out(1, place);
-        assert_eq!((turns.first(), turns.next(), turns.next()), (Some(Turn::Gone), Some((2, Turn::Gone)), None));
+        let gone = Turn::Gone(None);
+        assert_eq!((turns.first(), turns.next(), turns.next()), (Some(gone), Some((2, gone)), None));
     }
 
     #[test]
     fn those_who_have_left_keep_others_out() {
         let mut turns = Turns::default();
         for client in 0..64 {
-            turns.line_up(client, 0, Turn::Gone);
+            turns.line_up(client, 0, Turn::Gone((client % 2 == 0).then_some(client)));
         }
         assert!(turns.keeps_out(false));
         assert_eq!((0..40).filter_map(|_| turns.next()).count(), 40);
         assert!(!turns.keeps_out(false) && turns.keeps_out(true));
         assert_eq!((0..9).filter_map(|_| turns.next()).count(), 9);
         assert!(!turns.keeps_out(true));
+        turns.forget_leaving();
+        assert_eq!((turns.next(), turns.leaving), (None, 0));
     }
 }

@@ -6,8 +6,8 @@ use crate::client::{fault_of, question, soon, Client, Fault};
 use crate::places::Place;
 use crate::words::Load;
 use std::sync::atomic::{AtomicBool, AtomicU64, AtomicUsize, Ordering};
-use std::sync::Barrier;
-use std::thread;
+use std::sync::Mutex;
+use std::thread::{self, ScopedJoinHandle};
 use std::time::{Duration, Instant};
 
 const STACK: usize = 256 << 10;
@@ -23,6 +23,8 @@ struct Inside {
 
 /// How far the measure is.
 struct Run {
+    /// Who has it first has no client begin meanwhile.
+    gate: Mutex<()>,
     /// How many clients were never granted their lock.
     away: AtomicUsize,
     is_over: AtomicBool,
@@ -66,32 +68,48 @@ pub fn run(place: &Place, load: &Load) -> Result<String, Wrong> {
     }
     let clients = (0..load.clients).map(|_| Client::open(place, soon(None))).collect::<Result<Vec<_>, _>>()?;
     let inside: Vec<Inside> = (0..load.locks).map(|_| Inside::default()).collect();
-    let (run, barrier) =
-        (Run { away: AtomicUsize::new(load.clients), is_over: AtomicBool::new(false) }, Barrier::new(load.clients + 1));
+    let run = Run { gate: Mutex::new(()), away: AtomicUsize::new(load.clients), is_over: AtomicBool::new(false) };
     let (each, took) = thread::scope(|scope| {
+        let gate = run.gate.lock();
         let mut threads = Vec::new();
         for (c, client) in clients.into_iter().enumerate() {
-            let (l, run, barrier) = (c % load.locks, &run, &barrier);
+            let (l, run) = (c % load.locks, &run);
             let (name, inside) = (names[l], &inside[l]);
             let work = move || {
-                barrier.wait();
+                drop(run.gate.lock());
+                if run.is_over.load(Ordering::Relaxed) {
+                    return Ok(Vec::new());
+                }
                 hand_over(client, name, c, inside, run)
             };
-            let thread = thread::Builder::new().stack_size(STACK).spawn_scoped(scope, work);
-            threads.push(thread.map_err(|fault| Wrong::Server(Fault::System(fault)))?);
+            match thread::Builder::new().stack_size(STACK).spawn_scoped(scope, work) {
+                Ok(thread) => threads.push(thread),
+                Err(fault) => {
+                    run.is_over.store(true, Ordering::Relaxed); // who waits at the gate begins nothing
+                    return Err(Wrong::Server(Fault::System(fault)));
+                }
+            }
         }
-        barrier.wait();
-        while run.away.load(Ordering::Relaxed) > 0 && !threads.iter().any(|it| it.is_finished()) {
-            thread::sleep(LOOK);
-        }
-        let begun = Instant::now();
-        thread::sleep(load.time);
-        run.is_over.store(true, Ordering::Relaxed);
-        let each: Result<Vec<_>, Wrong> =
-            threads.into_iter().map(|it| it.join().unwrap_or(Err(Wrong::Locks(0)))).collect();
-        Ok::<_, Wrong>((each?, begun.elapsed()))
+        drop(gate);
+        measure(&run, threads, load.time)
     })?;
     Ok(summary(load, &each, took) + "\n")
+}
+
+/// The times of each client, and how long all took part.
+fn measure(
+    run: &Run,
+    threads: Vec<ScopedJoinHandle<'_, Result<Vec<u32>, Wrong>>>,
+    time: Duration,
+) -> Result<(Vec<Vec<u32>>, Duration), Wrong> {
+    while run.away.load(Ordering::Relaxed) > 0 && !threads.iter().any(|it| it.is_finished()) {
+        thread::sleep(LOOK);
+    }
+    let begun = Instant::now();
+    thread::sleep(time);
+    run.is_over.store(true, Ordering::Relaxed);
+    let each: Result<Vec<_>, Wrong> = threads.into_iter().map(|it| it.join().unwrap_or(Err(Wrong::Locks(0)))).collect();
+    Ok((each?, begun.elapsed()))
 }
 
 /// The times of one client's acquires while all take part, in tenths of microseconds.

@@ -251,7 +251,15 @@ impl Session {
         for line in others {
             self.hear(line)?;
         }
+        self.hear_what_is_there()?;
         self.say_again()
+    }
+
+    /// Hears the lines that were read already, as those behind what a server says first: nothing tells of them any more.
+    fn hear_what_is_there(&mut self) -> Result<(), Fault> {
+        let Server::Here(client) = &mut self.server else { return Ok(()) };
+        let lines: Vec<String> = std::iter::from_fn(|| client.line_that_is_there()).collect();
+        lines.into_iter().try_for_each(|line| self.hear(line))
     }
 
     /// What the new server says of this session is what this client knows, or what it asked last came to.
@@ -324,8 +332,7 @@ impl Session {
             Server::Here(client) => {
                 let is_readable = events.iter().any(|event| event.key == SERVER);
                 let read = if is_readable { client.read(Some(Duration::from_millis(1))) } else { Ok(()) };
-                let lines: Vec<String> = std::iter::from_fn(|| client.line_that_is_there()).collect();
-                lines.into_iter().try_for_each(|line| self.hear(line))?;
+                self.hear_what_is_there()?;
                 match read {
                     Ok(()) | Err(Fault::Late) => self.speak(now)?,
                     Err(_) => self.search()?,

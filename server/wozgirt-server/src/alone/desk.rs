@@ -7,6 +7,7 @@ use crate::desk::{Desk, Then, Unasked};
 use crate::log::{End, Event};
 use crate::mode::Mode;
 use crate::requests::BadRequest;
+use crate::turns::FIRST_TAG;
 use std::fmt::Write as _;
 use wozgirt_engine::{Answer, Answered, Client, Input, Lock, NotALine, Token};
 
@@ -74,22 +75,29 @@ impl Desk {
         connection.tell_in_place(|it| matches!(it, Pending::Opening), text);
     }
 
-    /// The session of a client that says something. One that has left begins anew.
-    fn session_of(&mut self, connection: &mut Connection) -> Option<Client> {
+    /// The session of a client that says something, and the connection where it was, if it comes from there. One that has left
+    /// begins anew, or goes on where another connection has begun it since.
+    fn session_of(&mut self, connection: &mut Connection) -> Option<(Client, Option<Client>)> {
         let (who, lease) = (connection.identity(), connection.lease.unwrap_or(self.settings.longest_lease));
         let client = connection.client;
         let seat = connection.seat.as_mut()?;
-        if seat.session.is_none() {
-            let come = self.alone()?.come(seat.key, who, lease, client);
-            seat.session = come.ok().map(|(session, _)| session);
+        if let Some(session) = seat.session {
+            return Some((session, None));
         }
-        seat.session
+        let (session, before) = self.alone()?.come(seat.key, who, lease, client).ok()?;
+        seat.session = Some(session);
+        Some((session, before))
     }
 
     /// An input of a session goes to the engine, with its number.
-    pub(crate) fn ask_for_session(&mut self, connection: &mut Connection, number: u64, input: Input) {
-        let Some(session) = self.session_of(connection) else {
-            return connection.tell_in_order(format_args!("{number} refused session"));
+    pub(crate) fn ask_for_session(&mut self, connection: &mut Connection, number: u64, input: Input) -> Then {
+        let Some((session, before)) = self.session_of(connection) else {
+            if let Input::Acquire { lock, .. } = input {
+                self.board.asked_no_longer(lock);
+            }
+            self.sums.refused("session");
+            connection.tell_in_order(format_args!("{number} refused session"));
+            return Then::Wait;
         };
         let client = connection.client;
         if let Some(it) = self.alone().and_then(|alone| alone.session_mut(session)) {
@@ -99,6 +107,7 @@ impl Desk {
         }
         self.ask_engine_line(format_args!("{session} {number} {session} {input}"));
         self.note_asked(connection, Pending::Numbered(number, input));
+        before.map_or(Then::Wait, Then::Moved)
     }
 
     /// A session ends. What its client says next is another one.
@@ -108,7 +117,8 @@ impl Desk {
         let Some(session) = connection.seat.as_mut().and_then(|seat| seat.session.take()) else {
             return connection.tell_in_order(format_args!("{number} left"));
         };
-        self.tell_engine_of_end(session);
+        let last = self.last_asked(session);
+        self.ask_to_forget(session, last);
         // the engine does not answer a leave: a question behind it shows when it is done
         self.ask_engine_line(format_args!("{session} {}", Input::Stats { lock: 0 }));
         if let Some(alone) = self.alone() {
@@ -120,17 +130,18 @@ impl Desk {
         self.note_asked(connection, Pending::Leaving(number));
     }
 
-    fn tell_engine_of_end(&mut self, session: Client) {
-        self.ask_engine(session, Input::Leave);
-        let last = self.alone().and_then(|alone| alone.session(session)).and_then(|it| it.last_asked);
-        if let Some(last) = last {
-            self.engine.ask_line(format_args!("{session} {last} forget"));
-        }
+    fn last_asked(&mut self, session: Client) -> Option<u64> {
+        self.alone().and_then(|alone| alone.session(session)).and_then(|it| it.last_asked)
     }
 
-    /// The session is over: its locks are free. Returns what it held, as a list of names.
-    fn end_session(&mut self, session: Client) -> String {
-        self.tell_engine_of_end(session);
+    /// The session is over: its locks are free as soon as the engine has heard that, when it is the turn of one with this tag. Returns
+    /// what it held, as a list of names.
+    fn end_session(&mut self, session: Client, tag: u64) -> String {
+        // of one that has nothing the engine knows nothing
+        if self.alone().and_then(|alone| alone.session(session)).is_some_and(|it| !it.is_blank()) {
+            let last = self.last_asked(session);
+            self.say_gone(session, tag, last);
+        }
         if let Some(alone) = self.alone() {
             alone.end(session);
         }
@@ -164,7 +175,7 @@ impl Desk {
         let is_engine_gone = matches!(end, End::Engine | End::Stop);
         let is_over = matches!(end, End::Lease | End::Kicked) || seat.is_attached || session.is_blank();
         if is_over && !is_engine_gone {
-            return self.end_session(number);
+            return self.end_session(number, connection.tag);
         }
         let until = now + connection.lease.unwrap_or(longest);
         session.at = At::Away(Some(until).filter(|_| !is_engine_gone));
@@ -176,7 +187,7 @@ impl Desk {
     pub(crate) fn end_absent_sessions(&mut self) {
         let now = self.now;
         for session in self.alone().map(|alone| alone.late(now)).unwrap_or_default() {
-            let held = self.end_session(session);
+            let held = self.end_session(session, FIRST_TAG);
             self.log.say(&Event::SessionOver { session, held: if held.is_empty() { "nothing" } else { &held } });
         }
     }

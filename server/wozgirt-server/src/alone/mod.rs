@@ -7,8 +7,10 @@
 mod desk;
 mod session;
 mod store;
+#[cfg(test)]
+mod tests;
 
-pub use session::{Ask, At, Place, Session, What};
+pub use session::{Ask, At, Ended, Place, Session, What};
 pub use store::{boot, Line, Store};
 
 use crate::board::Board;
@@ -41,6 +43,8 @@ pub enum NoSession {
 /// The sessions of a server that is alone.
 pub struct Alone {
     store: Option<Store>,
+    /// The system's word for this start of the machine, if it has one.
+    boot: Option<String>,
     sessions: BTreeMap<Client, Session>,
     keys: HashMap<Key, Client>,
     /// How many there may be.
@@ -56,29 +60,17 @@ pub struct Alone {
     firsts: Vec<Option<Client>>,
     /// Of which locks clients without a session may have been told something since the engine started, or before.
     plain: Vec<bool>,
-    /// Holds that were given up, where the engine may not have heard that.
-    given: Vec<(Lock, Token)>,
+    /// Holds that were given up, where the engine may not have heard that: of each lock the last.
+    given: BTreeMap<Lock, Token>,
     /// Holds of sessions that are over, and operators who wait to be told that.
     ended: Vec<Ended>,
 }
 
-/// A hold that an operator ends.
-#[derive(Debug, Clone, Copy, PartialEq, Eq)]
-pub struct Ended {
-    /// The operator's connection.
-    pub operator: Client,
-    /// The session that had it.
-    pub session: Client,
-    /// The lock.
-    pub lock: Lock,
-    /// The token.
-    pub token: Token,
-}
-
 impl Alone {
-    /// With the sessions of this store; without one there are none.
-    pub fn new(store: Option<Store>, locks: usize, most: usize) -> io::Result<Alone> {
+    /// With the sessions of this store; without one there are none. `boot` is the system's word for this start of the machine.
+    pub fn new(store: Option<Store>, boot: Option<String>, locks: usize, most: usize) -> io::Result<Alone> {
         let mut alone = Alone {
+            boot,
             sessions: BTreeMap::new(),
             keys: HashMap::new(),
             most,
@@ -88,13 +80,14 @@ impl Alone {
             heard: vec![0; locks],
             firsts: vec![None; locks],
             plain: vec![false; locks],
-            given: Vec::new(),
+            given: BTreeMap::new(),
             ended: Vec::new(),
             store: None,
         };
         if let Some(store) = store {
             let lines = store.read()?;
-            if !lines.contains(&Line::Boot(boot())) {
+            let is_of_this_start = |boot: &String| lines.contains(&Line::Boot(boot.clone()));
+            if !alone.boot.as_ref().is_some_and(is_of_this_start) {
                 alone.plain.fill(true); // what was told last may be missing
             }
             lines.into_iter().for_each(|line| alone.read(line));
@@ -126,10 +119,10 @@ impl Alone {
             }),
             Line::Over(number) => {
                 let session = self.remove(number);
-                self.given.extend(session.into_iter().flat_map(|session| session.holds));
+                session.into_iter().flat_map(|it| it.holds).for_each(|(lock, token)| self.give(lock, token));
             }
             Line::Plain(lock) => self.plain.get_mut(lock).into_iter().for_each(|it| *it = true),
-            Line::Given(lock, token) => self.given.push((lock, token)),
+            Line::Given(lock, token) => self.give(lock, token),
             Line::Boot(_) => {}
         }
     }
@@ -231,10 +224,11 @@ impl Alone {
     pub fn end(&mut self, number: Client) {
         if let Some(session) = self.sessions.get_mut(&number) {
             session.is_left = true;
-            self.given.extend(&session.holds);
-            if self.keys.get(&session.key) == Some(&number) {
-                self.keys.remove(&session.key);
+            let (key, holds) = (session.key, session.holds.clone());
+            if self.keys.get(&key) == Some(&number) {
+                self.keys.remove(&key);
             }
+            holds.into_iter().for_each(|(lock, token)| self.give(lock, token));
             self.put(&Line::Over(number));
         }
     }
@@ -297,39 +291,65 @@ impl Alone {
         self.read(line);
     }
 
+    /// The engine grants the lock to somebody who may be gone: then nobody is told, and the engine may not have heard that.
+    pub fn note_grant(&mut self, number: Client, lock: Lock, token: Token) {
+        if self.sessions.get(&number).is_some_and(|session| !session.is_left) || self.is_given(lock, token) {
+            return;
+        }
+        self.note_token(lock, token);
+        self.give(lock, token);
+        self.put(&Line::Given(lock, token));
+    }
+
+    fn give(&mut self, lock: Lock, token: Token) {
+        let last = self.given.entry(lock).or_insert(token);
+        *last = token.max(*last);
+    }
+
+    fn is_given(&self, lock: Lock, token: Token) -> bool {
+        self.given.get(&lock) == Some(&token)
+    }
+
     /// Somebody was granted the lock.
     pub fn note_token(&mut self, lock: Lock, token: Token) {
         if let Some(heard) = self.heard.get_mut(lock) {
             *heard = token.max(*heard);
         }
-        self.given.retain(|&(given, before)| given != lock || before >= token);
+        if self.given.get(&lock).is_some_and(|last| *last < token) {
+            self.given.remove(&lock);
+        }
     }
 
     /// Writes what is new, before anybody is told of it.
     pub fn write(&mut self) -> io::Result<()> {
         let Some(store) = &mut self.store else { return Ok(()) };
-        if store.write()? {
-            self.rewrite()
-        } else {
-            Ok(())
+        if !store.write()? {
+            return Ok(());
         }
+        let lines = self.all();
+        self.store.as_mut().map_or(Ok(()), |store| store.begin_to_replace(&lines))
     }
 
+    /// Writes all anew; it is on the disk then.
     fn rewrite(&mut self) -> io::Result<()> {
+        let lines = self.all();
+        self.store.as_mut().map_or(Ok(()), |store| store.replace(&lines))
+    }
+
+    /// The lines that bring all of it back.
+    fn all(&self) -> Vec<Line> {
         let mut waits: Vec<(Client, Place)> =
             self.sessions.iter().filter_map(|(number, session)| Some((*number, session.waits?))).collect();
         waits.sort_unstable_by_key(|(_, place)| place.order);
         let waits =
             waits.into_iter().map(|(client, Place { lock, label, .. })| StateLine::Wait { client, lock, label });
         let kept = || self.sessions.iter().filter(|(_, session)| !session.is_left);
-        let all = kept().map(|(number, it)| Line::Session(*number, it.key, it.lease, it.owner));
+        let sessions = kept().map(|(number, it)| Line::Session(*number, it.key, it.lease, it.owner));
         let has = kept().flat_map(|(number, session)| session.lines(*number));
         let plain = self.plain.iter().enumerate().filter(|(_, is_plain)| **is_plain).map(|(lock, _)| Line::Plain(lock));
-        let given = self.given.iter().map(|&(lock, token)| Line::Given(lock, token));
-        let first = [Line::Boot(boot()), Line::Last(self.last)].into_iter();
-        let lines = first.chain(all).chain(has.chain(waits).map(Line::Has)).chain(plain).chain(given);
-        let Some(store) = &mut self.store else { return Ok(()) };
-        store.rewrite(lines)
+        let given = self.given.iter().map(|(lock, token)| Line::Given(*lock, *token));
+        let first = self.boot.iter().cloned().map(Line::Boot).chain([Line::Last(self.last)]);
+        first.chain(sessions).chain(has.chain(waits).map(Line::Has)).chain(plain).chain(given).collect()
     }
 
     /// The engine is lost, and all connections are. Who stood first in a line then, on this board, may have been granted the lock, and
@@ -402,7 +422,7 @@ impl Alone {
     /// Whose an open hold is that nobody was told of: who stood first in the line. Where no client is without a session, that is known of
     /// each hold that is no session's; else if this server has heard of all tokens that were told.
     fn heir(&self, lock: Lock, token: Token) -> Option<Client> {
-        if self.given.contains(&(lock, token)) {
+        if self.is_given(lock, token) {
             return None;
         }
         if self.plain.get(lock) == Some(&false) {

@@ -36,6 +36,19 @@ pub struct Ask {
     pub what: What,
 }
 
+/// A hold that an operator ends.
+#[derive(Debug, Clone, Copy, PartialEq, Eq)]
+pub struct Ended {
+    /// The operator's connection.
+    pub operator: Client,
+    /// The session that had it.
+    pub session: Client,
+    /// The lock.
+    pub lock: Lock,
+    /// The token.
+    pub token: Token,
+}
+
 /// The lock for which a session waits.
 #[derive(Debug, Clone, Copy, PartialEq, Eq)]
 pub struct Place {

@@ -1,7 +1,8 @@
 //! The folder beside the journal, with what is kept of sessions.
 //!
 //! The file `sessions` has a line for each change. It is written before anybody is told of that, so it outlives the server; it is on the
-//! disk where the server starts its engine, which writes the last segment anew, without what that has of sessions.
+//! disk where the server starts its engine, which writes the last segment anew, without what that has of sessions. A file that has become
+//! long is replaced, by one that is on the disk before it gets that name; the server does not wait for that.
 //!
 //! ```text
 //! wozgirt sessions 1
@@ -25,6 +26,7 @@ use std::fmt;
 use std::fs::{self, File, OpenOptions};
 use std::io::{self, BufRead, BufReader, ErrorKind, Write};
 use std::path::{Path, PathBuf};
+use std::sync::mpsc::{channel, Receiver, TryRecvError};
 use std::thread;
 use std::time::Duration;
 use wozgirt_engine::{decimal, Client, Lock, NotALine, StateLine, Token};
@@ -100,9 +102,23 @@ fn lock_of(word: &str) -> Result<Lock, NotALine> {
     usize::try_from(decimal(word)?).map_err(|_| NotALine::Number)
 }
 
-/// The word that the system has for this start of the machine.
-pub fn boot() -> String {
-    fs::read_to_string("/proc/sys/kernel/random/boot_id").map_or("unknown".into(), |word| word.trim().into())
+/// The word that the system has for this start of the machine, if it has one.
+pub fn boot() -> Option<String> {
+    fs::read_to_string("/proc/sys/kernel/random/boot_id").ok().map(|word| word.trim().into())
+}
+
+/// A file that takes the place of the one that there is as soon as it is on the disk. What comes until then is written to both.
+#[derive(Debug)]
+struct Next {
+    file: File,
+    is_there: Receiver<io::Result<()>>,
+}
+
+/// Has another thread write a file to the disk: what came of that, which nobody tells where there is no thread.
+fn sync_aside(file: File) -> Receiver<io::Result<()>> {
+    let (told, is_there) = channel();
+    let _ = thread::Builder::new().name("sessions".into()).spawn(move || told.send(file.sync_all()));
+    is_there
 }
 
 /// The folder.
@@ -113,6 +129,7 @@ pub struct Store {
     /// The engine has it too, so that the journal is not read while another engine writes it.
     _lock: File,
     file: Option<File>,
+    next: Option<Next>,
     /// How much was added to it.
     size: usize,
     /// Lines that are not written yet.
@@ -137,11 +154,24 @@ impl Store {
             thread::sleep(PAUSE);
         }
         inherit(&lock)?;
-        Ok(Store { folder, journal: journal.to_owned(), _lock: lock, file: None, size: 0, lines: Vec::new() })
+        Ok(Store {
+            folder,
+            journal: journal.to_owned(),
+            _lock: lock,
+            file: None,
+            next: None,
+            size: 0,
+            lines: Vec::new(),
+        })
     }
 
     fn sessions(&self) -> PathBuf {
         self.folder.join("sessions")
+    }
+
+    /// What becomes that file.
+    fn part(&self) -> PathBuf {
+        self.folder.join("sessions.part")
     }
 
     /// The file with the open holds, which the engine reads.
@@ -197,14 +227,33 @@ impl Store {
         if let Err(fault) = file.write_all(&self.lines) {
             return Err(self.without(fault));
         }
+        if self.next.as_mut().is_some_and(|next| next.file.write_all(&self.lines).is_err()) {
+            self.next = None; // the other one has all
+        }
         self.size += self.lines.len();
         self.lines.clear();
-        Ok(self.size > LONGEST)
+        self.go_over();
+        Ok(self.size > LONGEST && self.next.is_none())
+    }
+
+    /// The next file takes the other's place, if it is on the disk. If it will not be, that is tried again when as much was added.
+    fn go_over(&mut self) {
+        let Some(next) = &self.next else { return };
+        let is_there = match next.is_there.try_recv() {
+            Err(TryRecvError::Empty) => return,
+            told => matches!(told, Ok(Ok(()))),
+        };
+        let next = self.next.take();
+        self.size = 0;
+        if is_there && fs::rename(self.part(), self.sessions()).is_ok() {
+            self.file = next.map(|next| next.file);
+            let _ = File::open(&self.folder).map(sync_aside); // until that is done the name is the other file's after a loss of power
+        }
     }
 
     /// A file that does not tell all would tell what is wrong: there is none, until all is written anew.
     pub fn remove(&mut self) -> io::Result<()> {
-        self.file = None;
+        (self.file, self.next) = (None, None);
         self.lines.clear();
         fs::remove_file(self.sessions()).or_else(|fault| match fault.kind() {
             ErrorKind::NotFound => Ok(()),
@@ -216,25 +265,58 @@ impl Store {
         self.remove().err().unwrap_or(fault)
     }
 
-    /// Replaces the file; it is on the disk then.
-    pub fn rewrite(&mut self, lines: impl Iterator<Item = Line>) -> io::Result<()> {
-        self.replace(lines).map_err(|fault| self.without(fault))
+    /// Begins to replace the file: another thread waits for the disk. Where there is no file, the new one is there at once.
+    pub fn begin_to_replace(&mut self, lines: &[Line]) -> io::Result<()> {
+        match self.begin(lines) {
+            Err(fault) if self.file.is_none() => Err(self.without(fault)),
+            Err(_) => {
+                self.size = 0; // the file has all, and it is tried again when as much was added
+                Ok(())
+            }
+            Ok(()) => Ok(()),
+        }
     }
 
-    fn replace(&mut self, lines: impl Iterator<Item = Line>) -> io::Result<()> {
+    fn begin(&mut self, lines: &[Line]) -> io::Result<()> {
+        let file = self.write_part(lines)?;
+        let is_there = sync_aside(file.try_clone()?);
+        if self.file.is_some() {
+            self.next = Some(Next { file, is_there });
+            return Ok(());
+        }
+        fs::rename(self.part(), self.sessions())?;
+        self.take(file);
+        Ok(())
+    }
+
+    /// Replaces the file; it is on the disk then.
+    pub fn replace(&mut self, lines: &[Line]) -> io::Result<()> {
+        self.next = None;
+        self.replace_now(lines).map_err(|fault| self.without(fault))
+    }
+
+    fn replace_now(&mut self, lines: &[Line]) -> io::Result<()> {
+        let file = self.write_part(lines)?;
+        file.sync_all()?;
+        fs::rename(self.part(), self.sessions())?;
+        File::open(&self.folder)?.sync_all()?;
+        self.take(file);
+        Ok(())
+    }
+
+    fn take(&mut self, file: File) {
+        (self.file, self.size) = (Some(file), 0);
+        self.lines.clear();
+    }
+
+    fn write_part(&self, lines: &[Line]) -> io::Result<File> {
         let mut text = format!("{FIRST}\n").into_bytes();
         for line in lines {
             let _ = writeln!(text, "{line}"); // the same
         }
-        let part = self.folder.join("sessions.part");
-        let mut file = OpenOptions::new().create(true).write(true).truncate(true).open(&part)?;
+        let mut file = OpenOptions::new().create(true).write(true).truncate(true).open(self.part())?;
         file.write_all(&text)?;
-        file.sync_all()?;
-        fs::rename(part, self.sessions())?;
-        File::open(&self.folder)?.sync_all()?;
-        (self.file, self.size) = (Some(file), 0);
-        self.lines.clear();
-        Ok(())
+        Ok(file)
     }
 }
 
@@ -271,7 +353,7 @@ mod tests {
         assert_eq!((store.read().unwrap(), store.remarks().unwrap()), (vec![], vec![]));
         store.put(&Line::Over(1));
         assert!(store.write().unwrap()); // there is no file yet
-        store.rewrite([Line::Last(9)].into_iter()).unwrap();
+        store.replace(&[Line::Last(9)]).unwrap();
         assert!(!store.write().unwrap());
         store.put(&Line::Over(7));
         assert!(!store.write().unwrap());
@@ -303,7 +385,7 @@ mod tests {
         let (mut store, journal) = new_store("long");
         let line = Line::Plain(usize::MAX);
         let count = LONGEST / line.to_string().len();
-        store.rewrite(std::iter::repeat(line.clone()).take(count)).unwrap();
+        store.replace(&vec![line.clone(); count]).unwrap();
         store.put(&line);
         assert!(!store.write().unwrap());
         (0..count).for_each(|_| store.put(&line));
@@ -313,17 +395,62 @@ mod tests {
     }
 
     #[test]
+    fn a_file_is_replaced_while_more_is_written() {
+        let (mut store, journal) = new_store("next");
+        store.replace(&[Line::Last(9), Line::Plain(3)]).unwrap();
+        store.begin_to_replace(&[Line::Last(9)]).unwrap();
+        assert!(store.next.is_some()); // it is not waited for
+        assert_eq!(store.read().unwrap(), [Line::Last(9), Line::Plain(3)]);
+        let mut told = vec![Line::Last(9)];
+        while store.next.is_some() {
+            thread::sleep(Duration::from_millis(1));
+            told.push(Line::Over(told.len() as u64));
+            store.put(&told[told.len() - 1]);
+            assert!(!store.write().unwrap());
+        }
+        assert_eq!(store.read().unwrap(), told);
+        store.put(&Line::Over(0));
+        assert!(!store.write().unwrap());
+        told.push(Line::Over(0));
+        assert_eq!(store.read().unwrap(), told);
+        fs::remove_dir_all(&store.folder).unwrap();
+        fs::remove_dir_all(journal).unwrap();
+    }
+
+    #[test]
+    fn a_next_file_that_is_never_on_the_disk_is_not_taken() {
+        let (mut store, journal) = new_store("never");
+        store.replace(&[Line::Last(9)]).unwrap();
+        for (number, is_told) in [(1, true), (2, false)] {
+            let (told, is_there) = channel();
+            if is_told {
+                told.send(Err(ErrorKind::Other.into())).unwrap();
+            }
+            drop(told);
+            store.next = Some(Next { file: store.write_part(&[]).unwrap(), is_there });
+            store.put(&Line::Over(number));
+            assert!(!store.write().unwrap() && store.next.is_none());
+        }
+        assert_eq!(store.read().unwrap(), [Line::Last(9), Line::Over(1), Line::Over(2)]);
+        fs::remove_dir_all(&store.folder).unwrap();
+        fs::remove_dir_all(journal).unwrap();
+    }
+
+    #[test]
     fn a_file_that_cannot_be_written_anew_is_none() {
         let (mut store, journal) = new_store("full");
-        store.rewrite([Line::Last(9)].into_iter()).unwrap();
+        store.replace(&[Line::Last(9)]).unwrap();
         fs::create_dir(store.folder.join("sessions.part")).unwrap();
+        store.begin_to_replace(&[Line::Last(8)]).unwrap();
+        assert_eq!(store.read().unwrap(), [Line::Last(9)]); // it has all
         store.put(&Line::Over(7));
-        assert!(store.rewrite([Line::Last(9)].into_iter()).is_err() && store.lines.is_empty());
+        assert!(store.replace(&[Line::Last(9)]).is_err() && store.lines.is_empty());
         assert_eq!(store.read().unwrap(), []);
         store.put(&Line::Over(8));
         assert!(store.write().unwrap()); // all of it is to be written, and not to a file that has no name
+        assert!(store.begin_to_replace(&[Line::Last(9)]).is_err());
         fs::remove_dir(store.folder.join("sessions.part")).unwrap();
-        store.rewrite([Line::Last(10)].into_iter()).unwrap();
+        store.replace(&[Line::Last(10)]).unwrap();
         assert_eq!(store.read().unwrap(), [Line::Last(10)]);
         fs::remove_dir_all(&store.folder).unwrap();
         fs::remove_dir_all(journal).unwrap();

@@ -7,9 +7,10 @@
 //! POSITION REVISION DONE DIGEST
 //! ```
 //!
-//! SETTINGS are those with which the log began, or `-` as long as this server has not read them. The last line counts: the last entry that was read, and the last that the engine has done, with the digest there. A line is written
-//! before anybody is told an answer of its entry, so that an etcd that was wiped or restored is known by it; it is on the disk
-//! within a second, and at once where this server comes into the log and at checkpoints.
+//! SETTINGS are those with which the log began, or `-` as long as this server has not read them. The last line counts: the last entry
+//! that was read, and the last that the engine has done, with the digest there. A line is written before anybody is told an answer of its
+//! entry, so that an etcd that was wiped or restored is known by it; it is on the disk within a second, and at once where this server
+//! comes into the log and at checkpoints.
 
 use super::entries::is_digest;
 use std::fmt;

@@ -21,6 +21,13 @@ impl Desk {
         may_ask
     }
 
+    /// The connection stands in line no longer.
+    pub(super) fn step_out(&mut self, connection: &mut Connection) {
+        if let Some(place) = connection.place.take() {
+            self.questions.turns.step_out(connection.client, place);
+        }
+    }
+
     /// Whether one more line of the connection, the first one here, may wait for the engine. Operators may ask when clients may not.
     pub(super) fn may_ask(&mut self, connection: &Connection, input: &[u8]) -> bool {
         self.is_full |= self.waits_for_log(1, 1);
@@ -55,5 +62,75 @@ impl Desk {
     pub fn has_next_turn(&self, is_ending: bool) -> bool {
         let has_room = |turn: Turn| is_ending || self.questions.has_room(turn.is_leave());
         self.questions.turns.first().is_some_and(has_room)
+    }
+}
+
+#[cfg(test)]
+mod tests {
+    use super::*;
+    use crate::alone::Alone;
+    use crate::board::Board;
+    use crate::connection::{Visit, SHARE};
+    use crate::engine::{Engine, ROOM};
+    use crate::log::Log;
+    use crate::mode::Mode;
+    use crate::names::Names;
+    use crate::places::Guest;
+    use crate::questions::Questions;
+    use crate::settings::{parse, Words};
+    use crate::stream::Stream;
+    use std::io::Write;
+    use std::os::unix::net::UnixStream;
+    use std::time::Instant;
+
+    /// A desk of one lock, whose engine is not there.
+    fn desk(now: Instant) -> Desk {
+        let Ok(Words::Run(settings)) = parse(["--journal", "j", "--locks", "a", "--socket", "s"]) else { panic!() };
+        Desk {
+            names: Names::parse("a").unwrap(),
+            rules: Default::default(),
+            engine: Engine::new("none".into(), Vec::new(), ROOM, now),
+            questions: Questions::new(now, 1),
+            is_full: false,
+            board: Board::new(1),
+            sums: Default::default(),
+            log: Log::start().unwrap(),
+            mode: Mode::Alone(Alone::new(None, None, 1, 9).unwrap()),
+            now,
+            settings: *settings,
+        }
+    }
+
+    #[test]
+    fn many_who_are_gone_at_once_stand_in_the_line() {
+        let now = Instant::now();
+        let mut desk = desk(now);
+        desk.questions = Questions::new(now, 1000);
+        (1..=100).for_each(|session| desk.say_gone(session, 0, Some(7)));
+        let leave = desk.questions.waiting();
+        assert_eq!(desk.questions.turns.first(), Some(Turn::Gone(Some(7))));
+        assert!(leave <= 128 && !desk.has_next_turn(false) && desk.has_next_turn(true) && desk.keeps_out(false));
+        let rest: Vec<_> = std::iter::from_fn(|| desk.next_turn(true)).collect();
+        assert_eq!((rest.len(), rest[98]), (99, (100, Turn::Gone(Some(7)))));
+    }
+
+    #[test]
+    fn a_place_in_the_line_goes_with_what_it_is_for() {
+        let now = Instant::now();
+        let (mut desk, (stream, mut other)) = (desk(now), UnixStream::pair().unwrap());
+        let visit =
+            Visit { stream: Stream::unix(stream).unwrap(), peer: None, who: String::new(), guest: Guest::User(None) };
+        let mut connection = Connection::new(1, Door::Clients, visit, 1 << 16, now);
+        connection.tag = 1000;
+        (0..1000).for_each(|_| {
+            desk.questions.ask();
+        });
+        other.write_all(b"try a 1\n").unwrap();
+        connection.read(&mut [0; SHARE], now).unwrap();
+        assert!(!desk.has_work(&mut connection) && desk.questions.turns.first() == Some(Turn::Ask));
+        desk.questions.forget(now); // the engine has nothing to do
+        assert!(desk.has_work(&mut connection) && connection.place.is_some());
+        desk.take_lines(&mut connection, now);
+        assert_eq!((connection.asked, connection.place, desk.questions.turns.first()), (1, None, None));
     }
 }

@@ -320,7 +320,13 @@ impl Server {
         match effect {
             Effect::Answered { number, answer, .. } => desk.tell_numbered(connection, number, &answer),
             Effect::Granted { lock, token, .. } => desk.tell_grant(connection, lock, token),
-            Effect::Closed(_) => desk.tell_closed(connection),
+            Effect::Closed(_) if connection.is_opening() => desk.tell_closed(connection),
+            Effect::Closed(_) => {
+                // its session was over, and by now is somebody else's: what it has asked since has no answer
+                let client = connection.client;
+                self.part(client, End::Moved);
+                return Ok(());
+            }
             Effect::Gone(_) => desk.tell_left(connection),
             Effect::Here(..) | Effect::Left(..) | Effect::Done { .. } => {}
         }

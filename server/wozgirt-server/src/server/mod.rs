@@ -335,7 +335,10 @@ impl Server {
             }
         }
         for (client, end) in gone {
-            self.part(client, end);
+            match end {
+                End::Closed => self.lose(client, buffer),
+                _ => self.part(client, end),
+            }
         }
         for removal in self.removals.iter().flat_map(Receiver::try_iter) {
             match &removal {

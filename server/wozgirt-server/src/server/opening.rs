@@ -2,7 +2,7 @@
 
 use super::{MOST_VISITORS, OTHER_FILES};
 use crate::accounts::Accounts;
-use crate::alone::{Alone, Store};
+use crate::alone::{boot, Alone, Store};
 use crate::cluster::{NoFolder, Other, LONGEST_LIST};
 use crate::doors::CannotListen;
 use crate::engine::CannotStart;
@@ -205,7 +205,7 @@ pub(super) fn open_sessions(settings: &Settings, names: &Names, log: &mut Log) -
         }
         Err(fault) => return Err(CannotServe::Folder(settings.journal.clone(), fault)),
     };
-    Alone::new(store, names.count(), SESSIONS_EACH * settings.connections).map_err(CannotServe::Sessions)
+    Alone::new(store, boot(), names.count(), SESSIONS_EACH * settings.connections).map_err(CannotServe::Sessions)
 }
 
 /// The system's limit of open files, which is raised as far as it may be.

@@ -13,7 +13,11 @@ use wozgirt_engine::{Answer, Asked, Client, Input, Lock, Token, NOBODY};
 impl Server {
     /// The engine answers a session.
     pub(super) fn answer_session(&mut self, number: Client, answer: &Answer) -> Result<(), Unasked> {
-        let Some(session) = self.desk.alone().and_then(|alone| alone.session_mut(number)) else {
+        let Some(alone) = self.desk.alone() else { return Err(Unasked) };
+        if let Answer::Granted { lock, token } = answer {
+            alone.note_grant(number, *lock, *token);
+        }
+        let Some(session) = alone.session_mut(number) else {
             return Ok(()); // it is over
         };
         let is_place = matches!(session.asked.front(), Some(Ask { what: What::Place(..), .. }));

@@ -8,7 +8,7 @@ use crate::turns::Turn;
 use crate::CannotServe;
 use std::collections::VecDeque;
 use std::time::Instant;
-use wozgirt_engine::{Answer, Client, Input};
+use wozgirt_engine::{Answer, Client};
 use wozgirt_system::Event as Ready;
 
 impl Server {
@@ -22,7 +22,7 @@ impl Server {
         let now = self.desk.now;
         let Some(connection) = self.connections.get_mut(&client).filter(|_| is_read) else {
             return if event.is_gone {
-                self.part(client, End::Closed)
+                self.lose(client, buffer)
             };
         };
         match connection.read(buffer, now) {
@@ -32,7 +32,18 @@ impl Server {
                 }
             }
             Ok(Reading::Ended) if !event.is_gone => connection.has_said_all = true,
-            Ok(Reading::Ended) | Err(_) => self.part(client, End::Closed),
+            Ok(Reading::Ended) | Err(_) => self.lose(client, buffer),
+        }
+    }
+
+    /// The other end is gone. What it has said for a session that goes on is done as soon as it may be asked.
+    pub(super) fn lose(&mut self, client: Client, buffer: &mut [u8; SHARE]) {
+        let Some(connection) = self.connections.get_mut(&client) else { return };
+        let stays = connection.may_be_left() && self.stopping.is_none() && connection.note_gone(buffer);
+        if stays && self.poller.remove(connection.stream()).is_ok() {
+            self.queue(client);
+        } else {
+            self.part(client, End::Closed);
         }
     }
 
@@ -111,8 +122,8 @@ impl Server {
     fn take_next(&mut self) {
         let until = Instant::now() + TURNS;
         while let Some((client, turn)) = self.desk.next_turn(self.stopping.is_some()) {
-            if turn == Turn::Gone {
-                self.desk.ask_engine(client, Input::Leave);
+            if let Turn::Gone(last) = turn {
+                self.desk.ask_to_forget(client, last);
             } else if let Some(connection) = self.connections.get_mut(&client) {
                 connection.place = None;
                 self.take_lines(client, until);
@@ -232,7 +243,7 @@ impl Server {
         let Some(connection) = self.connections.get_mut(&client) else { return };
         connection.is_dirty = false;
         if connection.write(self.desk.now).is_err() {
-            return self.part(client, End::Closed);
+            return self.lose(client, buffer);
         }
         if let Some(end) = connection.is_over() {
             connection.drain(buffer);
