@@ -1,6 +1,10 @@
-"""Tries what the documents say, for bench/documents.sh. Words: the top of the tree, and the program.
+"""Tries what the documents say. Words: the top of the tree; and the program, for bench/documents.sh.
 
-Of each page (README, CHANGELOG, docs/, each crate's README):
+Without a program it only reads, in a few seconds, for ./test. Of each page, man pages too: no word or form of `page_words.py` is
+in it; each link leads to a file, and to a heading of it; each clause that it names is one of the crates (`page_clauses.py`). The first
+page has at most 150 lines of 120 characters, and cells of 200. The last line is `N passed, M failed`, one for each page.
+
+With a program, of each page (README, CHANGELOG, docs/, each crate's README; of the others only links and names):
 
 - a link leads to a file, and to a heading of it; the page of a crate tells each function that the crate hands out, and
   docs/LIMITS.md the number of each constant that is a limit;
@@ -21,6 +25,7 @@ Of each page (README, CHANGELOG, docs/, each crate's README):
 """
 
 import glob
+import importlib
 import os
 import re
 import shlex
@@ -30,94 +35,23 @@ import sys
 import tempfile
 
 import clauses
-import reading_order
+import page_clauses
+import page_words
+from page import Page, cells
 
-FIRST_WORDS = re.compile(r"\(?(rt|ring_tool|out/ring_tool|cd|git|bench/\S+|\.ci/run)( |$)")
 PLACEHOLDER = re.compile(r"\b[A-Z][A-Z_]+\b|[][|]|\.\.\.|\b[A-Z]\b")
 IDENTIFIER = re.compile(r"[A-Za-z_][A-Za-z0-9_]*(?:(?:::|\.)(?:[A-Za-z_][A-Za-z0-9_]*|\*))*(?:\(\))?!?$")
 FILE_ENDS = (".rt", ".antt", ".md", ".sh", ".py", ".c", ".rs", ".json", ".txt", ".svg", ".png", ".edit")
 COMMIT = re.compile(r"[0-9a-f]{7,40}$")
-KIT = reading_order.KIT
+reading_order = None
+#: the most lines of the first page, characters of a line, characters of a cell
+FIRST_PAGE = (150, 120, 200)
+#: its words are those of the edits
+WRITTEN_BY_SCRIPTS = ("bench/wrong_bodies/TABLE.md",)
 
 # what is made and not kept, or lies elsewhere; names of tools that no script here calls
-OTHERS = ("perf",)
-MADE = ("out/", "bench/out", "/", "./", "missing", "-", "~", "../../")
-
-
-class Block:
-    """Lines of a page that are shown as they are."""
-
-    def __init__(self, number, section, mark, kind):
-        self.number, self.section, self.mark, self.kind = number, section, mark, kind
-        self.lines = []
-
-    def text(self):
-        return "\n".join(self.lines).strip("\n") + "\n"
-
-    def sessions(self):
-        """What stands before the first command behind `$ `, and each of those with what it prints."""
-        first, *others = re.split(r"^\$ ", self.text(), flags=re.M)
-        return first, [it.partition("\n")[::2] for it in others]
-
-    def is_commands(self):
-        return bool(self.lines) and bool(FIRST_WORDS.match(self.lines[0]))
-
-
-class Page:
-    """A page cut into blocks, tables and prose."""
-
-    def __init__(self, top, path):
-        self.top, self.path = top, path
-        self.folder = os.path.dirname(f"{top}/{path}")
-        with open(f"{top}/{path}", encoding="utf-8") as file:
-            self.lines = file.read().split("\n")
-        self.blocks, self.tables, self.prose, self.headings = [], [], [], []
-        self.orders, self.journals = [], []
-        self.read()
-
-    def read(self):
-        section, mark, block, fenced = "", None, None, False
-        for number, line in enumerate(self.lines, 1):
-            if fenced:
-                if line.startswith("```"):
-                    fenced = False
-                    block = None
-                else:
-                    block.lines.append(line)
-                continue
-            if line.startswith("```"):
-                fenced, block, mark = True, Block(number, section, mark, line[3:].strip()), None
-                self.blocks.append(block)
-            elif line.startswith("    ") and (block or not self.lines[number - 2].strip()):
-                if block is None or (not block.lines[-1] and FIRST_WORDS.match(line[4:])):
-                    block, mark = Block(number, section, mark, ""), None
-                    self.blocks.append(block)
-                block.lines.append(line[4:])
-            elif block and not line.strip():
-                block.lines.append("")
-            else:
-                block = None
-                found = re.match(r"<!-- ((?:run|file|played|order|journal): .*) -->$", line)
-                if mark and line.startswith("|"):
-                    kind, _, word = mark.partition(": ")
-                    {"order": self.orders, "journal": self.journals}.get(kind, []).append((number, word))
-                mark = found[1] if found else mark if not line.strip() else None
-                if line.startswith("#"):
-                    section = line
-                    self.headings.append(line.lstrip("#").strip())
-                self.add_prose(number, line)
-
-    def add_prose(self, number, line):
-        if line.startswith("|"):
-            if self.tables and self.tables[-1][-1][0] == number - 1:
-                self.tables[-1].append((number, line))
-            else:
-                self.tables.append([(number, line)])
-        self.prose.append((number, line))
-
-    def slugs(self):
-        plain = [re.sub(r"[^\w\- ]", "", it.lower()).replace(" ", "-") for it in self.headings]
-        return set(plain)
+OTHERS = ("perf", "nix", "memoffset", "clap_complete", "ureq", "rustls")
+MADE = ("out/", "bench/out", "release/out", "wozgirt_VERSION", "gpu/", "/", "./", "missing", "-", "~", "../../")
 
 
 class Sources:
@@ -141,8 +75,8 @@ class Sources:
         pattern = pattern.replace("...", "**").rstrip("/")
         if "/" not in path and any(it.endswith(f"/{path}") for it in self.files):
             return True
-        below = ("", "/crates", "/crates/*", "/crates/*/src", "/bench", "/docs", "/examples")
-        roots = (page.folder, KIT, f"{KIT}/rattle", *(f"{self.top}{it}" for it in below))
+        below = ("", "/crates", "/crates/*", "/crates/*/src", "/bench", "/docs", "/examples", "/server/wozgirt-server/src")
+        roots = (page.folder, reading_order.KIT, f"{reading_order.KIT}/rattle", *(f"{self.top}{it}" for it in below))
         return any(glob.glob(f"{root}/{it}", recursive=True) for root in roots for it in (path.rstrip("/"), pattern))
 
     def read_clauses(self):
@@ -159,7 +93,7 @@ class Sources:
     def has_word(self, word):
         """Whether a word stands in the sources, or in those of the kit."""
         if word not in self.words:
-            found = subprocess.run(["grep", "-rqwF", "--include=*.rt", "--include=*.antt", word, KIT], check=False)
+            found = subprocess.run(["grep", "-rqwF", "--include=*.rt", "--include=*.antt", word, reading_order.KIT], check=False)
             self.words |= {word} if found.returncode == 0 else set()
         return word in self.words
 
@@ -203,11 +137,15 @@ class Trial:
         done = subprocess.run(["sh", "-c", line], cwd=folder, input=given, capture_output=True, text=True, timeout=120, env={**os.environ, "PATH": path})
         return done.stdout, done.returncode, done.stderr
 
-    def try_page(self, page):
+    def read_page(self, page):
+        """A page whose blocks are played elsewhere, or are no program's."""
         self.counts["pages"] += 1
-        self.begin(page)
         self.follow_links(page)
         self.look_names_up(page)
+
+    def try_page(self, page):
+        self.begin(page)
+        self.read_page(page)
         if page.path == "docs/PROMISES.md" or re.match("crates/(?!wrong_)", page.path):
             self.look_clauses_up(page)
         if page.path.startswith("crates/"):
@@ -227,17 +165,9 @@ class Trial:
             self.play_journal(page, number, int(word))
 
     def follow_links(self, page):
-        for number, line in page.prose:
-            for target in re.findall(r"\]\(([^)\s]+)\)", line):
-                if target.startswith(("http:", "https:")):
-                    continue
-                self.counts["links"] += 1
-                path, _, heading = target.partition("#")
-                file = os.path.normpath(f"{page.folder}/{path}") if path else f"{page.top}/{page.path}"
-                if not os.path.exists(file):
-                    self.differs(page, number, f"no file {target}")
-                elif heading and heading not in Page(self.top, os.path.relpath(file, self.top)).slugs():
-                    self.differs(page, number, f"no heading {target}")
+        self.counts["links"] += sum(len(re.findall(r"\]\([^)\s]+\)", line)) for _, line in page.prose)
+        for number, said in page.wrong_links():
+            self.differs(page, number, said)
 
     def look_names_up(self, page):
         shown = {number for table in page.tables if is_of_words(table) for number, _ in table}
@@ -302,7 +232,7 @@ class Trial:
         if IDENTIFIER.match(name):
             self.counts["names"] += 1
             parts = re.findall(r"[A-Za-z_][A-Za-z0-9_]*", name)
-            return name.isupper() or name in OTHERS or COMMIT.match(name) and self.sources.has_commit(name) or all(map(self.sources.has_word, parts))
+            return name.isupper() or name in OTHERS or name.startswith(MADE) or COMMIT.match(name) and self.sources.has_commit(name) or all(map(self.sources.has_word, parts))
         return True
 
     def play_blocks(self, page):
@@ -484,21 +414,21 @@ class Trial:
             self.differs(page, number, f"check says {fault.strip()}")
 
 
-def cells(line):
-    return [it.strip() for it in line.strip().strip("|").split("|")]
-
-
 def is_of_words(table):
     return cells(table[0][1]) == ["Words", "Text", "Status"]
 
 
 def main(top, tool):
+    global reading_order
+    reading_order = importlib.import_module("reading_order")  # it needs rt
     trial = Trial(top, tool)
     kept = [it for it in ("README.md", "CHANGELOG.md") if os.path.exists(f"{top}/{it}")]
     pages = kept + sorted(os.path.relpath(it, top) for it in glob.glob(f"{top}/docs/*.md") + glob.glob(f"{top}/crates/*/README.md"))
     try:
         for path in pages:
             trial.try_page(Page(top, path))
+        for path in (it for it in pages_of(top) if it.endswith(".md") and it not in pages):
+            trial.read_page(Page(top, path))
     finally:
         shutil.rmtree(trial.room)
     counted = ", ".join(f"{count} {what}" for what, count in trial.counts.items())
@@ -506,5 +436,46 @@ def main(top, tool):
     return 1 if trial.faults else 0
 
 
+def pages_of(top):
+    """Each page of the tree, and each man page."""
+    for folder, folders, files in os.walk(top):
+        folders[:] = sorted(it for it in folders if it not in ("out", "target", "node_modules") and not it.startswith("."))
+        for it in sorted(files):
+            path = os.path.relpath(os.path.join(folder, it), top)
+            if (it.endswith(".md") or os.path.basename(folder) == "man") and path not in WRITTEN_BY_SCRIPTS:
+                yield path
+
+
+def wrong_form(page):
+    """The first page is short, and can be read in a terminal."""
+    if len(page.lines) > FIRST_PAGE[0] + 1:
+        yield FIRST_PAGE[0], f"the first page has more than {FIRST_PAGE[0]} lines"
+    for number, line in enumerate(page.lines, 1):
+        if len(line) > FIRST_PAGE[1]:
+            yield number, f"a line of more than {FIRST_PAGE[1]} characters"
+        if line.startswith("|") and any(len(it) > FIRST_PAGE[2] for it in cells(line)):
+            yield number, f"a cell of more than {FIRST_PAGE[2]} characters"
+
+
+def read_only(top):
+    """What can be seen by reading: words, clauses, links, and the form of the first page. Runs nothing."""
+    functions = page_clauses.Functions(top)
+    excuses = page_words.Excuses(f"{top}/bench/excused_words.txt")
+    passed = failed = 0
+    for path in pages_of(top):
+        page = Page(top, path)
+        said = [(number, f"\"{found}\": say {better}") for number, found, better in page_words.wrong_words(path, page.lines, excuses)]
+        if path.endswith(".md"):
+            said += [*page.wrong_links(), *page_clauses.wrong_clauses(page, functions)]
+        said += wrong_form(page) if path == "README.md" else ()
+        print("".join(f"{path}:{number}: {it}\n" for number, it in sorted(said)), end="")
+        passed, failed = (passed, failed + 1) if said else (passed + 1, failed)
+    for path, text in sorted(excuses.unused):
+        print(f"bench/excused_words.txt: nothing needs the line {path}: {text}")
+    failed += len(excuses.unused)
+    print(f"{passed} passed, {failed} failed")
+    return 1 if failed else 0
+
+
 if __name__ == "__main__":
-    sys.exit(main(sys.argv[1], sys.argv[2]))
+    sys.exit(main(*sys.argv[1:]) if len(sys.argv) > 2 else read_only(sys.argv[1]))
