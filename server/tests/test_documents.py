@@ -1,17 +1,26 @@
-"""The dialogues of the first page, of the server's page and of the first page of a package, each pasted as a whole: nothing waits between
-its lines, so none may rest on the one before it having got so far."""
+"""The blocks of the pages that a newcomer reads, each section's pasted as a whole into a shell in a clean folder: nothing waits between
+its lines but what they wait for, so none may rest on the one before it having got so far.
+
+A section is pasted if a block of it has commands after `$ `; one after `<!-- played: PATH -->` is played by that script, and left out.
+The folder has the link `examples`, as the top of the repository has. Blocks that make the programs have no `$ `: ./test and ./build do
+what they say."""
 
 import contextlib
 import os
 import re
 import signal
 import subprocess
+import sys
 import tempfile
 import unittest
 
-from harness import GROUPS, COMMAND, ENGINE, FOLDER, PATIENCE, SERVER, TOP, needs_programs
+from harness import GROUPS, COMMAND, ENGINE, FOLDER, IS_DOUBLE, PATIENCE, SERVER, TOP, needs_programs
 
-#: how often each is pasted
+sys.path.insert(0, os.path.join(TOP, "bench"))
+
+from page import Page  # noqa: E402
+
+#: how often a section with a server is pasted, which may be faster or slower than its clients
 TIMES = 10
 #: `wozgirt` on a machine where a program that is started later may well be there first
 WOZGIRT = f"""#!/bin/bash
@@ -20,61 +29,74 @@ exec '{COMMAND}' "$@"
 """
 
 
-def dialogue(name, begin, end):
-    """The commands of a page between two of its lines, and what they print."""
-    with open(os.path.join(TOP, name), encoding="utf-8") as file:
-        text = file.read()
-    commands, printed = [], []
-    for line in re.findall(r"^    (.*)$", text[text.index(begin):text.index(end)], re.MULTILINE):
-        if line.startswith("$ "):
-            commands.append(line[2:])
-        elif commands and not line.startswith(("from ", "with ", "    ", "# ")):
-            printed.append(line)
-    return commands, printed
+def sections(path):
+    """Of each section with commands: its heading, the commands, and what they print."""
+    found = {}
+    for block in Page(TOP, path).blocks:
+        first, sessions = block.sessions()
+        if sessions and not block.mark:
+            assert not first.strip(), (path, block.number)
+            commands, printed = found.setdefault(block.section, ([], []))
+            for command, text in sessions:
+                commands.append(command)
+                printed += text.strip("\n").split("\n") if text.strip() else []
+    return [(heading, *it) for heading, it in found.items()]
 
 
-#: what `wozgirt` says besides where the machine is busy, and the server is late to say that nothing waits any more
+#: what `wozgirt` also says on a busy machine, when the server is late to say that nothing waits any more
 LATE = "wozgirt: not in time: the server does not answer; the connection is closed, so nothing waits for the lock"
 
 
 def plain(line):
-    """Times are those of the day, and columns are as wide as they need to be."""
+    """Times are those of the day, digests those of the keys that clients drew, and columns are as wide as they need to be."""
+    line = re.sub(r"\b[0-9a-f]{64}\b", "DIGEST", line)
     return " ".join(re.sub(r"\b\d+(\.\d+)? m?s\b", "TIME", line).split())
 
 
 def pasted(commands):
-    """What a shell prints that is told all of these at once, in an empty folder, with the programs in its PATH."""
+    """What a shell prints that is given all of these at once, in an empty folder, with the programs in its PATH."""
     with tempfile.TemporaryDirectory(dir=FOLDER) as folder, tempfile.TemporaryDirectory(dir=FOLDER) as programs:
         for program, place in ((SERVER, "wozgirt-server"), (ENGINE, "ring_tool")):
             os.symlink(program, os.path.join(programs, place))
         with open(os.path.join(programs, "wozgirt"), "w", encoding="utf-8", opener=lambda path, flags: os.open(path, flags, 0o700)) as file:
             file.write(WOZGIRT)
+        os.symlink(os.path.join(TOP, "examples"), os.path.join(folder, "examples"))
+        env = dict(os.environ, PATH=programs + ":" + os.environ["PATH"])
+        env.pop("WOZGIRT_SOCKET", None)
         shell = subprocess.Popen(["bash", "--norc"], stdin=subprocess.PIPE, stdout=subprocess.PIPE, stderr=subprocess.STDOUT, text=True,
-                                 cwd=folder, env=dict(os.environ, PATH=programs + ":" + os.environ["PATH"]), start_new_session=True)
+                                 cwd=folder, env=env, start_new_session=True)
         GROUPS.append(shell.pid)
         try:
-            return shell.communicate("\n".join([*commands, "kill %1"]) + "\n", timeout=PATIENCE)[0].splitlines()
+            end = ["kill %1"] if any(it.endswith("&") for it in commands) else []
+            return shell.communicate("\n".join([*commands, *end]) + "\n", timeout=PATIENCE)[0].splitlines()
         finally:
             with contextlib.suppress(ProcessLookupError):
                 os.killpg(shell.pid, signal.SIGKILL)
             GROUPS.remove(shell.pid)
 
 
+class Pasting(unittest.TestCase):
+    def play(self, path, needs_program):
+        """Those sections of a page that need `ring_tool`, or those that do not."""
+        found = [it for it in sections(path) if needs_program == any("ring_tool " in command for command in it[1])]
+        self.assertTrue(found, "no section has such commands")
+        for heading, commands, printed in found:
+            with self.subTest(heading):
+                for _ in range(TIMES if any("wozgirt-server" in it for it in commands) else 1):
+                    self.assertEqual([plain(it) for it in pasted(commands) if it != LATE], [plain(it) for it in printed])
+
+
 @needs_programs
-class Documents(unittest.TestCase):
-    def play(self, *page):
-        commands, printed = dialogue(*page)
-        for _ in range(TIMES):
-            self.assertEqual([plain(it) for it in pasted(commands) if it != LATE], [plain(it) for it in printed])
-
-    def test_the_first_page_of_all(self):
-        self.play("README.md", "## Locks that programs share", "## What it promises")
-
-    def test_the_page(self):
-        self.play("server/README.md", "## Two programs, one lock", "## `wozgirt`")
-
+class WithTheServer(Pasting):
     def test_the_first_page_of_a_package(self):
-        self.play("release/FIRST.md", "## Without", "In Python:")
+        self.play("release/FIRST.md", needs_program=False)
+
+
+@needs_programs
+@unittest.skipIf(IS_DOUBLE, "the proved program is not built, so blocks of pages with ring_tool are not pasted")
+class WithTheProgram(Pasting):
+    def test_the_first_page(self):
+        self.play("README.md", needs_program=True)
 
 
 if __name__ == "__main__":
