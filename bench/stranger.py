@@ -1,5 +1,5 @@
 #!/usr/bin/env python3
-"""stranger.py [RELEASE]: does what the page LANGUAGES of a release says, and nothing else: in an empty folder that has only the files
+"""stranger.py [RELEASE]: does what the page CLIENTS of a release says, and nothing else: in an empty folder that has only the files
 of the release (release/out), with the page that is in its archive, and with an environment of a path and a home. Each program that
 the page shows is written as it stands there, each command is run in one shell, and what it prints is compared. It says how long each
 language took; the last line is `N passed, M failed`. Needs what the page needs: a C compiler with pkg-config, Python, cargo."""
@@ -25,7 +25,7 @@ def page_of(folder):
     """The page as the archive has it."""
     name = next(it for it in sorted(os.listdir(folder)) if it.endswith(".tar.gz"))
     with tarfile.open(os.path.join(folder, name)) as archive:
-        member = next(it for it in archive.getnames() if it.endswith("/LANGUAGES.md.gz"))
+        member = next(it for it in archive.getnames() if it.endswith("/CLIENTS.md.gz"))
         return gzip.decompress(archive.extractfile(member).read()).decode()
 
 

@@ -1,6 +1,6 @@
 /* Wozgirt for C and C++, and for each language that calls C: Dijkstra's token rings, one ring for each resource, the
  * separate checker of their saved histories, and locks over such rings. The static library is `ring_desk_c`;
- * docs/LANGUAGES.md says how it is built, and what is proved of it.
+ * docs/CLIENTS.md says how it is built, and what is proved of it.
  *
  * The caller has to keep these rules, since nothing checks them:
  *
@@ -22,8 +22,8 @@
  * till stops at 2^64 - 1: what it would be given beyond that is lost.
  *
  * Each number is checked: a seat, machine, value or group that a ring does not have is refused, and then nothing has
- * changed. Each function returns a code of `enum wozgirt_code`, if nothing else is said. Who asks again and again whether
- * a machine may pass asks by `wozgirt_try`.
+ * changed. Each function returns a code of `enum wozgirt_code`, if nothing else is said. To poll, use
+ * `wozgirt_try`.
  */
 #ifndef WOZGIRT_H
 #define WOZGIRT_H

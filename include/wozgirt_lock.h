@@ -1,5 +1,5 @@
 /* A client of wozgirt-server for C and C++: locks that programs share, over a Unix socket. This header and wozgirt_connection.h are
- * all of it; no library is linked. docs/LOCKS.md says what a hold is, and what a token is for. Nothing of this is proved, and nothing
+ * all of it; no library is linked. docs/CLIENTS.md says what a hold is, and what a token is for. Nothing of this is proved, and nothing
  * here decides about locks.
  *
  *     struct wozgirt_lock_client client;

@@ -1,5 +1,5 @@
 /* Locks in a session, for C and C++: of several servers over one log, where the next one has the same hold if the server is lost, or of
- * one server, which has it when it is there again. docs/CLUSTER.md and docs/LOCKS.md say what is guaranteed. Nothing of this is proved.
+ * one server, which has it when it is there again. docs/CLIENTS.md says what is guaranteed. Nothing of this is proved.
  *
  *     struct wozgirt_session session;
  *     uint64_t token;

@@ -88,6 +88,12 @@ class Pasting(unittest.TestCase):
 
 @needs_programs
 class WithTheServer(Pasting):
+    def test_the_page_for_those_who_run_it(self):
+        self.play("docs/OPERATING.md", needs_program=False)
+
+    def test_the_page_for_programs(self):
+        self.play("docs/CLIENTS.md", needs_program=False)
+
     def test_the_first_page_of_a_package(self):
         self.play("release/FIRST.md", needs_program=False)
 
@@ -97,6 +103,9 @@ class WithTheServer(Pasting):
 class WithTheProgram(Pasting):
     def test_the_first_page(self):
         self.play("README.md", needs_program=True)
+
+    def test_the_page_for_those_who_run_it(self):
+        self.play("docs/OPERATING.md", needs_program=True)
 
 
 if __name__ == "__main__":

@@ -227,13 +227,21 @@ class LogOfEvents(unittest.TestCase):
                 self.assertIn(key, keys)
 
 
-    def test_each_key_stands_in_the_page(self):
+    def test_the_page_has_each_key(self):
         with open(os.path.join(TOP, "server", "wozgirt-server", "src", "log.rs"), encoding="utf-8") as file:
             keys = re.findall(r'Event::\w+(?: \{ \.\. \})? => "([a-z-]+)"', file.read()) + ["lines-lost"]
         with open(os.path.join(TOP, "docs", "OPERATING.md"), encoding="utf-8") as file:
             page = file.read()
         self.assertGreater(len(keys), 30)
         self.assertEqual([key for key in keys if f"`{key}`" not in page], [])
+
+    def test_the_page_has_each_metric(self):
+        with open(os.path.join(TOP, "server", "wozgirt-server", "src", "pages", "metrics.rs"), encoding="utf-8") as file:
+            names = re.findall(r'"(wozgirt_[a-z_]+)"', file.read())
+        with open(os.path.join(TOP, "docs", "OPERATING.md"), encoding="utf-8") as file:
+            page = file.read()
+        self.assertGreater(len(names), 25)
+        self.assertEqual([name for name in names if f"`{name}`" not in page], [])
 
 
 if __name__ == "__main__":

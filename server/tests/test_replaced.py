@@ -11,7 +11,7 @@ from harness import PATIENCE, RUNNING, needs_loopback, needs_programs, say, wait
 from test_cluster import Trial, needs_strict
 
 OTHER = "etcd has another log than this server has read, or an earlier state of it ("
-ADVICE = "Stop all servers, and do what CLUSTER says of an etcd that was lost or restored"
+ADVICE = "Stop all servers, and do what OPERATING says of an etcd that was lost or restored"
 
 
 @needs_programs

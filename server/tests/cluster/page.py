@@ -1,5 +1,5 @@
 #!/usr/bin/env python3
-"""page.py: plays "To try it on one machine" of docs/CLUSTER.md as it stands there, in a folder of its own, and compares what is printed;
+"""page.py: plays "Three servers on one machine" of docs/OPERATING.md as it is there, in a folder of its own, and compares what is printed;
 positions, digests and incarnations are those of the day. It takes the ports of the page. The last line is `N passed, M failed`."""
 
 import os
@@ -20,9 +20,9 @@ SOCKETS = ("a.sock", "b.sock", "c.sock")
 
 def blocks():
     """The blocks of that part of the page, each without its four spaces."""
-    with open(os.path.join(TOP, "docs", "CLUSTER.md"), encoding="utf-8") as file:
+    with open(os.path.join(TOP, "docs", "OPERATING.md"), encoding="utf-8") as file:
         text = file.read()
-    part = text[text.index("## To try it on one machine"):text.index("## Three hosts")]
+    part = text[text.index("### Three servers on one machine"):text.index("### Certificates")]
     return [re.sub("^    ", "", it, flags=re.M) for it in re.findall(r"(?:^    .*\n|^\n(?=    ))+", part, re.M) if it.strip()]
 
 

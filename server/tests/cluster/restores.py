@@ -76,7 +76,7 @@ class Restores(unittest.TestCase):
 
     def advised(self, status, text):
         self.assertEqual(status, 4, text)
-        for part in ("etcd has another log than this server has read, or an earlier state of it (", "Stop all servers, and do what CLUSTER says"):
+        for part in ("etcd has another log than this server has read, or an earlier state of it (", "Stop all servers, and do what OPERATING says"):
             self.assertIn(part, text)
 
     def ended(self, server):

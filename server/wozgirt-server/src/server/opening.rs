@@ -119,15 +119,15 @@ impl fmt::Display for CannotServe {
             CannotServe::OtherLog(why) => write!(
                 f,
                 "etcd has another log than this server has read, or an earlier state of it ({why}): it was wiped, restored or replaced. \
-                 Tokens would be given twice, so nothing is served. Stop all servers, and do what CLUSTER says of an etcd that was lost or restored"
+                 Tokens would be given twice, so nothing is served. Stop all servers, and do what OPERATING says of an etcd that was lost or restored"
             ),
             CannotServe::LogGone(why) => write!(
                 f,
-                "the log does not reach back to this server's checkpoint ({why}): begin again with another server's folder, as CLUSTER says of a \
+                "the log does not reach back to this server's checkpoint ({why}): begin again with another server's folder, as OPERATING says of a \
                  host that is replaced"
             ),
             CannotServe::LogLost => f.write_str(
-                "the log is another one, or does not reach back to the checkpoint: do what CLUSTER says of an etcd that was restored, or of a \
+                "the log is another one, or does not reach back to the checkpoint: do what OPERATING says of an etcd that was restored, or of a \
                  host that is replaced",
             ),
             CannotServe::NameTaken(incarnation) => write!(
