@@ -250,7 +250,7 @@ class Rows(unittest.TestCase):
         each = "; ".join(f"trap 'echo {name}; exit 5' {name}" for name in ("INT", "QUIT", "TERM", "HUP"))
         return ["sh", "-c", f"{each}; echo $$; while :; do sleep 0.05; done"]
 
-    @row("kill(1) sends INT, QUIT, TERM or HUP to it alone")
+    @row("kill(1) sends INT, QUIT, TERM or HUP only to it")
     def test_kill(self):
         for it in self.each:
             for name in ("INT", "QUIT", "TERM", "HUP"):
@@ -293,13 +293,13 @@ class Rows(unittest.TestCase):
             wait_until(it.is_free)
             self.end(running)
 
-    @row("kill(1) sends KILL to it alone")
+    @row("kill(1) sends KILL only to it")
     def test_sigkill(self):
         for it in self.each:
             with self.subTest(program=it.name):
                 self.assertTrue(self.killed(it, []))
 
-    @row("kill(1) sends KILL to it alone, with -o")
+    @row("kill(1) sends KILL only to it, with -o")
     def test_sigkill_with_close(self):
         for it in self.each:
             with self.subTest(program=it.name):
