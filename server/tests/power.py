@@ -3,10 +3,11 @@
 
 power.c writes down what they do with their files. Of that is made what a loss of power may leave: what was synced, and of the rest any
 part (cuts/disk.py). They start with it, and a reader that shares no code with them looks for all that was told. So for `serve` with a file
-and with a folder, for `locks`, and for wozgirt-server with a log that keeps its power: CUTS cuts in all, 500 without a word.
+and with a folder, for `locks`, and for wozgirt-server with a log that keeps its power: CUTS cuts in all, 500 without a word; and a quarter as
+many of the engine where syncs of files or of folders fail from some moment on.
 
-Some are made where syncs fail. The trial is tried too: where syncs of files, of folders or of both do nothing, where they come behind the
-answer, and with --no-sync, it has to find what is missing.
+The trial is tried too: where syncs of files, of folders or of both do nothing, where they come behind the answer, and with --no-sync, it
+has to find what is missing.
 NAMEs are those of single parts, as a failure prints them. The last line is `N passed, M failed`."""
 
 import multiprocessing
@@ -132,7 +133,7 @@ def told(service, tallies):
     return "\n".join(lines)
 
 
-def judged(ended, seed):
+def judged(ended, cuts, seed):
     """Says what came of all parts. Returns how many services and mistakes passed and failed."""
     passed = failed = 0
     for service in dict.fromkeys(part.service for part, _, _ in ended):
@@ -142,7 +143,7 @@ def judged(ended, seed):
             print(told(service, [tally for _, tally, _ in plain]))
         for part, tally, room in plain:
             for wrong in tally.wrong[:5]:
-                print(f"WRONG: {wrong}\n  again: power.py {sum(it.cuts for it, _, _ in plain)} {seed} {part}; its folder: {room}")
+                print(f"WRONG: {wrong}\n  again: power.py {cuts} {seed} {part}; its folder: {room}")
         passed, failed = passed + bool(plain and not any(it[1].wrong for it in plain)), failed + any(it[1].wrong for it in plain)
         for part, tally, _ in (it for it in mine if it[0].mistake):
             found = is_found(tally)
@@ -169,7 +170,7 @@ def main(cuts="500", seed=None, *names):
             ended = list(pool.imap_unordered(play, jobs))
             pool.close()
             pool.join()
-    passed, failed = judged(sorted(ended, key=lambda it: list(SERVICES).index(it[0].service)), seed)
+    passed, failed = judged(sorted(ended, key=lambda it: list(SERVICES).index(it[0].service)), cuts, seed)
     print(f"seed {seed}, {time.monotonic() - begun:.0f} s\n{passed} passed, {failed} failed")
     return bool(failed)
 

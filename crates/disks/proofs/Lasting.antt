@@ -4,7 +4,7 @@ use Rattle.std.proofs.lemmas.List.{append-nil}
 use Rattle.std.specs.Str.{bytes_eq}
 use Rattle.std.proofs.lemmas.Slice.Eq.{bytes_eq-Decides}
 use Rattle.std.proofs.lemmas.Bool.{false_from_ne_true, false≢true}
-use Rattle.disks.specs.Held.{Held, Thing, File, file_bytes, bytes_of, Grows}
+use Rattle.disks.specs.Held.{Held, File, file_bytes, bytes_of, Grows}
 use Rattle.disks.specs.Lasting.{HasJust, BeginsWith, bytes_in, ChangesOnly, Changes, MayChange, Leaves, MayLeave, LeavesFront}
 use Rattle.disks.specs.declared.losing.Left.{Left}
 use Rattle.disks.specs.Left.{left_at, held_left}

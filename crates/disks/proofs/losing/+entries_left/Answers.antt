@@ -1,4 +1,4 @@
-use Rattle.std.proofs.Common.{List, ℕ, cond, string_bytes, sym, ap, ◌∙◌}
+use Rattle.std.proofs.Common.{List, cond, string_bytes, sym, ap, ◌∙◌}
 use Rattle.std.specs.Str.{bytes_eq}
 use Rattle.disks.specs.Held.{Thing, Nothing, File}
 use Rattle.disks.specs.Entries.{found}

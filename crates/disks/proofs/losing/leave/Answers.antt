@@ -1,4 +1,4 @@
-use Rattle.std.proofs.Common.{List, ℕ, cond, ap, string_bytes}
+use Rattle.std.proofs.Common.{cond, ap, string_bytes}
 use Rattle.std.specs.Str.{bytes_eq}
 use Rattle.std.specs.Box.{with_value}
 use Rattle.disks.specs.Held.{File}
