@@ -37,3 +37,4 @@ pub mod Lawful
 pub mod CutRemarks
 pub mod Around
 pub mod Started
+pub mod LastSegments

@@ -55,7 +55,7 @@ have_rings (b ∷ bs) (s ∷ ss) old (v ∷ vs) n m each =
       );
     }
 
-bases_many : (vs : List LockView) → length (bases_of (rings_of vs)) ≡ length vs
+pub bases_many : (vs : List LockView) → length (bases_of (rings_of vs)) ≡ length vs
 bases_many [] = refl
 bases_many (v ∷ vs) = ap suc (bases_many vs)
 

@@ -7,7 +7,7 @@ ghost use Rattle.lock_laws.specs.Around.{ReplicaRunsAreStages, OtherLinesAreRepl
 ghost use Rattle.lock_laws.specs.Begun.{ServedLinesAreAnswered, AnsweredLinesFollow};
 ghost use Rattle.lock_laws.specs.Equal.{EqualLinesGiveEqualAnswers, EqualSegmentsEndEqually};
 ghost use Rattle.lock_laws.specs.KeysBack.{FreshIsSound, OwnLinesAreLines, SoundStays, KeysComeBack, PlacesAreLast};
-ghost use Rattle.lock_laws.specs.Started.{StartedLocksAreFound};
+ghost use Rattle.lock_laws.specs.Started.{StartedLocksAreFound, KeptSegmentsStart, FoundLocksBegin};
 ghost use Rattle.lock_laws.specs.StateBack.{HoldsAreFirst, StateComesBack};
 ghost use Rattle.lock_laws.specs.WaitersBack.{HavingStateStays, WaitersComeBack};
 ghost use Rattle.lock_laws.specs.Remarked.{LocksOfReplicasComeBack, RemarksBringBack};
@@ -118,8 +118,11 @@ pub fn replica_runs_are_stages()
     ensures others { OtherLinesAreReplied }
 {}
 
-/// The locks that start of a folder's last segment, none of them new, are those that are found in its journal: so a run of the
-/// program that begins of what another one left follows it in a life.
+/// The locks that start of a folder's last segment, none of them new, are those that are found in its journal: the head of the file
+/// is read as it was written, whatever is kept behind it. So a run of the program that begins of what another one left follows it
+/// in a life; and locks that are found begin a segment again.
 pub fn started_locks_are_found()
-    ensures { StartedLocksAreFound }
+    ensures found { StartedLocksAreFound }
+    ensures kept { KeptSegmentsStart }
+    ensures begun { FoundLocksBegin }
 {}
