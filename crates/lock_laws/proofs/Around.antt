@@ -31,14 +31,14 @@ use Rattle.lock_laws.proofs.CutRemarks.{without_cut}
 -- ---- lines
 
 -- what the locks were given, said and noted, of lines of the replica
-record AreTakenSo (numbers : Numbers) (old new : Stand LockService) (lines : List (List ℕ)) (said noted : List ℕ) : Type 0 where
+pub record AreTakenSo (numbers : Numbers) (old new : Stand LockService) (lines : List (List ℕ)) (said noted : List ℕ) : Type 0 where
   pub inside : List ℕ
   pub given_so : AreGiven IsServed IsLine numbers old lines inside noted new
   pub told : List ℕ
   pub answered : Answers (by_stand IsServed) old (given numbers lines) told inside new
   pub around : AreToldAround numbers lines said told
 
-all_taken : (old new : Replica LockService) (was is : Option Held) (lines : List (List ℕ)) (said noted : List ℕ) → AllByRecursion IsLine lines → Answers (by_stand (IsReplied IsServed)) (stand old was) lines said noted (stand new is) → new.lost ≡ false →
+pub all_taken : (old new : Replica LockService) (was is : Option Held) (lines : List (List ℕ)) (said noted : List ℕ) → AllByRecursion IsLine lines → Answers (by_stand (IsReplied IsServed)) (stand old was) lines said noted (stand new is) → new.lost ≡ false →
     AreTakenSo (numbers_of old.numbered.keys) (stand old.numbered.inner was) (stand new.numbered.inner is) lines said noted
 all_taken old new was is [] said noted all a whole =
     let e = ap (λ (s : Stand (Replica LockService)). stand s.service.numbered.inner s.files) a.2 in
@@ -58,11 +58,11 @@ all_taken old new was is (line ∷ lines) said noted all a whole =
       around = (a.1, now.given_so.told, a.2, rest.told, a.6, refl, now.says, rest.around);
     }
 
-terms_stay : (old new : Stand LockService) (lines : List (List ℕ)) (said noted : List ℕ) → Answers (by_stand IsServed) old lines said noted new → new.service.terms ≡ old.service.terms
+pub terms_stay : (old new : Stand LockService) (lines : List (List ℕ)) (said noted : List ℕ) → Answers (by_stand IsServed) old lines said noted new → new.service.terms ≡ old.service.terms
 terms_stay old new [] said noted a = ap (λ (s : Stand LockService). s.service.terms) a.2
 terms_stay old new (line ∷ lines) said noted a = terms_stay a.0 new lines a.2 a.4 a.8 ∙ a.5.terms
 
-without_nothing : without_remarks [] ≡ []
+pub without_nothing : without_remarks [] ≡ []
 unfolding without_remarks lines_in
 without_nothing = refl
 

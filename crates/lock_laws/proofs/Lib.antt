@@ -38,3 +38,6 @@ pub mod CutRemarks
 pub mod Around
 pub mod Started
 pub mod LastSegments
+pub mod Telling
+pub mod Parted
+pub mod Stages

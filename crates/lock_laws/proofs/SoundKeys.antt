@@ -43,7 +43,7 @@ fresh_is_sound A r fresh = record {
 -- ---- keys
 
 -- what is true of each entry, and of the new one
-inserted : (P : ℕ × ToldView → Type 0) (es : Table) (k : ℕ) (v : ToldView) → AllByRecursion P es → P (k, v) → AllByRecursion P (insert_entry nat_cmp es k v)
+pub inserted : (P : ℕ × ToldView → Type 0) (es : Table) (k : ℕ) (v : ToldView) → AllByRecursion P es → P (k, v) → AllByRecursion P (insert_entry nat_cmp es k v)
 inserted P [] k v all new = (new, tt)
 inserted P (e ∷ es) k v all new =
     elim (nat_cmp k e.0) as (λ r. r ≡ nat_cmp k e.0 → AllByRecursion P (match_ordering r ((k, v) ∷ e ∷ es) ((e.0, v) ∷ es) (e ∷ insert_entry nat_cmp es k v))) [
@@ -56,7 +56,7 @@ all_or_less : (P : ℕ × ToldView → Type 0) (b : Bool) (e : ℕ × ToldView) 
 all_or_less P true e es less all fewer = all.1
 all_or_less P false e es less all fewer = (all.0, fewer)
 
-taken_out : (P : ℕ × ToldView → Type 0) (test : ℕ → Bool) (es : Table) → AllByRecursion P es → AllByRecursion P (remove_entry test es)
+pub taken_out : (P : ℕ × ToldView → Type 0) (test : ℕ → Bool) (es : Table) → AllByRecursion P es → AllByRecursion P (remove_entry test es)
 taken_out P test [] all = tt
 taken_out P test (e ∷ es) all = all_or_less P (test e.0) e es (remove_entry test es) all (taken_out P test es all.1)
 
@@ -177,7 +177,7 @@ grown_behind [] digest told said long e =
     absurd (omega (arith, same, none))
 grown_behind (b ∷ bs) digest told said long e = ap (λ (u : List ℕ). u ++ said) e ∙ append_assoc digest told said
 
-runs_on : (r : RunningView) (said : List ℕ) → IsRunning r → IsRunning (with_said r said)
+pub runs_on : (r : RunningView) (said : List ℕ) → IsRunning r → IsRunning (with_said r said)
 runs_on r said (inl fresh) = inl (ap (λ (v : RunningView). with_said v said) fresh)
 runs_on r said (inr b) = inr (record {
   place = b.place;
@@ -187,7 +187,7 @@ runs_on r said (inr b) = inr (record {
   digits = b.digits;
 })
 
-at_digest : (place : ℕ) (digest : List ℕ) → place < 2 ^ 64 → DigestFits digest → IsBehind (at_place place digest)
+pub at_digest : (place : ℕ) (digest : List ℕ) → place < 2 ^ 64 → DigestFits digest → IsBehind (at_place place digest)
 at_digest place digest lt fits = record { place = lt; digest = digest; told = []; since = sym (append-nil digest); digits = fits }
 
 pub next_fits : (since : List ℕ) → DigestFits (next_of since)
@@ -290,14 +290,14 @@ pub digest_is_line : (place : ℕ) (digest : List ℕ) → place < 2 ^ 64 → Di
 digest_is_line place digest lt fits =
     line_behind (codes "at ") _ at_ends (line_behind (spaced place) _ (spaced_ends place lt) (line_behind digest (codes "\n") (digits_end digest fits.digits) refl))
 
-place_is_line : (place : ℕ) (since : List ℕ) → (since ≡ []) ⊎ IsBehind (at_place place since) → AllByRecursion IsLine (lines_at place since)
+pub place_is_line : (place : ℕ) (since : List ℕ) → (since ≡ []) ⊎ IsBehind (at_place place since) → AllByRecursion IsLine (lines_at place since)
 place_is_line place [] r = tt
 place_is_line place (b ∷ bs) (inl e) = absurd cc
 place_is_line place (b ∷ bs) (inr r) =
     let first : take digest_digits (b ∷ bs) ≡ r.digest = ap (take digest_digits) r.since ∙ first_digits r.digest r.told r.digits.long in
     (subst (λ (d : List ℕ). IsLine (place_line place d)) (sym first) (digest_is_line place r.digest r.place r.digits), tt)
 
-none_or_behind : (r : RunningView) → IsRunning r → (r.since ≡ []) ⊎ IsBehind r
+pub none_or_behind : (r : RunningView) → IsRunning r → (r.since ≡ []) ⊎ IsBehind r
 none_or_behind r (inl e) = inl (ap (λ (v : RunningView). v.since) e)
 none_or_behind r (inr b) = inr b
 

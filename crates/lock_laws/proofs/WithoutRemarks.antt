@@ -158,9 +158,11 @@ begun_ends r = inr (head_ends (content_of (locks_in r)))
 pub begun_no_hash : (r : Replica LockService) → HaveBegun (locks_in r) → HasNoHash (begun_text (locks_in r))
 begun_no_hash r begun = no_hash_head (content_of (locks_in r)) begun.text
 
+pub begun_goes_by : (old : Replica LockService) (rest : List ℕ) → HaveBegun (locks_in old) → AllByRecursion IsLine (own_lines old) → without_remarks (begun_with_remarks old ++ rest) ≡ begun_text (locks_in old) ++ without_remarks rest
+begun_goes_by old rest begun lines = one_goes (begun_text (locks_in old)) rest (own_lines old) (begun_ends old) (begun_no_hash old begun) lines
+
 pub begun_goes : (old : Replica LockService) (rest : List ℕ) → HaveBegun (locks_in old) → IsSound old → without_remarks (begun_with_remarks old ++ rest) ≡ begun_text (locks_in old) ++ without_remarks rest
-begun_goes old rest begun sound =
-    one_goes (begun_text (locks_in old)) rest (own_lines old) (begun_ends old) (begun_no_hash old begun) (own_lines_are_lines IsServed old sound)
+begun_goes old rest begun sound = begun_goes_by old rest begun (own_lines_are_lines IsServed old sound)
 
 -- the notes of locks have no #
 pub no_hash_noted : (old new : LockService) (entries : List (ℕ × ℕ)) (lines : List (List ℕ)) (said noted : List ℕ) → HaveBegun old.segment.locks → AreKept new.segment.locks entries → AreAnswered old.terms old.segment lines said noted new.segment → HasNoHash noted

@@ -10,3 +10,4 @@ pub mod Life
 pub mod Lawful
 pub mod Around
 pub mod Started
+pub mod Runs

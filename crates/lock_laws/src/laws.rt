@@ -7,6 +7,7 @@ ghost use Rattle.lock_laws.specs.Around.{ReplicaRunsAreStages, OtherLinesAreRepl
 ghost use Rattle.lock_laws.specs.Begun.{ServedLinesAreAnswered, AnsweredLinesFollow};
 ghost use Rattle.lock_laws.specs.Equal.{EqualLinesGiveEqualAnswers, EqualSegmentsEndEqually};
 ghost use Rattle.lock_laws.specs.KeysBack.{FreshIsSound, OwnLinesAreLines, SoundStays, KeysComeBack, PlacesAreLast};
+ghost use Rattle.lock_laws.specs.Runs.{PartsAreStages, RunsFollow};
 ghost use Rattle.lock_laws.specs.Started.{StartedLocksAreFound, KeptSegmentsStart, FoundLocksBegin};
 ghost use Rattle.lock_laws.specs.StateBack.{HoldsAreFirst, StateComesBack};
 ghost use Rattle.lock_laws.specs.WaitersBack.{HavingStateStays, WaitersComeBack};
@@ -116,6 +117,15 @@ pub fn lives_are_lawful()
 pub fn replica_runs_are_stages()
     ensures runs { ReplicaRunsAreStages }
     ensures others { OtherLinesAreReplied }
+{}
+
+/// Lines that a program of locks tells in parts, whatever segments end between them, and lines behind them that were answered, are
+/// such runs in stages, segment by segment: begun with the locks of the first part, they say one after the other what was said,
+/// and the last one's journal is what is kept of the last segment's file. And a run that begins with the locks that are found there
+/// follows it.
+pub fn parts_are_stages()
+    ensures parts { PartsAreStages }
+    ensures runs { RunsFollow }
 {}
 
 /// The locks that start of a folder's last segment, none of them new, are those that are found in its journal: the head of the file
