@@ -37,7 +37,8 @@ pub trait Disk {
         ensures { IfOk result
             (λ reader. Opens (holds self.now) name.now (Self.Reader.remaining reader)) };
 
-    /// Whether two names are those of one file or folder. If it answers no, they are not; a yes may err, but not of a folder.
+    /// Whether two names are those of one file or folder. If it answers no, they are not, as where one of them leads to nothing; a
+    /// yes may err, but not of a folder.
     fn is_one_file(&self, one: &str, other: &str) -> io::Result<bool>
         ensures no { IfOk result (λ same. IfSome (holds self.now)
             (λ held. same ≡ false → IsOneFile held one.now other.now → ⊥)) }
@@ -55,11 +56,11 @@ pub trait Disk {
         Ok(false)
     }
 
-    /// The names in this folder, of files and of folders, in any order.
+    /// The names in this folder, of files and of folders, in any order. One that is not UTF-8 is told as U+FFFD.
     ///
     /// # Errors
     ///
-    /// There is no such folder, as where a file has this name; or it cannot be read to its end, or a name in it is not UTF-8.
+    /// There is no such folder, as where a file has this name; or it cannot be read to its end.
     fn list(&self, folder: &str) -> io::Result<Vec<FolderEntry>>
         ensures { IfOk result
             (λ entries. Lists (holds self.now) folder.now (names_of entries.items)) };

@@ -4,6 +4,7 @@
 mod descriptors;
 mod disk;
 mod grown;
+mod listing;
 mod memory;
 mod part;
 mod replacing;

@@ -69,3 +69,53 @@ pub(crate) fn end_of_links<R: Files + AllocGlobal>(files: &R, name: &str) -> io:
     }
     Err(io::Error::from(ErrorKind::InvalidFilename))
 }
+
+/// Which file or folder a name leads to, if there is one.
+fn known<R: Files>(files: &R, name: &str) -> io::Result<Option<FileId>> {
+    match fs::metadata(files, name) {
+        Ok(there) => Ok(Some(file_id(&there))),
+        Err(e) if e.kind() == ErrorKind::NotFound => Ok(None),
+        Err(e) => Err(e),
+    }
+}
+
+/// The part of a name behind its last slash.
+fn last_part(name: &str) -> &str {
+    match name.rsplit_once('/') {
+        None => name,
+        Some((_, last)) => last,
+    }
+}
+
+/// Whether a file that was made by the one of two names, which lead to nothing, would have the other one too.
+fn would_be_one<R: Files + AllocGlobal>(files: &R, one: &str, other: &str) -> io::Result<bool> {
+    let one = end_of_links(files, one)?;
+    let other = end_of_links(files, other)?;
+    if last_part(one.as_str()) != last_part(other.as_str()) {
+        return Ok(false);
+    }
+    let first = fs::metadata(files, folder_of(one.as_str()))?;
+    let second = fs::metadata(files, folder_of(other.as_str()))?;
+    Ok(file_id(&first) == file_id(&second))
+}
+
+/// Whether two names lead to one file or folder. A name that leads to nothing, as one whose file has just gone, does not lead to that
+/// of another one; where both lead to one place at which there is nothing, this fails.
+pub(crate) fn are_one<R: Files + AllocGlobal>(
+    files: &R,
+    one: &str,
+    other: &str,
+) -> io::Result<bool> {
+    let first = known(files, one)?;
+    let second = known(files, other)?;
+    match (first, second) {
+        (Some(first), Some(second)) => Ok(first == second),
+        (None, None) => {
+            if would_be_one(files, one, other)? {
+                return Err(io::Error::from(ErrorKind::NotFound));
+            }
+            Ok(false)
+        }
+        _ => Ok(false),
+    }
+}

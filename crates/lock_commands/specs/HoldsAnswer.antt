@@ -23,7 +23,7 @@ use Rattle.ring_holds.specs.ChainSteps.{AreBlocksHeld}
 use Rattle.ring_holds.specs.Lines.{all_lines}
 use Rattle.ring_holds.specs.Labels.{all_chosen, AreCounted, label_line}
 use Rattle.ring_requests.specs.declared.requests.HoldsWords.{HoldsWords}
-use Rattle.tool_parts.specs.Chained.{AreHeldFrom, IsChainIn, IsFolder, IsAddRefusal, IsNamedWrong, AreNamesRefused}
+use Rattle.tool_parts.specs.Chained.{AreHeldFrom, IsChainIn, IsFolder, IsAddRefusal, IsFileRefused, IsNamedWrong, AreNamesRefused}
 use Rattle.tool_parts.specs.Checked.{IsLegalSavedText, IsSavedTextRefusal}
 use Rattle.tool_parts.specs.Named.{IsHeld, IsNamed, IsNamedRefusal}
 use Rattle.tool_parts.specs.Reading.{names_stream}
@@ -152,11 +152,12 @@ IsFileUnheld files name r e =
     × AreHeldFrom files name r.first fs
     × IsUnheld files name (r.first + length fs) before (r.first + length fs == r.last) e
 
--- One of the files of a folder is refused, or the first says another number than its name has; or
--- there is no memory.
+-- One of the files of a folder is refused, by its holds or in the chain, or the first says another
+-- number than its name has; or there is no memory.
 abbrev pub AreFilesUnheld : Option Held → List ℕ → SegmentNumbers → ToolError → Type 0
 AreFilesUnheld files name r e =
-    IsFileUnheld files name r e ⊎ (IsNamedWrong files name r e ⊎ (e ≡ tool.OutOfMemory))
+    IsFileUnheld files name r e
+    ⊎ (IsNamedWrong files name r e ⊎ ((e ≡ tool.OutOfMemory) ⊎ IsFileRefused files name r e))
 
 -- the names in a folder are refused, or its files
 abbrev pub IsFolderUnheld : List ℕ → Option Held → ToolError → Type 0

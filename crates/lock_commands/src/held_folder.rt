@@ -13,7 +13,7 @@ use ring_holds::{ChainHoldError, Hold, HoldChain};
 use ring_segments::SegmentError;
 use segment_folder::SegmentNumbers;
 use std::alloc::Global;
-use tool_parts::chain::{folder_numbers, segment_bytes};
+use tool_parts::chain::{chain_in, folder_numbers, segment_bytes};
 use tool_parts::faults::ToolError;
 
 /// Reads the holds of the file of a segment, which may be the last one, after those before it.
@@ -126,7 +126,7 @@ fn files_holds<'a, D: Disk>(
 ///
 /// # Errors
 ///
-/// Those of [`folder_numbers`] and [`files_holds`].
+/// Those of [`folder_numbers`] and [`files_holds`]; where a segment is not that of a lock, those of [`chain_in`] come first.
 pub(crate) fn folder_holds<'a, D: Disk>(
     alloc: Global,
     disk: &D,
@@ -144,6 +144,10 @@ pub(crate) fn folder_holds<'a, D: Disk>(
     };
     match files_holds(alloc, disk, folder, numbers) {
         Ok(holds) => Ok(holds),
+        Err(ToolError::NoHold(name, lock, at)) => match chain_in(alloc, disk, folder, numbers) {
+            Ok(_) => Err(ToolError::NoHold(name, lock, at)),
+            Err(fault) => Err(fault),
+        },
         Err(fault) => Err(fault),
     }
 }

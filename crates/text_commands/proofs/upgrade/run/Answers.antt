@@ -9,7 +9,7 @@ returns-in_err-value-clause-err g c =
     let named = subst (λ t. IsNamed c.args.words.now.file.now (g.D.Disk.holds c.args.disk.now) (g.I.Read.remaining c.args.input.now) (g.I.Read.remaining c.read_named.new.input) t)
     (sym c.as_slice.ensures.value) c.in_ok-bytes.ensures.ok in
     let p = err_from_is_err_and c.from_residual-in_err-value.result c.from_residual-in_err-value.ensures.1 in
-    rw (p.1, p.2) (inr (_, named, inl c.in_err-value.ensures.err))
+    rw (p.1, p.2) (inr (inr (_, named, inl c.in_err-value.ensures.err)))
 
 pub returns-in-Ok-clause-ok : goal.returns-in-Ok-clause-ok
 returns-in-Ok-clause-ok g c =
@@ -21,4 +21,4 @@ pub returns-clause-err : goal.returns-clause-err
 returns-clause-err g c =
     let named = subst (λ t. IsNamed c.args.words.now.file.now (g.D.Disk.holds c.args.disk.now) (g.I.Read.remaining c.args.input.now) (g.I.Read.remaining c.read_named.new.input) t)
     (sym c.as_slice.ensures.value) c.in_ok-bytes.ensures.ok in
-    inr (_, named, inr (content c.in_ok-value.value.0, c.in_ok-value.value.1, c.in_ok-value.ensures.ok, record { to_file = c.in-Err.ensures.err.to_file; to_output = c.in-Err.ensures.err.to_output }))
+    inr (inr (_, named, inr (content c.in_ok-value.value.0, c.in_ok-value.value.1, c.in_ok-value.ensures.ok, record { to_file = c.in-Err.ensures.err.to_file; to_output = c.in-Err.ensures.err.to_output })))
