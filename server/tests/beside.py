@@ -202,13 +202,14 @@ def streams():
     with place():
         make_segments(2)
         for command in (["recover", "k"], ["join", "k"]):
-            for mode, words in (("ab", {"stdout": subprocess.PIPE}), ("rb", {})):
+            for mode in ("ab", "rb"):
                 with open("n", "ab"), open("n", mode) as file:
                     given = {"stdin": file} if mode == "rb" else {"stdout": file, "stderr": subprocess.PIPE}
                     refused(f"{command[0]} to the file of a standard stream", "n is the file of a standard stream", *command, "n", **given)
         with open("n", "ab") as file:
             told = "n is the file of a standard stream"
             refused("upgrade to the file of standard output", told, "upgrade", "h", "n", stdout=file, stderr=subprocess.PIPE)
+        judge("the file of a standard stream stays", os.path.getsize("n") == 0)
         with open("in", "w", encoding="ascii") as file:
             file.write("save in\nsave out\nsave other\n")
         with open("in", "rb") as calls, open("out", "wb") as out:

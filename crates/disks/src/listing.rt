@@ -44,7 +44,7 @@ fn is_behind(name: &str, other: &str) -> bool {
 
 /// The last name of the row among these, or nothing.
 fn last_of_row(names: &[String]) -> &str {
-    let mut last = "";
+    let mut last: &str = "";
     for name in names {
         if name.as_str().ends_with(ROW) && is_behind(name.as_str(), last) {
             last = name.as_str();

@@ -1,7 +1,6 @@
 //! Another look at a folder that somebody serves meanwhile: its old segments may go between the look at the names and that at a file.
 
-ghost use Rattle.std.specs.Prelude.{◌≡◌, IfOk, IfErr};
-ghost use Rattle.ring_segments.specs.declared.sums.ChainSums.{ChainSums};
+ghost use Rattle.std.specs.Prelude.{IfOk, IfErr};
 ghost use Rattle.tool_parts.specs.Chained.{IsFolder, AreFolderSums, AreSumsRefused};
 
 use crate::chain::{folder_entries, folder_sums};
