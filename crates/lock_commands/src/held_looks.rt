@@ -27,7 +27,7 @@ fn look_again<'a, D: Disk>(
     ensures err { IfErr result (λ e. IsFolderUnheld folder.now (D.holds disk.now) e) }
 {
     match found {
-        Ok(found) => Ok(found),
+        Ok(holds) => Ok(holds),
         Err(fault) => {
             if !has_gone(alloc, disk, fault) {
                 return Err(fault);

@@ -46,7 +46,7 @@ fn look_again<'a, D: Disk>(
     ensures err { IfErr result (λ e. AreSumsRefused folder.now (D.holds disk.now) e) }
 {
     match found {
-        Ok(found) => Ok(found),
+        Ok(sums) => Ok(sums),
         Err(fault) => {
             if !has_gone(alloc, disk, fault) {
                 return Err(fault);
