@@ -263,6 +263,7 @@ def totals():
         for words in served:
             ours, theirs = socket.socketpair(socket.AF_UNIX, socket.SOCK_DGRAM)
             with ours, theirs:
+                ours.settimeout(10)
                 subprocess.run([TOOL, *words], stdin=subprocess.DEVNULL, stdout=subprocess.DEVNULL, stderr=theirs, timeout=100)
                 line = ours.recv(1000)
             judge(f"the line of totals is one write: {words[0]}", line.startswith(b"total ") and line.endswith(b"\n"), line)
