@@ -4,8 +4,8 @@
 mod descriptors;
 mod disk;
 mod grown;
-mod listing;
 mod memory;
+mod moment;
 mod part;
 mod replacing;
 mod same_file;

@@ -3,7 +3,7 @@
 use crate::descriptors::is_standard;
 use crate::disk::{Disk, FolderEntry};
 use crate::grown::{GrownFile, grown, removed_empty};
-use crate::listing::entries;
+use crate::moment::entries;
 use crate::part::{NewFile, made_for};
 use crate::same_file::{FileId, are_one, end_of_links, folder_of};
 use std::fs::{self, File};
