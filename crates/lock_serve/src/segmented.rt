@@ -1,8 +1,9 @@
 //! Locks live in segments.
 
 ghost use Rattle.std.specs.Prelude.{◌≡◌, false, IfOk, IfErr};
-ghost use Rattle.lock_serve.specs.Due.{IsUnended};
+ghost use Rattle.lock_serve.specs.Due.{HaveNoText, IsUnended};
 ghost use Rattle.lock_serve.specs.Segmented.{IsNext, is_over};
+ghost use Rattle.lock_serve.specs.Segments.{segment_text};
 
 use crate::service::{LockService, Stage, end_fault, is_to_end, limit_of};
 use crate::texts::segment_text;
@@ -46,7 +47,11 @@ impl Segmented for LockService {
         alloc: Global,
         number: u64,
         behind: [u8; DIGEST_DIGITS],
-    ) -> Result<Vec<u8>, EndFault> {
+    ) -> Result<Vec<u8>, EndFault>
+        ensures text { IfOk result
+            (λ text. text.items ≡ segment_text number behind self.now.segment.locks) }
+        ensures why { IfErr result (λ e. HaveNoText self.now.segment.locks e) }
+    {
         segment_text(alloc, number, behind, self.segment.locks())
     }
 
