@@ -1,3 +1,2 @@
-mod Entries
 mod Begun
 mod Refused

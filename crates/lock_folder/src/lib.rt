@@ -9,5 +9,4 @@ mod rings;
 
 pub use faults::StartFault;
 pub use folder::start_locks;
-pub use lists::has_list;
 pub use places::Start;

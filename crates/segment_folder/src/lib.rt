@@ -6,5 +6,5 @@ mod names;
 mod numbers;
 
 pub use errors::{EntryName, FolderError};
-pub use names::{list_name, segment_file};
+pub use names::{has_list, list_name, segment_file};
 pub use numbers::{SegmentNumbers, numbers_among, numbers_in};

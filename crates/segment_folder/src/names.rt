@@ -1,12 +1,14 @@
 //! The names of the files in a folder of segments.
 
 ghost use Rattle.std.specs.Prelude.{◌≡◌, ◌≢◌, ◌-◌, ◌+◌, ◌≤◌, ◌<◌, ◌++◌, ◌↔◌, ℕ, List, length, drop, take, replicate, codes, IfOk, OnOk, IsTrue, MatchOption, string_bytes, slice_index};
+ghost use Rattle.disks.specs.Folders.{is_among, names_of};
 ghost use Rattle.text_lines.specs.Reading.{is_digit};
 ghost use Rattle.segment_folder.specs.Reading.{IsPadded};
 ghost use Rattle.segment_folder.specs.Names.{segment_file, list_name, IsSegmentName, IsPartName, IsOtherName};
 ghost use Rattle.segment_folder.specs.Numbers.{shown};
 
 use crate::errors::EntryName;
+use disks::FolderEntry;
 use itoa::Buffer;
 use std::alloc::{AllocError, Global};
 use text_lines::{Stop, number64};
@@ -98,6 +100,18 @@ fn is_part(name: &[u8]) -> bool
 {
     let end = before_digits(name);
     end >= 5 && &name[end - 5..end] == b".part".as_slice()
+}
+
+/// Whether the file of locks is among these entries of a folder.
+pub fn has_list(entries: &[FolderEntry]) -> bool
+    ensures { result ≡ is_among (names_of entries.now) list_name }
+{
+    for entry in entries {
+        if entry.name.as_str() == "locks" {
+            return true;
+        }
+    }
+    false
 }
 
 /// The name of the list of locks, which a folder of locks has.
