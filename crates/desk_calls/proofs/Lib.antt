@@ -1,9 +1,0 @@
-pub mod Places
-pub mod OneLog
-pub mod SeatSurveys
-pub mod ComingBack
-pub mod FilesBack
-pub mod Counted
-pub mod Fresh
-pub mod Lasts
-pub mod Told

@@ -1,7 +1,0 @@
-use Rattle.std.proofs.Common.{take}
-use Rattle.disks.specs.Entries.{held_of}
-use Rattle.disks.specs.Folders.{names_of, ListsNames}
-use Rattle.disks.proofs.memory.names_among.Given as goal
-
-abbrev pub invariant-loop-entry : goal.invariant-loop-entry
-invariant-loop-entry l = ListsNames (held_of (take l.entry-index l.entries)) l.folder (names_of l.names.items)

@@ -1,4 +1,0 @@
-pub mod JoinedFolder
-pub mod JoinSteps
-pub mod Recovered
-pub mod SegmentRecovered

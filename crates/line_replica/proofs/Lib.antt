@@ -1,9 +1,0 @@
-pub mod FirstLines
-pub mod Taking
-pub mod Digits
-pub mod Hearing
-pub mod Numbers
-pub mod Entries
-pub mod Given
-pub mod Again
-pub mod JoinedLines

@@ -1,4 +1,0 @@
-mod HeldLeads
-mod HoldTexts
-mod Summing
-pub mod UnreadLists

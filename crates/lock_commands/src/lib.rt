@@ -1,9 +1,0 @@
-//! The commands on locks, once their words are read.
-#![tactic(auto)]
-
-mod held_folder;
-mod holders;
-pub mod holds;
-pub mod locks;
-mod refusals;
-mod totals;

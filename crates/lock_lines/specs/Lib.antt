@@ -1,4 +1,0 @@
-pub mod Asks
-pub mod Inputs
-pub mod Readers
-pub mod Answers

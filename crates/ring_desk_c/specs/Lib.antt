@@ -1,3 +1,0 @@
-pub mod Held
-pub mod Opened
-pub mod Lent

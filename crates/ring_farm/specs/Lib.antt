@@ -1,9 +1,0 @@
-pub mod Plans
-pub mod Promises
-pub mod Runs
-pub mod Headline
-pub mod Consequences
-pub mod Refusals
-pub use Rattle.ring_logs.specs.declared.logs.Log
-pub use Rattle.ring_logs.specs.declared.outcomes.RingOutcome
-pub mod OneOutcome

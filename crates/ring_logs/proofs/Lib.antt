@@ -1,4 +1,0 @@
-pub mod Replaying
-pub mod Following
-pub mod AllSurveys
-pub mod Groups

@@ -1,5 +1,0 @@
-pub mod Places
-pub mod Runs
-pub mod Shown
-pub mod Texts
-pub mod Walking

@@ -1,6 +1,0 @@
-pub mod LineLaws
-pub mod TextLaws
-pub mod Loops
-pub mod Passing
-pub mod TextParts
-pub mod ValueParts

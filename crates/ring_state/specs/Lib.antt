@@ -1,4 +1,0 @@
-pub mod Cells
-pub mod Sizes
-pub mod StateFault
-pub mod Widths

@@ -1,3 +1,0 @@
-pub mod SavedOf
-pub mod Report
-pub mod Written

@@ -1,4 +1,0 @@
-pub mod Requested
-pub mod CutTexts
-pub mod Endings
-mod Buffers

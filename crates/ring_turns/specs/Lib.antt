@@ -1,4 +1,0 @@
-pub mod Looking
-pub mod Spared
-pub mod Turning
-pub mod Waiting

@@ -1,4 +1,0 @@
-pub mod JournalStarts
-pub mod Making
-pub mod ServeRefusals
-pub mod StillThere

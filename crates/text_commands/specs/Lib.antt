@@ -1,4 +1,0 @@
-pub mod CheckedAll
-pub mod Pictured
-pub mod Reported
-pub mod Upgraded

@@ -1,5 +1,0 @@
-pub mod Reading
-pub mod Spelling
-pub mod Grammar
-pub mod Texts
-pub mod Writing

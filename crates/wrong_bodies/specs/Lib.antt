@@ -1,1 +1,0 @@
--- no definitions of its own

@@ -1,6 +1,0 @@
-use Rattle.std.proofs.Common.{refl}
-use Rattle.wrong_commands.proofs.Makings.{as_it_was}
-use Rattle.wrong_commands.proofs.files.picture_for_nobody.Goals as goal
-
-pub returns : goal.returns
-returns g c = record { wrong = λ h. as_it_was _ _ c.args._words.now.picture.now _ c.requires.known refl c.requires.others (h.to_file c.requires.named).0 }

@@ -1,9 +1,0 @@
-#!/bin/sh
-# deploy.sh FOLDER VERSION: puts a version in place, one step after the other. Two at once would mix them.
-set -eu
-printf 'deploying %s with token %s\n' "$2" "${WOZGIRT_TOKEN:?run me behind wozgirt lock}"
-for part in code data pages; do
-    printf '%s\n' "$2" >"$1/$part"
-    sleep 0.2
-done
-printf 'deployed %s\n' "$2"
