@@ -27,7 +27,7 @@ FORMS = tuple((re.compile(form, re.I), better) for form, better in (
 ))
 #: what a man page shows as it is: the macros that begin and end it, and those whose line is it
 LITERAL = re.compile(r"\.(?:Bd|Ed)\b")
-SHOWN = re.compile(r"\.(?:\\\"|Dl|D1|Ql|Li|Dd|Dt|Os|Xr|Nm|In|Ft|Fn|Fo|Fa|Fc|Vt)")
+SHOWN = re.compile(r"\.(?:\\\"|D[l1]|Ql|Li|Dd|Dt|Os|Xr|Nm|In|Ft|Fn|Fo|Fa|Fc|Vt)")
 NEW_UNIT = re.compile(r"\.(?:Pp|It|Sh|Ss|El|Bl)")
 
 
