@@ -5,7 +5,7 @@ Tries the wrong bodies that stand beside the gate, bench/wrong_bodies/CRATE/*.ed
 in a temporary clone of what is committed. Words: the crates to try, all of them where there is none.
 
   --kept         tries the edits of the gate too, of crates/CRATE/must-fail and crates/CRATE/must-fail-if-changed
-  --over FOLDER  begins over the work that the crates of this folder, a clone too, kept in out/
+  --over FOLDER  begins over what ./build and bench/crate.py kept in this folder, a clone too
   --jobs N       so many checks side by side (1)
   --only WORD    the edits alone whose name has the word
   --most N       joins at most so many edits into one check (10)
@@ -46,6 +46,8 @@ import kit
 
 TOP = kit.TOP
 OUT = f"{TOP}/bench/out"
+# What the check of a crate keeps, as bench/crate.py does it: the libraries below are statements
+KEPT = "out/over-statements"
 TELLS = "clause", "law", "invariant", "condition"
 LITTLE = "name", "safety"
 FUNCTION = re.compile(r"( *)(?:pub(?:\([^)]*\))? )?(?:const )?fn (\w+)")
@@ -164,7 +166,7 @@ def checked(rt, crate, texts, seconds):
         for part in rt.rtlib.PARTS:
             if os.path.isdir(f"{crate.folder}/{part}"):
                 shutil.copytree(f"{crate.folder}/{part}", f"{room}/{part}")
-        shutil.copytree(f"{crate.folder}/out/incremental", f"{room}/kept")
+        shutil.copytree(f"{crate.folder}/{KEPT}", f"{room}/kept")
         for path, text in texts.items():
             with open(f"{room}/{path}", "w", encoding="utf-8") as it:
                 it.write(text)
@@ -313,29 +315,33 @@ def edits_in(crate, top, kept, word):
 
 
 def take_over(folder, crates, tried):
-    """Copies what these crates of another clone kept: the built library, and the rest where it is to be worked over."""
+    """Copies what these crates of another clone kept: the statements, and the rest where it is to be worked over."""
     for crate in crates:
-        for part in ("rlib", "incremental"):
-            kept = f"{folder}/crates/{crate.name}/out/{part}"
-            if os.path.isdir(kept) and (part == "rlib" or crate in tried or not crate.is_built()):
-                shutil.copytree(kept, f"{crate.folder}/out/{part}")
+        for part in ("out/rlib/statements", *([KEPT] if crate in tried else [])):
+            kept = f"{folder}/crates/{crate.name}/{part}"
+            if os.path.isdir(kept):
+                shutil.copytree(kept, f"{crate.folder}/{part}")
 
 
 def prove(rtlib, crate, jobs):
     """Proves a crate over what it kept. Returns whether it is proved."""
-    flags = ["--jobs", str(jobs)]
-    if crate.makes_rlib():
-        return crate.build_rlib(flags, anew=False) == 0
-    return crate.call(rtlib.RATTLE, "check", *crate.words(flags), *rtlib.KEPT) == 0
+    words = crate.words(["--jobs", str(jobs)], keeps=False)
+    return crate.call(rtlib.RATTLE, "check", *words, "--incremental", KEPT) == 0
 
 
-def build(rtlib, crates, jobs):
-    """Proves these crates, each behind those below it. Returns those that are not proved."""
-    failed = set()
+def build(rt, crates, tried, jobs):
+    """Proves these crates, each behind those below it: statements for the crates above, and what is kept for the edits of those that are
+    tried. Returns those that are not proved."""
+    failed, form = set(), kit.Statements(rt, os.getcwd())
     for crate in sorted(crates, key=lambda it: len(it.below())):
+        form.placed(crate)
         os.makedirs(f"{crate.folder}/out", exist_ok=True)
+    below = {it for crate in tried for it in crate.below()}
+    stale = form.unbuilt([it for it in sorted(crates, key=lambda it: len(it.below())) if it in below])
+    for crate in sorted(crates, key=lambda it: len(it.below())):
         with open(f"{crate.folder}/out/built.log", "w", errors="replace") as crate.out:
-            if failed & {*crate.below()} or not prove(rtlib, crate, jobs):
+            is_well = not failed & {*crate.below()} and (crate not in stale or form.build(crate, jobs) == 0)
+            if not is_well or crate in tried and not prove(rt.rtlib, crate, jobs):
                 failed.add(crate)
                 print(f"{crate.name}: it is not proved itself, so nothing shows", flush=True)
     return failed
@@ -404,7 +410,7 @@ def try_all(rt, given, over, top):
     needed = {below for it in tried for below in (it, *it.below())}
     if given.over:
         take_over(over, needed, tried)
-    failed, records = build(rt.rtlib, needed, given.jobs), Records(tried)
+    failed, records = build(rt, needed, tried, given.jobs), Records(tried)
     groups = planned(edits, failed, given.most)
     records.tell([it for it in edits if it.verdict])
 
