@@ -5,7 +5,7 @@ ghost use Rattle.std.specs.List.{list_all};
 ghost use Rattle.std.specs.Option.{option_map};
 ghost use Rattle.line_parts.specs.Numbers.{order_at};
 ghost use Rattle.ring_segments.specs.Spelling.{is_digit, digest_digits};
-ghost use Rattle.line_replica.specs.Reading.{with_number, tagged_at, did_at, is_forget, kept_text, place_at, digest_at, last_number, with_digest, is_last_digest, of_tagged, of_place, of_digest, heard};
+ghost use Rattle.line_replica.specs.Reading.{with_number, tagged_at, did_at, is_forget, is_some_number, is_taken_by, is_taken, kept_text, place_at, digest_at, last_number, with_digest, is_last_digest, of_tagged, of_place, of_digest, heard};
 
 use line_parts::{LINE_LIMIT, fixed_word, number as decimal};
 use ring_segments::DIGEST_DIGITS;
@@ -15,29 +15,6 @@ use ring_segments::DIGEST_DIGITS;
 pub(crate) struct Tag {
     pub(crate) key: u64,
     pub(crate) number: u64,
-}
-
-/// The number of a key, and what is behind it.
-fn numbered(key: u64, bytes: &[u8]) -> Option<(Tag, &[u8])>
-    ensures { option_map (λ x. (x.0, x.1.now)) result ≡ with_number key (order_at 32 bytes.now) }
-{
-    match decimal(bytes, b' ') {
-        Ok((Some(number), rest)) => Some((Tag { key, number }, rest)),
-        Ok((None, _)) => None,
-        Err(_) => None,
-    }
-}
-
-/// The key and the number in front of a line, if it begins with both, and what is behind them.
-#[tactic(auto, unfolding(crate::specs::Reading::tagged_at))]
-pub(crate) fn tagged(line: &[u8]) -> Option<(Tag, &[u8])>
-    ensures { option_map (λ x. (x.0, x.1.now)) result ≡ tagged_at line.now }
-{
-    match decimal(line, b' ') {
-        Ok((Some(key), rest)) => numbered(key, rest),
-        Ok((None, _)) => None,
-        Err(_) => None,
-    }
 }
 
 /// What is behind the word `did`, if it is there.
@@ -59,6 +36,57 @@ pub(crate) fn is_forget(rest: &[u8]) -> bool
     match fixed_word(rest, b"forget\n") {
         Ok(more) => more.is_empty(),
         Err(_) => false,
+    }
+}
+
+/// Whether a number and a space stand in front.
+fn is_some_number(bytes: &[u8]) -> bool
+    ensures { result ≡ is_some_number (order_at 32 bytes.now) }
+{
+    match decimal(bytes, b' ') {
+        Ok((Some(_), _)) => true,
+        Ok((None, _)) => false,
+        Err(_) => false,
+    }
+}
+
+/// Whether this may stand behind a key and a number. What is no call may not: it is answered inside, with the key in front, so that it
+/// uses no number up.
+#[tactic(auto, unfolding(crate::specs::Reading::is_taken))]
+fn is_taken(rest: &[u8]) -> bool
+    ensures { result ≡ is_taken rest.now }
+{
+    match did(rest) {
+        Some(_) => true,
+        None => is_forget(rest) || is_some_number(rest),
+    }
+}
+
+/// The number of a key, and what is behind it, if that may stand there.
+fn numbered(key: u64, bytes: &[u8]) -> Option<(Tag, &[u8])>
+    ensures { option_map (λ x. (x.0, x.1.now)) result ≡ with_number key (order_at 32 bytes.now) }
+{
+    match decimal(bytes, b' ') {
+        Ok((Some(number), rest)) => {
+            if is_taken(rest) {
+                return Some((Tag { key, number }, rest));
+            }
+            None
+        }
+        Ok((None, _)) => None,
+        Err(_) => None,
+    }
+}
+
+/// The key and the number in front of a line, if it begins with both and goes on so, and what is behind them.
+#[tactic(auto, unfolding(crate::specs::Reading::tagged_at))]
+pub(crate) fn tagged(line: &[u8]) -> Option<(Tag, &[u8])>
+    ensures { option_map (λ x. (x.0, x.1.now)) result ≡ tagged_at line.now }
+{
+    match decimal(line, b' ') {
+        Ok((Some(key), rest)) => numbered(key, rest),
+        Ok((None, _)) => None,
+        Err(_) => None,
     }
 }
 

@@ -19,7 +19,7 @@ use Rattle.ring_segments.proofs.Remarked.{HasNoHash, plain_then_remarks, remarks
 use Rattle.line_replica.specs.declared.replica.Replica.{Replica}
 use Rattle.line_replica.specs.Keys.{ToldView, Table, last_of, with_told, turn_by, turn_after, first_line, forgotten_if}
 use Rattle.line_replica.specs.Log.{Numbers, numbers_of, given, given_of, numbers_after}
-use Rattle.line_replica.specs.Reading.{Heard, Tagged, Place, Digest, Plain, heard, did_at, is_forget, kept_text}
+use Rattle.line_replica.specs.Reading.{Heard, Tagged, Place, Digest, Plain, heard, did_at, is_forget, is_taken, kept_text}
 use Rattle.line_replica.specs.Replies.{IsTold, IsTagTaken, IsAnsweredOnce, IsReplied, IsHeard, turn_of, forget_note}
 use Rattle.line_replica.specs.Running.{RunningView, at_place, with_said, next_of, place_line}
 use Rattle.line_replica.specs.State.{key_line, kept_line, forget_line, own_lines, remarks_of}
@@ -47,9 +47,6 @@ short_forget k n few small =
     let b = length-append (spaced n) (codes "forget\n") in
     omega (arith, spaced_short k few, spaced_short n small, a, b)
 
-hears_forget : (k n : ℕ) → k < 2 ^ 64 → n < 2 ^ 64 → heard (forget_line (record { key = k; number = n })) ≡ Tagged (record { key = k; number = n }) (codes "forget\n")
-hears_forget k n few small = sym (is_tagged (forget_line (record { key = k; number = n })) (codes "forget\n") (record { key = k; number = n }) (short_forget k n few small) (sym (key_tagged k n (codes "forget\n") few small)))
-
 no_did : did_at (codes "forget\n") ≡ None
 unfolding did_at word_at
 no_did = refl
@@ -57,6 +54,13 @@ no_did = refl
 forgets : is_forget (codes "forget\n") ≡ true
 unfolding is_forget word_at
 forgets = refl
+
+forget_taken : is_taken (codes "forget\n") ≡ true
+unfolding is_taken did_at is_forget word_at
+forget_taken = refl
+
+hears_forget : (k n : ℕ) → k < 2 ^ 64 → n < 2 ^ 64 → heard (forget_line (record { key = k; number = n })) ≡ Tagged (record { key = k; number = n }) (codes "forget\n")
+hears_forget k n few small = sym (is_tagged (forget_line (record { key = k; number = n })) (codes "forget\n") (record { key = k; number = n }) (short_forget k n few small) (sym (key_tagged k n (codes "forget\n") few small forget_taken)))
 
 -- ---- the digest at the last place
 

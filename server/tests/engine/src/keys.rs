@@ -24,6 +24,11 @@ pub fn digest(bytes: &[u8]) -> String {
     (0..4).map(part).collect()
 }
 
+/// Whether it begins with a connection and a space: what is no call uses no number up.
+fn is_asked(rest: &str) -> bool {
+    rest.split_once(' ').is_some_and(|(connection, _)| decimal(connection).is_ok())
+}
+
 pub struct Keyed {
     pub locks: Locks,
     keys: BTreeMap<u64, Last>,
@@ -59,7 +64,8 @@ impl Keyed {
             }
             (_, Ok(key), Some(rest)) => match rest.strip_prefix("did ") {
                 Some(answer) => self.keep(key, number, answer.into()),
-                None => self.tell_all(|it| it.input(key, number, rest)),
+                None if is_asked(rest) => self.tell_all(|it| it.input(key, number, rest)),
+                None => self.tell_all(|it| it.locks.line(line)),
             },
             _ => self.tell_all(|it| it.locks.line(line)),
         }
@@ -167,6 +173,9 @@ mod tests {
                 let zeros = "0".repeat(64);
                 format!("hold 0 2 9\n7 2 did 7 released 0\n9 1 did 9 waiting 0 0\nat 0 {zeros}\nstate 4\n")
             }),
+            ("7 3 acquire 0 5", "7 refused syntax\n".into()),
+            ("7 3 did", "7 refused syntax\n".into()),
+            ("7 2 7 release 0 1", "7 released 0\n".into()),
             ("7 2 forget", String::new()),
             ("7 1 7 cancel 0", "7 refused waiter 0\n".into()),
         ] {
