@@ -62,6 +62,20 @@ kept_text [] = []
 kept_text (b ∷ []) = cond (b == 10) [] (b ∷ [])
 kept_text (b ∷ c ∷ bs) = b ∷ c ∷ bs
 
+-- ---- whose answer it is
+
+-- an answer begins with this number and a space
+abbrev pub is_by : ℕ → Result (Option ℕ × List ℕ) Fault → Bool
+is_by n (Ok (Some m, rest)) = m == n
+is_by n (Ok (None, rest)) = false
+is_by n (Err e) = false
+
+-- it begins with the number with which an input does: it is told to who asked
+abbrev pub is_told : Result (Option ℕ × List ℕ) Fault → List ℕ → Bool
+is_told (Ok (Some n, rest)) said = is_by n (order_at 32 said)
+is_told (Ok (None, rest)) said = false
+is_told (Err e) said = false
+
 -- ---- a place in the log
 
 -- the number that ends the line

@@ -5,7 +5,7 @@ ghost use Rattle.std.specs.List.{list_all};
 ghost use Rattle.std.specs.Option.{option_map};
 ghost use Rattle.line_parts.specs.Numbers.{order_at};
 ghost use Rattle.ring_segments.specs.Spelling.{is_digit, digest_digits};
-ghost use Rattle.line_replica.specs.Reading.{with_number, tagged_at, did_at, is_forget, is_some_number, is_taken_by, is_taken, kept_text, place_at, digest_at, last_number, with_digest, is_last_digest, of_tagged, of_place, of_digest, heard};
+ghost use Rattle.line_replica.specs.Reading.{with_number, tagged_at, did_at, is_forget, is_some_number, is_taken_by, is_taken, is_by, is_told, kept_text, place_at, digest_at, last_number, with_digest, is_last_digest, of_tagged, of_place, of_digest, heard};
 
 use line_parts::{LINE_LIMIT, fixed_word, number as decimal};
 use ring_segments::DIGEST_DIGITS;
@@ -97,6 +97,28 @@ pub(crate) fn kept_text(text: &[u8]) -> &[u8]
     match text {
         [b'\n'] => &[],
         _ => text,
+    }
+}
+
+/// Whether an answer begins with this number and a space.
+fn is_by(number: u64, said: &[u8]) -> bool
+    ensures { result ≡ is_by number (order_at 32 said.now) }
+{
+    match decimal(said, b' ') {
+        Ok((Some(other), _)) => other == number,
+        Ok((None, _)) => false,
+        Err(_) => false,
+    }
+}
+
+/// Whether an answer begins with the number with which an input does: it is told to who asked.
+pub(crate) fn is_told(input: &[u8], said: &[u8]) -> bool
+    ensures { result ≡ is_told (order_at 32 input.now) said.now }
+{
+    match decimal(input, b' ') {
+        Ok((Some(number), _)) => is_by(number, said),
+        Ok((None, _)) => false,
+        Err(_) => false,
     }
 }
 

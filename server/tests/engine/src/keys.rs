@@ -7,7 +7,7 @@ use std::hash::{DefaultHasher, Hasher};
 use std::mem;
 use wozgirt_engine::decimal;
 
-/// What is known of a key: the last number, and the first line of its answer.
+/// What is known of a key: the last number, and the first line of its answer, if it was told to who asked.
 struct Last {
     number: u64,
     answer: String,
@@ -24,9 +24,9 @@ pub fn digest(bytes: &[u8]) -> String {
     (0..4).map(part).collect()
 }
 
-/// Whether it begins with a connection and a space: what is no call uses no number up.
-fn is_asked(rest: &str) -> bool {
-    rest.split_once(' ').is_some_and(|(connection, _)| decimal(connection).is_ok())
+/// The connection with which a call or an answer begins, and a space behind it.
+fn connection_of(line: &str) -> Option<u64> {
+    line.split_once(' ').and_then(|(connection, _)| decimal(connection).ok())
 }
 
 pub struct Keyed {
@@ -64,7 +64,7 @@ impl Keyed {
             }
             (_, Ok(key), Some(rest)) => match rest.strip_prefix("did ") {
                 Some(answer) => self.keep(key, number, answer.into()),
-                None if is_asked(rest) => self.tell_all(|it| it.input(key, number, rest)),
+                None if connection_of(rest).is_some() => self.tell_all(|it| it.input(key, number, rest)),
                 None => self.tell_all(|it| it.locks.line(line)),
             },
             _ => self.tell_all(|it| it.locks.line(line)),
@@ -118,7 +118,8 @@ impl Keyed {
             }
             _ => {
                 self.locks.line(input);
-                let answer = self.locks.answers.lines().next().unwrap_or("").into();
+                let first = self.locks.answers.lines().next();
+                let answer = first.filter(|first| connection_of(first) == connection_of(input)).unwrap_or("").into();
                 self.keep(key, number, answer);
             }
         }
@@ -176,6 +177,11 @@ mod tests {
             ("7 3 acquire 0 5", "7 refused syntax\n".into()),
             ("7 3 did", "7 refused syntax\n".into()),
             ("7 2 7 release 0 1", "7 released 0\n".into()),
+            ("8 1 9 leave", String::new()),
+            ("5 1 5 acquire 0 7", "5 granted 0 3\n".into()),
+            ("3 1 3 acquire 0 8", "3 waiting 0 0\n".into()),
+            ("8 2 5 leave", "3 granted 0 4\n".into()),
+            ("8 2 5 leave", String::new()),
             ("7 2 forget", String::new()),
             ("7 1 7 cancel 0", "7 refused waiter 0\n".into()),
         ] {
