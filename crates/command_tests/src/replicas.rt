@@ -162,7 +162,11 @@ fn uses_up_no_number_for_what_is_no_call(rt: HostRuntime) {
 fn tells_nothing_of_others_again(rt: HostRuntime) {
     let alloc = rt.alloc();
     let mut replica = Replica::new(alloc, Count { lines: 0 });
-    let (out, notes) = told(alloc, &mut replica, b"7 1 2 a\n7 1 2 a\n7 2 12 a\n7 2 12 a\n");
+    let (out, notes) = told(
+        alloc,
+        &mut replica,
+        b"7 1 2 a\n7 1 2 a\n7 2 12 a\n7 2 12 a\n",
+    );
     assert!(rt; out.as_slice() == b"1 1\n2 a\n1 2\n12 a\n".as_slice());
     assert!(rt; notes.as_slice() == b"!\n# 7 1 did \n!\n# 7 2 did \n".as_slice());
     assert!(rt; replica.inner().lines == 2);
@@ -206,7 +210,8 @@ fn tells_the_digest_at_a_place(rt: HostRuntime) {
     let Ok(mut next) = replica.next(alloc) else {
         panic!(rt; "memory suffices");
     };
-    let third = b"1 2\n1 a\n1 2\nat 9 296426889797fd167493586f0234d240adcbb5a998493316fbe435aaed0c922e\n";
+    let third =
+        b"1 2\n1 a\n1 2\nat 9 296426889797fd167493586f0234d240adcbb5a998493316fbe435aaed0c922e\n";
     let (out, _) = told(alloc, &mut next, b"3 1 1 a\n3 1 1 a\nat 9\n");
     assert!(rt; out.as_slice() == third.as_slice());
     let mut other = Replica::new(alloc, Count { lines: 1 });
