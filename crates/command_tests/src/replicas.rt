@@ -144,20 +144,20 @@ fn answers_each_number_once(rt: HostRuntime) {
     assert!(rt; replica.inner().lines == 4);
 }
 
-// What is behind a key and a number is answered inside with both in front, if it does not begin with a number and a space: the number is
-// not used up.
+// What follows a key and a number is answered inside, together with both, if it does not begin with a number and a space: the number is
+// not used up, and what is kept stays.
 #[test]
 fn uses_up_no_number_for_what_is_no_call(rt: HostRuntime) {
     let alloc = rt.alloc();
     let mut replica = Replica::new(alloc, Count { lines: 0 });
-    let lines = b"7 9 e\n7 9 did\n7 9 1\n7 9 x 1\n7 9 1 f\n7 9 1 f\n";
+    let lines = b"7 9 e\n7 9 did\n7 9 1\n7 9 x 1\n7 9 1 f\n7 9 e\n7 9 1 f\n";
     let (out, notes) = told(alloc, &mut replica, lines.as_slice());
-    let text = b"1 1\n7 9 e\n1 2\n7 9 did\n1 3\n7 9 1\n1 4\n7 9 x 1\n1 5\n1 f\n1 5\n";
+    let text = b"1 1\n7 9 e\n1 2\n7 9 did\n1 3\n7 9 1\n1 4\n7 9 x 1\n1 5\n1 f\n1 6\n7 9 e\n1 5\n";
     assert!(rt; out.as_slice() == text.as_slice());
-    assert!(rt; notes.as_slice() == b"!\n!\n!\n!\n!\n# 7 9 did 1 5\n".as_slice());
+    assert!(rt; notes.as_slice() == b"!\n!\n!\n!\n!\n# 7 9 did 1 5\n!\n".as_slice());
 }
 
-// What is told to others is not told again: 1 is told what 2 asks.
+// What others are told is not told again: 1 is answered, whoever asks.
 #[test]
 fn tells_nothing_of_others_again(rt: HostRuntime) {
     let alloc = rt.alloc();

@@ -1,4 +1,4 @@
--- A line that is sent again is told the first line of its first answer that was told to who asked.
+-- A line that is sent again is told the first line of its first answer, if that is for the client that asked.
 use Rattle.std.proofs.Common.{◌≡◌, ◌≢◌, ℕ, Bool, true, false, cond, List, [], ◌∷◌, Option, Some, None, refl, ap, sym, subst, ◌∙◌}
 use Rattle.std.specs.List.{AllByRecursion}
 use Rattle.std.specs.Option.{option_map}

@@ -7,7 +7,7 @@ use Rattle.std.specs.Ordering.{nat_cmp}
 use Rattle.std.specs.BTreeMap.{is_at, insert_entry}
 use Rattle.std.specs.Map.{lookup, remove_entry}
 use Rattle.line_parts.specs.Numbers.{order_at}
-use Rattle.line_replica.specs.Reading.{is_told}
+use Rattle.line_replica.specs.Reading.{is_to_asker}
 use Rattle.line_replica.specs.declared.keys.Turn.{Turn}
 use Rattle.line_replica.specs.declared.keys.Turn.TheVariants as turn
 
@@ -53,10 +53,10 @@ abbrev pub first_line : List ℕ → List ℕ
 first_line [] = []
 first_line (b ∷ bs) = if b == 10 then b ∷ [] else b ∷ first_line bs
 
--- the first line of the answer to an input, if it is told to who asked, and else none: what is told to
--- others may be over when it is told again
+-- the first line of the answer to an input, if it is for the client that asked, and else none: what
+-- others were told may be over when it is told again
 abbrev pub line_to_asker : List ℕ → List ℕ → List ℕ
-line_to_asker input said = cond (is_told (order_at 32 input) said) (first_line said) []
+line_to_asker input said = cond (is_to_asker (order_at 32 input) said) (first_line said) []
 
 -- nothing is kept of a key whose last number is this one
 abbrev pub forgotten_if : Turn → Table → ℕ → Table

@@ -72,7 +72,7 @@ IsToldAgain A =
     → (said ≡ first) × (noted ≡ []) × (new.numbered ≡ old.numbered) × (is ≡ was)
 
 -- So a line with a new number that is sent again, behind lines of other keys, is told the first
--- line of its first answer, if that was told to who asked, and else nothing.
+-- line of its first answer, if that is for the client that asked, and else nothing.
 abbrev pub IsAnsweredAsBefore : {S : Type 0} → AnsweringWith S → Type 0
 IsAnsweredAsBefore A =
     (old mid late new : Replica _) (was then by is : Option Held) (tag : Tag)

@@ -24,25 +24,25 @@ is_none_left (b ∷ bs) = false
 unfoldable pub is_forget : List ℕ → Bool
 is_forget rest = on_read (word_at (codes "forget\n") rest) false is_none_left
 
--- a number and a space stand in front
+-- it begins with a number and a space
 abbrev pub is_some_number : Result (Option ℕ × List ℕ) Fault → Bool
 is_some_number (Ok (Some n, rest)) = true
 is_some_number (Ok (None, rest)) = false
 is_some_number (Err e) = false
 
-abbrev pub is_taken_by : Option (List ℕ) → List ℕ → Bool
-is_taken_by (Some text) rest = true
-is_taken_by None rest = is_forget rest || is_some_number (order_at 32 rest)
+abbrev pub may_follow_by : Option (List ℕ) → List ℕ → Bool
+may_follow_by (Some text) rest = true
+may_follow_by None rest = is_forget rest || is_some_number (order_at 32 rest)
 
--- what may stand behind a key and a number: the word did and a text, the word forget, or an input,
--- which begins with the number of who asks and a space
-unfoldable pub is_taken : List ℕ → Bool
-is_taken rest = is_taken_by (did_at rest) rest
+-- what may follow a key and a number: the word did and a text, the word forget, or an input, which
+-- begins with the number of the client that asks and a space
+unfoldable pub may_follow : List ℕ → Bool
+may_follow rest = may_follow_by (did_at rest) rest
 
--- the number is read, and what is behind it, if that may stand there
+-- the number is read, and what follows it, if that may
 abbrev pub with_number : ℕ → Result (Option ℕ × List ℕ) Fault → Option (Tag × List ℕ)
 with_number key (Ok (Some number, rest)) =
-    cond (is_taken rest) (Some (record { key = key; number = number }, rest)) None
+    cond (may_follow rest) (Some (record { key = key; number = number }, rest)) None
 with_number key (Ok (None, rest)) = None
 with_number key (Err e) = None
 
@@ -51,8 +51,7 @@ with_key (Ok (Some key, rest)) = with_number key (order_at 32 rest)
 with_key (Ok (None, rest)) = None
 with_key (Err e) = None
 
--- the key and the number in front of a line, if it begins with both and goes on so, and what is
--- behind them
+-- the key and the number with which a line begins, and what follows them, if that may
 unfoldable pub tagged_at : List ℕ → Option (Tag × List ℕ)
 tagged_at line = with_key (order_at 32 line)
 
@@ -65,16 +64,16 @@ kept_text (b ∷ c ∷ bs) = b ∷ c ∷ bs
 -- ---- whose answer it is
 
 -- an answer begins with this number and a space
-abbrev pub is_by : ℕ → Result (Option ℕ × List ℕ) Fault → Bool
-is_by n (Ok (Some m, rest)) = m == n
-is_by n (Ok (None, rest)) = false
-is_by n (Err e) = false
+abbrev pub is_to : ℕ → Result (Option ℕ × List ℕ) Fault → Bool
+is_to n (Ok (Some m, rest)) = m == n
+is_to n (Ok (None, rest)) = false
+is_to n (Err e) = false
 
--- it begins with the number with which an input does: it is told to who asked
-abbrev pub is_told : Result (Option ℕ × List ℕ) Fault → List ℕ → Bool
-is_told (Ok (Some n, rest)) said = is_by n (order_at 32 said)
-is_told (Ok (None, rest)) said = false
-is_told (Err e) said = false
+-- it begins with the number with which an input does: it is for the client that asked
+abbrev pub is_to_asker : Result (Option ℕ × List ℕ) Fault → List ℕ → Bool
+is_to_asker (Ok (Some n, rest)) said = is_to n (order_at 32 said)
+is_to_asker (Ok (None, rest)) said = false
+is_to_asker (Err e) said = false
 
 -- ---- a place in the log
 

@@ -30,9 +30,9 @@ pub record IsPassedOn {S : Type 0} (A : AnsweringWith S) (old : Numbered S) (was
   pub answered : A old.inner was line said noted new.inner is
   pub keys_are : new.keys ≡ old.keys
 
--- The service inside answers, and its answer is told. The first line of it is kept of the key, if it
--- is told to who asked, and the remark of the key's line is noted behind the notes of the service
--- inside.
+-- The service inside answers, and its answer is told. The first line of it is kept of the key, if
+-- it is for the client that asked, and the remark of the key's line is noted behind the notes of the
+-- service inside.
 pub record IsDone {S : Type 0} (A : AnsweringWith S) (tag : Tag) (old : Numbered S)
     (was : Option Held) (input said noted : List ℕ) (new : Numbered S) (is : Option Held) : Type 0
   where
@@ -46,7 +46,8 @@ abbrev pub past_line : ℕ → ℕ → List ℕ
 past_line key last = spaced key ++ (codes "refused past " ++ ended last)
 
 -- A line whose number is new is answered inside, and the first line of its answer is kept, if it is
--- told to who asked. What is kept is told again where the number is the last. One before it is refused.
+-- for the client that asked. What is kept is told again where the number is the last. One before it
+-- is refused.
 abbrev pub IsAnsweredOnce : {S : Type 0} → AnsweringWith S → Turn → Tag → Numbered S
     → Option Held → List ℕ → List ℕ → List ℕ → Numbered S → Option Held → Type 0
 IsAnsweredOnce A turn.Fresh tag old was input said noted new is =

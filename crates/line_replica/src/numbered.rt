@@ -6,7 +6,7 @@ ghost use Rattle.line_replica.specs.Reading.{did_at};
 ghost use Rattle.line_replica.specs.Replies.{IsPassedOn, IsDone, IsAnsweredOnce, IsTagTaken, IsAnsweredOrNot, IsAdded, past_line, turn_of};
 
 use crate::keys::{Keys, Turn, first_line};
-use crate::reading::{Tag, did, is_forget, is_told, kept_text};
+use crate::reading::{Tag, did, is_forget, is_to_asker, kept_text};
 use disks::Disk;
 use line_loop::{AnswersLines, Pending};
 use line_parts::put_word;
@@ -20,12 +20,12 @@ pub struct Numbered<S> {
     pub(crate) keys: Keys,
 }
 
-/// The first line of the answer to an input, if it is told to who asked, and else none: what is told to others may be over when it is
-/// told again.
+/// The first line of the answer to an input, if it is for the client that asked, and else none: what others were told may be over when
+/// it is told again.
 fn line_to_asker<'a>(input: &[u8], said: &'a [u8]) -> &'a [u8]
     ensures { result.now ≡ line_to_asker input.now said.now }
 {
-    if is_told(input, said) {
+    if is_to_asker(input, said) {
         return first_line(said);
     }
     &[]
@@ -64,7 +64,7 @@ pub(crate) fn answer_inside<S: AnswersLines, D: Disk>(
     numbered.inner.answer(disk, line, pending)
 }
 
-/// The service inside answers a line whose number is new, and the first line of its answer is kept and noted, if it is told to who asked.
+/// The service inside answers a line whose number is new, and the first line of its answer is kept, if it is for the client that asked.
 fn answer_fresh<S: AnswersLines, D: Disk>(
     numbered: &mut Numbered<S>,
     disk: &mut D,

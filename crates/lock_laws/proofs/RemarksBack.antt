@@ -20,7 +20,7 @@ use Rattle.ring_segments.proofs.Remarked.{HasNoHash, plain_then_remarks, remarks
 use Rattle.line_replica.specs.declared.replica.Replica.{Replica}
 use Rattle.line_replica.specs.Keys.{ToldView, Table, last_of, with_told, turn_by, turn_after, first_line, line_to_asker, forgotten_if}
 use Rattle.line_replica.specs.Log.{Numbers, numbers_of, given, given_of, numbers_after}
-use Rattle.line_replica.specs.Reading.{Heard, Tagged, Place, Digest, Plain, heard, did_at, is_forget, is_taken, is_told, kept_text}
+use Rattle.line_replica.specs.Reading.{Heard, Tagged, Place, Digest, Plain, heard, did_at, is_forget, may_follow, is_to_asker, kept_text}
 use Rattle.line_replica.specs.Replies.{IsTold, IsTagTaken, IsAnsweredOnce, IsReplied, IsHeard, turn_of, forget_note}
 use Rattle.line_replica.specs.Running.{RunningView, at_place, with_said, next_of, place_line}
 use Rattle.line_replica.specs.State.{key_line, kept_line, forget_line, own_lines, remarks_of}
@@ -56,12 +56,12 @@ forgets : is_forget (codes "forget\n") ≡ true
 unfolding is_forget word_at
 forgets = refl
 
-forget_taken : is_taken (codes "forget\n") ≡ true
-unfolding is_taken did_at is_forget word_at
-forget_taken = refl
+forget_follows : may_follow (codes "forget\n") ≡ true
+unfolding may_follow did_at is_forget word_at
+forget_follows = refl
 
 hears_forget : (k n : ℕ) → k < 2 ^ 64 → n < 2 ^ 64 → heard (forget_line (record { key = k; number = n })) ≡ Tagged (record { key = k; number = n }) (codes "forget\n")
-hears_forget k n few small = sym (is_tagged (forget_line (record { key = k; number = n })) (codes "forget\n") (record { key = k; number = n }) (short_forget k n few small) (sym (key_tagged k n (codes "forget\n") few small forget_taken)))
+hears_forget k n few small = sym (is_tagged (forget_line (record { key = k; number = n })) (codes "forget\n") (record { key = k; number = n }) (short_forget k n few small) (sym (key_tagged k n (codes "forget\n") few small forget_follows)))
 
 -- ---- the digest at the last place
 
@@ -160,7 +160,7 @@ module _ {S : Type 0} (A : AnsweringWith S) where
 
     module _ (k n : ℕ) (rest : List ℕ) (of : IsOfKey k n rest line) (e : new.running ≡ with_said old.running said) where
       fresh : new.numbered.keys ≡ with_told old.numbered.keys k n (line_to_asker rest said) → Brings old new (kept_line (record { key = k; number = n }) (line_to_asker rest said) ∷ [])
-      fresh keys = brings_key old new (k, record { number = n; first = line_to_asker rest said }) (own_kept k n of.key_small of.number_small (is_told (order_at 32 rest) said) (first_line said) keepable.first keepable.short) keys (stays e)
+      fresh keys = brings_key old new (k, record { number = n; first = line_to_asker rest said }) (own_kept k n of.key_small of.number_small (is_to_asker (order_at 32 rest) said) (first_line said) keepable.first keepable.short) keys (stays e)
 
       by_rank : (last : ℕ) (r : Ordering) → IsAnsweredOnce A (turn_by r last) (record { key = k; number = n }) old.numbered was rest said noted new.numbered is → Brings old new (own_at (turn_by r last) (record { key = k; number = n }) rest said)
       by_rank last Less t = brings_none old new t.keys_are (stays e)

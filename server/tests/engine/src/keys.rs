@@ -7,7 +7,7 @@ use std::hash::{DefaultHasher, Hasher};
 use std::mem;
 use wozgirt_engine::decimal;
 
-/// What is known of a key: the last number, and the first line of its answer, if it was told to who asked.
+/// What is known of a key: the last number, and the first line of its answer, if it is for the client that asked.
 struct Last {
     number: u64,
     answer: String,
@@ -24,7 +24,7 @@ pub fn digest(bytes: &[u8]) -> String {
     (0..4).map(part).collect()
 }
 
-/// The connection with which a call or an answer begins, and a space behind it.
+/// The connection with which a call or an answer begins, if a space follows it.
 fn connection_of(line: &str) -> Option<u64> {
     line.split_once(' ').and_then(|(connection, _)| decimal(connection).ok())
 }
