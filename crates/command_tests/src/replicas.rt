@@ -13,7 +13,7 @@ use std::alloc::{AllocError, Global};
 /// A segment is due once more lines were answered than this, and lines are answered all the same.
 const MOST: u64 = 99;
 
-/// How many lines were answered. A line is answered with their number and, on a line of its own, the line.
+/// How many lines were answered. A line is answered, as if 1 had asked, with their number and, on a line of its own, the line.
 #[derive(Drop)]
 struct Count {
     lines: u64,
@@ -35,6 +35,7 @@ impl AnswersLines for Count {
         pending: &mut Pending,
     ) -> Result<(), AllocError> {
         self.lines = self.lines.saturating_add(1);
+        pending.answers.extend_from_slice(b"1 ")?;
         pending.answers.push(b'0' + (self.lines % 10) as u8)?;
         pending.answers.push(b'\n')?;
         pending.answers.extend_from_slice(line)?;
@@ -132,15 +133,43 @@ fn told<S: AnswersLines>(alloc: Global, replica: &mut S, lines: &[u8]) -> (Vec<u
 fn answers_each_number_once(rt: HostRuntime) {
     let alloc = rt.alloc();
     let mut replica = Replica::new(alloc, Count { lines: 0 });
-    let (out, notes) = told(alloc, &mut replica, b"7 1 a\n7 1 a\n");
-    assert!(rt; out.as_slice() == b"1\na\n1\n".as_slice());
+    let (out, notes) = told(alloc, &mut replica, b"7 1 1 a\n7 1 1 a\n");
+    assert!(rt; out.as_slice() == b"1 1\n1 a\n1 1\n".as_slice());
     assert!(rt; replica.inner().lines == 1);
-    assert!(rt; notes.as_slice() == b"!\n# 7 1 did 1\n".as_slice());
-    let lines = b"7 5 b\n7 4 c\n8 4 d\n7 e\n7 5 b\n";
+    assert!(rt; notes.as_slice() == b"!\n# 7 1 did 1 1\n".as_slice());
+    let lines = b"7 5 1 b\n7 4 1 c\n8 4 1 d\n7 e\n7 5 1 b\n";
     let (out, _) = told(alloc, &mut replica, lines.as_slice());
-    let text = b"2\nb\n7 refused past 5\n3\nd\n4\n7 e\n2\n";
+    let text = b"1 2\n1 b\n7 refused past 5\n1 3\n1 d\n1 4\n7 e\n1 2\n";
     assert!(rt; out.as_slice() == text.as_slice());
     assert!(rt; replica.inner().lines == 4);
+}
+
+// What follows a key and a number is answered inside, together with both, if it does not begin with a number and a space: the number is
+// not used up, and what is kept stays.
+#[test]
+fn uses_up_no_number_for_what_is_no_call(rt: HostRuntime) {
+    let alloc = rt.alloc();
+    let mut replica = Replica::new(alloc, Count { lines: 0 });
+    let lines = b"7 9 e\n7 9 did\n7 9 1\n7 9 x 1\n7 9 1 f\n7 9 e\n7 9 1 f\n";
+    let (out, notes) = told(alloc, &mut replica, lines.as_slice());
+    let text = b"1 1\n7 9 e\n1 2\n7 9 did\n1 3\n7 9 1\n1 4\n7 9 x 1\n1 5\n1 f\n1 6\n7 9 e\n1 5\n";
+    assert!(rt; out.as_slice() == text.as_slice());
+    assert!(rt; notes.as_slice() == b"!\n!\n!\n!\n!\n# 7 9 did 1 5\n!\n".as_slice());
+}
+
+// What others are told is not told again: 1 is answered, whoever asks.
+#[test]
+fn tells_nothing_of_others_again(rt: HostRuntime) {
+    let alloc = rt.alloc();
+    let mut replica = Replica::new(alloc, Count { lines: 0 });
+    let (out, notes) = told(
+        alloc,
+        &mut replica,
+        b"7 1 2 a\n7 1 2 a\n7 2 12 a\n7 2 12 a\n",
+    );
+    assert!(rt; out.as_slice() == b"1 1\n2 a\n1 2\n12 a\n".as_slice());
+    assert!(rt; notes.as_slice() == b"!\n# 7 1 did \n!\n# 7 2 did \n".as_slice());
+    assert!(rt; replica.inner().lines == 2);
 }
 
 // Keys are brought back by lines, and forgotten; the next segment has them.
@@ -155,12 +184,12 @@ fn keeps_what_it_is_told_of_keys(rt: HostRuntime) {
     let Ok(mut next) = replica.next(alloc) else {
         panic!(rt; "memory suffices");
     };
-    let (out, notes) = told(alloc, &mut next, b"7 5 a\n9 2 a\n");
+    let (out, notes) = told(alloc, &mut next, b"7 5 1 a\n9 2 1 a\n");
     assert!(rt; out.as_slice() == b"7 granted 0 1\n".as_slice() && notes.is_empty());
-    let lines = b"7 4 forget\n7 4 a\n7 5 forget\n7 4 a\n";
+    let lines = b"7 4 forget\n7 4 1 a\n7 5 forget\n7 4 1 a\n";
     let (out, notes) = told(alloc, &mut next, lines.as_slice());
-    assert!(rt; out.as_slice() == b"7 refused past 5\n1\na\n".as_slice());
-    assert!(rt; notes.as_slice() == b"# 7 5 forget\n!\n# 7 4 did 1\n".as_slice());
+    assert!(rt; out.as_slice() == b"7 refused past 5\n1 1\n1 a\n".as_slice());
+    assert!(rt; notes.as_slice() == b"# 7 5 forget\n!\n# 7 4 did 1 1\n".as_slice());
 }
 
 // A place is told with the digest of all that was told since the last; what a place tells is not in it. It goes on from a digest that
@@ -171,26 +200,27 @@ fn tells_the_digest_at_a_place(rt: HostRuntime) {
     let mut replica = Replica::new(alloc, Count { lines: 0 });
     let (out, notes) = told(alloc, &mut replica, b"at 5\n7 x\nat 6\n");
     let first = b"at 5 0000000000000000000000000000000000000000000000000000000000000000\n";
-    let second = b"at 6 5b9f57d5c443c4829358f798b86dde0f8b245d66f0c0db2b6296119d86bc5f89\n";
+    let second = b"at 6 141251bbd95c7c38d8a8e689461644f5a8e9b3544b1fcb05585e994d0b6f4675\n";
     assert!(rt; out.starts_with(first.as_slice()) && out.ends_with(second.as_slice()));
-    assert!(rt; out.len() == first.len() + 6 + second.len());
+    assert!(rt; out.len() == first.len() + 8 + second.len());
     assert!(rt; replica.inner().lines == 1);
     let noted =
-        b"# at 5 0000000000000000000000000000000000000000000000000000000000000000\n!\n# at 6 5b9f57d5c443c4829358f798b86dde0f8b245d66f0c0db2b6296119d86bc5f89\n";
+        b"# at 5 0000000000000000000000000000000000000000000000000000000000000000\n!\n# at 6 141251bbd95c7c38d8a8e689461644f5a8e9b3544b1fcb05585e994d0b6f4675\n";
     assert!(rt; notes.as_slice() == noted.as_slice());
     let Ok(mut next) = replica.next(alloc) else {
         panic!(rt; "memory suffices");
     };
-    let third = b"2\na\n2\nat 9 7aef4da0b19b34cbdf75c741a849d83ea051701ddeee91a2f09d1dce94a9dabd\n";
-    let (out, _) = told(alloc, &mut next, b"3 1 a\n3 1 a\nat 9\n");
+    let third =
+        b"1 2\n1 a\n1 2\nat 9 296426889797fd167493586f0234d240adcbb5a998493316fbe435aaed0c922e\n";
+    let (out, _) = told(alloc, &mut next, b"3 1 1 a\n3 1 1 a\nat 9\n");
     assert!(rt; out.as_slice() == third.as_slice());
     let mut other = Replica::new(alloc, Count { lines: 1 });
-    let line = b"at 6 5b9f57d5c443c4829358f798b86dde0f8b245d66f0c0db2b6296119d86bc5f89\n";
+    let line = b"at 6 141251bbd95c7c38d8a8e689461644f5a8e9b3544b1fcb05585e994d0b6f4675\n";
     let (out, notes) = told(alloc, &mut other, line.as_slice());
     assert!(rt; out.is_empty() && other.inner().lines == 1);
     assert!(rt; notes.starts_with(b"# ") && notes.ends_with(line.as_slice()));
     assert!(rt; notes.len() == 2 + line.len());
-    let (out, _) = told(alloc, &mut other, b"3 1 a\n3 1 a\nat 9\n");
+    let (out, _) = told(alloc, &mut other, b"3 1 1 a\n3 1 1 a\nat 9\n");
     assert!(rt; out.as_slice() == third.as_slice());
 }
 
@@ -201,12 +231,12 @@ fn tells_the_lines_that_bring_it_back(rt: HostRuntime) {
     let mut replica = Restorable::new(Replica::new(alloc, Count { lines: 0 }));
     let (out, notes) = told(alloc, &mut replica, b"state\n");
     assert!(rt; out.as_slice() == b"c\nstate 1\n".as_slice() && notes.is_empty());
-    let lines = b"9 1 a\n7 12 did 7 granted 0 1\n8 3 did \nat 5\nstate\nstatement\n";
+    let lines = b"9 1 1 a\n7 12 did 7 granted 0 1\n8 3 did \nat 5\nstate\nstatement\n";
     let (out, _) = told(alloc, &mut replica, lines.as_slice());
     let place = b"at 5 0000000000000000000000000000000000000000000000000000000000000000\n";
     let told =
-        b"1\na\nat 5 0000000000000000000000000000000000000000000000000000000000000000\nc\n7 12 did 7 granted 0 1\n8 3 did \n9 1 did 1\n";
-    let last = b"state 5\n2\nstatement\n";
+        b"1 1\n1 a\nat 5 0000000000000000000000000000000000000000000000000000000000000000\nc\n7 12 did 7 granted 0 1\n8 3 did \n9 1 did 1 1\n";
+    let last = b"state 5\n1 2\nstatement\n";
     assert!(rt; out.starts_with(told.as_slice()) && out.ends_with(last.as_slice()));
     assert!(rt; out.len() == told.len() + place.len() + last.len());
     assert!(rt; out[told.len()..].starts_with(place.as_slice()));
@@ -220,10 +250,10 @@ fn notes_what_brings_it_back(rt: HostRuntime) {
     let alloc = rt.alloc();
     let mut replica = Restorable::new(Replica::new(alloc, Count { lines: 0 }));
     let lines =
-        b"9 4 a\n9 4 a\n9 3 a\nx\n7 12 did 7 granted 0 1\n8 3 did \n5 1 did \n5 2 forget\n5 1 forget\nat 5\nstate\n9 6 b\n";
+        b"9 4 1 a\n9 4 1 a\n9 3 1 a\nx\n7 12 did 7 granted 0 1\n8 3 did \n5 1 did \n5 2 forget\n5 1 forget\nat 5\nstate\n9 6 1 b\n";
     let (_, notes) = told(alloc, &mut replica, lines.as_slice());
     let noted =
-        b"!\n# 9 4 did 1\n!\n# 7 12 did 7 granted 0 1\n# 8 3 did \n# 5 1 did \n# 5 1 forget\n# at 5 0000000000000000000000000000000000000000000000000000000000000000\n!\n# 9 6 did 3\n";
+        b"!\n# 9 4 did 1 1\n!\n# 7 12 did 7 granted 0 1\n# 8 3 did \n# 5 1 did \n# 5 1 forget\n# at 5 0000000000000000000000000000000000000000000000000000000000000000\n!\n# 9 6 did 1 3\n";
     assert!(rt; notes.as_slice() == noted.as_slice());
     let Ok(next) = replica.next(alloc) else {
         panic!(rt; "memory suffices");
@@ -232,6 +262,6 @@ fn notes_what_brings_it_back(rt: HostRuntime) {
         panic!(rt; "memory suffices");
     };
     let begun =
-        b"t\n# 7 12 did 7 granted 0 1\n# 8 3 did \n# 9 6 did 3\n# at 5 0000000000000000000000000000000000000000000000000000000000000000\n";
+        b"t\n# 7 12 did 7 granted 0 1\n# 8 3 did \n# 9 6 did 1 3\n# at 5 0000000000000000000000000000000000000000000000000000000000000000\n";
     assert!(rt; text.as_slice() == begun.as_slice());
 }

@@ -1,4 +1,4 @@
--- A line that is sent again is told the first line of its first answer.
+-- A line that is sent again is told the first line of its first answer, if that is for the client that asked.
 use Rattle.std.proofs.Common.{◌≡◌, ◌≢◌, ℕ, Bool, true, false, cond, List, [], ◌∷◌, Option, Some, None, refl, ap, sym, subst, ◌∙◌}
 use Rattle.std.specs.List.{AllByRecursion}
 use Rattle.std.specs.Option.{option_map}
@@ -12,7 +12,7 @@ use Rattle.line_replica.specs.declared.keys.Turn.TheVariants as turn
 use Rattle.line_replica.specs.declared.reading.Tag.{Tag}
 use Rattle.line_replica.specs.declared.numbered.Numbered.{Numbered}
 use Rattle.line_replica.specs.declared.replica.Replica.{Replica}
-use Rattle.line_replica.specs.Keys.{ToldView, Table, told_of, forgotten_if, first_line, first_of, turn_by, turn_after}
+use Rattle.line_replica.specs.Keys.{ToldView, Table, told_of, forgotten_if, line_to_asker, first_of, turn_by, turn_after}
 use Rattle.line_replica.specs.Laws.{IsTagged, IsNotOf, IsToldAgain, IsAnsweredAsBefore}
 use Rattle.line_replica.specs.Reading.{Heard, Tagged, Place, Digest, Plain, heard, did_at, is_forget}
 use Rattle.line_replica.specs.Replies.{IsTold, IsReplied, IsHeard, IsAnsweredOnce, IsTagTaken, turn_of, forget_note}
@@ -63,7 +63,7 @@ module _ {S : Type 0} (A : AnsweringWith S) where
       let word : IsTagTaken A None tag old.numbered was t.rest said noted new.numbered is = subst (λ (d : Option (List ℕ)). IsTagTaken A d tag old.numbered was t.rest said noted new.numbered is) t.no_word h.numbered in
       subst (λ (b : Bool). cond b (IsTold [] (forgotten_if (turn_of old.numbered.keys tag) old.numbered.keys tag.key) (forget_note (turn_of old.numbered.keys tag) tag) old.numbered was said noted new.numbered is) (IsAnsweredOnce A (turn_of old.numbered.keys tag) tag old.numbered was t.rest said noted new.numbered is)) t.kept word
 
-  done : (old new : Numbered S) (was is : Option Held) (tag : Tag) (input said noted : List ℕ) → IsAnsweredOnce A turn.Fresh tag old was input said noted new is → told_of new.keys tag.key ≡ Some (record { number = tag.number; first = first_line said })
+  done : (old new : Numbered S) (was is : Option Held) (tag : Tag) (input said noted : List ℕ) → IsAnsweredOnce A turn.Fresh tag old was input said noted new is → told_of new.keys tag.key ≡ Some (record { number = tag.number; first = line_to_asker input said })
   done old new was is tag input said noted p = ap (λ (t : Table). told_of t tag.key) p.keys_are ∙ told_same old.keys tag.key _
 
   last_turn : (keys : Table) (tag : Tag) (first : List ℕ) → told_of keys tag.key ≡ Some (record { number = tag.number; first = first }) → turn_of keys tag ≡ turn.Again
@@ -81,4 +81,4 @@ module _ {S : Type 0} (A : AnsweringWith S) where
   pub as_before : IsAnsweredAsBefore A
   as_before old mid late new was then by is tag line said noted between meanwhile notes text more t fresh first whole others a last unlost =
       let now : IsAnsweredOnce A turn.Fresh tag old.numbered was t.rest said noted mid.numbered then = subst (λ (r : Turn). IsAnsweredOnce A r tag old.numbered was t.rest said noted mid.numbered then) fresh (once old mid was then tag line said noted t first whole) in
-      told_again late new by is tag line text more (first_line said) t (stays tag.key mid late then by between meanwhile notes others a last.before ∙ done old.numbered mid.numbered was then tag t.rest said noted now) last unlost
+      told_again late new by is tag line text more (line_to_asker t.rest said) t (stays tag.key mid late then by between meanwhile notes others a last.before ∙ done old.numbered mid.numbered was then tag t.rest said noted now) last unlost

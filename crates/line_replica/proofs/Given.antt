@@ -11,7 +11,7 @@ use Rattle.line_replica.specs.declared.keys.Turn.TheVariants as turn
 use Rattle.line_replica.specs.declared.reading.Tag.{Tag}
 use Rattle.line_replica.specs.declared.numbered.Numbered.{Numbered}
 use Rattle.line_replica.specs.declared.replica.Replica.{Replica}
-use Rattle.line_replica.specs.Keys.{Table, with_told, forgotten_if, first_line}
+use Rattle.line_replica.specs.Keys.{Table, with_told, forgotten_if, line_to_asker}
 use Rattle.line_replica.specs.Log.{Numbers, numbers_of, given, given_at, given_behind, given_of, with_number, numbers_at, numbers_but, numbers_behind, numbers_after}
 use Rattle.line_replica.specs.Noted.{IsOwn, IsGiven, AreGiven}
 use Rattle.line_replica.specs.Laws.{HasTheHistoryWithoutThem, LosesLast, IsLostAtTheEnd}
@@ -44,9 +44,9 @@ true_or_false e = subst (λ (b : Bool). cond b (Unit {0}) ⊥) e tt
 
 -- ---- the lines that bring back what a line of the log has changed
 
-abbrev pub own_at : Turn → Tag → List ℕ → List (List ℕ)
-own_at turn.Fresh tag said = kept_line tag (first_line said) ∷ []
-own_at _ tag said = []
+abbrev pub own_at : Turn → Tag → List ℕ → List ℕ → List (List ℕ)
+own_at turn.Fresh tag rest said = kept_line tag (line_to_asker rest said) ∷ []
+own_at _ tag rest said = []
 
 abbrev pub own_forget : Turn → Tag → List (List ℕ)
 own_forget turn.Again tag = forget_line tag ∷ []
@@ -54,7 +54,7 @@ own_forget _ tag = []
 
 abbrev pub own_behind : Option (List ℕ) → Table → Tag → List ℕ → List ℕ → List (List ℕ)
 own_behind (Some text) keys tag rest said = kept_line tag (kept_text text) ∷ []
-own_behind None keys tag rest said = cond (is_forget rest) (own_forget (turn_of keys tag) tag) (own_at (turn_of keys tag) tag said)
+own_behind None keys tag rest said = cond (is_forget rest) (own_forget (turn_of keys tag) tag) (own_at (turn_of keys tag) tag rest said)
 
 abbrev pub own_of : Heard → Table → List ℕ → List ℕ → List (List ℕ)
 own_of (Tagged tag rest) keys since said = own_behind (did_at rest) keys tag rest said
@@ -64,7 +64,7 @@ own_of Plain keys since said = []
 
 -- they are of this kind, if the service inside was told so of an input
 pub record Brings {S : Type 0} (A : AnsweringWith S) (Own : List ℕ → Type 0) (since : List ℕ) (old : S) (was : Option Held) (line said : List ℕ) (new : S) (is : Option Held) : Type 0 where
-  pub done : (tag : Tag) (rest inside : List ℕ) → heard line ≡ Tagged tag rest → A old was rest said inside new is → Own (kept_line tag (first_line said))
+  pub done : (tag : Tag) (rest inside : List ℕ) → heard line ≡ Tagged tag rest → A old was rest said inside new is → Own (kept_line tag (line_to_asker rest said))
   pub did : (tag : Tag) (rest text : List ℕ) → heard line ≡ Tagged tag rest → did_at rest ≡ Some text → Own (kept_line tag (kept_text text))
   pub forgets : (tag : Tag) (rest : List ℕ) → heard line ≡ Tagged tag rest → Own (forget_line tag)
   pub place : (place : ℕ) → heard line ≡ Place place → Own (place_line place (next_of since))
@@ -76,7 +76,7 @@ BringAll A Own Line = (since : List ℕ) (old new : _) (was is : Option Held) (l
 
 own_brings : {S : Type 0} (A : AnsweringWith S) → BringAll A IsOwn (λ line. Unit {0})
 own_brings A since old new was is line said any = record {
-  done = λ tag rest inside e a. inl (tag, first_line said, refl);
+  done = λ tag rest inside e a. inl (tag, line_to_asker rest said, refl);
   did = λ tag rest text e f. inl (tag, kept_text text, refl);
   forgets = λ tag rest e. inr (inl (tag, refl));
   place = λ place e. inr (inr (place, next_of since, refl));
@@ -121,9 +121,9 @@ module _ {S : Type 0} (A : AnsweringWith S) where
       told_one : (text : List ℕ) (keys : Table) (own : List ℕ) → Own own → IsTold text keys (remark_of own) old was said noted new is → (numbers : Numbers) → numbers_of keys ≡ numbers → IsTaken old was [] (own ∷ []) noted new is numbers
       told_one text keys own is_own t numbers e = none old new was is noted (own ∷ []) (is_own, tt) (t.notes ∙ sym (append-nil (remark_of own))) t.inner t.files numbers (ap numbers_of t.keys_are ∙ e)
 
-      by_turn : (r : Turn) (tag : Tag) (input : List ℕ) → heard line ≡ Tagged tag input → IsAnsweredOnce A r tag old was input said noted new is → IsTaken old was (given_at r input) (own_at r tag said) noted new is (numbers_at r (numbers_of old.keys) tag)
+      by_turn : (r : Turn) (tag : Tag) (input : List ℕ) → heard line ≡ Tagged tag input → IsAnsweredOnce A r tag old was input said noted new is → IsTaken old was (given_at r input) (own_at r tag input said) noted new is (numbers_at r (numbers_of old.keys) tag)
       by_turn turn.Fresh tag input h p =
-          let own = kept_line tag (first_line said) in
+          let own = kept_line tag (line_to_asker input said) in
           one old new was is noted input said p.inside (own ∷ []) (brings.done tag input p.inside h p.answered, tt) (p.notes ∙ ap (λ (u : List ℕ). p.inside ++ u) (sym (append-nil (remark_of own)))) p.answered
           (with_number (numbers_of old.keys) tag) (ap numbers_of p.keys_are ∙ numbers_inserted old.keys tag.key _)
       by_turn turn.Again tag input h t = told _ old.keys t (numbers_of old.keys) refl
@@ -136,7 +136,7 @@ module _ {S : Type 0} (A : AnsweringWith S) where
 
       by_word : (forgets : Bool) (tag : Tag) (rest : List ℕ) → heard line ≡ Tagged tag rest →
           cond forgets (IsTold [] (forgotten_if (turn_of old.keys tag) old.keys tag.key) (forget_note (turn_of old.keys tag) tag) old was said noted new is) (IsAnsweredOnce A (turn_of old.keys tag) tag old was rest said noted new is) →
-          IsTaken old was (cond forgets [] (given_at (turn_of old.keys tag) rest)) (cond forgets (own_forget (turn_of old.keys tag) tag) (own_at (turn_of old.keys tag) tag said)) noted new is (cond forgets (numbers_but (turn_of old.keys tag) (numbers_of old.keys) tag) (numbers_at (turn_of old.keys tag) (numbers_of old.keys) tag))
+          IsTaken old was (cond forgets [] (given_at (turn_of old.keys tag) rest)) (cond forgets (own_forget (turn_of old.keys tag) tag) (own_at (turn_of old.keys tag) tag rest said)) noted new is (cond forgets (numbers_but (turn_of old.keys tag) (numbers_of old.keys) tag) (numbers_at (turn_of old.keys tag) (numbers_of old.keys) tag))
       by_word true tag rest h t = by_forget (turn_of old.keys tag) tag rest h t
       by_word false tag rest h a = by_turn (turn_of old.keys tag) tag rest h a
 

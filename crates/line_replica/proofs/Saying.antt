@@ -10,7 +10,7 @@ use Rattle.line_replica.specs.declared.keys.Turn.TheVariants as turn
 use Rattle.line_replica.specs.declared.reading.Tag.{Tag}
 use Rattle.line_replica.specs.declared.numbered.Numbered.{Numbered}
 use Rattle.line_replica.specs.declared.replica.Replica.{Replica}
-use Rattle.line_replica.specs.Keys.{Table, with_told, forgotten_if, first_line}
+use Rattle.line_replica.specs.Keys.{Table, with_told, forgotten_if, line_to_asker}
 use Rattle.line_replica.specs.Log.{Numbers, numbers_of, given_at, given_behind, given_of, with_number, numbers_at, numbers_but, numbers_behind, numbers_after}
 use Rattle.line_replica.specs.Noted.{IsGiven}
 use Rattle.line_replica.specs.Reading.{Heard, Tagged, Place, Digest, Plain, heard, did_at, is_forget, kept_text}
@@ -57,9 +57,9 @@ module _ {S : Type 0} (A : AnsweringWith S) (Own : List ℕ → Type 0) where
     told_one : (text : List ℕ) (keys : Table) (own : List ℕ) → Own own → IsTold text keys (remark_of own) old was said noted new is → (numbers : Numbers) → numbers_of keys ≡ numbers → IsTakenSo old was [] (own ∷ []) said noted new is numbers
     told_one text keys own is_own t numbers e = none old new was is noted said (own ∷ []) (is_own, tt) (t.notes ∙ sym (append-nil (remark_of own))) t.inner t.files numbers (ap numbers_of t.keys_are ∙ e)
 
-    by_turn : (r : Turn) (tag : Tag) (input : List ℕ) → heard line ≡ Tagged tag input → IsAnsweredOnce A r tag old was input said noted new is → IsTakenSo old was (given_at r input) (own_at r tag said) said noted new is (numbers_at r (numbers_of old.keys) tag)
+    by_turn : (r : Turn) (tag : Tag) (input : List ℕ) → heard line ≡ Tagged tag input → IsAnsweredOnce A r tag old was input said noted new is → IsTakenSo old was (given_at r input) (own_at r tag input said) said noted new is (numbers_at r (numbers_of old.keys) tag)
     by_turn turn.Fresh tag input h p =
-        let own = kept_line tag (first_line said) in
+        let own = kept_line tag (line_to_asker input said) in
         one old new was is noted input said p.inside (own ∷ []) (brings.done tag input p.inside h p.answered, tt) (p.notes ∙ ap (λ (u : List ℕ). p.inside ++ u) (sym (append-nil (remark_of own)))) p.answered
         (with_number (numbers_of old.keys) tag) (ap numbers_of p.keys_are ∙ numbers_inserted old.keys tag.key _)
     by_turn turn.Again tag input h t = told _ old.keys t (numbers_of old.keys) refl
@@ -72,7 +72,7 @@ module _ {S : Type 0} (A : AnsweringWith S) (Own : List ℕ → Type 0) where
 
     by_word : (forgets : Bool) (tag : Tag) (rest : List ℕ) → heard line ≡ Tagged tag rest →
         cond forgets (IsTold [] (forgotten_if (turn_of old.keys tag) old.keys tag.key) (forget_note (turn_of old.keys tag) tag) old was said noted new is) (IsAnsweredOnce A (turn_of old.keys tag) tag old was rest said noted new is) →
-        IsTakenSo old was (cond forgets [] (given_at (turn_of old.keys tag) rest)) (cond forgets (own_forget (turn_of old.keys tag) tag) (own_at (turn_of old.keys tag) tag said)) said noted new is (cond forgets (numbers_but (turn_of old.keys tag) (numbers_of old.keys) tag) (numbers_at (turn_of old.keys tag) (numbers_of old.keys) tag))
+        IsTakenSo old was (cond forgets [] (given_at (turn_of old.keys tag) rest)) (cond forgets (own_forget (turn_of old.keys tag) tag) (own_at (turn_of old.keys tag) tag rest said)) said noted new is (cond forgets (numbers_but (turn_of old.keys tag) (numbers_of old.keys) tag) (numbers_at (turn_of old.keys tag) (numbers_of old.keys) tag))
     by_word true tag rest h t = by_forget (turn_of old.keys tag) tag rest h t
     by_word false tag rest h a = by_turn (turn_of old.keys tag) tag rest h a
 

@@ -1,15 +1,17 @@
 -- What is kept of each key (this project's own).
-use Rattle.std.specs.Prelude.{ℕ, List, [], ◌∷◌, if◌then◌else◌, ◌==◌, Option, None, Some}
+use Rattle.std.specs.Prelude.{ℕ, cond, List, [], ◌∷◌, if◌then◌else◌, ◌==◌, Option, None, Some}
 use Rattle.std.specs.declared.cmp.Ordering.{Ordering}
 use Rattle.std.specs.declared.cmp.Ordering.TheVariants.{Less, Equal, Greater}
 use Rattle.std.specs.Option.{option_map}
 use Rattle.std.specs.Ordering.{nat_cmp}
 use Rattle.std.specs.BTreeMap.{is_at, insert_entry}
 use Rattle.std.specs.Map.{lookup, remove_entry}
+use Rattle.line_parts.specs.Numbers.{order_at}
+use Rattle.line_replica.specs.Reading.{is_to_asker}
 use Rattle.line_replica.specs.declared.keys.Turn.{Turn}
 use Rattle.line_replica.specs.declared.keys.Turn.TheVariants as turn
 
--- the last number of a key, and the first line of its answer
+-- the last number of a key, and the first line of its answer that is told again
 pub record ToldView : Type 0 where
   pub number : ℕ
   pub first : List ℕ
@@ -50,6 +52,11 @@ first_of (Some told) = told.first
 abbrev pub first_line : List ℕ → List ℕ
 first_line [] = []
 first_line (b ∷ bs) = if b == 10 then b ∷ [] else b ∷ first_line bs
+
+-- the first line of the answer to an input, if it is for the client that asked, and else none: what
+-- others were told may be over when it is told again
+abbrev pub line_to_asker : List ℕ → List ℕ → List ℕ
+line_to_asker input said = cond (is_to_asker (order_at 32 input) said) (first_line said) []
 
 -- nothing is kept of a key whose last number is this one
 abbrev pub forgotten_if : Turn → Table → ℕ → Table

@@ -7,7 +7,7 @@ use Rattle.line_loop.specs.Stands.{AnsweringWith, by_stand, stand}
 use Rattle.line_replica.specs.declared.keys.Turn.TheVariants as turn
 use Rattle.line_replica.specs.declared.reading.Tag.{Tag}
 use Rattle.line_replica.specs.declared.replica.Replica.{Replica}
-use Rattle.line_replica.specs.Keys.{told_of, first_line}
+use Rattle.line_replica.specs.Keys.{told_of, line_to_asker}
 use Rattle.line_replica.specs.Log.{given, numbers_of}
 use Rattle.line_replica.specs.Noted.{IsOwn, AreGiven}
 use Rattle.line_replica.specs.Reading.{Tagged, heard, did_at, is_forget}
@@ -61,7 +61,7 @@ pub record IsTagged (tag : Tag) (line : List ℕ) : Type 0 where
 abbrev pub IsNotOf : ℕ → List ℕ → Type 0
 IsNotOf key line = (tag : Tag) (rest : List ℕ) → heard line ≡ Tagged tag rest → tag.key ≢ key
 
--- A line whose number was done last is told the first line of its answer again, and neither the
+-- A line whose number was done last is told what is kept of its answer again, and neither the
 -- service inside nor what is kept of keys changes.
 abbrev pub IsToldAgain : {S : Type 0} → AnsweringWith S → Type 0
 IsToldAgain A =
@@ -72,17 +72,17 @@ IsToldAgain A =
     → (said ≡ first) × (noted ≡ []) × (new.numbered ≡ old.numbered) × (is ≡ was)
 
 -- So a line with a new number that is sent again, behind lines of other keys, is told the first
--- line of its first answer.
+-- line of its first answer, if that is for the client that asked, and else nothing.
 abbrev pub IsAnsweredAsBefore : {S : Type 0} → AnsweringWith S → Type 0
 IsAnsweredAsBefore A =
     (old mid late new : Replica _) (was then by is : Option Held) (tag : Tag)
     (line said noted : List ℕ) (between : List (List ℕ)) (meanwhile notes again more : List ℕ)
-    → IsTagged tag line → turn_of old.numbered.keys tag ≡ turn.Fresh
+    → (t : IsTagged tag line) → turn_of old.numbered.keys tag ≡ turn.Fresh
     → IsReplied A old was line said noted mid then → mid.lost ≡ false
     → AllByRecursion (IsNotOf tag.key) between
     → Answers (by_stand (IsReplied A)) (stand mid then) between meanwhile notes (stand late by)
     → IsReplied A late by line again more new is → new.lost ≡ false
-    → (again ≡ first_line said) × (more ≡ []) × (new.numbered ≡ late.numbered) × (is ≡ by)
+    → (again ≡ line_to_asker t.rest said) × (more ≡ []) × (new.numbered ≡ late.numbered) × (is ≡ by)
 
 -- equal lines in equal states are answered alike
 abbrev pub IsDetermined : {S : Type 0} → AnsweringWith S → Type 0

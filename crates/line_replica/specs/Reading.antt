@@ -1,5 +1,5 @@
 -- What is read of a line (this project's own).
-use Rattle.std.specs.Prelude.{ℕ, Bool, true, false, cond, nat_lt, ◌+◌, List, [], ◌∷◌, length, take, ◌==◌, ◌&&◌, Option, None, Some, Result, Ok, Err, codes}
+use Rattle.std.specs.Prelude.{ℕ, Bool, true, false, cond, nat_lt, ◌+◌, List, [], ◌∷◌, length, take, ◌==◌, ◌&&◌, ◌||◌, Option, None, Some, Result, Ok, Err, codes}
 use Rattle.std.specs.List.{list_all}
 use Rattle.text_lines.specs.declared.fault.Fault.{Fault}
 use Rattle.text_lines.specs.Reading.{word_at}
@@ -7,21 +7,6 @@ use Rattle.line_parts.specs.Limits.{line_limit}
 use Rattle.line_parts.specs.Numbers.{order_at}
 use Rattle.ring_segments.specs.Spelling.{digest_digits, is_digit}
 use Rattle.line_replica.specs.declared.reading.Tag.{Tag}
-
--- the number is read, and what is behind it
-abbrev pub with_number : ℕ → Result (Option ℕ × List ℕ) Fault → Option (Tag × List ℕ)
-with_number key (Ok (Some number, rest)) = Some (record { key = key; number = number }, rest)
-with_number key (Ok (None, rest)) = None
-with_number key (Err e) = None
-
-abbrev pub with_key : Result (Option ℕ × List ℕ) Fault → Option (Tag × List ℕ)
-with_key (Ok (Some key, rest)) = with_number key (order_at 32 rest)
-with_key (Ok (None, rest)) = None
-with_key (Err e) = None
-
--- the key and the number in front of a line, if it begins with both, and what is behind them
-unfoldable pub tagged_at : List ℕ → Option (Tag × List ℕ)
-tagged_at line = with_key (order_at 32 line)
 
 abbrev pub on_read : {X : Type 0} → Result (List ℕ) Fault → X → (List ℕ → X) → X
 on_read (Ok rest) none some = some rest
@@ -39,11 +24,56 @@ is_none_left (b ∷ bs) = false
 unfoldable pub is_forget : List ℕ → Bool
 is_forget rest = on_read (word_at (codes "forget\n") rest) false is_none_left
 
+-- it begins with a number and a space
+abbrev pub is_some_number : Result (Option ℕ × List ℕ) Fault → Bool
+is_some_number (Ok (Some n, rest)) = true
+is_some_number (Ok (None, rest)) = false
+is_some_number (Err e) = false
+
+abbrev pub may_follow_by : Option (List ℕ) → List ℕ → Bool
+may_follow_by (Some text) rest = true
+may_follow_by None rest = is_forget rest || is_some_number (order_at 32 rest)
+
+-- what may follow a key and a number: the word did and a text, the word forget, or an input, which
+-- begins with the number of the client that asks and a space
+unfoldable pub may_follow : List ℕ → Bool
+may_follow rest = may_follow_by (did_at rest) rest
+
+-- the number is read, and what follows it, if that may
+abbrev pub with_number : ℕ → Result (Option ℕ × List ℕ) Fault → Option (Tag × List ℕ)
+with_number key (Ok (Some number, rest)) =
+    cond (may_follow rest) (Some (record { key = key; number = number }, rest)) None
+with_number key (Ok (None, rest)) = None
+with_number key (Err e) = None
+
+abbrev pub with_key : Result (Option ℕ × List ℕ) Fault → Option (Tag × List ℕ)
+with_key (Ok (Some key, rest)) = with_number key (order_at 32 rest)
+with_key (Ok (None, rest)) = None
+with_key (Err e) = None
+
+-- the key and the number with which a line begins, and what follows them, if that may
+unfoldable pub tagged_at : List ℕ → Option (Tag × List ℕ)
+tagged_at line = with_key (order_at 32 line)
+
 -- the first line that a text behind did is: none if it is empty
 abbrev pub kept_text : List ℕ → List ℕ
 kept_text [] = []
 kept_text (b ∷ []) = cond (b == 10) [] (b ∷ [])
 kept_text (b ∷ c ∷ bs) = b ∷ c ∷ bs
+
+-- ---- whose answer it is
+
+-- an answer begins with this number and a space
+abbrev pub is_to : ℕ → Result (Option ℕ × List ℕ) Fault → Bool
+is_to n (Ok (Some m, rest)) = m == n
+is_to n (Ok (None, rest)) = false
+is_to n (Err e) = false
+
+-- it begins with the number with which an input does: it is for the client that asked
+abbrev pub is_to_asker : Result (Option ℕ × List ℕ) Fault → List ℕ → Bool
+is_to_asker (Ok (Some n, rest)) said = is_to n (order_at 32 said)
+is_to_asker (Ok (None, rest)) said = false
+is_to_asker (Err e) said = false
 
 -- ---- a place in the log
 

@@ -10,7 +10,7 @@ use Rattle.line_replica.specs.declared.keys.Turn.TheVariants as turn
 use Rattle.line_replica.specs.declared.reading.Tag.{Tag}
 use Rattle.line_replica.specs.declared.numbered.Numbered.{Numbered}
 use Rattle.line_replica.specs.declared.replica.Replica.{Replica}
-use Rattle.line_replica.specs.Keys.{Table, told_of, last_of, with_told, turn_after, first_of, first_line, forgotten_if}
+use Rattle.line_replica.specs.Keys.{Table, told_of, last_of, with_told, turn_after, first_of, line_to_asker, forgotten_if}
 use Rattle.line_replica.specs.Reading.{Heard, Tagged, Place, Digest, Plain, heard, did_at, is_forget, kept_text}
 use Rattle.line_replica.specs.Running.{with_said, next_of, at_place, place_line}
 use Rattle.line_replica.specs.State.{kept_line, forget_line}
@@ -30,22 +30,24 @@ pub record IsPassedOn {S : Type 0} (A : AnsweringWith S) (old : Numbered S) (was
   pub answered : A old.inner was line said noted new.inner is
   pub keys_are : new.keys ≡ old.keys
 
--- The service inside answers, and its answer is told. The first line of it is kept of the key, and
--- the remark of the key's line is noted behind the notes of the service inside.
+-- The service inside answers, and its answer is told. The first line of it is kept of the key, if
+-- it is for the client that asked, and the remark of the key's line is noted behind the notes of the
+-- service inside.
 pub record IsDone {S : Type 0} (A : AnsweringWith S) (tag : Tag) (old : Numbered S)
     (was : Option Held) (input said noted : List ℕ) (new : Numbered S) (is : Option Held) : Type 0
   where
     pub inside : List ℕ
     pub answered : A old.inner was input said inside new.inner is
-    pub notes : noted ≡ inside ++ remark_of (kept_line tag (first_line said))
-    pub keys_are : new.keys ≡ with_told old.keys tag.key tag.number (first_line said)
+    pub notes : noted ≡ inside ++ remark_of (kept_line tag (line_to_asker input said))
+    pub keys_are : new.keys ≡ with_told old.keys tag.key tag.number (line_to_asker input said)
 
 -- the last number of a key is above this one
 abbrev pub past_line : ℕ → ℕ → List ℕ
 past_line key last = spaced key ++ (codes "refused past " ++ ended last)
 
--- A line whose number is new is answered inside, and the first line of its answer is kept. That
--- line is told again where the number is the last. One before it is refused.
+-- A line whose number is new is answered inside, and the first line of its answer is kept, if it is
+-- for the client that asked. What is kept is told again where the number is the last. One before it
+-- is refused.
 abbrev pub IsAnsweredOnce : {S : Type 0} → AnsweringWith S → Turn → Tag → Numbered S
     → Option Held → List ℕ → List ℕ → List ℕ → Numbered S → Option Held → Type 0
 IsAnsweredOnce A turn.Fresh tag old was input said noted new is =

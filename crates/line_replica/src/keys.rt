@@ -17,7 +17,7 @@ use std::collections::BTreeMap;
 use std::marker::Model;
 use text_lines::Line;
 
-/// The last number of a key, and the first line of its answer. Contracts see both.
+/// The last number of a key, and the first line of its answer that is told again. Contracts see both.
 #[derive(Drop)]
 pub(crate) struct Told {
     number: u64,

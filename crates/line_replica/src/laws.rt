@@ -11,7 +11,7 @@ pub fn each_number_is_done_once<S: AnswersLines>()
     ensures lost { IsLostAtTheEnd S.is_answered }
 {}
 
-/// What is sent again is told the first line of its first answer, and changes nothing.
+/// What is sent again is told the first line of its first answer, if that is for the client that asked, and changes nothing.
 pub fn answers_are_told_again<S: AnswersLines>()
     ensures again { IsToldAgain S.is_answered }
     ensures behind { IsAnsweredAsBefore S.is_answered }

@@ -1,22 +1,34 @@
 //! A service with what is kept of keys: what has a number is answered once.
 
 ghost use Rattle.std.specs.Prelude.{◌≡◌, ◌++◌, ◌≤◌, List, ℕ, [], false, length, codes, OnOk, OnErr};
+ghost use Rattle.line_replica.specs.Keys.{line_to_asker};
 ghost use Rattle.line_replica.specs.Reading.{did_at};
 ghost use Rattle.line_replica.specs.Replies.{IsPassedOn, IsDone, IsAnsweredOnce, IsTagTaken, IsAnsweredOrNot, IsAdded, past_line, turn_of};
 
 use crate::keys::{Keys, Turn, first_line};
-use crate::reading::{Tag, did, is_forget, kept_text};
+use crate::reading::{Tag, did, is_forget, is_to_asker, kept_text};
 use disks::Disk;
 use line_loop::{AnswersLines, Pending};
 use line_parts::put_word;
 use std::alloc::AllocError;
 use text_lines::Line;
 
-/// A service that answers lines, with the last number of each key and the first line of its answer.
+/// A service that answers lines, with the last number of each key and the first line of its answer that is told again.
 #[derive(Drop)]
 pub struct Numbered<S> {
     pub(crate) inner: S,
     pub(crate) keys: Keys,
+}
+
+/// The first line of the answer to an input, if it is for the client that asked, and else none: what others were told may be over when
+/// it is told again.
+fn line_to_asker<'a>(input: &[u8], said: &'a [u8]) -> &'a [u8]
+    ensures { result.now ≡ line_to_asker input.now said.now }
+{
+    if is_to_asker(input, said) {
+        return first_line(said);
+    }
+    &[]
 }
 
 /// Adds the line that the last number of a key is above the one that was sent.
@@ -52,7 +64,7 @@ pub(crate) fn answer_inside<S: AnswersLines, D: Disk>(
     numbered.inner.answer(disk, line, pending)
 }
 
-/// The service inside answers a line whose number is new, and the first line of its answer is kept and noted.
+/// The service inside answers a line whose number is new, and the first line of its answer is kept, if it is for the client that asked.
 fn answer_fresh<S: AnswersLines, D: Disk>(
     numbered: &mut Numbered<S>,
     disk: &mut D,
@@ -75,7 +87,7 @@ fn answer_fresh<S: AnswersLines, D: Disk>(
         Ok(()) => {}
         Err(AllocError) => return Err(AllocError),
     }
-    let first = first_line(&pending.answers[place..]);
+    let first = line_to_asker(input, &pending.answers[place..]);
     numbered.keys.keep(tag, first, &mut pending.notes)
 }
 

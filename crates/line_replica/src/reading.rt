@@ -5,7 +5,7 @@ ghost use Rattle.std.specs.List.{list_all};
 ghost use Rattle.std.specs.Option.{option_map};
 ghost use Rattle.line_parts.specs.Numbers.{order_at};
 ghost use Rattle.ring_segments.specs.Spelling.{is_digit, digest_digits};
-ghost use Rattle.line_replica.specs.Reading.{with_number, tagged_at, did_at, is_forget, kept_text, place_at, digest_at, last_number, with_digest, is_last_digest, of_tagged, of_place, of_digest, heard};
+ghost use Rattle.line_replica.specs.Reading.{with_number, tagged_at, did_at, is_forget, is_some_number, may_follow_by, may_follow, is_to, is_to_asker, kept_text, place_at, digest_at, last_number, with_digest, is_last_digest, of_tagged, of_place, of_digest, heard};
 
 use line_parts::{LINE_LIMIT, fixed_word, number as decimal};
 use ring_segments::DIGEST_DIGITS;
@@ -15,29 +15,6 @@ use ring_segments::DIGEST_DIGITS;
 pub(crate) struct Tag {
     pub(crate) key: u64,
     pub(crate) number: u64,
-}
-
-/// The number of a key, and what is behind it.
-fn numbered(key: u64, bytes: &[u8]) -> Option<(Tag, &[u8])>
-    ensures { option_map (λ x. (x.0, x.1.now)) result ≡ with_number key (order_at 32 bytes.now) }
-{
-    match decimal(bytes, b' ') {
-        Ok((Some(number), rest)) => Some((Tag { key, number }, rest)),
-        Ok((None, _)) => None,
-        Err(_) => None,
-    }
-}
-
-/// The key and the number in front of a line, if it begins with both, and what is behind them.
-#[tactic(auto, unfolding(crate::specs::Reading::tagged_at))]
-pub(crate) fn tagged(line: &[u8]) -> Option<(Tag, &[u8])>
-    ensures { option_map (λ x. (x.0, x.1.now)) result ≡ tagged_at line.now }
-{
-    match decimal(line, b' ') {
-        Ok((Some(key), rest)) => numbered(key, rest),
-        Ok((None, _)) => None,
-        Err(_) => None,
-    }
 }
 
 /// What is behind the word `did`, if it is there.
@@ -62,6 +39,57 @@ pub(crate) fn is_forget(rest: &[u8]) -> bool
     }
 }
 
+/// Whether it begins with a number and a space.
+fn is_some_number(bytes: &[u8]) -> bool
+    ensures { result ≡ is_some_number (order_at 32 bytes.now) }
+{
+    match decimal(bytes, b' ') {
+        Ok((Some(_), _)) => true,
+        Ok((None, _)) => false,
+        Err(_) => false,
+    }
+}
+
+/// Whether this may follow a key and a number. What is no call may not: it is answered inside, with the key in front, so that it uses
+/// no number up.
+#[tactic(auto, unfolding(crate::specs::Reading::may_follow))]
+fn may_follow(rest: &[u8]) -> bool
+    ensures { result ≡ may_follow rest.now }
+{
+    match did(rest) {
+        Some(_) => true,
+        None => is_forget(rest) || is_some_number(rest),
+    }
+}
+
+/// The number of a key, and what follows it, if that may.
+fn numbered(key: u64, bytes: &[u8]) -> Option<(Tag, &[u8])>
+    ensures { option_map (λ x. (x.0, x.1.now)) result ≡ with_number key (order_at 32 bytes.now) }
+{
+    match decimal(bytes, b' ') {
+        Ok((Some(number), rest)) => {
+            if may_follow(rest) {
+                return Some((Tag { key, number }, rest));
+            }
+            None
+        }
+        Ok((None, _)) => None,
+        Err(_) => None,
+    }
+}
+
+/// The key and the number with which a line begins, and what follows them, if that may.
+#[tactic(auto, unfolding(crate::specs::Reading::tagged_at))]
+pub(crate) fn tagged(line: &[u8]) -> Option<(Tag, &[u8])>
+    ensures { option_map (λ x. (x.0, x.1.now)) result ≡ tagged_at line.now }
+{
+    match decimal(line, b' ') {
+        Ok((Some(key), rest)) => numbered(key, rest),
+        Ok((None, _)) => None,
+        Err(_) => None,
+    }
+}
+
 /// The first line that a text behind `did` is: none if it is empty.
 pub(crate) fn kept_text(text: &[u8]) -> &[u8]
     ensures { result.now ≡ kept_text text.now }
@@ -69,6 +97,28 @@ pub(crate) fn kept_text(text: &[u8]) -> &[u8]
     match text {
         [b'\n'] => &[],
         _ => text,
+    }
+}
+
+/// Whether an answer begins with this number and a space.
+fn is_to(number: u64, said: &[u8]) -> bool
+    ensures { result ≡ is_to number (order_at 32 said.now) }
+{
+    match decimal(said, b' ') {
+        Ok((Some(other), _)) => other == number,
+        Ok((None, _)) => false,
+        Err(_) => false,
+    }
+}
+
+/// Whether an answer begins with the number with which an input does: it is for the client that asked.
+pub(crate) fn is_to_asker(input: &[u8], said: &[u8]) -> bool
+    ensures { result ≡ is_to_asker (order_at 32 input.now) said.now }
+{
+    match decimal(input, b' ') {
+        Ok((Some(number), _)) => is_to(number, said),
+        Ok((None, _)) => false,
+        Err(_) => false,
     }
 }
 

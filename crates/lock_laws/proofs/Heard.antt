@@ -11,7 +11,7 @@ use Rattle.line_parts.specs.Limits.{line_limit}
 use Rattle.line_parts.specs.Numbers.{order_at}
 use Rattle.lock_lines.proofs.Fronts.{spaced_some, ended_some}
 use Rattle.ring_segments.specs.Spelling.{DigestFits, digest_digits, is_digit}
-use Rattle.line_replica.specs.Reading.{Heard, Tagged, Place, Digest, Plain, heard, of_tagged, of_place, of_digest, with_key, with_number, tagged_at, on_read, place_at, last_number, digest_at, with_digest, is_last_digest}
+use Rattle.line_replica.specs.Reading.{Heard, Tagged, Place, Digest, Plain, heard, of_tagged, of_place, of_digest, with_key, with_number, tagged_at, on_read, may_follow, place_at, last_number, digest_at, with_digest, is_last_digest}
 use Rattle.lock_laws.proofs.KeyLines.{same_text}
 
 -- a line of this key and number, with this behind them
@@ -81,11 +81,15 @@ module _ (line : List ℕ) where
   -- ---- a key and a number
 
   module _ (short : length line ≤ line_limit) where
-    by_number : (key : ℕ) (rest : List ℕ) → order_at 32 line ≡ Ok (Some key, rest) → (r : Result (Option ℕ × List ℕ) Fault) → order_at 32 rest ≡ r → IsReadSo line (of_tagged (with_number key r) line)
-    by_number key rest e (Ok (Some number, more)) f =
+    by_more : (key number : ℕ) (rest more : List ℕ) → order_at 32 line ≡ Ok (Some key, rest) → order_at 32 rest ≡ Ok (Some number, more) → (b : Bool) → IsReadSo line (of_tagged (cond b (Some (record { key = key; number = number }, more)) None) line)
+    by_more key number rest more e f true =
         let k = spelled line key rest e in
         let n = spelled rest number more f in
         record { key_small = k.0; number_small = n.0; short = short; is = k.1 ∙ ap (λ (u : List ℕ). spaced key ++ u) n.1 }
+    by_more key number rest more e f false = by_place
+
+    by_number : (key : ℕ) (rest : List ℕ) → order_at 32 line ≡ Ok (Some key, rest) → (r : Result (Option ℕ × List ℕ) Fault) → order_at 32 rest ≡ r → IsReadSo line (of_tagged (with_number key r) line)
+    by_number key rest e (Ok (Some number, more)) f = by_more key number rest more e f (may_follow more)
     by_number key rest e (Ok (None, more)) f = by_place
     by_number key rest e (Err g) f = by_place
 

@@ -15,7 +15,7 @@ use Rattle.line_parts.proofs.Numerals.{decimal_fails}
 use Rattle.lock_lines.proofs.Fronts.{spaced_reads}
 use Rattle.ring_segments.specs.Spelling.{DigestFits, digest_digits, is_digit}
 use Rattle.line_replica.specs.Keys.{ToldView}
-use Rattle.line_replica.specs.Reading.{Heard, Tagged, Digest, heard, with_key, with_number, tagged_at, did_at, on_read, kept_text, place_at, last_number, digest_at, with_digest, is_last_digest}
+use Rattle.line_replica.specs.Reading.{Heard, Tagged, Digest, heard, with_key, with_number, tagged_at, did_at, may_follow_by, may_follow, on_read, kept_text, place_at, last_number, digest_at, with_digest, is_last_digest}
 use Rattle.line_replica.specs.Running.{place_line}
 use Rattle.line_replica.specs.State.{key_line, did_text}
 use Rattle.line_replica.proofs.Hearing.{is_tagged, is_untagged, is_digest}
@@ -55,16 +55,25 @@ kept_again (b ∷ []) (inl e) = absurd cc
 kept_again (b ∷ []) (inr f) = absurd (f.1 (ap (λ (x : ℕ). x ∷ []) f.0))
 kept_again (b ∷ c ∷ bs) f = refl
 
-pub key_tagged : (k n : ℕ) (rest : List ℕ) → k < 2 ^ 64 → n < 2 ^ 64 → tagged_at (spaced k ++ (spaced n ++ rest)) ≡ Some (record { key = k; number = n }, rest)
+pub did_follows : (text : List ℕ) → may_follow (codes "did " ++ text) ≡ true
+unfolding may_follow
+did_follows text = ap (λ (d : Option (List ℕ)). may_follow_by d (codes "did " ++ text)) (did_reads text)
+
+pub key_tagged : (k n : ℕ) (rest : List ℕ) → k < 2 ^ 64 → n < 2 ^ 64 → may_follow rest ≡ true → tagged_at (spaced k ++ (spaced n ++ rest)) ≡ Some (record { key = k; number = n }, rest)
 unfolding tagged_at
-key_tagged k n rest few small = ap with_key (number_reads k (spaced n ++ rest) few) ∙ ap (with_number k) (number_reads n rest small)
+key_tagged k n rest few small follows =
+    ap with_key (number_reads k (spaced n ++ rest) few)
+    ∙ ap (with_number k) (number_reads n rest small)
+    ∙ ap (λ (b : Bool). cond b (Some (record { key = k; number = n }, rest)) None) follows
 
 -- what is heard of the line of a key
 abbrev pub key_heard : ℕ × ToldView → Heard
 key_heard e = Tagged (record { key = e.0; number = e.1.number }) (codes "did " ++ did_text e.1.first)
 
 pub hears_key : (e : ℕ × ToldView) → IsKept e → heard (key_line e) ≡ key_heard e
-hears_key e kept = sym (is_tagged (key_line e) (codes "did " ++ did_text e.1.first) (record { key = e.0; number = e.1.number }) kept.short (sym (key_tagged e.0 e.1.number (codes "did " ++ did_text e.1.first) kept.key kept.number)))
+hears_key e kept =
+    let rest = codes "did " ++ did_text e.1.first in
+    sym (is_tagged (key_line e) rest (record { key = e.0; number = e.1.number }) kept.short (sym (key_tagged e.0 e.1.number rest kept.key kept.number (did_follows (did_text e.1.first)))))
 
 -- ---- the line of a place
 

@@ -10,6 +10,7 @@ use Rattle.text_lines.specs.Spelling.{spaced}
 use Rattle.text_lines.specs.Reading.{word_at}
 use Rattle.disks.specs.Held.{Held}
 use Rattle.line_parts.specs.Limits.{line_limit}
+use Rattle.line_parts.specs.Numbers.{order_at}
 use Rattle.line_loop.specs.Answering.{IsLine, Answers}
 use Rattle.line_loop.specs.Stands.{Stand, AnsweringWith, by_stand, stand}
 use Rattle.ring_segments.specs.RemarkLaws.{AreLines}
@@ -17,9 +18,9 @@ use Rattle.ring_segments.specs.Remarks.{remark_of, lines_in, remarks_in}
 use Rattle.ring_segments.specs.Spelling.{DigestFits, digest_digits}
 use Rattle.ring_segments.proofs.Remarked.{HasNoHash, plain_then_remarks, remarks_then_remarks}
 use Rattle.line_replica.specs.declared.replica.Replica.{Replica}
-use Rattle.line_replica.specs.Keys.{ToldView, Table, last_of, with_told, turn_by, turn_after, first_line, forgotten_if}
+use Rattle.line_replica.specs.Keys.{ToldView, Table, last_of, with_told, turn_by, turn_after, first_line, line_to_asker, forgotten_if}
 use Rattle.line_replica.specs.Log.{Numbers, numbers_of, given, given_of, numbers_after}
-use Rattle.line_replica.specs.Reading.{Heard, Tagged, Place, Digest, Plain, heard, did_at, is_forget, kept_text}
+use Rattle.line_replica.specs.Reading.{Heard, Tagged, Place, Digest, Plain, heard, did_at, is_forget, may_follow, is_to_asker, kept_text}
 use Rattle.line_replica.specs.Replies.{IsTold, IsTagTaken, IsAnsweredOnce, IsReplied, IsHeard, turn_of, forget_note}
 use Rattle.line_replica.specs.Running.{RunningView, at_place, with_said, next_of, place_line}
 use Rattle.line_replica.specs.State.{key_line, kept_line, forget_line, own_lines, remarks_of}
@@ -35,7 +36,7 @@ use Rattle.lock_laws.proofs.Heard.{IsOfKey, IsReadSo, read_so}
 use Rattle.lock_laws.proofs.KeyLines.{key_tagged, spaced_short, first_digits}
 use Rattle.lock_laws.proofs.KeysBack.{key_line_told, place_line_told, same_running, keys_come_back}
 use Rattle.lock_laws.proofs.Longer.{served_lines_are_answered}
-use Rattle.lock_laws.proofs.SoundKeys.{text_kept, did_is, answer_kept, next_fits, grown_behind, sound_stays, own_lines_are_lines}
+use Rattle.lock_laws.proofs.SoundKeys.{text_kept, did_is, own_kept, next_fits, grown_behind, sound_stays, own_lines_are_lines}
 use Rattle.lock_laws.proofs.WholeTexts.{notes_of_lines}
 use Rattle.lock_laws.proofs.WithoutRemarks.{lines_bring, all_end_once, parts, begun_ends, begun_no_hash, no_hash_noted}
 
@@ -47,9 +48,6 @@ short_forget k n few small =
     let b = length-append (spaced n) (codes "forget\n") in
     omega (arith, spaced_short k few, spaced_short n small, a, b)
 
-hears_forget : (k n : ℕ) → k < 2 ^ 64 → n < 2 ^ 64 → heard (forget_line (record { key = k; number = n })) ≡ Tagged (record { key = k; number = n }) (codes "forget\n")
-hears_forget k n few small = sym (is_tagged (forget_line (record { key = k; number = n })) (codes "forget\n") (record { key = k; number = n }) (short_forget k n few small) (sym (key_tagged k n (codes "forget\n") few small)))
-
 no_did : did_at (codes "forget\n") ≡ None
 unfolding did_at word_at
 no_did = refl
@@ -57,6 +55,13 @@ no_did = refl
 forgets : is_forget (codes "forget\n") ≡ true
 unfolding is_forget word_at
 forgets = refl
+
+forget_follows : may_follow (codes "forget\n") ≡ true
+unfolding may_follow did_at is_forget word_at
+forget_follows = refl
+
+hears_forget : (k n : ℕ) → k < 2 ^ 64 → n < 2 ^ 64 → heard (forget_line (record { key = k; number = n })) ≡ Tagged (record { key = k; number = n }) (codes "forget\n")
+hears_forget k n few small = sym (is_tagged (forget_line (record { key = k; number = n })) (codes "forget\n") (record { key = k; number = n }) (short_forget k n few small) (sym (key_tagged k n (codes "forget\n") few small forget_follows)))
 
 -- ---- the digest at the last place
 
@@ -154,15 +159,15 @@ module _ {S : Type 0} (A : AnsweringWith S) where
     stays e = ap at_last e ∙ last_stays old.running said sound.running
 
     module _ (k n : ℕ) (rest : List ℕ) (of : IsOfKey k n rest line) (e : new.running ≡ with_said old.running said) where
-      fresh : new.numbered.keys ≡ with_told old.numbered.keys k n (first_line said) → Brings old new (kept_line (record { key = k; number = n }) (first_line said) ∷ [])
-      fresh keys = brings_key old new (k, record { number = n; first = first_line said }) (answer_kept k n of.key_small of.number_small (first_line said) keepable.first keepable.short) keys (stays e)
+      fresh : new.numbered.keys ≡ with_told old.numbered.keys k n (line_to_asker rest said) → Brings old new (kept_line (record { key = k; number = n }) (line_to_asker rest said) ∷ [])
+      fresh keys = brings_key old new (k, record { number = n; first = line_to_asker rest said }) (own_kept k n of.key_small of.number_small (is_to_asker (order_at 32 rest) said) (first_line said) keepable.first keepable.short) keys (stays e)
 
-      by_rank : (last : ℕ) (r : Ordering) → IsAnsweredOnce A (turn_by r last) (record { key = k; number = n }) old.numbered was rest said noted new.numbered is → Brings old new (own_at (turn_by r last) (record { key = k; number = n }) said)
+      by_rank : (last : ℕ) (r : Ordering) → IsAnsweredOnce A (turn_by r last) (record { key = k; number = n }) old.numbered was rest said noted new.numbered is → Brings old new (own_at (turn_by r last) (record { key = k; number = n }) rest said)
       by_rank last Less t = brings_none old new t.keys_are (stays e)
       by_rank last Equal t = brings_none old new t.keys_are (stays e)
       by_rank last Greater p = fresh p.keys_are
 
-      by_last : (o : Option ℕ) → IsAnsweredOnce A (turn_after o n) (record { key = k; number = n }) old.numbered was rest said noted new.numbered is → Brings old new (own_at (turn_after o n) (record { key = k; number = n }) said)
+      by_last : (o : Option ℕ) → IsAnsweredOnce A (turn_after o n) (record { key = k; number = n }) old.numbered was rest said noted new.numbered is → Brings old new (own_at (turn_after o n) (record { key = k; number = n }) rest said)
       by_last None p = fresh p.keys_are
       by_last (Some last) a = by_rank last (nat_cmp n last) a
 
@@ -178,7 +183,7 @@ module _ {S : Type 0} (A : AnsweringWith S) where
       by_word : (b : Bool) →
           cond b (IsTold [] (forgotten_if (turn_of old.numbered.keys (record { key = k; number = n })) old.numbered.keys k) (forget_note (turn_of old.numbered.keys (record { key = k; number = n })) (record { key = k; number = n })) old.numbered was said noted new.numbered is)
           (IsAnsweredOnce A (turn_of old.numbered.keys (record { key = k; number = n })) (record { key = k; number = n }) old.numbered was rest said noted new.numbered is) →
-          Brings old new (cond b (own_forget (turn_of old.numbered.keys (record { key = k; number = n })) (record { key = k; number = n })) (own_at (turn_of old.numbered.keys (record { key = k; number = n })) (record { key = k; number = n }) said))
+          Brings old new (cond b (own_forget (turn_of old.numbered.keys (record { key = k; number = n })) (record { key = k; number = n })) (own_at (turn_of old.numbered.keys (record { key = k; number = n })) (record { key = k; number = n }) rest said))
       by_word true t = forget_last (last_of old.numbered.keys k) refl t.keys_are
       by_word false a = by_last (last_of old.numbered.keys k) a
 

@@ -17,12 +17,13 @@ use Rattle.lock_lines.proofs.Fronts.{some_is}
 use Rattle.text_lines.specs.Spelling.{spaced}
 use Rattle.text_lines.specs.Reading.{word_at}
 use Rattle.line_parts.specs.Limits.{line_limit}
+use Rattle.line_parts.specs.Numbers.{order_at}
 use Rattle.line_loop.specs.Answering.{IsLine, HasNoEnd}
 use Rattle.line_loop.specs.Stands.{AnsweringWith}
 use Rattle.ring_segments.specs.Spelling.{DigestFits, digest_digits}
 use Rattle.line_replica.specs.declared.replica.Replica.{Replica}
-use Rattle.line_replica.specs.Keys.{ToldView, Table, last_of, with_told, without, turn_by, turn_after, first_line, forgotten_if}
-use Rattle.line_replica.specs.Reading.{Heard, Tagged, Place, Digest, Plain, heard, did_at, is_forget, kept_text, on_read}
+use Rattle.line_replica.specs.Keys.{ToldView, Table, last_of, with_told, without, turn_by, turn_after, first_line, line_to_asker, forgotten_if}
+use Rattle.line_replica.specs.Reading.{Heard, Tagged, Place, Digest, Plain, heard, did_at, is_forget, is_to_asker, kept_text, on_read}
 use Rattle.line_replica.specs.Replies.{IsTold, IsTagTaken, IsPlaced, IsHeard, IsAnsweredOnce, turn_of, forget_note}
 use Rattle.line_replica.specs.Running.{RunningView, at_place, with_said, grown, next_of, place_line}
 use Rattle.line_replica.specs.State.{key_line, key_lines, did_text, lines_at}
@@ -126,6 +127,11 @@ answer_kept k n few small (b ∷ bs) is short = record {
   short = let s = key_front k n few small (b ∷ bs) in omega (arith, s, short);
 }
 
+-- the same where it is kept only if it is for the client that asked
+pub own_kept : (k n : ℕ) → k < 2 ^ 64 → n < 2 ^ 64 → (told : Bool) (first : List ℕ) → IsFirst first → length first + 46 ≤ line_limit → IsKept (k, record { number = n; first = cond told first [] })
+own_kept k n few small true first is short = answer_kept k n few small first is short
+own_kept k n few small false first is short = none_kept k n few small
+
 word_is : (word bytes rest : List ℕ) → word_at word bytes ≡ Ok rest → bytes ≡ word ++ rest
 unfolding word_at
 word_is [] bytes rest e = ok_is bytes rest e
@@ -204,10 +210,10 @@ module _ {S : Type 0} (A : AnsweringWith S) (old new : Replica S) (was is : Opti
     by_rank : (last : ℕ) (r : Ordering) → IsAnsweredOnce A (turn_by r last) (record { key = k; number = n }) old.numbered was rest said noted new.numbered is → AreKept new.numbered.keys
     by_rank last Less t = still old.numbered.keys kept t.keys_are
     by_rank last Equal t = still old.numbered.keys kept t.keys_are
-    by_rank last Greater t = still _ (kept_inserted old.numbered.keys k n (first_line said) kept (answer_kept k n few small (first_line said) begins.first begins.short)) t.keys_are
+    by_rank last Greater t = still _ (kept_inserted old.numbered.keys k n (line_to_asker rest said) kept (own_kept k n few small (is_to_asker (order_at 32 rest) said) (first_line said) begins.first begins.short)) t.keys_are
 
     by_last : (o : Option ℕ) → IsAnsweredOnce A (turn_after o n) (record { key = k; number = n }) old.numbered was rest said noted new.numbered is → AreKept new.numbered.keys
-    by_last None t = still _ (kept_inserted old.numbered.keys k n (first_line said) kept (answer_kept k n few small (first_line said) begins.first begins.short)) t.keys_are
+    by_last None t = still _ (kept_inserted old.numbered.keys k n (line_to_asker rest said) kept (own_kept k n few small (is_to_asker (order_at 32 rest) said) (first_line said) begins.first begins.short)) t.keys_are
     by_last (Some last) t = by_rank last (nat_cmp n last) t
 
     forgotten_at : (last : ℕ) (r : Ordering) → AreKept (forgotten_if (turn_by r last) old.numbered.keys k)

@@ -9,7 +9,7 @@ use Rattle.disks.specs.Held.{Held}
 use Rattle.line_loop.specs.Answering.{IsLine, Answers}
 use Rattle.line_loop.specs.Stands.{Stand, by_stand, stand}
 use Rattle.line_replica.specs.declared.replica.Replica.{Replica}
-use Rattle.line_replica.specs.Keys.{ToldView, Table, first_line, last_of, turn_by, turn_after, with_told, forgotten_if}
+use Rattle.line_replica.specs.Keys.{ToldView, Table, line_to_asker, last_of, turn_by, turn_after, with_told, forgotten_if}
 use Rattle.line_replica.specs.Reading.{Heard, Tagged, Place, Digest, Plain, heard, did_at, is_forget, kept_text}
 use Rattle.line_replica.specs.Replies.{IsTold, IsDone, IsHeard, IsAnsweredOnce, IsTagTaken, IsReplied, turn_of, forget_note}
 use Rattle.line_replica.specs.Running.{RunningView, with_said, at_place, next_of}
@@ -61,7 +61,7 @@ module _ (old new : Replica LockService) (was is : Option Held) (line said noted
     told first is_line = inserted (λ (e : ℕ × ToldView). IsLine (key_line e)) old.numbered.keys k (record { number = n; first = first }) t.keys is_line
 
     fresh : IsDone IsServed (record { key = k; number = n }) old.numbered was rest said noted new.numbered is → AreKeyLines new.numbered.keys
-    fresh p = still (with_told old.numbered.keys k n (first_line said)) (told (first_line said) (brings.done (record { key = k; number = n }) rest p.inside h p.answered)) p.keys_are
+    fresh p = still (with_told old.numbered.keys k n (line_to_asker rest said)) (told (line_to_asker rest said) (brings.done (record { key = k; number = n }) rest p.inside h p.answered)) p.keys_are
 
     by_rank : (last : ℕ) (r : Ordering) → IsAnsweredOnce IsServed (turn_by r last) (record { key = k; number = n }) old.numbered was rest said noted new.numbered is → AreKeyLines new.numbered.keys
     by_rank last Less a = still old.numbered.keys t.keys a.keys_are

@@ -5,6 +5,7 @@ use Rattle.std.specs.List.{filter, flat_map, list_any, AllByRecursion}
 use Rattle.std.proofs.lemmas.Bool.{ne_eqb}
 use Rattle.std.proofs.lemmas.List.Folds.{list_any-append}
 use Rattle.text_lines.specs.Spelling.{spaced, ended}
+use Rattle.line_parts.specs.Numbers.{order_at}
 use Rattle.line_loop.specs.Answering.{IsLine}
 use Rattle.line_loop.specs.Stands.{Stand, stand}
 use Rattle.ring_saved.specs.Versions.{latest_version}
@@ -19,11 +20,11 @@ use Rattle.ring_segments.specs.Remarks.{IsEnded, lines_in, is_remark, without_re
 use Rattle.ring_segments.proofs.Remarked.{HasNoHash, last_line, plain_then, remarks_then}
 use Rattle.ring_segments.proofs.Hashless.{no_hash_append, no_hash_call, no_hash_head}
 use Rattle.line_replica.specs.declared.replica.Replica.{Replica}
-use Rattle.line_replica.specs.Keys.{first_line}
+use Rattle.line_replica.specs.Keys.{first_line, line_to_asker}
 use Rattle.line_replica.specs.Log.{Numbers, numbers_of, given, given_of, numbers_after}
 use Rattle.line_replica.specs.Noted.{AreGiven}
 use Rattle.line_replica.specs.Replies.{IsReplied}
-use Rattle.line_replica.specs.Reading.{Heard, Tagged, Place, Digest, heard, kept_text}
+use Rattle.line_replica.specs.Reading.{Heard, Tagged, Place, Digest, heard, is_to_asker, kept_text}
 use Rattle.line_replica.specs.Running.{next_of}
 use Rattle.line_replica.specs.State.{did_text, own_lines, remarks_of}
 use Rattle.line_replica.proofs.Given.{BringAll, taken, given_inside}
@@ -52,6 +53,10 @@ first_is_line [] f = refl
 first_is_line (b ∷ bs) (inl e) = absurd cc
 first_is_line (b ∷ bs) (inr f) = f
 
+if_to_asker : (told : Bool) (first : List ℕ) → (first ≡ []) ⊎ IsLine first → (cond told first [] ≡ []) ⊎ IsLine (cond told first [])
+if_to_asker true first e = e
+if_to_asker false first e = inl refl
+
 read_as : (line : List ℕ) (h : Heard) → heard line ≡ h → IsReadSo line h
 read_as line h e = subst (λ (x : Heard). IsReadSo line x) e (read_so line)
 
@@ -61,7 +66,7 @@ lines_bring since old new was is line said is_line = record {
       let of : IsOfKey tag.key tag.number rest line = read_as line (Tagged tag rest) e in
       line_behind (spaced tag.key) _ (spaced_ends tag.key of.key_small)
       (line_behind (spaced tag.number) _ (spaced_ends tag.number of.number_small)
-      (line_behind (codes "did ") (did_text (first_line said)) word_ends (first_is_line (first_line said) (first_of_lines said (of_lines old new was is rest said inside a).told))));
+      (line_behind (codes "did ") (did_text (line_to_asker rest said)) word_ends (first_is_line (line_to_asker rest said) (if_to_asker (is_to_asker (order_at 32 rest) said) (first_line said) (first_of_lines said (of_lines old new was is rest said inside a).told)))));
   did = λ tag rest text e d.
       let of : IsOfKey tag.key tag.number rest line = read_as line (Tagged tag rest) e in
       let spelled : IsOfKey tag.key tag.number (codes "did " ++ text) line = subst (λ (u : List ℕ). IsOfKey tag.key tag.number u line) (did_is rest text d) of in

@@ -7,7 +7,7 @@ use std::hash::{DefaultHasher, Hasher};
 use std::mem;
 use wozgirt_engine::decimal;
 
-/// What is known of a key: the last number, and the first line of its answer.
+/// What is known of a key: the last number, and the first line of its answer, if it is for the client that asked.
 struct Last {
     number: u64,
     answer: String,
@@ -22,6 +22,11 @@ pub fn digest(bytes: &[u8]) -> String {
         format!("{:016x}", hasher.finish())
     };
     (0..4).map(part).collect()
+}
+
+/// The connection with which a call or an answer begins, if a space follows it.
+fn connection_of(line: &str) -> Option<u64> {
+    line.split_once(' ').and_then(|(connection, _)| decimal(connection).ok())
 }
 
 pub struct Keyed {
@@ -59,7 +64,8 @@ impl Keyed {
             }
             (_, Ok(key), Some(rest)) => match rest.strip_prefix("did ") {
                 Some(answer) => self.keep(key, number, answer.into()),
-                None => self.tell_all(|it| it.input(key, number, rest)),
+                None if connection_of(rest).is_some() => self.tell_all(|it| it.input(key, number, rest)),
+                None => self.tell_all(|it| it.locks.line(line)),
             },
             _ => self.tell_all(|it| it.locks.line(line)),
         }
@@ -112,7 +118,8 @@ impl Keyed {
             }
             _ => {
                 self.locks.line(input);
-                let answer = self.locks.answers.lines().next().unwrap_or("").into();
+                let first = self.locks.answers.lines().next();
+                let answer = first.filter(|first| connection_of(first) == connection_of(input)).unwrap_or("").into();
                 self.keep(key, number, answer);
             }
         }
@@ -167,6 +174,14 @@ mod tests {
                 let zeros = "0".repeat(64);
                 format!("hold 0 2 9\n7 2 did 7 released 0\n9 1 did 9 waiting 0 0\nat 0 {zeros}\nstate 4\n")
             }),
+            ("7 3 acquire 0 5", "7 refused syntax\n".into()),
+            ("7 3 did", "7 refused syntax\n".into()),
+            ("7 2 7 release 0 1", "7 released 0\n".into()),
+            ("8 1 9 leave", String::new()),
+            ("5 1 5 acquire 0 7", "5 granted 0 3\n".into()),
+            ("3 1 3 acquire 0 8", "3 waiting 0 0\n".into()),
+            ("8 2 5 leave", "3 granted 0 4\n".into()),
+            ("8 2 5 leave", String::new()),
             ("7 2 forget", String::new()),
             ("7 1 7 cancel 0", "7 refused waiter 0\n".into()),
         ] {
