@@ -16,7 +16,7 @@ KIT = os.path.dirname(os.path.dirname(os.path.realpath(shutil.which("rt") or sys
 
 HEAD = re.compile(r"^(?:(?:abbrev|unfoldable|opaque) )*pub (?:(?:record|data) )?([^\s:(]+)")
 SECTION = re.compile(r"^module _ (.*) where$")
-USE = re.compile(r"^use Rattle\.(\w+)\.specs\.([\w.]+)\.\{(.*)\}")
+USE = re.compile(r"^(?:pub )?use Rattle\.(\w+)\.specs\.([\w.]+)\.\{(.*)\}")
 
 
 class File:
@@ -77,6 +77,8 @@ def files_below(top, words):
         file = files.setdefault((crate, module), None) or File(path)
         files[crate, module] = file
         names = needed.setdefault((crate, module), set())
+        if name not in file.lines_of:
+            queue += [file.imports[name]] if name in file.imports else []  # it is handed on
         if name in names or name not in file.lines_of:
             continue
         names.add(name)

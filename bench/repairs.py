@@ -1,5 +1,5 @@
-"""Searches for the slowest repairs of rings of n machines with K = n values, and prints them as the table of docs/THEORY.md. Words:
-the greatest n for the longest repair, from 2 to 10, and for the others, from 2 to 7; 8 and 6 if there are none. It takes 5
+"""Searches for the slowest repairs of rings of n machines with K = n values, and prints them as a table (docs/THEORY.md). Words: the
+greatest n for the longest repair, from 2 to 10, and for the others, from 2 to 7; 8 and 6 if there are none. It takes 5
 seconds; with `10 7` a quarter of an hour. Only the standard library is used, and nothing of this repository.
 
 A state is the values of machines 1 to n - 1 less that of machine 0, modulo K, as bytes: to add a number to all values changes no

@@ -21,7 +21,7 @@ from harness import FOLDER, stop_all
 
 LIMIT, LAST_LIMIT = 120, 30
 # Most tests wait most of their time
-SIDE_BY_SIDE = 2 * (os.cpu_count() or 1)
+SIDE_BY_SIDE = 2 * len(os.sched_getaffinity(0))
 BUSY = ("test_floods.py", "test_noise.py")
 
 #: groups of the processes that run files, and the folder for what they make
