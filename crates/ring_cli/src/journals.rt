@@ -68,8 +68,8 @@ line of standard input is a call, of at most 8192 bytes with its end, and has on
 Any other line, and a call that cannot be done, changes nothing: it is answered `refused` and why, as `syntax`, `off`
 where it is not permitted, `order`, `ring`, `seat`, `machine`, `value`, `group`, `privileged MACHINE`, `whole`, `full`,
 `memory`, `name` where NAME has other bytes than ASCII letters, digits, `.`, `_` and `-`, or begins with `.`, or `file`
-where it cannot be saved in, or is the journal. The answers leave before more is read, and what stands behind the last
-end of a line is no call. At the end of standard input the totals of all rings go to standard error.
+where it cannot be saved in, or is the journal or HISTORY. The answers leave before more is read, and what stands behind
+the last end of a line is no call. At the end of standard input the totals of all rings go to standard error.
 
 With `--journal` each call is in the journal, and the journal on the disk, before its answer leaves: what was answered is
 there wherever the process ends, and after the machine loses power. With `--no-sync` the system has the journal before
