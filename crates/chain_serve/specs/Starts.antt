@@ -38,17 +38,17 @@ replaced_known None is name contents r k = absurd (false≢true k)
 replaced_known (Some was) None name contents r k = absurd r
 replaced_known (Some was) (Some is) name contents r k = k
 
-save_known : (journal saves : Option (List ℕ)) (was is : Option Held) (name : List ℕ) (rings : List Standing) (given : Answer) → IsSaveGiven journal saves was is name rings given → IsSome was → IsSome is
-save_known journal None was is name rings given g k = same_known was is g.1 k
-save_known journal (Some folder) was is name rings given (inl (plain, inl s)) k = replaced_known was is _ _ s.1 k
-save_known journal (Some folder) was is name rings given (inl (plain, inr s)) k = same_known was is s.1 k
-save_known journal (Some folder) was is name rings given (inr s) k = same_known was is s.2 k
+save_known : (journal history saves : Option (List ℕ)) (was is : Option Held) (name : List ℕ) (rings : List Standing) (given : Answer) → IsSaveGiven journal history saves was is name rings given → IsSome was → IsSome is
+save_known journal history None was is name rings given g k = same_known was is g.1 k
+save_known journal history (Some folder) was is name rings given (inl (plain, inl s)) k = replaced_known was is _ _ s.1 k
+save_known journal history (Some folder) was is name rings given (inl (plain, inr s)) k = same_known was is s.1 k
+save_known journal history (Some folder) was is name rings given (inr s) k = same_known was is s.2 k
 
-given_known : (journal saves : Option (List ℕ)) (was is : Option Held) (name : List ℕ) (rings : List Standing) (asked given : Answer) → IsGiven journal saves was is name rings asked given → IsSome was → IsSome is
-given_known journal saves was is name rings answer.Saved given g k = save_known journal saves was is name rings given g k
-given_known journal saves was is name rings asked given g k = same_known was is g.1 k
+given_known : (journal history saves : Option (List ℕ)) (was is : Option Held) (name : List ℕ) (rings : List Standing) (asked given : Answer) → IsGiven journal history saves was is name rings asked given → IsSome was → IsSome is
+given_known journal history saves was is name rings answer.Saved given g k = save_known journal history saves was is name rings given g k
+given_known journal history saves was is name rings asked given g k = same_known was is g.1 k
 
 pub knows : KeepsKnown IsServed
 knows old new was is line said noted a k =
     let terms = terms_of old in
-    given_known terms.journal terms.saves was is (name_in line) new.rings a.answered.turn.answer a.answered.given a.answered.gives k
+    given_known terms.journal terms.history terms.saves was is (name_in line) new.rings a.answered.turn.answer a.answered.given a.answered.gives k

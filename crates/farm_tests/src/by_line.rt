@@ -18,6 +18,7 @@ use std::process::Abort;
 const NOTHING: Permits<'static> = Permits {
     faults: false,
     saves: None,
+    history: None,
     strict: false,
 };
 

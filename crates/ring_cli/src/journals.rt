@@ -70,8 +70,8 @@ standard input is a call, of at most 8192 bytes with its end, and has one line f
 Any other line, and a call that cannot be done, changes nothing: the answer is `refused` and the reason, as `syntax`, `off`
 if it is not permitted, `order`, `ring`, `seat`, `machine`, `value`, `group`, `privileged MACHINE`, `whole`, `full`,
 `memory`, `name` if NAME has other bytes than ASCII letters, digits, `.`, `_` and `-`, or begins with `.`, or `file` if the
-rings cannot be saved in it, or it is the journal. The answers leave before more is read. A last line without a newline is
-ignored. At the end of standard input the totals of all rings go to standard error.
+rings cannot be saved in it, or it is the journal or HISTORY. The answers leave before more is read. A last line without a
+newline is ignored. At the end of standard input the totals of all rings go to standard error.
 
 With `--journal` each pass, group, fault and survey is in the journal, and the journal on the disk, before its answer leaves:
 what was answered is there wherever the process ends, and after the machine loses power. With `--no-sync` the system has the

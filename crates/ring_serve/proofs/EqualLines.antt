@@ -20,14 +20,14 @@ abbrev unsaved : Answer → Answer
 unsaved answer.Saved = answer.Refused refusal.Off
 unsaved asked = asked
 
-given_is : (journal : Option (List ℕ)) (was is : Option Held) (name : List ℕ) (rings : List Standing) (asked given : Answer) → IsGiven journal None was is name rings asked given → given ≡ unsaved asked
-given_is journal was is name rings (answer.Granted number result) given g = g.0
-given_is journal was is name rings answer.Waits given g = g.0
-given_is journal was is name rings (answer.Corrupted old) given g = g.0
-given_is journal was is name rings (answer.Survey s) given g = g.0
-given_is journal was is name rings (answer.Block first count) given g = g.0
-given_is journal was is name rings answer.Saved given g = g.0
-given_is journal was is name rings (answer.Refused why) given g = g.0
+given_is : (journal history : Option (List ℕ)) (was is : Option Held) (name : List ℕ) (rings : List Standing) (asked given : Answer) → IsGiven journal history None was is name rings asked given → given ≡ unsaved asked
+given_is journal history was is name rings (answer.Granted number result) given g = g.0
+given_is journal history was is name rings answer.Waits given g = g.0
+given_is journal history was is name rings (answer.Corrupted old) given g = g.0
+given_is journal history was is name rings (answer.Survey s) given g = g.0
+given_is journal history was is name rings (answer.Block first count) given g = g.0
+given_is journal history was is name rings answer.Saved given g = g.0
+given_is journal history was is name rings (answer.Refused why) given g = g.0
 
 right_of : (terms : Terms) (old new : List Standing) (was is : Option Held) (line said noted : List ℕ) → terms.strict ≡ true → (a : IsAnswered terms old was line said noted new is) → IsRightTurn terms.faults old line a.turn
 right_of terms old new was is line said noted strict a =
@@ -42,8 +42,8 @@ line_alike : (terms : Terms) (old new other : List Standing) (before after was i
     IsAnswered terms old before line said noted new after → IsAnswered terms old was line told kept other is → IsAnsweredAlike said noted told kept new other
 line_alike terms old new other before after was is line said noted told kept strict saves a b =
     let turn : b.turn ≡ a.turn = one_turn terms.faults old line b.turn a.turn (right_of terms old other was is line told kept strict b) (right_of terms old new before after line said noted strict a) in
-    let first : a.given ≡ unsaved a.turn.answer = given_is terms.journal before after (name_in line) new a.turn.answer a.given (subst (λ (x : Option (List ℕ)). IsGiven terms.journal x before after (name_in line) new a.turn.answer a.given) saves a.gives) in
-    let second : b.given ≡ unsaved b.turn.answer = given_is terms.journal was is (name_in line) other b.turn.answer b.given (subst (λ (x : Option (List ℕ)). IsGiven terms.journal x was is (name_in line) other b.turn.answer b.given) saves b.gives) in
+    let first : a.given ≡ unsaved a.turn.answer = given_is terms.journal terms.history before after (name_in line) new a.turn.answer a.given (subst (λ (x : Option (List ℕ)). IsGiven terms.journal terms.history x before after (name_in line) new a.turn.answer a.given) saves a.gives) in
+    let second : b.given ≡ unsaved b.turn.answer = given_is terms.journal terms.history was is (name_in line) other b.turn.answer b.given (subst (λ (x : Option (List ℕ)). IsGiven terms.journal terms.history x was is (name_in line) other b.turn.answer b.given) saves b.gives) in
     let given : b.given ≡ a.given = second ∙ ap (λ (t : Turn (List Standing)). unsaved t.answer) turn ∙ sym first in record {
       said_is = b.says ∙ ap answer_line given ∙ sym a.says;
       noted_is = b.notes ∙ ap (λ (t : Turn (List Standing)). cond (is_some terms.journal) (notes_of t.recorded) []) turn ∙ sym a.notes;

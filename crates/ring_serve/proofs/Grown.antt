@@ -252,17 +252,17 @@ GivenOf asked given = (given ≡ asked) ⊎ ((asked ≡ answer.Saved) × TellsNo
 no_event : (a given : Answer) → given ≡ a → TellsNoEvent a → TellsNoEvent given
 no_event a given e t = subst TellsNoEvent (sym e) t
 
-given_of : (journal saves : Option (List ℕ)) (was is : Option Held) (name : List ℕ) (rings : List Standing) (asked given : Answer) → IsGiven journal saves was is name rings asked given → GivenOf asked given
-given_of journal None was is name rings answer.Saved given g = inr (refl, no_event (answer.Refused refusal.Off) given g.0 tt)
-given_of journal (Some folder) was is name rings answer.Saved given (inl (p, inl s)) = inr (refl, no_event answer.Saved given s.0 tt)
-given_of journal (Some folder) was is name rings answer.Saved given (inl (p, inr s)) = inr (refl, no_event (answer.Refused refusal.File) given s.0 tt)
-given_of journal (Some folder) was is name rings answer.Saved given (inr s) = inr (refl, no_event (answer.Refused refusal.Name) given s.1 tt)
-given_of journal saves was is name rings (answer.Granted number result) given g = inl g.0
-given_of journal saves was is name rings answer.Waits given g = inl g.0
-given_of journal saves was is name rings (answer.Corrupted old) given g = inl g.0
-given_of journal saves was is name rings (answer.Survey s) given g = inl g.0
-given_of journal saves was is name rings (answer.Block first count) given g = inl g.0
-given_of journal saves was is name rings (answer.Refused why) given g = inl g.0
+given_of : (journal history saves : Option (List ℕ)) (was is : Option Held) (name : List ℕ) (rings : List Standing) (asked given : Answer) → IsGiven journal history saves was is name rings asked given → GivenOf asked given
+given_of journal history None was is name rings answer.Saved given g = inr (refl, no_event (answer.Refused refusal.Off) given g.0 tt)
+given_of journal history (Some folder) was is name rings answer.Saved given (inl (p, inl s)) = inr (refl, no_event answer.Saved given s.0 tt)
+given_of journal history (Some folder) was is name rings answer.Saved given (inl (p, inr s)) = inr (refl, no_event (answer.Refused refusal.File) given s.0 tt)
+given_of journal history (Some folder) was is name rings answer.Saved given (inr s) = inr (refl, no_event (answer.Refused refusal.Name) given s.1 tt)
+given_of journal history saves was is name rings (answer.Granted number result) given g = inl g.0
+given_of journal history saves was is name rings answer.Waits given g = inl g.0
+given_of journal history saves was is name rings (answer.Corrupted old) given g = inl g.0
+given_of journal history saves was is name rings (answer.Survey s) given g = inl g.0
+given_of journal history saves was is name rings (answer.Block first count) given g = inl g.0
+given_of journal history saves was is name rings (answer.Refused why) given g = inl g.0
 
 nothing_given : (asked given : Answer) → GivenOf asked given → TellsNoEvent asked → TellsNoEvent given
 nothing_given asked given (inl e) t = no_event asked given e t
@@ -342,6 +342,6 @@ calls_in terms old mid rings was is (line ∷ lines) said noted h g =
       h.4,
       one,
       h.7,
-      call_in old rings one.turn one.given (answered_outcome terms old h.0 was h.1 line h.2 h.4 one) left (given_of terms.journal terms.saves was h.1 (name_in line) h.0 one.turn.answer one.given one.gives),
+      call_in old rings one.turn one.given (answered_outcome terms old h.0 was h.1 line h.2 h.4 one) left (given_of terms.journal terms.history terms.saves was h.1 (name_in line) h.0 one.turn.answer one.given one.gives),
       calls_in terms h.0 mid rings h.1 is lines h.3 h.5 h.9 g,
     )

@@ -10,13 +10,15 @@ use Rattle.ring_serve.specs.Standings.{Standing}
 use Rattle.ring_serve.specs.Due.{is_due}
 
 -- the terms on which lines are served: the name of the journal's file, if one is kept; whether a
--- line may be a fault, and the folder that one may save all rings in, if there is one; whether
--- memory that is short is never told; how many lines the journal of a segment gets until it is due,
--- if segments end; and the refusal of every line while a segment that is due cannot be ended
+-- line may be a fault, and the folder that one may save all rings in, if there is one; the name of
+-- the history's file, which none replaces, if one was read; whether memory that is short is never
+-- told; how many lines the journal of a segment gets until it is due, if segments end; and the
+-- refusal of every line while a segment that is due cannot be ended
 pub record Terms : Type 0 where
   pub journal : Option (List ℕ)
   pub faults : Bool
   pub saves : Option (List ℕ)
+  pub history : Option (List ℕ)
   pub strict : Bool
   pub limit : Option ℕ
   pub refusing : Option Refusal
@@ -27,6 +29,7 @@ terms_of journal permits = record {
   journal = journal;
   faults = permits.faults;
   saves = option_map (λ folder. folder.now) permits.saves;
+  history = option_map (λ name. name.now) permits.history;
   strict = permits.strict;
   limit = None;
   refusing = None;
@@ -39,6 +42,7 @@ terms_in journal permits (Some ends) = record {
   journal = journal;
   faults = permits.faults;
   saves = option_map (λ folder. folder.now) permits.saves;
+  history = option_map (λ name. name.now) permits.history;
   strict = permits.strict;
   limit = Some ends.limit;
   refusing = ends.refusing;
@@ -50,6 +54,7 @@ terms_by rules = record {
   journal = option_map (λ name. name.now) rules.journal;
   faults = rules.permits.faults;
   saves = option_map (λ folder. folder.now) rules.permits.saves;
+  history = option_map (λ name. name.now) rules.permits.history;
   strict = rules.permits.strict;
   limit = rules.limit;
   refusing = rules.refusing;

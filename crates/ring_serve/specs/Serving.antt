@@ -27,39 +27,42 @@ use Rattle.ring_serve.specs.Notes.{notes_of}
 abbrev pub name_in : List ℕ → List ℕ
 name_in line = drop 5 (take (length line - 1) line)
 
--- The file of this name is not the journal's, if one is kept and it is known where names lead.
-abbrev pub IsNoJournal : Option Held → Option (List ℕ) → List ℕ → Type 0
-IsNoJournal files journal file =
-    IfSome files (λ held. IfSome journal (λ name. IsOneFile held name file → ⊥))
+-- The file of this name is not the one of the other name, if there is such a name and it is known
+-- where names lead.
+abbrev pub IsApartFrom : Option Held → Option (List ℕ) → List ℕ → Type 0
+IsApartFrom files other file =
+    IfSome files (λ held. IfSome other (λ name. IsOneFile held name file → ⊥))
 
--- The file of this name holds the text of the rings, which is legal, it is not the journal's, and
--- that is the answer; or this was not done, no file has changed, and that is the refusal.
-abbrev pub IsSaved : Option (List ℕ) → Option Held → Option Held → List ℕ → List Standing → Answer
-    → Type 0
-IsSaved journal was is file rings given =
+-- The file of this name holds the text of the rings, which is legal, it is neither the journal's nor
+-- the history's, and that is the answer; or this was not done, no file has changed, and that is the
+-- refusal.
+abbrev pub IsSaved : Option (List ℕ) → Option (List ℕ) → Option Held → Option Held → List ℕ
+    → List Standing → Answer → Type 0
+IsSaved journal history was is file rings given =
     ((given ≡ answer.Saved)
     × Replaces was is file (Some (text (content_of rings)))
     × IsLegalText (content_of rings)
-    × IsNoJournal was journal file)
+    × IsApartFrom was journal file
+    × IsApartFrom was history file)
     ⊎ ((given ≡ answer.Refused refusal.File) × (is ≡ was))
 
 -- All rings are to be saved: in the folder that this is permitted in, if the name is a plain one.
 -- Where it is permitted in none, or the name is not plain, that is the refusal.
-abbrev pub IsSaveGiven : Option (List ℕ) → Option (List ℕ) → Option Held → Option Held → List ℕ
-    → List Standing → Answer → Type 0
-IsSaveGiven journal None was is name rings given =
+abbrev pub IsSaveGiven : Option (List ℕ) → Option (List ℕ) → Option (List ℕ) → Option Held
+    → Option Held → List ℕ → List Standing → Answer → Type 0
+IsSaveGiven journal history None was is name rings given =
     (given ≡ answer.Refused refusal.Off) × (is ≡ was)
-IsSaveGiven journal (Some folder) was is name rings given =
-    ((is_plain name ≡ true) × IsSaved journal was is (file_in folder name) rings given)
+IsSaveGiven journal history (Some folder) was is name rings given =
+    ((is_plain name ≡ true) × IsSaved journal history was is (file_in folder name) rings given)
     ⊎ ((is_plain name ≡ false) × (given ≡ answer.Refused refusal.Name) × (is ≡ was))
 
 -- A turn that asks for the rings to be saved is answered by what came of that. Every other turn is
 -- answered as it says, and no file changes.
-abbrev pub IsGiven : Option (List ℕ) → Option (List ℕ) → Option Held → Option Held → List ℕ
-    → List Standing → Answer → Answer → Type 0
-IsGiven journal saves was is name rings answer.Saved given =
-    IsSaveGiven journal saves was is name rings given
-IsGiven journal saves was is name rings asked given = (given ≡ asked) × (is ≡ was)
+abbrev pub IsGiven : Option (List ℕ) → Option (List ℕ) → Option (List ℕ) → Option Held
+    → Option Held → List ℕ → List Standing → Answer → Answer → Type 0
+IsGiven journal history saves was is name rings answer.Saved given =
+    IsSaveGiven journal history saves was is name rings given
+IsGiven journal history saves was is name rings asked given = (given ≡ asked) × (is ≡ was)
 
 -- The turn of a line: its own, or the refusal if every line is refused.
 abbrev pub IsTurnOn : Option Refusal → Bool → List Standing → List ℕ → Turn (List Standing)
@@ -86,7 +89,8 @@ pub record IsAnswered (terms : Terms) (old : List Standing) (was : Option Held)
   pub goes : IsOpen terms old
   pub of_line : IsTurnOn terms.refusing terms.faults old line turn
   pub heeded : is_stop terms turn.answer ≡ false
-  pub gives : IsGiven terms.journal terms.saves was is (name_in line) new turn.answer given
+  pub gives : IsGiven terms.journal terms.history terms.saves was is (name_in line) new turn.answer
+      given
   pub says : said ≡ answer_line given
   pub notes : noted ≡ cond (is_some terms.journal) (notes_of turn.recorded) []
   pub leaves : turn.leaves ≡ new

@@ -33,9 +33,9 @@ whole_line faults rings full t l h = elim (long_refused faults rings (cut full) 
   | inr e ↦ inr e
 ]
 
-any_name : (journal saves : Option (List ℕ)) (was is : Option Held) (n m : List ℕ) (rings : List Standing) (a given : Answer) (why : Refusal) → a ≡ answer.Refused why → IsGiven journal saves was is n rings a given → IsGiven journal saves was is m rings a given
-any_name journal saves was is n m rings a given why e g =
-    subst (λ (x : Answer). IsGiven journal saves was is m rings x given) (sym e) (subst (λ (x : Answer). IsGiven journal saves was is n rings x given) e g)
+any_name : (journal history saves : Option (List ℕ)) (was is : Option Held) (n m : List ℕ) (rings : List Standing) (a given : Answer) (why : Refusal) → a ≡ answer.Refused why → IsGiven journal history saves was is n rings a given → IsGiven journal history saves was is m rings a given
+any_name journal history saves was is n m rings a given why e g =
+    subst (λ (x : Answer). IsGiven journal history saves was is m rings x given) (sym e) (subst (λ (x : Answer). IsGiven journal history saves was is n rings x given) e g)
 
 refused_why : (faults : Bool) (rings : List Standing) (full : List ℕ) (t : Turn (List Standing)) → line_limit < length full → IsTurnOfLine faults rings (cut full) t → (why : Refusal) × (t.answer ≡ answer.Refused why)
 refused_why faults rings full t l is =
@@ -61,7 +61,7 @@ whole_answer {terms} {old} {new} {was} {is} full l a =
       goes = a.goes;
       of_line = whole_on terms.refusing terms.faults old full a.turn l a.of_line;
       heeded = a.heeded;
-      gives = any_name terms.journal terms.saves was is (name_in (cut full)) (name_in full) new a.turn.answer a.given why.0 why.1 a.gives;
+      gives = any_name terms.journal terms.history terms.saves was is (name_in (cut full)) (name_in full) new a.turn.answer a.given why.0 why.1 a.gives;
       says = a.says;
       notes = a.notes;
       leaves = a.leaves;

@@ -14,6 +14,8 @@ pub struct Permits<'n> {
     pub faults: bool,
     /// The folder that it may save all rings in, if there is one.
     pub saves: Option<&'n str>,
+    /// The file that the rings were read from, if there is one: no save replaces it.
+    pub history: Option<&'n str>,
     /// Whether no line is refused since memory is short, and none is answered while all are refused. Such a line is out of
     /// memory, and nothing has changed.
     pub strict: bool,

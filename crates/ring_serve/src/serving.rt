@@ -14,7 +14,7 @@ ghost use Rattle.ring_serve.specs.Permits.{terms_of, terms_in, terms_by, IsOpen,
 ghost use Rattle.ring_serve.specs.Turns.{recorded_among, turn_seen_among};
 ghost use Rattle.ring_serve.specs.Notes.{notes_of};
 ghost use Rattle.ring_serve.specs.Recovered.{AnsweredCallsAreRecovered};
-ghost use Rattle.ring_serve.specs.Serving.{name_in, IsSaved, IsSaveGiven, IsGiven, IsTurnOn, is_stop, IsAnswered, IsMade, IsNoJournal, is_over_at, held_by, named_by, ServesAll, ServesSome};
+ghost use Rattle.ring_serve.specs.Serving.{name_in, IsSaved, IsSaveGiven, IsGiven, IsTurnOn, is_stop, IsAnswered, IsMade, IsApartFrom, is_over_at, held_by, named_by, ServesAll, ServesSome};
 
 use crate::answers::{Answer, Refusal};
 use crate::permits::{Permits, file_in, is_plain};
@@ -78,10 +78,10 @@ fn put_trace<J: Write>(served: &Served, turn: LineAnswer, notes: &mut J) -> Resu
     }
 }
 
-/// Whether a name may lead to the journal's file.
+/// Whether a name may lead to the journal's file, or to the history's, if that is the one to look at.
 fn may_be_journal<D: Disk>(disk: &D, journal: Option<&str>, name: &str) -> bool
     ensures { IsFalse result
-        → IsNoJournal (D.holds disk.now) (option_map (λ n. n.now) journal.entry) name.now }
+        → IsApartFrom (D.holds disk.now) (option_map (λ n. n.now) journal.entry) name.now }
 {
     match journal {
         None => false,
@@ -105,10 +105,12 @@ fn save_in<D: Disk>(
     served: &Served,
     disk: &mut D,
     journal: Option<&str>,
+    history: Option<&str>,
     folder: &str,
     name: &[u8],
 ) -> bool
-    ensures { IsSaved (option_map (λ n. n.now) journal.entry) (D.holds disk.old) (D.holds disk.new)
+    ensures { IsSaved (option_map (λ n. n.now) journal.entry)
+        (option_map (λ n. n.now) history.entry) (D.holds disk.old) (D.holds disk.new)
         (file_in folder.now name.now) served.now
         (cond result answer.Saved (answer.Refused refusal.File)) }
 {
@@ -119,6 +121,9 @@ fn save_in<D: Disk>(
         return false;
     };
     if may_be_journal(disk, journal, file.as_str()) {
+        return false;
+    }
+    if may_be_journal(disk, history, file.as_str()) {
         return false;
     }
     save_rings(alloc, disk, served, file.as_str())
@@ -132,8 +137,9 @@ fn save<D: Disk>(
     rules: Rules<'_, '_>,
     name: &[u8],
 ) -> Answer
-    ensures { IsSaveGiven (terms_by rules.entry).journal (terms_by rules.entry).saves
-        (D.holds disk.old) (D.holds disk.new) name.now served.now result }
+    ensures { IsSaveGiven (terms_by rules.entry).journal (terms_by rules.entry).history
+        (terms_by rules.entry).saves (D.holds disk.old) (D.holds disk.new) name.now served.now
+        result }
 {
     let Some(folder) = rules.permits.saves else {
         return Answer::Refused(Refusal::Off);
@@ -141,7 +147,8 @@ fn save<D: Disk>(
     if !is_plain(name) {
         return Answer::Refused(Refusal::Name);
     }
-    if save_in(alloc, served, disk, rules.journal, folder, name) {
+    let history = rules.permits.history;
+    if save_in(alloc, served, disk, rules.journal, history, folder, name) {
         Answer::Saved
     } else {
         Answer::Refused(Refusal::File)
@@ -157,8 +164,8 @@ fn give<D: Disk>(
     line: &[u8],
     asked: Answer,
 ) -> Answer
-    ensures { IsGiven (terms_by rules.entry).journal (terms_by rules.entry).saves
-        (D.holds disk.old) (D.holds disk.new) (name_in line.now) served.now asked result }
+    ensures { IsGiven (terms_by rules.entry).journal (terms_by rules.entry).history
+        (terms_by rules.entry).saves (D.holds disk.old) (D.holds disk.new) (name_in line.now) served.now asked result }
 {
     match asked {
         Answer::Saved => save(alloc, served, disk, rules, name_of(line)),

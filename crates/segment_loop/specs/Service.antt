@@ -1,5 +1,5 @@
 -- Lines that are served with a journal in a chain of segment files (this project's own).
-use Rattle.std.specs.Prelude.{◌≡◌, ℕ, ◌≤◌, ◌^◌, List, [], ◌∷◌, ◌++◌, length, Option, ◌⊎◌}
+use Rattle.std.specs.Prelude.{◌≡◌, ℕ, ◌≤◌, ◌^◌, List, [], ◌∷◌, ◌++◌, length, Option, Some, ◌⊎◌}
 use Rattle.std.specs.List.{AllByRecursion}
 use Rattle.std.specs.Io.KnownBytes.{Appends, Consumes, IsAtEnd}
 use Rattle.disks.specs.Held.{Held}
@@ -9,6 +9,7 @@ use Rattle.line_loop.specs.Answering.{IsLine, HasNoEnd, Answers, joined_lines}
 use Rattle.line_loop.specs.Stands.{AnsweringWith, by_stand, stand}
 use Rattle.line_loop.specs.Loop.{Stops}
 use Rattle.segment_loop.specs.declared.segmented.EndFault.{EndFault}
+use Rattle.segment_loop.specs.declared.segmented.EndFault.TheVariants as end
 use Rattle.segment_loop.specs.Segmenting.{Segmenting}
 use Rattle.segment_loop.specs.Segments.{Moment, stand_of, IsReady, IsLeft}
 
@@ -71,6 +72,12 @@ IsStopped A G folder mid new is before after behind =
     × IsReady G folder kept mid from
     × Stops (by_stand A) (stand_of from) (record { journal = from.journal; out = before })
     (record { journal = journal; out = after }) behind (stand new is))
+
+-- why a part ended, as it is told: in a segment that goes on since the next file could not be
+-- written it is that, and not memory
+abbrev pub told_of : LoopFault → Option EndFault → LoopFault
+told_of fault.OutOfMemory (Some end.File) = fault.Journal
+told_of why kept = why
 
 -- only of an input of so many bytes it is said that it is too long: for a byte two parts may end
 abbrev pub IsFaultOf : LoopFault → Option (List ℕ) → Option (List ℕ) → Type 0

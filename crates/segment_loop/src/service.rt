@@ -5,16 +5,17 @@ ghost use Rattle.disks.specs.Held.{Held};
 ghost use Rattle.disks.specs.Lasting.{HasFront};
 ghost use Rattle.line_loop.specs.Answering.{HasBegun};
 ghost use Rattle.line_loop.specs.Stands.{by_stand, stand};
+ghost use Rattle.line_loop.specs.declared.faults.LoopFault.{LoopFault};
 ghost use Rattle.line_loop.specs.Loop.{ServesPart, IsEnding, ServesSomeOf, AllLasts, IsFaultOf as IsPartFault};
 ghost use Rattle.segment_loop.specs.Digested.{hashed};
 ghost use Rattle.segment_loop.specs.Segments.{IsNamed, moment_of};
-ghost use Rattle.segment_loop.specs.Service.{ServesSegments, ServesSomeSegments, IsFaultOf};
+ghost use Rattle.segment_loop.specs.Service.{told_of, ServesSegments, ServesSomeSegments, IsFaultOf};
 ghost use Rattle.segment_loop.specs.Notes.{ToldLinesAreNoted};
 ghost use Rattle.segment_loop.specs.Lasting.{ToldLinesLast};
 
 use crate::digested::Digested;
 use crate::ending::{Ready, abandon_segment, make_ready};
-use crate::segmented::Segmented;
+use crate::segmented::{EndFault, Segmented};
 use crate::segments::{OpenSegment, SegmentRules};
 use disks::Disk;
 use line_loop::{AnswersLines, Ending, LoopFault, Unread, serve_part};
@@ -26,6 +27,17 @@ use std::io::{Read, Write};
 pub struct PartEnd<W> {
     pub(crate) ending: Ending,
     pub(crate) segment: OpenSegment<W>,
+}
+
+/// Why a part ended, as it is told: memory is not short where the segment goes on since no file could be written, and a service
+/// answers no line there.
+fn told_of(fault: LoopFault, kept: Option<EndFault>) -> LoopFault
+    ensures { result ≡ told_of fault kept }
+{
+    match (fault, kept) {
+        (LoopFault::OutOfMemory, Some(EndFault::File)) => LoopFault::Journal,
+        (_, _) => fault,
+    }
 }
 
 /// Serves a part of the lines: in a segment that goes on although it is due, up to the next block.
@@ -68,6 +80,7 @@ fn serve_in<S: AnswersLines, D: Disk, I: Read, W: Write>(
         (record { journal = journal; out = W.contents out.new })) }
     ensures long { IfErr result (λ e.
         IsPartFault e (I.remaining input.old) (I.remaining input.new)) }
+    ensures told { IfErr result (λ e. (why : LoopFault) × (e ≡ told_of why ready.kept)) }
     ensures whole { IfOk result (λ end.
         AllLasts (hashed (D.Grown.contents ready.segment.writer.inner) ready.segment.writer.hasher)
         (D.Grown.lasting ready.segment.writer.inner)
@@ -112,7 +125,7 @@ fn serve_in<S: AnswersLines, D: Disk, I: Read, W: Write>(
         Err(fault) => {
             let Digested { inner, .. } = writer;
             disk.abandon(inner, name);
-            return Err(fault);
+            return Err(told_of(fault, kept));
         }
     };
     Ok(PartEnd {
@@ -137,9 +150,10 @@ fn serve_in<S: AnswersLines, D: Disk, I: Read, W: Write>(
 ///
 /// # Errors
 ///
-/// Those of [`serve_part`], but `TooLong` only behind 2 to the power 63 bytes; `Journal` too if the file of a segment that is due
-/// cannot be settled, or if that file, or the next one, cannot be opened. The folder then has the segment that was written, with
-/// all that was told, or the next one as the last, which tells the same.
+/// Those of [`serve_part`], but `TooLong` only behind 2 to the power 63 bytes, and `Journal` for `OutOfMemory` in a segment that goes
+/// on since the next file could not be written; `Journal` too if the file of a segment that is due cannot be settled, or if that
+/// file, or the next one, cannot be opened. The folder then has the segment that was written, with all that was told, or the next
+/// one as the last, which tells the same.
 pub fn serve_segments<S: Segmented, D: Disk, I: Read, W: Write>(
     alloc: Global,
     service: &mut S,

@@ -7,7 +7,7 @@ use Rattle.ring_serve.specs.declared.answers.Answer.{Answer}
 use Rattle.ring_serve.specs.declared.answers.Answer.TheVariants as answer
 use Rattle.ring_serve.specs.Permits.{Terms}
 use Rattle.ring_serve.specs.Standings.{Standing}
-use Rattle.ring_serve.specs.Serving.{IsNoJournal, IsSaved, IsSaveGiven, IsGiven, Answers, Stops, name_in}
+use Rattle.ring_serve.specs.Serving.{IsApartFrom, IsSaved, IsSaveGiven, IsGiven, Answers, Stops, name_in}
 use Rattle.tool_parts.specs.Named.{IsHeld}
 use Rattle.serve_commands.specs.Served.{IsServedPart}
 
@@ -30,34 +30,34 @@ both (Some was) None is name h k = absurd h
 both (Some was) (Some mid) None name h k = absurd k
 both (Some was) (Some mid) (Some is) name h k = k ∙ h
 
-replaced : (was is : Option Held) (name file bytes : List ℕ) → IsNoJournal was (Some name) file → Replaces was is file (Some bytes) → HoldsStill was is name
+replaced : (was is : Option Held) (name file bytes : List ℕ) → IsApartFrom was (Some name) file → Replaces was is file (Some bytes) → HoldsStill was is name
 replaced None is name file bytes apart r = tt
 replaced (Some was) None name file bytes apart r = absurd r
 replaced (Some was) (Some is) name file bytes apart r = r.others name (λ one. apart (sym one))
 
 module _ (journal : Option (List ℕ)) (name : List ℕ) (named : journal ≡ Some name) where
-  saved : (was is : Option Held) (file : List ℕ) (rings : List Standing) (given : Answer) → IsSaved journal was is file rings given → HoldsStill was is name
-  saved was is file rings given (inl h) = replaced was is name file _ (subst (λ (j : Option (List ℕ)). IsNoJournal was j file) named h.3) h.1
-  saved was is file rings given (inr h) = same was is name h.1
+  saved : (history : Option (List ℕ)) (was is : Option Held) (file : List ℕ) (rings : List Standing) (given : Answer) → IsSaved journal history was is file rings given → HoldsStill was is name
+  saved history was is file rings given (inl h) = replaced was is name file _ (subst (λ (j : Option (List ℕ)). IsApartFrom was j file) named h.3) h.1
+  saved history was is file rings given (inr h) = same was is name h.1
 
-  save : (saves : Option (List ℕ)) (was is : Option Held) (file : List ℕ) (rings : List Standing) (given : Answer) → IsSaveGiven journal saves was is file rings given → HoldsStill was is name
-  save None was is file rings given h = same was is name h.1
-  save (Some folder) was is file rings given (inl h) = saved was is _ rings given h.1
-  save (Some folder) was is file rings given (inr h) = same was is name h.2
+  save : (history saves : Option (List ℕ)) (was is : Option Held) (file : List ℕ) (rings : List Standing) (given : Answer) → IsSaveGiven journal history saves was is file rings given → HoldsStill was is name
+  save history None was is file rings given h = same was is name h.1
+  save history (Some folder) was is file rings given (inl h) = saved history was is _ rings given h.1
+  save history (Some folder) was is file rings given (inr h) = same was is name h.2
 
-  given_still : (saves : Option (List ℕ)) (was is : Option Held) (file : List ℕ) (rings : List Standing) (asked given : Answer) → IsGiven journal saves was is file rings asked given → HoldsStill was is name
-  given_still saves was is file rings answer.Saved given h = save saves was is file rings given h
-  given_still saves was is file rings (answer.Granted number result) given h = same was is name h.1
-  given_still saves was is file rings answer.Waits given h = same was is name h.1
-  given_still saves was is file rings (answer.Corrupted old) given h = same was is name h.1
-  given_still saves was is file rings (answer.Survey survey) given h = same was is name h.1
-  given_still saves was is file rings (answer.Block first count) given h = same was is name h.1
-  given_still saves was is file rings (answer.Refused why) given h = same was is name h.1
+  given_still : (history saves : Option (List ℕ)) (was is : Option Held) (file : List ℕ) (rings : List Standing) (asked given : Answer) → IsGiven journal history saves was is file rings asked given → HoldsStill was is name
+  given_still history saves was is file rings answer.Saved given h = save history saves was is file rings given h
+  given_still history saves was is file rings (answer.Granted number result) given h = same was is name h.1
+  given_still history saves was is file rings answer.Waits given h = same was is name h.1
+  given_still history saves was is file rings (answer.Corrupted old) given h = same was is name h.1
+  given_still history saves was is file rings (answer.Survey survey) given h = same was is name h.1
+  given_still history saves was is file rings (answer.Block first count) given h = same was is name h.1
+  given_still history saves was is file rings (answer.Refused why) given h = same was is name h.1
 
 answers_still : (terms : Terms) (name : List ℕ) (old new : List Standing) (was is : Option Held) (lines : List (List ℕ)) (said noted : List ℕ) → terms.journal ≡ Some name → Answers terms old was lines said noted new is → HoldsStill was is name
 answers_still terms name old new was is [] said noted named h = same was is name h.3
 answers_still terms name old new was is (line ∷ lines) said noted named h =
-    both was h.1 is name (given_still terms.journal name named terms.saves was h.1 (name_in line) h.0 h.6.turn.answer h.6.given h.6.gives) (answers_still terms name h.0 new h.1 is lines h.3 h.5 named h.9)
+    both was h.1 is name (given_still terms.journal name named terms.history terms.saves was h.1 (name_in line) h.0 h.6.turn.answer h.6.given h.6.gives) (answers_still terms name h.0 new h.1 is lines h.3 h.5 named h.9)
 
 stops_still : (terms : Terms) (name : List ℕ) (old new : List Standing) (was is : Option Held) (before after : Written) (bytes : List ℕ) → terms.journal ≡ Some name → Stops terms old was before after bytes new is → HoldsStill was is name
 stops_still terms name old new was is before after bytes named h =

@@ -43,7 +43,12 @@ CanBeginWith saved = IfSome saved (λ s. CanBegin (length s.rings.items))
 
 -- what a line may do beside calling the rings
 abbrev pub permits_of : ServeWords → Permits
-permits_of words = record { faults = words.faults; saves = words.saves; strict = words.strict }
+permits_of words = record {
+  faults = words.faults;
+  saves = words.saves;
+  history = words.history;
+  strict = words.strict;
+}
 
 -- the value is that of the legal saved text that the file of this name held
 pub record IsHistory (files : Option Held) (name : List ℕ) (saved : Saved) : Type 0 where

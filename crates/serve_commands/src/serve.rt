@@ -71,6 +71,7 @@ pub(crate) fn permits_of<'a>(words: &ServeWords<'a>) -> Permits<'a>
     Permits {
         faults: words.faults,
         saves: words.saves,
+        history: words.history,
         strict: words.strict,
     }
 }

@@ -54,7 +54,7 @@ refused_one s number why old new was is line said noted a =
     let terms : Terms = part_terms s number (Some why) in
     let turn : a.turn ≡ refused old why = a.of_line in
     let asked : a.turn.answer ≡ answer.Refused why = ap (λ (t : Turn (List Standing)). t.answer) turn in
-    let g = subst (λ (x : Answer). IsGiven terms.journal terms.saves was is (name_in line) new x a.given) asked a.gives in
+    let g = subst (λ (x : Answer). IsGiven terms.journal terms.history terms.saves was is (name_in line) new x a.given) asked a.gives in
     (a.says ∙ ap answer_line g.0, sym a.leaves ∙ ap (λ (t : Turn (List Standing)). t.leaves) turn)
 
 refused_head : (why : Refusal) (later more : List ℕ) → head ((answer_line (answer.Refused why) ++ later) ++ more) ≡ 103 → ⊥

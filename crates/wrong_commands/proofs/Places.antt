@@ -38,28 +38,28 @@ replaced_known was is name bytes k r = known_after was is name (Some bytes) k.0 
 same_known : (was is : Option Held) → Known was → is ≡ was → Known is
 same_known was is k same = (k.0, same ∙ k.1)
 
-saved_known : (journal : Option (List ℕ)) (was is : Option Held) (file : List ℕ) (rings : List Standing) (given : Answer) → Known was → IsSaved journal was is file rings given → Known is
-saved_known journal was is file rings given k (inl h) = replaced_known was is file _ k h.1
-saved_known journal was is file rings given k (inr h) = same_known was is k h.1
+saved_known : (journal history : Option (List ℕ)) (was is : Option Held) (file : List ℕ) (rings : List Standing) (given : Answer) → Known was → IsSaved journal history was is file rings given → Known is
+saved_known journal history was is file rings given k (inl h) = replaced_known was is file _ k h.1
+saved_known journal history was is file rings given k (inr h) = same_known was is k h.1
 
-save_known : (journal saves : Option (List ℕ)) (was is : Option Held) (name : List ℕ) (rings : List Standing) (given : Answer) → Known was → IsSaveGiven journal saves was is name rings given → Known is
-save_known journal None was is name rings given k h = same_known was is k h.1
-save_known journal (Some folder) was is name rings given k (inl h) = saved_known journal was is _ rings given k h.1
-save_known journal (Some folder) was is name rings given k (inr h) = same_known was is k h.2
+save_known : (journal history saves : Option (List ℕ)) (was is : Option Held) (name : List ℕ) (rings : List Standing) (given : Answer) → Known was → IsSaveGiven journal history saves was is name rings given → Known is
+save_known journal history None was is name rings given k h = same_known was is k h.1
+save_known journal history (Some folder) was is name rings given k (inl h) = saved_known journal history was is _ rings given k h.1
+save_known journal history (Some folder) was is name rings given k (inr h) = same_known was is k h.2
 
-given_known : (journal saves : Option (List ℕ)) (was is : Option Held) (name : List ℕ) (rings : List Standing) (asked given : Answer) → Known was → IsGiven journal saves was is name rings asked given → Known is
-given_known journal saves was is name rings answer.Saved given k h = save_known journal saves was is name rings given k h
-given_known journal saves was is name rings (answer.Granted number result) given k h = same_known was is k h.1
-given_known journal saves was is name rings answer.Waits given k h = same_known was is k h.1
-given_known journal saves was is name rings (answer.Corrupted old) given k h = same_known was is k h.1
-given_known journal saves was is name rings (answer.Survey survey) given k h = same_known was is k h.1
-given_known journal saves was is name rings (answer.Block first count) given k h = same_known was is k h.1
-given_known journal saves was is name rings (answer.Refused why) given k h = same_known was is k h.1
+given_known : (journal history saves : Option (List ℕ)) (was is : Option Held) (name : List ℕ) (rings : List Standing) (asked given : Answer) → Known was → IsGiven journal history saves was is name rings asked given → Known is
+given_known journal history saves was is name rings answer.Saved given k h = save_known journal history saves was is name rings given k h
+given_known journal history saves was is name rings (answer.Granted number result) given k h = same_known was is k h.1
+given_known journal history saves was is name rings answer.Waits given k h = same_known was is k h.1
+given_known journal history saves was is name rings (answer.Corrupted old) given k h = same_known was is k h.1
+given_known journal history saves was is name rings (answer.Survey survey) given k h = same_known was is k h.1
+given_known journal history saves was is name rings (answer.Block first count) given k h = same_known was is k h.1
+given_known journal history saves was is name rings (answer.Refused why) given k h = same_known was is k h.1
 
 pub answers_known : (terms : Terms) (old new : List Standing) (was is : Option Held) (lines : List (List ℕ)) (said noted : List ℕ) → Known was → Answers terms old was lines said noted new is → Known is
 answers_known terms old new was is [] said noted k h = same_known was is k h.3
 answers_known terms old new was is (line ∷ lines) said noted k h =
-    let one = given_known terms.journal terms.saves was h.1 (name_in line) h.0 h.6.turn.answer h.6.given k h.6.gives in
+    let one = given_known terms.journal terms.history terms.saves was h.1 (name_in line) h.0 h.6.turn.answer h.6.given k h.6.gives in
     answers_known terms h.0 new h.1 is lines h.3 h.5 one h.9
 
 abbrev pub Has : Option (List ℕ) → Type 0

@@ -106,23 +106,23 @@ no_refusal why given n x h e = no (sym h ∙ e)
     no : answer.Refused why ≡ answer.Granted n x → ⊥
     no p = cc
 
-no_save : (journal saves : Option (List ℕ)) (was is : Option Held) (name : List ℕ) (rings : List Standing) (given : Answer) (n x : ℕ) → IsSaveGiven journal saves was is name rings given → given ≡ answer.Granted n x → ⊥
-no_save journal None was is name rings given n x h e = no_refusal refusal.Off given n x h.0 e
-no_save journal (Some folder) was is name rings given n x (inl (_, inl h)) e = no (sym h.0 ∙ e)
+no_save : (journal history saves : Option (List ℕ)) (was is : Option Held) (name : List ℕ) (rings : List Standing) (given : Answer) (n x : ℕ) → IsSaveGiven journal history saves was is name rings given → given ≡ answer.Granted n x → ⊥
+no_save journal history None was is name rings given n x h e = no_refusal refusal.Off given n x h.0 e
+no_save journal history (Some folder) was is name rings given n x (inl (_, inl h)) e = no (sym h.0 ∙ e)
   where
     no : answer.Saved ≡ answer.Granted n x → ⊥
     no p = cc
-no_save journal (Some folder) was is name rings given n x (inl (_, inr h)) e = no_refusal refusal.File given n x h.0 e
-no_save journal (Some folder) was is name rings given n x (inr h) e = no_refusal refusal.Name given n x h.1 e
+no_save journal history (Some folder) was is name rings given n x (inl (_, inr h)) e = no_refusal refusal.File given n x h.0 e
+no_save journal history (Some folder) was is name rings given n x (inr h) e = no_refusal refusal.Name given n x h.1 e
 
-asked_granted : (journal saves : Option (List ℕ)) (was is : Option Held) (name : List ℕ) (rings : List Standing) (asked given : Answer) (n x : ℕ) → IsGiven journal saves was is name rings asked given → given ≡ answer.Granted n x → asked ≡ answer.Granted n x
-asked_granted journal saves was is name rings answer.Saved given n x h e = absurd (no_save journal saves was is name rings given n x h e)
-asked_granted journal saves was is name rings (answer.Granted a b) given n x h e = sym h.0 ∙ e
-asked_granted journal saves was is name rings answer.Waits given n x h e = sym h.0 ∙ e
-asked_granted journal saves was is name rings (answer.Corrupted a) given n x h e = sym h.0 ∙ e
-asked_granted journal saves was is name rings (answer.Survey a) given n x h e = sym h.0 ∙ e
-asked_granted journal saves was is name rings (answer.Block a b) given n x h e = sym h.0 ∙ e
-asked_granted journal saves was is name rings (answer.Refused a) given n x h e = sym h.0 ∙ e
+asked_granted : (journal history saves : Option (List ℕ)) (was is : Option Held) (name : List ℕ) (rings : List Standing) (asked given : Answer) (n x : ℕ) → IsGiven journal history saves was is name rings asked given → given ≡ answer.Granted n x → asked ≡ answer.Granted n x
+asked_granted journal history saves was is name rings answer.Saved given n x h e = absurd (no_save journal history saves was is name rings given n x h e)
+asked_granted journal history saves was is name rings (answer.Granted a b) given n x h e = sym h.0 ∙ e
+asked_granted journal history saves was is name rings answer.Waits given n x h e = sym h.0 ∙ e
+asked_granted journal history saves was is name rings (answer.Corrupted a) given n x h e = sym h.0 ∙ e
+asked_granted journal history saves was is name rings (answer.Survey a) given n x h e = sym h.0 ∙ e
+asked_granted journal history saves was is name rings (answer.Block a b) given n x h e = sym h.0 ∙ e
+asked_granted journal history saves was is name rings (answer.Refused a) given n x h e = sym h.0 ∙ e
 
 abbrev head : List ℕ → ℕ
 head [] = 0
@@ -147,7 +147,7 @@ first_noted name permits old was [] said noted new is h e =
 first_noted name permits old was (line ∷ lines) said noted new is h e =
     let a : IsAnswered (terms_of (Some name) permits) old was line h.2 h.4 h.0 h.1 = h.6 in
     let g = granted_of a.given h.3 (subst (λ (x : List ℕ). head (x ++ h.3) ≡ 103) a.says (subst (λ (x : List ℕ). head x ≡ 103) h.7 e)) in
-    let asked = asked_granted (terms_of (Some name) permits).journal (terms_of (Some name) permits).saves was h.1 (name_in line) h.0 a.turn.answer a.given g.0 g.1 a.gives g.2 in
+    let asked = asked_granted (terms_of (Some name) permits).journal (terms_of (Some name) permits).history (terms_of (Some name) permits).saves was h.1 (name_in line) h.0 a.turn.answer a.given g.0 g.1 a.gives g.2 in
     let many : 1 ≤ length (notes_of a.turn.recorded) = of_line permits.faults old line a.turn a.of_line g.0 g.1 asked in
     subst (λ (x : List ℕ). 1 ≤ length x) (sym h.8) (some_front h.4 h.5 (subst (λ (x : List ℕ). 1 ≤ length x) (sym a.notes) many))
 

@@ -204,7 +204,8 @@ fn lines_are_refused_while_no_file_can_be_made(rt: HostRuntime) {
     assert!(rt; disk.open("d/0000000002.ring").is_err());
 }
 
-// On strict terms no line is answered while no file can be made: the answers of the block before have left.
+// On strict terms no line is answered while no file can be made: the answers of the block before have left. It is the file that
+// fails, and not memory.
 #[test]
 fn no_line_is_answered_then_on_strict_terms(rt: HostRuntime) {
     let alloc = rt.alloc();
@@ -224,7 +225,7 @@ fn no_line_is_answered_then_on_strict_terms(rt: HostRuntime) {
         &mut input,
         &mut out,
     );
-    assert!(rt; matches!(ended, Err(LoopFault::OutOfMemory)));
+    assert!(rt; matches!(ended, Err(LoopFault::Journal)));
     assert!(rt; out.as_slice() == b"granted 1 5\nwaits\n".as_slice());
 }
 

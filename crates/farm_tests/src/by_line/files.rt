@@ -72,6 +72,7 @@ fn a_file_that_cannot_be_finished_is_a_refusal(rt: HostRuntime) {
     let permits = Permits {
         faults: false,
         saves: Some("folder"),
+        history: None,
         strict: false,
     };
     let ended = serve(
