@@ -62,11 +62,11 @@ pub trait Disk {
         Ok(false)
     }
 
-    /// The names in this folder, of files and of folders, in any order.
+    /// The names in this folder, of files and of folders, in any order. For one that is not UTF-8 it is U+FFFD.
     ///
     /// # Errors
     ///
-    /// There is no such folder, as where a file has this name; or it cannot be read to its end, or a name in it is not UTF-8.
+    /// There is no such folder, as where a file has this name; or it cannot be read to its end.
     fn list(&self, folder: &str) -> io::Result<Vec<FolderEntry>>
         ensures { IfOk result
             (λ entries. Lists (holds self.now) folder.now (names_of entries.items)) };

@@ -8,6 +8,7 @@ mod grow;
 mod grown;
 mod losing;
 mod memory;
+mod moment;
 mod part;
 mod replacing;
 mod same_file;

@@ -69,3 +69,53 @@ pub(crate) fn end_of_links<R: Files + AllocGlobal>(files: &R, name: &str) -> io:
     }
     Err(io::Error::from(ErrorKind::InvalidFilename))
 }
+
+/// Which file or folder a name leads to, if there is one.
+fn known<R: Files>(files: &R, name: &str) -> io::Result<Option<FileId>> {
+    match fs::metadata(files, name) {
+        Ok(there) => Ok(Some(file_id(&there))),
+        Err(e) if e.kind() == ErrorKind::NotFound => Ok(None),
+        Err(e) => Err(e),
+    }
+}
+
+/// The part of a name after its last slash.
+fn last_part(name: &str) -> &str {
+    match name.rsplit_once('/') {
+        None => name,
+        Some((_, last)) => last,
+    }
+}
+
+/// Whether two names that lead to nothing are of one place: a file that was made by the one would have the other too.
+fn are_of_one_place<R: Files + AllocGlobal>(files: &R, one: &str, other: &str) -> io::Result<bool> {
+    let one = end_of_links(files, one)?;
+    let other = end_of_links(files, other)?;
+    if last_part(one.as_str()) != last_part(other.as_str()) {
+        return Ok(false);
+    }
+    let first = fs::metadata(files, folder_of(one.as_str()))?;
+    let second = fs::metadata(files, folder_of(other.as_str()))?;
+    Ok(file_id(&first) == file_id(&second))
+}
+
+/// Whether two names lead to one file or folder. One that leads to nothing, as if its file has just gone, is not of the file of the
+/// other; if both are of one place with nothing, this fails.
+pub(crate) fn are_one<R: Files + AllocGlobal>(
+    files: &R,
+    one: &str,
+    other: &str,
+) -> io::Result<bool> {
+    let first = known(files, one)?;
+    let second = known(files, other)?;
+    match (first, second) {
+        (Some(first), Some(second)) => Ok(first == second),
+        (None, None) => {
+            if are_of_one_place(files, one, other)? {
+                return Err(io::Error::from(ErrorKind::NotFound));
+            }
+            Ok(false)
+        }
+        _ => Ok(false),
+    }
+}

@@ -6,8 +6,9 @@ use crate::calls::FileCalls;
 use crate::descriptors::is_standard;
 use crate::disk::FolderEntry;
 use crate::grown::{opened_end, removed_empty};
+use crate::moment::entries;
 use crate::part::{NewFile, made_for, sync_folder};
-use crate::same_file::{FileId, end_of_links, file_id, folder_of, leads_to};
+use crate::same_file::{FileId, are_one, end_of_links, file_id, folder_of, leads_to};
 use std::fs::{self, File};
 use std::io::{self, ErrorKind};
 use std::rt::Files;
@@ -60,12 +61,7 @@ impl<'a, R: Files<File = File> + AllocGlobal> FileCalls for SystemCalls<'a, R> {
     }
 
     fn is_one_file(&self, one: &str, other: &str) -> io::Result<bool> {
-        let one = fs::metadata(self.files, one)?;
-        match fs::metadata(self.files, other) {
-            Ok(other) => Ok(file_id(&one) == file_id(&other)),
-            Err(e) if e.kind() == ErrorKind::NotFound => Ok(false),
-            Err(e) => Err(e),
-        }
+        are_one(self.files, one, other)
     }
 
     fn is_standard(&self, name: &str) -> io::Result<bool> {
@@ -81,15 +77,7 @@ impl<'a, R: Files<File = File> + AllocGlobal> FileCalls for SystemCalls<'a, R> {
     }
 
     fn list(&self, folder: &str) -> io::Result<Vec<FolderEntry>> {
-        let mut names = Vec::new(self.files.alloc());
-        for entry in fs::read_dir(&self.files, folder)? {
-            let entry = entry?;
-            names.push(FolderEntry {
-                name: String::from_str(self.files.alloc(), entry.file_name())?,
-                is_regular: entry.file_type()?.is_file(),
-            })?;
-        }
-        Ok(names)
+        entries(self.files, folder)
     }
 
     fn create_part(&self, name: &str) -> io::Result<NewFile<'a, R>> {

@@ -89,6 +89,11 @@ fn may_be_journal<D: Disk>(disk: &D, journal: Option<&str>, name: &str) -> bool
     }
 }
 
+/// Whether the process reads or writes the file of this name by a standard descriptor, or such a file cannot be made.
+fn may_be_stream<D: Disk>(disk: &D, name: &str) -> bool {
+    !matches!(disk.is_standard(name), Ok(false))
+}
+
 /// The bytes behind the word `save` of a line, up to its LF.
 fn name_of(line: &[u8]) -> &[u8]
     ensures { result.now ≡ name_in line.now }
@@ -99,7 +104,8 @@ fn name_of(line: &[u8]) -> &[u8]
     &line[5..line.len() - 1]
 }
 
-/// Saves all rings in the file of this name in the folder, and says whether it did. The journal's own file is not replaced.
+/// Saves all rings in the file of this name in the folder, and says whether it did. Neither the journal's own file is replaced nor that
+/// of a standard descriptor.
 fn save_in<D: Disk>(
     alloc: Global,
     served: &Served,
@@ -120,6 +126,9 @@ fn save_in<D: Disk>(
     let Ok(file) = file_in(alloc, folder, name) else {
         return false;
     };
+    if may_be_stream(disk, file.as_str()) {
+        return false;
+    }
     if may_be_journal(disk, journal, file.as_str()) {
         return false;
     }

@@ -10,13 +10,14 @@ ghost use Rattle.ring_text.specs.Report.{entries_in, counts_of, size_words, coun
 
 use crate::counts::{Counts, add, added_up, counts_of, no_totals};
 use itoa::Buffer;
+use line_parts::put_word;
 use ring_blocks::Totals;
 use ring_book::{Book, GrantBook, Survey, Till};
 use ring_farm::{Outcome, RingOutcome};
 use ring_settle::bound;
 use ring_state::RingState;
 use std::io::Write;
-use text_lines::{WriteFault, put, put_all, put_list};
+use text_lines::{Line, WriteFault, put, put_all, put_list};
 
 /// A ring's place and its size.
 fn put_size<W: Write>(out: &mut W, place: u32, n: u32, k: u32) -> Result<(), WriteFault>
@@ -213,7 +214,8 @@ fn put_ring<W: Write>(
     }
 }
 
-/// Writes the line of the farm: how many rings there are, and the sums over them.
+/// Writes the line of the farm: how many rings there are, and the sums over them. It is one write, so that lines of processes that
+/// share a file do not mix.
 ///
 /// # Errors
 ///
@@ -221,25 +223,17 @@ fn put_ring<W: Write>(
 pub fn put_total_line<W: Write>(out: &mut W, rings: u32, totals: Totals) -> Result<(), WriteFault>
     ensures { Writes (W.contents out.old) (W.contents out.new) result (total_line rings totals) }
 {
-    let mut buffers = (Buffer::new(), Buffer::new(), Buffer::new(), Buffer::new());
-    let rings = buffers.0.format(rings).as_bytes();
-    let events = buffers.1.format(totals.events).as_bytes();
-    let granted = buffers.2.format(totals.granted).as_bytes();
-    let surveys = buffers.3.format(totals.surveys).as_bytes();
-    put_all(
-        out,
-        &[
-            b"total rings ",
-            rings,
-            b" events ",
-            events,
-            b" granted ",
-            granted,
-            b" surveys ",
-            surveys,
-            b"\n",
-        ],
-    )
+    let mut line = Line::new();
+    line.byte(b'\n');
+    line.number(totals.surveys);
+    put_word(&mut line, b" surveys ");
+    line.number(totals.granted);
+    put_word(&mut line, b" granted ");
+    line.number(totals.events);
+    put_word(&mut line, b" events ");
+    line.number(rings as u64);
+    put_word(&mut line, b"total rings ");
+    put(out, line.as_bytes())
 }
 
 /// Writes the report on a farm's outcome: four lines for each ring, and one for the farm.

@@ -11,6 +11,7 @@ use Rattle.tool_parts.specs.Named.{IsNamed, IsNamedRefusal}
 use Rattle.tool_parts.specs.Worlds.{World}
 use Rattle.ring_requests.specs.declared.requests.UpgradeWords.{UpgradeWords}
 use Rattle.tool_parts.specs.declared.faults.ToolError.{ToolError}
+use Rattle.tool_parts.specs.declared.faults.ToolError.TheVariants as tool
 
 -- These bytes are a legal saved text with these sums, and this content is that of their value in
 -- the latest version: it has a text, and it is legal too, with the same sums.
@@ -32,15 +33,22 @@ IsUpgradeAnswer words was is =
     × IsUpgradeOf bytes c sums
     × IsHanded words.new.now (text c) (legal_line sums) was is
 
--- Which refusals `upgrade` may meet: those of reading what its word names, those of `check` of the
--- bytes that it gave, and those of handing out their upgrade.
+-- standard output or standard error goes into the file of this name
+abbrev pub IsOutputsRefusal : List ℕ → ToolError → Type 0
+IsOutputsRefusal file (tool.Stream named) = named.now ≡ file
+IsOutputsRefusal file _ = ⊥
+
+-- Which refusals `upgrade` may meet: those of reading what its word names; that an output goes into
+-- the file that is to be made; those of `check` of the bytes that it gave; and those of handing out
+-- their upgrade.
 abbrev pub IsUpgradeRefusal : UpgradeWords → World → World → ToolError → Type 0
 IsUpgradeRefusal words was is e =
     IsNamedRefusal words.file.now was.files was.input is.input e
+    ⊎ (IsOutputsRefusal words.new.now e
     ⊎ ((bytes : List ℕ)
     × IsNamed words.file.now was.files was.input is.input bytes
     × (IsSavedTextRefusal bytes e
     ⊎ ((c : Content)
     × (sums : Summary)
     × IsUpgradeOf bytes c sums
-    × IsHandRefusal words.new.now (text c) (legal_line sums) was is e)))
+    × IsHandRefusal words.new.now (text c) (legal_line sums) was is e))))

@@ -7,7 +7,7 @@ ghost use Rattle.ring_journal.specs.Beginnings.{CanBeSaved};
 ghost use Rattle.tool_parts.specs.Checked.{IsSavedTextRefusal};
 ghost use Rattle.tool_parts.specs.Named.{IsNamed};
 ghost use Rattle.tool_parts.specs.Reading.{names_stream};
-ghost use Rattle.text_commands.specs.Upgraded.{IsUpgradeOf, IsUpgradeAnswer, IsUpgradeRefusal};
+ghost use Rattle.text_commands.specs.Upgraded.{IsUpgradeOf, IsUpgradeAnswer, IsUpgradeRefusal, IsOutputsRefusal};
 ghost use Rattle.tool_parts.specs.Worlds.{world};
 
 use disks::Disk;
@@ -19,7 +19,7 @@ use std::io::{Read, Write};
 use tool_parts::faults::ToolError;
 use tool_parts::handing::hand_over;
 use tool_parts::legal::legal_saved;
-use tool_parts::reading::read_named;
+use tool_parts::reading::{STANDARD_INPUT, names_stream, read_named};
 
 /// Returns the value of the saved text that the bytes are, in the latest version, and its sums.
 ///
@@ -36,13 +36,32 @@ fn upgrade_with_sums(alloc: Global, bytes: &[u8]) -> Result<(Saved, Summary), To
     Ok((upgrade(saved), sums))
 }
 
+/// Checks that neither standard output nor standard error goes into the file that is to be made, if the word names one. It may be the
+/// one that is read, also as standard input.
+///
+/// # Errors
+///
+/// `Stream` with the name.
+fn keep_from_outputs<'a, D: Disk>(disk: &D, word: &'a str) -> Result<(), ToolError<'a>>
+    ensures { IfErr result (λ e. IsOutputsRefusal word.now e) }
+{
+    if names_stream(word) || !matches!(disk.is_standard(word), Ok(true)) {
+        return Ok(());
+    }
+    if matches!(disk.is_one_file(STANDARD_INPUT, word), Ok(true)) {
+        return Ok(());
+    }
+    Err(ToolError::Stream(word))
+}
+
 /// `upgrade`, from its words: reads and checks the one file, or standard input; replaces the other file, which
 /// may be the same, by the upgrade of its value, and writes the line of `check` to `out`; where the other is `-`, the upgrade's
 /// text goes to `out` and the line to `err`.
 ///
 /// # Errors
 ///
-/// Those of reading the source that the word names, and those of `check` for a text that is not legal: no file is made then.
+/// Those of reading the source that the word names, those of `check` for a text that is not legal, and `Stream` with the other name if
+/// standard output or standard error goes into that file: no file is made then.
 /// `Save` with the other name where that cannot be made, written or put in its place, and `OutOfMemory`. Every file is as it was
 /// then, and nothing is written. `Write` where a writer fails, when the new file is in its place: the bytes written until then
 /// are a prefix.
@@ -77,6 +96,10 @@ pub fn run<'a, D: Disk, I: Read, W: Write, E: Write>(
 {
     let bytes = read_named(alloc, disk, words.file, input)?;
     let value = upgrade_with_sums(alloc, bytes.as_slice())?;
+    match keep_from_outputs(disk, words.new) {
+        Ok(()) => {}
+        Err(fault) => return Err(fault),
+    }
     match hand_over(alloc, disk, &value, words.new, out, err) {
         Ok(()) => Ok(()),
         Err(fault) => Err(fault),

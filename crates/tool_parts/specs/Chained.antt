@@ -80,6 +80,19 @@ pub record IsFolder (files : Option Held) (name : List ℕ) (entries : List Fold
     pub listed : Lists files name (names_of entries)
     pub some : 0 < length entries
 
+-- the name leads to a folder whose segments held a chain with these sums, and with this digest of the
+-- last file
+abbrev pub AreFolderSums : List ℕ → Option Held → ChainSums → List ℕ → Type 0
+AreFolderSums name files sums digest =
+    (entries : List FolderEntry)
+    × (r : SegmentNumbers)
+    × (fs : List File)
+    × IsFolder files name entries
+    × IsRightNumbers entries (Ok (Some r))
+    × IsChainIn files name r fs
+    × (sums ≡ sums_of fs)
+    × (digest ≡ last_digest no_digest fs)
+
 -- The name leads to a folder whose segments held a chain, and the line of its sums is written.
 abbrev pub IsChainAnswer : List ℕ → Option Held → Option (List ℕ) → Option (List ℕ) → Type 0
 IsChainAnswer name files old new =
@@ -159,6 +172,16 @@ abbrev pub AreNamesRefused : List ℕ → List FolderEntry → ToolError → Typ
 AreNamesRefused name entries e =
     ((error : FolderError) × IsRightNumbers entries (Err error) × IsFolderFault name error e)
     ⊎ (IsRightNumbers entries (Ok None) × IsNoSegment name e)
+
+-- the names in a folder are refused, or its files
+abbrev pub AreSumsRefused : List ℕ → Option Held → ToolError → Type 0
+AreSumsRefused name files e =
+    (entries : List FolderEntry)
+    × IsFolder files name entries
+    × (AreNamesRefused name entries e
+    ⊎ ((r : SegmentNumbers)
+    × IsRightNumbers entries (Ok (Some r))
+    × (IsFileRefused files name r e ⊎ IsNamedWrong files name r e)))
 
 -- Which refusals the check of a folder may meet: those of its names, those of its files, and the
 -- writer's, which got a prefix of the line.

@@ -43,12 +43,15 @@ abbrev pub IsOutside : Option Held → List ℕ → List FolderEntry → Option 
 IsOutside files folder entries made =
     LiesElsewhere files folder made × IsNoneOf files folder entries made
 
--- By its name it lies in the folder; or it is one of the files there by another name; or this cannot
--- be decided, or it cannot be made; or there is no memory.
+-- By its name it lies in the folder; or it is one of the files there by another name, or that of a
+-- standard descriptor; or it cannot be looked at or made; or a file there cannot be looked at; or
+-- there is no memory.
 abbrev pub IsOutsideRefusal : Option Held → List ℕ → Option (List ℕ) → ToolError → Type 0
 IsOutsideRefusal files folder made (tool.InFolder named) =
     (Some named.now ≡ made) × LiesIn files folder named.now
 IsOutsideRefusal files folder made (tool.SameFile named) = Some named.now ≡ made
+IsOutsideRefusal files folder made (tool.Stream named) = Some named.now ≡ made
 IsOutsideRefusal files folder made (tool.Save named) = Some named.now ≡ made
+IsOutsideRefusal files folder made (tool.Read named) = named.now ≡ folder
 IsOutsideRefusal files folder made tool.OutOfMemory = Unit {0}
 IsOutsideRefusal files folder made _ = ⊥

@@ -10,11 +10,12 @@ ghost use Rattle.ring_segments.specs.Spelling.{no_digest};
 ghost use Rattle.ring_segments.specs.Files.{File};
 ghost use Rattle.ring_segments.specs.Chain.{State, IsAdded, sums_at, digest_at};
 ghost use Rattle.tool_parts.specs.Named.{IsHeld};
-ghost use Rattle.tool_parts.specs.Chained.{from_text, sums_text, chain_line, sums_of, last_digest, IsChainIn, IsFolder, IsChainAnswer, IsUnreadSegment, IsAddRefusal, IsFileRefused, IsNamedWrong, AreNamesRefused, IsFolderRefusal};
+ghost use Rattle.tool_parts.specs.Chained.{from_text, sums_text, chain_line, sums_of, last_digest, IsChainIn, IsFolder, AreFolderSums, IsChainAnswer, IsUnreadSegment, IsAddRefusal, IsFileRefused, IsNamedWrong, AreNamesRefused, AreSumsRefused, IsFolderRefusal};
 ghost use Rattle.tool_parts.specs.ChainSteps.{Leads, Ends};
 ghost use Rattle.tool_parts.specs.Reading.{names_stream};
 
 use crate::faults::ToolError;
+use crate::looks::sums_in;
 use crate::reading::{names_stream, read_file};
 use disks::{Disk, FolderEntry};
 use itoa::Buffer;
@@ -276,6 +277,31 @@ pub fn tell_chain<W: Write>(out: &mut W, sums: &ChainSums, digest: &[u8]) -> Res
     }
 }
 
+/// The sums of the chain in a folder with these entries, and the digest of its last file.
+///
+/// # Errors
+///
+/// Those of [`folder_numbers`] and [`chain_in`].
+pub(crate) fn folder_sums<'a, D: Disk>(
+    alloc: Global,
+    disk: &D,
+    folder: &'a str,
+    entries: &[FolderEntry],
+) -> Result<(ChainSums, [u8; DIGEST_DIGITS]), ToolError<'a>>
+    requires { IsFolder (D.holds disk.now) folder.now entries.now }
+    ensures ok { IfOk result (λ x. AreFolderSums folder.now (D.holds disk.now) x.0 x.1) }
+    ensures err { IfErr result (λ e. AreSumsRefused folder.now (D.holds disk.now) e) }
+{
+    let numbers = match folder_numbers(alloc, folder, entries) {
+        Ok(numbers) => numbers,
+        Err(fault) => return Err(fault),
+    };
+    match chain_in(alloc, disk, folder, numbers) {
+        Ok(found) => Ok(found),
+        Err(fault) => Err(fault),
+    }
+}
+
 /// Checks the chain in a folder with these entries, and writes the line of its sums.
 ///
 /// # Errors
@@ -296,11 +322,7 @@ pub fn check_folder<'a, D: Disk, W: Write>(
         (W.contents out.old) (W.contents out.new) e) }
     ensures nothing { IfErr result (λ e. e ≢ ToolError.Write → out.new ≡ out.old) }
 {
-    let numbers = match folder_numbers(alloc, folder, entries) {
-        Ok(numbers) => numbers,
-        Err(fault) => return Err(fault),
-    };
-    let (sums, digest) = match chain_in(alloc, disk, folder, numbers) {
+    let (sums, digest) = match sums_in(alloc, disk, folder, entries) {
         Ok(found) => found,
         Err(fault) => return Err(fault),
     };

@@ -14,6 +14,7 @@ pub mod left;
 pub mod legal;
 pub mod lists;
 pub mod locking;
+pub mod looks;
 mod one_line;
 pub mod outside;
 pub mod reading;

@@ -31,11 +31,27 @@ pub fn open_journal<'a, D: Disk>(
     }
 }
 
+/// Whether a folder has something of this name that is not a regular file.
+fn has_irregular<D: Disk>(disk: &D, folder: &str, name: &str) -> bool {
+    match disk.list(folder) {
+        Ok(entries) => entries
+            .iter()
+            .any(|entry| entry.name.as_str() == name && !entry.is_regular),
+        Err(_) => false,
+    }
+}
+
+/// Whether the lock of a folder is a link that leads to no file. What was made by it would be a file of another name, which the folder
+/// may not have.
+fn leads_nowhere<D: Disk>(disk: &D, folder: &str, lock: &str) -> bool {
+    disk.is_one_file(lock, lock).is_err() && has_irregular(disk, folder, "lock")
+}
+
 /// The lock of a folder, which one process has at a time. Its file is made, if it is not there.
 ///
 /// # Errors
 ///
-/// `InUse` if another has it, `Save` if it cannot be had, and `OutOfMemory`.
+/// `InUse` if another has it, `Save` if it cannot be had, as if its name is that of a link that leads to no file, and `OutOfMemory`.
 pub fn lock_folder<'a, D: Disk>(
     alloc: Global,
     disk: &mut D,
@@ -48,6 +64,9 @@ pub fn lock_folder<'a, D: Disk>(
     let Ok(name) = lock_file(alloc, folder) else {
         return Err(ToolError::OutOfMemory);
     };
+    if leads_nowhere(disk, folder, name.as_str()) {
+        return Err(ToolError::Save(folder));
+    }
     let Ok(_) = disk.create(name.as_str()) else {
         return Err(ToolError::Save(folder));
     };

@@ -8,7 +8,7 @@ ghost use Rattle.tool_parts.specs.Outside.{before_slash, parent_of, LiesElsewher
 ghost use Rattle.tool_parts.specs.Handed.{file_of};
 
 use crate::faults::ToolError;
-use crate::reading::{keep_apart, names_stream};
+use crate::reading::names_stream;
 use disks::{Disk, FolderEntry};
 use std::alloc::{AllocError, Global};
 
@@ -57,11 +57,27 @@ fn keep_parent_apart<'a, D: Disk>(
     }
 }
 
-/// Checks that a file that is to be made is not the one that has this name in a folder.
+/// Checks that a file that is to be made is not read or written by a standard descriptor, and can be made.
+fn keep_stream_apart<'a, D: Disk>(
+    disk: &D,
+    folder: &str,
+    made: &'a str,
+) -> Result<(), ToolError<'a>>
+    ensures { IfErr result
+        (λ e. IsOutsideRefusal (D.holds disk.now) folder.now (Some made.now) e) }
+{
+    match disk.is_standard(made) {
+        Ok(false) => Ok(()),
+        Ok(true) => Err(ToolError::Stream(made)),
+        Err(_) => Err(ToolError::Save(made)),
+    }
+}
+
+/// Checks that a file that is to be made is not the one that has this name in a folder. A name that has gone meanwhile is none.
 fn keep_entry_apart<'a, D: Disk>(
     alloc: Global,
     disk: &D,
-    folder: &str,
+    folder: &'a str,
     entry: &FolderEntry,
     made: &'a str,
 ) -> Result<(), ToolError<'a>>
@@ -73,10 +89,10 @@ fn keep_entry_apart<'a, D: Disk>(
     let Ok(path) = path_of(alloc, folder, entry.name.as_str()) else {
         return Err(ToolError::OutOfMemory);
     };
-    match keep_apart(disk, path.as_str(), made) {
-        Ok(()) => Ok(()),
-        Err(ToolError::SameFile(_)) => Err(ToolError::SameFile(made)),
-        Err(_) => Err(ToolError::Save(made)),
+    match disk.is_one_file(path.as_str(), made) {
+        Ok(false) => Ok(()),
+        Ok(true) => Err(ToolError::SameFile(made)),
+        Err(_) => Err(ToolError::Read(folder)),
     }
 }
 
@@ -84,7 +100,7 @@ fn keep_entry_apart<'a, D: Disk>(
 fn keep_entries_apart<'a, D: Disk>(
     alloc: Global,
     disk: &D,
-    folder: &str,
+    folder: &'a str,
     entries: &[FolderEntry],
     made: &'a str,
 ) -> Result<(), ToolError<'a>>
@@ -107,12 +123,13 @@ fn keep_entries_apart<'a, D: Disk>(
 ///
 /// # Errors
 ///
-/// `InFolder` with the name if it lies there by its own name, `SameFile` with it if it is one of the files there by another, `Save`
-/// with it if this cannot be decided, and `OutOfMemory`.
+/// `InFolder` with the name if it lies there by its own name, `Stream` with it if it is the file of a standard descriptor, `SameFile`
+/// with it if it is one of the files there by another name, and `Save` with it if it cannot be looked at or made; `Read` with the folder
+/// if a file there cannot be looked at, and `OutOfMemory`.
 pub fn keep_outside<'a, D: Disk>(
     alloc: Global,
     disk: &D,
-    folder: &str,
+    folder: &'a str,
     entries: &[FolderEntry],
     word: &'a str,
 ) -> Result<(), ToolError<'a>>
@@ -126,6 +143,10 @@ pub fn keep_outside<'a, D: Disk>(
         return Ok(());
     }
     match keep_parent_apart(disk, folder, word) {
+        Ok(()) => {}
+        Err(fault) => return Err(fault),
+    }
+    match keep_stream_apart(disk, folder, word) {
         Ok(()) => {}
         Err(fault) => return Err(fault),
     }

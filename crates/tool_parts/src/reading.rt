@@ -145,7 +145,7 @@ pub fn read_named<'a, D: Disk, I: Read>(
 }
 
 /// The name by which the system knows standard input.
-const STANDARD_INPUT: &str = "/dev/stdin";
+pub const STANDARD_INPUT: &str = "/dev/stdin";
 
 /// The fault of a file that was to be made, but which the process reads or writes by a standard descriptor.
 fn stream_fault<'a, D: Disk>(disk: &D, read: &str, made: &'a str) -> ToolError<'a>

@@ -291,7 +291,9 @@ fn names_of_one_file_are_known(rt: HostRuntime) -> Result<(), Fail> {
             "at {other}"
         );
     }
-    assert!(rt; is_one_file(&rt, &folder, "missing", "a").is_err());
+    assert!(rt; !is_one_file(&rt, &folder, "missing", "a")?);
+    assert!(rt; !is_one_file(&rt, &folder, "missing", "gone")?);
+    assert!(rt; is_one_file(&rt, &folder, "missing", "./missing").is_err());
     expect_count(&rt, &folder, 4)?;
     Ok(())
 }

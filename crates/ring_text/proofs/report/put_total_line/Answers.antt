@@ -3,13 +3,16 @@ use Rattle.ring_text.proofs.report.put_total_line.Goals as goal
 pub returns : goal.returns
 returns g c =
     rw (
-      ← c.format.ensures.text,
-      ← c.format-2.ensures.text,
-      ← c.format-3.ensures.text,
-      ← c.format-4.ensures.text,
-      ← c.as_bytes-rings.ensures.value,
-      ← c.as_bytes-events.ensures.value,
-      ← c.as_bytes-granted.ensures.value,
-      ← c.as_bytes-surveys.ensures.value,
+      c.as_bytes.ensures,
+      c.put_word-4.ensures,
+      c.number-4.ensures.is,
+      c.put_word-3.ensures,
+      c.number-3.ensures.is,
+      c.put_word-2.ensures,
+      c.number-2.ensures.is,
+      c.put_word.ensures,
+      c.number.ensures.is,
+      c.byte.ensures,
+      c.new-line.ensures,
     )
-    c.put_all.ensures
+    at c.put.ensures
