@@ -26,10 +26,30 @@ use Rattle.tool_parts.specs.Handed.{file_of}
 use Rattle.tool_parts.specs.Reading.{names_stream}
 use Rattle.tool_parts.specs.Worlds.{World}
 use Rattle.tool_parts.specs.Written.{AppendsFront}
+use Rattle.folder_commands.specs.declared.last_file.LastFile.{LastFile}
 use Rattle.folder_commands.specs.declared.last_segment.RecoveredSegment.{RecoveredSegment}
 use Rattle.ring_requests.specs.declared.requests.RecoverWords.{RecoverWords}
 use Rattle.tool_parts.specs.declared.faults.ToolError.{ToolError}
 use Rattle.tool_parts.specs.declared.faults.ToolError.TheVariants as tool
+
+-- the file of the last segment of a folder, found by these names, held these bytes
+abbrev pub IsLastFile : Option Held → List ℕ → LastFile → Type 0
+IsLastFile files name x =
+    (r : SegmentNumbers)
+    × IsFolder files name x.entries.items
+    × IsRightNumbers x.entries.items (Ok (Some r))
+    × (x.number ≡ r.last)
+    × IsHeld files (segment_file name r.last) x.bytes.items
+
+-- the names in a folder are refused, or the file of the last segment cannot be read
+abbrev pub IsLastRefused : Option Held → List ℕ → ToolError → Type 0
+IsLastRefused files name e =
+    (entries : List FolderEntry)
+    × IsFolder files name entries
+    × (AreNamesRefused name entries e
+    ⊎ ((r : SegmentNumbers)
+    × IsRightNumbers entries (Ok (Some r))
+    × IsUnreadSegment files name r.last e))
 
 -- the file with these bytes, as it is recovered
 abbrev pub file_as : List ℕ → RecoveredSegment → File

@@ -14,6 +14,7 @@ ghost use Rattle.tool_parts.specs.Reading.{names_stream};
 ghost use Rattle.folder_commands.specs.SegmentRecovered.{file_as, file_of_parts, IsFileFault, IsHeadTold, IsHeadCut, IsSegmentHanded, IsSegmentUnhanded, IsFolderRecovered, IsFolderKept, IsFolderUnrecovered, IsSegmentFault};
 ghost use Rattle.tool_parts.specs.Worlds.{world};
 
+use crate::last_file::last_file;
 use crate::place_remarks::last_place;
 use crate::recover::kept_of;
 use disks::{Disk, FolderEntry};
@@ -28,7 +29,6 @@ use ring_segments::{
 use std::alloc::Global;
 use std::io::Write;
 use text_lines::put;
-use tool_parts::chain::{folder_numbers, segment_bytes};
 use tool_parts::faults::ToolError;
 use tool_parts::handing::hand_over_kept;
 use tool_parts::left::{LeftOut, bad_in};
@@ -280,17 +280,17 @@ fn hand_out_segment<'a, D: Disk, W: Write, E: Write>(
 ///
 /// # Errors
 ///
-/// Those of [`folder_numbers`] and [`segment_bytes`]; `InFolder` if the other name lies in the folder, `SameFile` if it is another
+/// Those of [`last_file`]; `InFolder` if the other name lies in the folder, `SameFile` if it is another
 /// one of a file there; `Segment` if nothing is recovered: no file is made then. Those of handing out, as for a journal.
 pub(crate) fn recover_folder<'a, D: Disk, W: Write, E: Write>(
     alloc: Global,
     disk: &mut D,
     words: &RecoverWords<'a>,
-    entries: &[FolderEntry],
+    entries: Vec<FolderEntry>,
     out: &mut W,
     err: &mut E,
 ) -> Result<(), ToolError<'a>>
-    requires { IsFolder (D.holds disk.old) words.now.file.now entries.now }
+    requires { IsFolder (D.holds disk.old) words.now.file.now entries.items }
     ensures ok { OnOk result ((early late : Option (List ℕ)) → IsFolderRecovered words.now
         (world (D.holds disk.old) early (W.contents out.old) (E.contents err.old))
         (world (D.holds disk.new) late (W.contents out.new) (E.contents err.new))) }
@@ -303,19 +303,15 @@ pub(crate) fn recover_folder<'a, D: Disk, W: Write, E: Write>(
     ensures printed { names_stream words.now.new.now ≡ true → disk.new ≡ disk.old }
     ensures unmade { (disk.new ≡ disk.old) ⊎ IsFolderKept words.now (D.holds disk.old) }
 {
-    let numbers = match folder_numbers(alloc, words.file, entries) {
-        Ok(numbers) => numbers,
+    let found = match last_file(alloc, disk, words.file, entries) {
+        Ok(found) => found,
         Err(fault) => return Err(fault),
     };
-    let bytes = match segment_bytes(alloc, disk, words.file, numbers.last) {
-        Ok(bytes) => bytes,
-        Err(fault) => return Err(fault),
-    };
-    match keep_outside(alloc, disk, words.file, entries, words.new) {
+    match keep_outside(alloc, disk, words.file, &found.entries, words.new) {
         Ok(()) => {}
         Err(fault) => return Err(fault),
     }
-    let recovered = match recovered_segment(alloc, words, numbers.last, bytes.as_slice()) {
+    let recovered = match recovered_segment(alloc, words, found.number, found.bytes.as_slice()) {
         Ok(recovered) => recovered,
         Err(fault) => return Err(fault),
     };

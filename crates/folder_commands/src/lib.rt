@@ -6,6 +6,7 @@
 #![tactic(auto)]
 
 pub mod join;
+mod last_file;
 mod last_segment;
 mod place_remarks;
 pub mod recover;

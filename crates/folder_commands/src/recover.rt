@@ -195,7 +195,7 @@ pub fn run<'a, D: Disk, I: Read, W: Write, E: Write>(
 {
     match entries_of(disk, words.file) {
         None => recover_text(alloc, disk, words, input, out, err),
-        Some(entries) => match recover_folder(alloc, disk, words, &entries, out, err) {
+        Some(entries) => match recover_folder(alloc, disk, words, entries, out, err) {
             Ok(()) => Ok(()),
             Err(fault) => Err(fault),
         },

@@ -114,6 +114,7 @@ of_fault files folder file word holders start.NoLocks listed refused h = h
 of_fault files folder file word holders start.NoLocksFile listed refused h = h
 of_fault files folder file word holders start.UnreadLocks listed refused h = h
 of_fault files folder file word holders start.BadLocks listed refused h = h
+of_fault files folder file word holders start.ManyLocks listed refused h = h
 of_fault files folder file word holders (start.OtherLock i) listed refused h = h
 of_fault files folder file word holders (start.UnreadSegment n) listed refused h = h
 of_fault files folder file word holders (start.Segment n error) listed refused h = h

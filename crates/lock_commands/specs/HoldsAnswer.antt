@@ -23,7 +23,7 @@ use Rattle.ring_holds.specs.ChainSteps.{AreBlocksHeld}
 use Rattle.ring_holds.specs.Lines.{all_lines}
 use Rattle.ring_holds.specs.Labels.{all_chosen, AreCounted, label_line}
 use Rattle.ring_requests.specs.declared.requests.HoldsWords.{HoldsWords}
-use Rattle.tool_parts.specs.Chained.{AreHeldFrom, IsChainIn, IsFolder, IsAddRefusal, IsNamedWrong, AreNamesRefused}
+use Rattle.tool_parts.specs.Chained.{AreHeldFrom, IsChainIn, IsFolder, IsAddRefusal, IsFileRefused, IsNamedWrong, AreNamesRefused}
 use Rattle.tool_parts.specs.Checked.{IsLegalSavedText, IsSavedTextRefusal}
 use Rattle.tool_parts.specs.Named.{IsHeld, IsNamed, IsNamedRefusal}
 use Rattle.tool_parts.specs.Reading.{names_stream}
@@ -158,6 +158,12 @@ abbrev pub AreFilesUnheld : Option Held → List ℕ → SegmentNumbers → Tool
 AreFilesUnheld files name r e =
     IsFileUnheld files name r e ⊎ (IsNamedWrong files name r e ⊎ (e ≡ tool.OutOfMemory))
 
+-- `check` refuses the files of a folder; or they held a chain, and are refused all the same
+abbrev pub IsUnheldChain : Option Held → List ℕ → SegmentNumbers → ToolError → Type 0
+IsUnheldChain files name r e =
+    (IsFileRefused files name r e ⊎ IsNamedWrong files name r e)
+    ⊎ (((fs : List File) × IsChainIn files name r fs) × AreFilesUnheld files name r e)
+
 -- the names in a folder are refused, or its files
 abbrev pub IsFolderUnheld : List ℕ → Option Held → ToolError → Type 0
 IsFolderUnheld name files e =
@@ -166,7 +172,7 @@ IsFolderUnheld name files e =
     × (AreNamesRefused name entries e
     ⊎ ((r : SegmentNumbers)
     × IsRightNumbers entries (Ok (Some r))
-    × AreFilesUnheld files name r e))
+    × IsUnheldChain files name r e))
 
 -- a text is refused, or, if the word is no standard stream, a folder
 abbrev pub IsNamedUnheld : List ℕ → World → World → ToolError → Type 0

@@ -40,6 +40,7 @@ IsStartName folder file start.NoLocks (tool.NoLocks named) = named.now ≡ folde
 IsStartName folder file start.NoLocksFile (tool.NoLocksFile named) = named.now ≡ folder
 IsStartName folder file start.UnreadLocks (tool.UnreadLocks named) = named.now ≡ folder
 IsStartName folder file start.BadLocks (tool.BadLocks named) = named.now ≡ folder
+IsStartName folder file start.ManyLocks tool.ManyLocks = Unit {0}
 IsStartName folder file (start.OtherLock i) (tool.OtherLock named place) =
     (named.now ≡ folder) × (place ≡ i)
 IsStartName folder file (start.UnreadSegment n) (tool.UnreadSegment named number) =

@@ -13,7 +13,7 @@ use ring_holds::{ChainHoldError, Hold, HoldChain};
 use ring_segments::SegmentError;
 use segment_folder::SegmentNumbers;
 use std::alloc::Global;
-use tool_parts::chain::{folder_numbers, segment_bytes};
+use tool_parts::chain::{chain_in, folder_numbers, segment_bytes};
 use tool_parts::faults::ToolError;
 
 /// Reads the holds of the file of a segment, which may be the last one, after those before it.
@@ -126,7 +126,7 @@ fn files_holds<'a, D: Disk>(
 ///
 /// # Errors
 ///
-/// Those of [`folder_numbers`] and [`files_holds`].
+/// Those of [`folder_numbers`], those of [`chain_in`], and, if there are none of these, those of [`files_holds`].
 pub(crate) fn folder_holds<'a, D: Disk>(
     alloc: Global,
     disk: &D,
@@ -142,8 +142,12 @@ pub(crate) fn folder_holds<'a, D: Disk>(
         Ok(numbers) => numbers,
         Err(fault) => return Err(fault),
     };
-    match files_holds(alloc, disk, folder, numbers) {
-        Ok(holds) => Ok(holds),
-        Err(fault) => Err(fault),
+    let fault = match files_holds(alloc, disk, folder, numbers) {
+        Ok(holds) => return Ok(holds),
+        Err(fault) => fault,
+    };
+    match chain_in(alloc, disk, folder, numbers) {
+        Ok(_) => Err(fault),
+        Err(first) => Err(first),
     }
 }

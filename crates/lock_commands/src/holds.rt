@@ -5,7 +5,7 @@ ghost use Rattle.tool_parts.specs.Reading.{names_stream};
 ghost use Rattle.tool_parts.specs.Worlds.{world};
 ghost use Rattle.lock_commands.specs.HoldsAnswer.{choice_of, AreHoldsTold, AreHoldsUntold, AreTextHolds, IsTextUnheld, AreNamedHolds, IsNamedUnheld, IsHoldsAnswer, IsHoldsRefusal};
 
-use crate::held_folder::folder_holds;
+use crate::held_looks::holds_in;
 use disks::Disk;
 use ring_holds::{
     ChainHoldError, Choice, Hold, count_labels, holds_of_saved, put_holds, put_labels,
@@ -66,7 +66,7 @@ fn text_holds<'a, D: Disk, I: Read>(
 ///
 /// # Errors
 ///
-/// Those of [`folder_holds`] and [`text_holds`].
+/// Those of [`holds_in`] and [`text_holds`].
 fn named_holds<'a, D: Disk, I: Read>(
     alloc: Global,
     disk: &D,
@@ -84,7 +84,7 @@ fn named_holds<'a, D: Disk, I: Read>(
 {
     match entries_of(disk, file) {
         None => text_holds(alloc, disk, file, input),
-        Some(entries) => folder_holds(alloc, disk, file, &entries),
+        Some(entries) => holds_in(alloc, disk, file, &entries),
     }
 }
 

@@ -2,6 +2,7 @@
 #![tactic(auto)]
 
 mod held_folder;
+mod held_looks;
 mod holders;
 pub mod holds;
 pub mod locks;

@@ -62,6 +62,7 @@ pub(crate) fn start_refusal<'a>(fault: StartFault, folder: &'a str, file: &'a st
         StartFault::NoLocksFile => ToolError::NoLocksFile(folder),
         StartFault::UnreadLocks => ToolError::UnreadLocks(folder),
         StartFault::BadLocks => ToolError::BadLocks(folder),
+        StartFault::ManyLocks => ToolError::ManyLocks,
         StartFault::OtherLock(place) => ToolError::OtherLock(folder, place),
         StartFault::UnreadSegment(number) => ToolError::UnreadSegment(folder, number),
         StartFault::Segment(number, error) => ToolError::Segment(folder, number, error),

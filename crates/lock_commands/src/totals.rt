@@ -5,11 +5,11 @@ ghost use Rattle.std.specs.Io.KnownBytes.{Appends};
 ghost use Rattle.text_lines.specs.Writing.{Writes};
 ghost use Rattle.lock_commands.specs.Totals.{sums_of, with_ring, AreTooLarge, sums_line, total_line, IsUntold};
 
-use itoa::Buffer;
+use line_parts::put_word;
 use ring_endless::EndlessRing;
 use ring_locks::Locks;
 use std::io::Write;
-use text_lines::{WriteFault, put_all};
+use text_lines::{Line, WriteFault, put};
 use tool_parts::faults::ToolError;
 
 /// The events and the grants of rings, over all their segments.
@@ -47,26 +47,19 @@ fn sums_of(locks: &Locks) -> Option<Sums>
     Some(all)
 }
 
-/// Writes the line of so many locks with these sums.
+/// Writes the line of so many locks with these sums, by one write, so that lines of processes that share a file do not mix.
 fn put_sums<W: Write>(out: &mut W, locks: u32, sums: Sums) -> Result<(), WriteFault>
     ensures { Writes (W.contents out.old) (W.contents out.new) result (sums_line locks sums) }
 {
-    let mut buffers = (Buffer::new(), Buffer::new(), Buffer::new());
-    let locks = buffers.0.format(locks).as_bytes();
-    let events = buffers.1.format(sums.events).as_bytes();
-    let granted = buffers.2.format(sums.granted).as_bytes();
-    put_all(
-        out,
-        &[
-            b"total locks ",
-            locks,
-            b" events ",
-            events,
-            b" granted ",
-            granted,
-            b"\n",
-        ],
-    )
+    let mut line = Line::new();
+    line.byte(b'\n');
+    line.number(sums.granted);
+    put_word(&mut line, b" granted ");
+    line.number(sums.events);
+    put_word(&mut line, b" events ");
+    line.number(locks as u64);
+    put_word(&mut line, b"total locks ");
+    put(out, line.as_bytes())
 }
 
 /// Writes the line of the sums over the locks.

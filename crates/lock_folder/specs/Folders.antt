@@ -18,6 +18,7 @@ use Rattle.ring_locks.specs.Kept.{LockView}
 use Rattle.ring_locks.specs.Handed.{AreHanded}
 use Rattle.lock_holders.specs.Holders.{IsNotHanded}
 use Rattle.lock_lists.specs.declared.locks.ListError.{ListError}
+use Rattle.lock_lists.specs.declared.locks.ListError.TheVariants as lists
 use Rattle.lock_lists.specs.Lists.{Listed, IsLockList, IsLockFile, IsWordFault, IsFileFault, file_text}
 use Rattle.lock_folder.specs.declared.faults.StartFault.{StartFault}
 use Rattle.lock_folder.specs.declared.faults.StartFault.TheVariants as fault
@@ -136,9 +137,10 @@ pub record AreStarted (folder : List ℕ) (word : Option (List ℕ)) (holders : 
 
 -- ---- refusals
 
--- the bytes of the file of locks are no list of locks
+-- the bytes of the file of locks are not a list of locks, or one of too many
 abbrev pub IsTextFault : List ℕ → StartFault → Type 0
 IsTextFault bytes fault.BadLocks = (IsUtf8 bytes → ⊥) ⊎ ((e : ListError) × IsFileFault bytes e)
+IsTextFault bytes fault.ManyLocks = IsFileFault bytes lists.Many
 IsTextFault bytes fault.OutOfMemory = Unit {0}
 IsTextFault bytes _ = ⊥
 

@@ -19,6 +19,8 @@ pub enum StartFault {
     UnreadLocks,
     /// It is not that of a list of locks.
     BadLocks,
+    /// It is that of more locks than there may be.
+    ManyLocks,
     /// The lock at this place in the folder is not the one that is named, or none is named there.
     OtherLock(usize),
     /// The last segment, which has this number, cannot be read.

@@ -84,6 +84,7 @@ pub(crate) fn list_in(alloc: Global, bytes: &[u8]) -> Result<Vec<ListedLock<'_>>
     match read_list_file(alloc, text) {
         Ok(list) => Ok(list),
         Err(ListError::OutOfMemory) => Err(StartFault::OutOfMemory),
+        Err(ListError::Many) => Err(StartFault::ManyLocks),
         Err(_) => Err(StartFault::BadLocks),
     }
 }

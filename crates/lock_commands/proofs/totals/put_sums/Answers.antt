@@ -3,11 +3,14 @@ use Rattle.lock_commands.proofs.totals.put_sums.Goals as goal
 pub returns : goal.returns
 returns g c =
     rw (
-      ← c.format.ensures.text,
-      ← c.format-2.ensures.text,
-      ← c.format-3.ensures.text,
-      ← c.as_bytes-locks.ensures.value,
-      ← c.as_bytes-events.ensures.value,
-      ← c.as_bytes-granted.ensures.value,
+      c.as_bytes.ensures,
+      c.put_word-3.ensures,
+      c.number-3.ensures.is,
+      c.put_word-2.ensures,
+      c.number-2.ensures.is,
+      c.put_word.ensures,
+      c.number.ensures.is,
+      c.byte.ensures,
+      c.new-line.ensures,
     )
-    c.put_all.ensures
+    at c.put.ensures

@@ -1,0 +1,64 @@
+//! Another look at a folder of locks that is served meanwhile: an old segment may go after it was listed and before it is read.
+
+ghost use Rattle.std.specs.Prelude.{map, IfOk, IfErr};
+ghost use Rattle.tool_parts.specs.Chained.{IsFolder};
+ghost use Rattle.lock_commands.specs.HoldsAnswer.{AreFolderHolds, IsFolderUnheld};
+
+use crate::held_folder::folder_holds;
+use disks::{Disk, FolderEntry};
+use ring_holds::Hold;
+use std::alloc::Global;
+use tool_parts::chain::folder_entries;
+use tool_parts::faults::ToolError;
+use tool_parts::looks::{MOST_LOOKS, has_gone};
+
+/// The holds that were found in a folder; or those that are found by the names that are there now, if a segment had gone.
+fn look_again<'a, D: Disk>(
+    alloc: Global,
+    disk: &D,
+    folder: &'a str,
+    found: Result<Vec<Vec<Hold>>, ToolError<'a>>,
+) -> Result<Vec<Vec<Hold>>, ToolError<'a>>
+    requires ok { IfOk found (λ found.
+        AreFolderHolds folder.now (D.holds disk.now) (map (λ v. v.items) found.items)) }
+    requires err { IfErr found (λ e. IsFolderUnheld folder.now (D.holds disk.now) e) }
+    ensures ok { IfOk result (λ found.
+        AreFolderHolds folder.now (D.holds disk.now) (map (λ v. v.items) found.items)) }
+    ensures err { IfErr result (λ e. IsFolderUnheld folder.now (D.holds disk.now) e) }
+{
+    match found {
+        Ok(holds) => Ok(holds),
+        Err(fault) => {
+            if !has_gone(alloc, disk, fault) {
+                return Err(fault);
+            }
+            match folder_entries(disk, folder) {
+                None => Err(fault),
+                Some(entries) => folder_holds(alloc, disk, folder, &entries),
+            }
+        }
+    }
+}
+
+/// The holds of the locks whose segments a folder with these entries has; by new names as long as a segment has gone.
+///
+/// # Errors
+///
+/// Those of [`folder_holds`].
+pub(crate) fn holds_in<'a, D: Disk>(
+    alloc: Global,
+    disk: &D,
+    folder: &'a str,
+    entries: &[FolderEntry],
+) -> Result<Vec<Vec<Hold>>, ToolError<'a>>
+    requires { IsFolder (D.holds disk.now) folder.now entries.now }
+    ensures ok { IfOk result (λ found.
+        AreFolderHolds folder.now (D.holds disk.now) (map (λ v. v.items) found.items)) }
+    ensures err { IfErr result (λ e. IsFolderUnheld folder.now (D.holds disk.now) e) }
+{
+    let mut found = folder_holds(alloc, disk, folder, entries);
+    for _ in 0..MOST_LOOKS {
+        found = look_again(alloc, disk, folder, found);
+    }
+    found
+}
