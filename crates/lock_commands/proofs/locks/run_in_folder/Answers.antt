@@ -14,4 +14,4 @@ returns-clause-lasts g c = λ synced some.
     let locked = c.in-Ok.ensures.locked in
     let started = c.in-Ok-start_locks.ensures.ok in
     let known = started_known (folder_of words) (list_of words) c.args.holders.now there listed start started (locked_known (g.D.Disk.holds c.args.disk.now) there (folder_of words) locked some) in
-    inr (there, listed, start, locked, started, c.serve_from-end.ensures.lasts synced known)
+    inr (there, listed, start, locked, started, c.serve_from.ensures.lasts synced known)

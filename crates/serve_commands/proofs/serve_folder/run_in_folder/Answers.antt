@@ -27,5 +27,5 @@ returns-clause-lasts g c = λ synced some.
       (refl, c.max.ensures, refl, c.permits_of.ensures),
       locked,
       c.in-Ok-place_in.ensures.ok,
-      c.serve_from-end.ensures.lasts synced known,
+      c.serve_from.ensures.lasts synced known,
     )
