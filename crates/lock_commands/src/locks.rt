@@ -132,7 +132,10 @@ fn run_in_folder<'a, D: Disk, I: Read, W: Write>(
             return Err(start_refusal(fault, words.journal, name_of(words.holders)));
         }
     };
-    serve_from(alloc, disk, start, words, input, out)
+    match serve_from(alloc, disk, start, words, input, out) {
+        Ok(end) => Ok(end),
+        Err(fault) => Err(fault),
+    }
 }
 
 /// Checks the list that is named, before any file is made.

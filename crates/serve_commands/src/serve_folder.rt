@@ -347,5 +347,8 @@ pub(crate) fn run_in_folder<'a, D: Disk, I: Read, W: Write>(
         synced: words.synced,
         permits: permits_of(words),
     };
-    serve_from(alloc, disk, place, rules, input, out)
+    match serve_from(alloc, disk, place, rules, input, out) {
+        Ok(end) => Ok(end),
+        Err(fault) => Err(fault),
+    }
 }

@@ -1,6 +1,6 @@
 -- What a process does to lock a folder, or a file that it writes at its end, and what keeps it from that.
-use Rattle.std.specs.Prelude.{◌≡◌, ◌⊎◌, ℕ, List, Bool, Option, codes}
-use Rattle.disks.specs.Held.{Held, Creates, Locks}
+use Rattle.std.specs.Prelude.{◌≡◌, ◌⊎◌, ℕ, List, Bool, true, Option, Some, codes}
+use Rattle.disks.specs.Held.{Held, is_locked, Creates, Locks}
 use Rattle.disks.specs.Folders.{path_in}
 use Rattle.tool_parts.specs.declared.faults.ToolError.{ToolError}
 use Rattle.tool_parts.specs.declared.faults.ToolError.TheVariants as tool
@@ -23,6 +23,11 @@ HasLockFile before there folder = (made : Bool) × Creates before there (lock_of
 abbrev pub IsLocked : Option Held → Option Held → List ℕ → Type 0
 IsLocked before there folder =
     (made : Option Held) × HasLockFile before made folder × Locks made there (lock_of folder)
+
+-- what files hold is known, and the folder is locked
+abbrev pub StandsLocked : Option Held → List ℕ → Type 0
+StandsLocked files folder =
+    (held : Held) × (files ≡ Some held) × (is_locked held (lock_of folder) ≡ true)
 
 -- the folder is kept by another process, or its lock or a segment cannot be had
 abbrev pub IsUnkeptFolder : List ℕ → ToolError → Type 0
