@@ -55,7 +55,7 @@ is_known files folder l = subst (λ (x : Option Held). IsSome x) (sym l.1) refl
 
 -- the folder is locked, and these bytes are known
 abbrev pub Stands : Option Held → Option (List ℕ) → List ℕ → Type 0
-Stands files journal folder = StandsLocked files folder × ((bytes : List ℕ) × (journal ≡ Some bytes))
+Stands files journal folder = StandsLocked files folder × (bytes : List ℕ) × (journal ≡ Some bytes)
 
 pub if_held : (files : Option Held) (folder : List ℕ) (P : Type 0) → StandsLocked files folder → IfSome files (λ (held : Held). P) → P
 if_held None folder P l k = absurd (false≢true (is_known None folder l))
@@ -81,7 +81,9 @@ kept_stand was is old new folder name (inr k) (l, bytes, e) = (
 
 -- a file got more bytes
 pub added_stand : (files : Option Held) (old new : Option (List ℕ)) (folder bytes : List ℕ) → Appends old new bytes → StandsLocked files folder → (m : List ℕ) → old ≡ Some m → Stands files new folder
-added_stand files old new folder bytes a l m e = (l, has new (subst (λ (x : Option (List ℕ)). Appends x new bytes) e a))
+added_stand files old new folder bytes a l m e =
+    let now = has new (subst (λ (x : Option (List ℕ)). Appends x new bytes) e a) in
+    (l, now.0, now.1)
   where
     has : (new : Option (List ℕ)) → Appends (Some m) new bytes → (n : List ℕ) × (new ≡ Some n)
     has None a = absurd a
