@@ -2,7 +2,7 @@
 use Rattle.std.proofs.Common.{◌≡◌, ℕ, ◌+◌, ◌<◌, ◌≤◌, ◌⊎◌, inl, inr, Bool, true, false, eqb, List, [], ◌∷◌, ◌++◌, length, take, drop, get_or, refl, sym, ap, subst, ◌∙◌, append_assoc, arith}
 use Rattle.std.specs.Prelude.{◌||◌}
 use Rattle.std.specs.List.{list_any}
-use Rattle.std.proofs.lemmas.List.{take_all, take_more}
+use Rattle.std.proofs.lemmas.List.{take_all, take_more, take-append-drop, length-append, length-take}
 use Rattle.ring_journal.specs.Recovery.{has_line_end}
 use Rattle.ring_segments.specs.Remarks.{lines_in, IsEnded}
 use Rattle.ring_segments.specs.RemarkLaws.{AreLines, IsOneLine}
@@ -63,3 +63,16 @@ rest_ends [] (c ∷ d ∷ front) b m e = absurd cc
 rest_ends (x ∷ z) (c ∷ front) b m e =
     let rest : z ++ 10 ∷ [] ≡ front ++ b ∷ m = cc in
     rest_ends z front b m rest
+
+-- ---- a front with one line more
+
+take_whole : (xs ys : List ℕ) → take (length xs) (xs ++ ys) ≡ xs
+take_whole [] ys = refl
+take_whole (x ∷ xs) ys = ap (λ (u : List ℕ). x ∷ u) (take_whole xs ys)
+
+pub take_both : (bytes : List ℕ) (kept : ℕ) (line behind : List ℕ) → kept ≤ length bytes → drop kept bytes ≡ line ++ behind → take (kept + length line) bytes ≡ take kept bytes ++ line
+take_both bytes kept line behind le e =
+    let front : List ℕ = take kept bytes in
+    let parts : bytes ≡ (front ++ line) ++ behind = sym (take-append-drop kept bytes) ∙ (ap (λ (u : List ℕ). front ++ u) e ∙ sym (append_assoc front line behind)) in
+    let long : kept + length line ≡ length (front ++ line) = omega (arith, length-append front line, length-take kept bytes, le) in
+    ap (λ (n : ℕ). take n bytes) long ∙ (ap (take (length (front ++ line))) parts ∙ take_whole (front ++ line) behind)

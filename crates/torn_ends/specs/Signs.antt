@@ -1,5 +1,5 @@
 -- Which line can follow in a journal, as far as its rings were reached (this project's own).
-use Rattle.std.specs.Prelude.{ℕ, ◌-◌, ◌^◌, List, length, map, Bool, false, nat_lt, nat_le, ◌&&◌, ◌||◌, Option, None, Some, is_some, slice_get, Result, Ok, Err, codes}
+use Rattle.std.specs.Prelude.{ℕ, ◌-◌, ◌^◌, List, length, Bool, false, nat_lt, nat_le, ◌&&◌, ◌||◌, Option, None, Some, is_some, slice_get, Result, Ok, Err, codes}
 use Rattle.text_lines.specs.declared.fault.Fault.{Fault}
 use Rattle.text_lines.specs.Reading.{Reader, ◌>>=◌, word_at, number_at}
 use Rattle.ring_model.specs.Surveys.{granted_count}
@@ -74,10 +74,11 @@ is_from reached most (Some n) = nat_le reached n && nat_le (n - reached) most
 -- many as this at most
 abbrev pub can_be : Reached → ℕ → List ℕ → Bool
 can_be r most bytes =
-    is_above r.grants most (said (grant_at bytes))
-    || (is_above r.grants most (said (member_at bytes))
-    || (is_from r.events most (said (survey_at bytes))
-    || (is_some (said (refusal_at bytes)) || is_some (said (corruption_at bytes)))))
+    (((is_above r.grants most (said (grant_at bytes))
+    || is_above r.grants most (said (member_at bytes)))
+    || is_from r.events most (said (survey_at bytes)))
+    || is_some (said (refusal_at bytes)))
+    || is_some (said (corruption_at bytes))
 
 abbrev pub can_be_there : Option Reached → ℕ → List ℕ → Bool
 can_be_there None most bytes = false

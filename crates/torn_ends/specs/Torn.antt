@@ -6,7 +6,7 @@ use Rattle.ring_journal.specs.Spelling.{Journal, journal_text}
 use Rattle.ring_journal.specs.Beginnings.{IsRightJournal}
 use Rattle.ring_segments.specs.declared.last.LastSegment.{LastSegment}
 use Rattle.ring_segments.specs.declared.errors.SegmentError.{SegmentError}
-use Rattle.ring_segments.specs.declared.errors.SegmentError.TheVariants as refused
+use Rattle.ring_segments.specs.declared.errors.SegmentError.TheVariants as segment
 use Rattle.ring_segments.specs.Spelling.{Head, HeadFits, head_text}
 use Rattle.ring_segments.specs.Remarks.{lines_in, without_remarks}
 use Rattle.ring_segments.specs.RemarkLaws.{AreLines, IsOneLine}
@@ -15,8 +15,8 @@ use Rattle.torn_ends.specs.Signs.{reached_by, can_follow}
 
 -- the refusal names a line
 abbrev pub names_line : SegmentError → Bool
-names_line (refused.Syntax line) = true
-names_line (refused.Bad line kind) = true
+names_line (segment.Syntax line) = true
+names_line (segment.Bad line kind) = true
 names_line _ = false
 
 -- The bytes have a bad line after this front: with it, whatever comes then, they are refused. It is

@@ -1,6 +1,6 @@
 //! The last file of a chain, whose end may be torn.
 
-ghost use Rattle.std.specs.Prelude.{◌≡◌, ◌≢◌, ◌⊎◌, ◌≤◌, ◌<◌, true, false, length, take, drop, is_some, IsTrue, IfOk, IfErr, IfSome, MatchResult, Ok, Err};
+ghost use Rattle.std.specs.Prelude.{◌≡◌, ◌⊎◌, ◌≤◌, true, false, length, take, drop, is_some, IsTrue, IfOk, IfErr, Ok, Err};
 ghost use Rattle.std.specs.List.{All};
 ghost use Rattle.ring_chains.specs.Bases.{IsBase};
 ghost use Rattle.ring_segments.specs.RemarkLaws.{AreLines, IsOneLine};
@@ -54,7 +54,10 @@ fn is_one_line(line: &[u8]) -> bool
         return false;
     }
     let last = line.len() - 1;
-    line[last] == b'\n' && !line[..last].contains(&b'\n')
+    if line[last] != b'\n' {
+        return false;
+    }
+    !line[..last].contains(&b'\n')
 }
 
 /// A front of the bytes of a file, and what is read of it: the file, or a refusal that names no line.

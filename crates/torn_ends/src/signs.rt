@@ -1,6 +1,6 @@
 //! The lines that can follow in a journal.
 
-ghost use Rattle.std.specs.Prelude.{◌≡◌, ℕ, List, Result, IfOk};
+ghost use Rattle.std.specs.Prelude.{◌≡◌, ◌^◌, ℕ, List, Result, IfOk};
 ghost use Rattle.std.specs.List.{list_any};
 ghost use Rattle.text_lines.specs.declared.fault.Fault.{Fault};
 ghost use Rattle.text_lines.specs.Reading.{Gives, number_at};
