@@ -22,15 +22,15 @@ last_apart line last d many is =
 -- ---- a text in two ways
 
 -- the first part of the one way is as long as that of the other, or shorter
-pub split_by : (xs ys as bs : List ℕ) → xs ++ ys ≡ as ++ bs → ((m : List ℕ) × (xs ≡ as ++ m)) ⊎ ((b : ℕ) × (m : List ℕ) × (as ≡ xs ++ b ∷ m) × ((b ∷ m) ++ bs ≡ ys))
+pub split_by : (xs ys us bs : List ℕ) → xs ++ ys ≡ us ++ bs → ((m : List ℕ) × (xs ≡ us ++ m)) ⊎ ((b : ℕ) × (m : List ℕ) × (us ≡ xs ++ b ∷ m) × ((b ∷ m) ++ bs ≡ ys))
 split_by xs ys [] bs e = inl (xs, refl)
-split_by [] ys (a ∷ as) bs e = inr (a, as, refl, sym e)
-split_by (x ∷ xs) ys (a ∷ as) bs e =
+split_by [] ys (a ∷ us) bs e = inr (a, us, refl, sym e)
+split_by (x ∷ xs) ys (a ∷ us) bs e =
     let same : x ≡ a = cc in
-    let rest : xs ++ ys ≡ as ++ bs = cc in
-    elim (split_by xs ys as bs rest) [
+    let rest : xs ++ ys ≡ us ++ bs = cc in
+    elim (split_by xs ys us bs rest) [
       | inl h ↦ inl (h.0, ap (λ (b : ℕ). b ∷ xs) same ∙ ap (λ (u : List ℕ). a ∷ u) h.1)
-      | inr h ↦ inr (h.0, h.1, ap (λ (b : ℕ). b ∷ as) (sym same) ∙ ap (λ (u : List ℕ). x ∷ u) h.2, h.3)
+      | inr h ↦ inr (h.0, h.1, ap (λ (b : ℕ). b ∷ us) (sym same) ∙ ap (λ (u : List ℕ). x ∷ u) h.2, h.3)
     ]
 
 neither : (a b : Bool) → (a || b) ≡ false → (a ≡ false) × (b ≡ false)

@@ -92,11 +92,17 @@ fn front_of(alloc: Global, bytes: &[u8], error: SegmentError) -> Result<Front, N
         kept = start;
         let found = read_last(alloc, &bytes[..kept]);
         match found {
-            Ok(last) => return Ok(Front { kept, found: Ok(last) }),
+            Ok(last) => return Ok(Front {
+                kept,
+                found: Ok(last),
+            }),
             Err(SegmentError::OutOfMemory) => return Err(NoRoom),
             Err(next) => {
                 if named_line(&next).is_none() {
-                    return Ok(Front { kept, found: Err(next) });
+                    return Ok(Front {
+                        kept,
+                        found: Err(next),
+                    });
                 }
                 error = next;
             }

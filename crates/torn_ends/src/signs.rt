@@ -124,11 +124,13 @@ fn can_be(reached: &Reached, most: u64, bytes: &[u8]) -> Result<bool, NoRoom>
     let Ok(corrupted) = said(corruption(bytes)) else {
         return Err(NoRoom);
     };
-    Ok(is_above(reached.grants, most, granted)
-        || is_above(reached.grants, most, member)
-        || is_from(reached.events, most, surveyed)
-        || refused.is_some()
-        || corrupted.is_some())
+    Ok(
+        is_above(reached.grants, most, granted)
+            || is_above(reached.grants, most, member)
+            || is_from(reached.events, most, surveyed)
+            || refused.is_some()
+            || corrupted.is_some(),
+    )
 }
 
 /// Whether a line that is no remark can follow.
