@@ -82,7 +82,7 @@ module _ (h : Head) (j : Journal) (told tail : List ℕ) (s : LastSegment) (fits
     y : (u : List ℕ) × (b ∷ m ≡ u ++ 10 ∷ [])
     y = rest_ends (head_text h ++ ended.0) torn.front b m (append_assoc (head_text h) ended.0 (10 ∷ []) ∙ (ap (λ (u : List ℕ). head_text h ++ u) (sym ended.1) ∙ shorter))
 
-    body : List ℕ
+    abbrev body : List ℕ
     body = torn.bad.whole.0
 
     both : body ++ 10 ∷ torn.bad.behind ≡ (y.0 ++ 10 ∷ []) ++ tail
@@ -97,10 +97,10 @@ module _ (h : Head) (j : Journal) (told tail : List ℕ) (s : LastSegment) (fits
     within : b ∷ m ≡ torn.bad.line ++ x.0
     within = y.1 ∙ (x.1 ∙ ap (λ (u : List ℕ). u ++ x.0) (sym torn.bad.whole.1))
 
-    g : Head
+    abbrev g : Head
     g = head_of s.head
 
-    rest : List ℕ
+    abbrev rest : List ℕ
     rest = torn.right.file.rest
 
     parts : (rest ++ torn.bad.line) ++ x.0 ≡ told

@@ -120,13 +120,16 @@ fn has_bad_line(alloc: Global, bytes: &[u8], kept: usize) -> bool
         return false;
     }
     let (line, _) = split_line(left_out);
-    if !are_lines(front) || !is_one_line(line) {
+    if !are_lines(front) {
         return false;
     }
-    match read_last(alloc, &bytes[..kept + line.len()]) {
-        Ok(_) => false,
-        Err(error) => named_line(&error).is_some(),
+    if !is_one_line(line) {
+        return false;
     }
+    let Err(error) = read_last(alloc, &bytes[..kept + line.len()]) else {
+        return false;
+    };
+    named_line(&error).is_some()
 }
 
 /// Whether a line of these bytes can follow where the segment ends.

@@ -75,7 +75,7 @@ fn corruption(bytes: &[u8]) -> Result<(u64, &[u8]), Stop>
 
 /// The number that was read, if one was.
 fn said(read: Result<(u64, &[u8]), Stop>) -> Result<Option<u64>, NoRoom>
-    ensures { (at : Result (ℕ × List ℕ) Fault) → Gives (λ x. (x.0, x.1.now)) read at
+    ensures { (at : Result (ℕ × List ℕ) Fault) → Gives (λ x. (x.0, x.1.now)) read.entry at
         → IfOk result (λ number. number ≡ said at) }
 {
     match read {
