@@ -1,6 +1,7 @@
 -- The last file of a chain with a torn end (this project's own).
-use Rattle.std.specs.Prelude.{◌≡◌, ℕ, ◌⊎◌, Bool, true, false, List, ◌++◌, length, map, Result, Ok, Err}
+use Rattle.std.specs.Prelude.{◌≡◌, ℕ, ◌<◌, ◌≤◌, ◌⊎◌, Bool, true, false, List, ◌++◌, length, map, take, drop, Option, Some, None, is_some, Result, Ok, Err}
 use Rattle.std.specs.List.{list_any}
+use Rattle.text_lines.specs.Texts.{line_of}
 use Rattle.ring_saved.specs.Content.{content}
 use Rattle.ring_journal.specs.Spelling.{Journal, journal_text}
 use Rattle.ring_journal.specs.Beginnings.{IsRightJournal}
@@ -13,11 +14,14 @@ use Rattle.ring_segments.specs.RemarkLaws.{AreLines, IsOneLine}
 use Rattle.ring_segments.specs.Last.{IsRightLast}
 use Rattle.torn_ends.specs.Signs.{reached_by, can_follow}
 
--- the refusal names a line
+-- the line that a refusal names, if it names one
+abbrev pub named_line : SegmentError → Option ℕ
+named_line (segment.Syntax line) = Some line
+named_line (segment.Bad line kind) = Some line
+named_line _ = None
+
 abbrev pub names_line : SegmentError → Bool
-names_line (segment.Syntax line) = true
-names_line (segment.Bad line kind) = true
-names_line _ = false
+names_line e = is_some (named_line e)
 
 -- The bytes have a bad line after this front: with it, whatever comes then, they are refused. It is
 -- the first of what is left out.
@@ -58,12 +62,21 @@ IsNoTear front left_out =
     ((e : SegmentError) × IsRightLast front (Err e) × (names_line e ≡ false))
     ⊎ ((s : LastSegment) × IsRightLast front (Ok s) × (has_later s left_out ≡ true))
 
+-- A line begins at this place, which a refusal names: of all bytes, or of as many as end behind it.
+pub record IsBadFrom (bytes : List ℕ) (place : ℕ) : Type 0 where
+  pub most : ℕ
+  pub longer : place < most
+  pub within : most ≤ length bytes
+  pub begins : AreLines (take place bytes)
+  pub why : SegmentError
+  pub named : named_line why ≡ Some (line_of bytes place)
+  pub refused : IsRightLast (take most bytes) (Err why)
+
 -- the file is damaged: it has a bad line, and its end is not torn there
 pub record IsDamaged (bytes : List ℕ) : Type 0 where
-  pub front : List ℕ
-  pub left_out : List ℕ
-  pub bad : HasBadLine bytes front left_out
-  pub why : IsNoTear front left_out
+  pub place : ℕ
+  pub bad : IsBadFrom bytes place
+  pub why : IsNoTear (take place bytes) (drop place bytes)
 
 -- The right answer, memory aside: the file with which a chain may end, as it is or without a torn
 -- end; or the right refusal of all bytes, and if it names a line they are damaged.

@@ -1,20 +1,22 @@
 //! The last file of a chain, whose end may be torn.
 
-ghost use Rattle.std.specs.Prelude.{◌≡◌, ◌⊎◌, ◌≤◌, true, false, length, take, drop, is_some, IsTrue, IfOk, IfErr, Ok, Err};
+ghost use Rattle.std.specs.Prelude.{◌≡◌, ◌⊎◌, ◌≤◌, ◌<◌, Some, IfSome, true, false, length, take, drop, is_some, IsTrue, IfOk, IfErr, Ok, Err};
 ghost use Rattle.std.specs.List.{All};
 ghost use Rattle.ring_chains.specs.Bases.{IsBase};
+ghost use Rattle.text_lines.specs.Texts.{line_of};
 ghost use Rattle.ring_segments.specs.RemarkLaws.{AreLines, IsOneLine};
 ghost use Rattle.ring_segments.specs.Last.{IsRightLast};
-ghost use Rattle.torn_ends.specs.Torn.{names_line, HasBadLine, has_later, IsTorn, IsDamaged, IsRightEnd};
+ghost use Rattle.torn_ends.specs.Torn.{named_line, names_line, IsBadFrom, HasBadLine, has_later, IsTorn, IsDamaged, IsRightEnd};
 
 use crate::reached::all_reached;
 use crate::signs::{NoRoom, has_later};
 use ring_segments::{LastSegment, SegmentError, read_last, split_line};
 use std::alloc::Global;
+use text_lines::line_at;
 
 /// The line that a refusal names.
 fn named_line(error: &SegmentError) -> Option<u64>
-    ensures { is_some result ≡ names_line error.now }
+    ensures { result ≡ named_line error.now }
 {
     match *error {
         SegmentError::Syntax(line) => Some(line),
@@ -46,6 +48,23 @@ fn are_lines(text: &[u8]) -> bool
     text.is_empty() || text[text.len() - 1] == b'\n'
 }
 
+/// The place in front of `kept` where the line begins that a refusal names.
+fn bad_start(bytes: &[u8], error: &SegmentError, kept: usize) -> Option<usize>
+    requires { kept ≤ length bytes.now }
+    ensures { IfSome result (λ start. (start < kept) × AreLines (take start bytes.now)
+        × (named_line error.now ≡ Some (line_of bytes.now start))) }
+{
+    let Some(line) = named_line(error) else {
+        return None;
+    };
+    let start = line_start(bytes, line);
+    if start < kept && are_lines(&bytes[..start]) && line_at(bytes, start) == line {
+        Some(start)
+    } else {
+        None
+    }
+}
+
 /// Whether these bytes are a line with its end.
 fn is_one_line(line: &[u8]) -> bool
     ensures { IsTrue result → IsOneLine line.now }
@@ -69,7 +88,9 @@ struct Front {
 
 /// Cuts the bytes of a file in front of the line that a refusal of them names, until no line of them is refused.
 fn front_of(alloc: Global, bytes: &[u8], error: SegmentError) -> Result<Front, NoRoom>
+    requires { IsRightLast bytes.now (Err error) }
     ensures within { IfOk result (λ front. front.kept ≤ length bytes.now) }
+    ensures bad { IfOk result (λ front. IsBadFrom bytes.now front.kept) }
     ensures right { IfOk result (λ front. IsRightLast (take front.kept bytes.now) front.found) }
     ensures unnamed { IfOk result (λ front. IfErr front.found (λ e. names_line e ≡ false)) }
     ensures many { IfOk result (λ front. IfOk front.found
@@ -80,15 +101,10 @@ fn front_of(alloc: Global, bytes: &[u8], error: SegmentError) -> Result<Front, N
     let mut kept = bytes.len();
     let mut error = error;
     'cuts: loop {
-        let Some(line) = named_line(&error) else {
-            // only a refusal that names a line is cut at, so this does not come
-            return Err(NoRoom);
-        };
-        let start = line_start(&bytes[..kept], line);
-        if start >= kept {
+        let Some(start) = bad_start(bytes, &error, kept) else {
             // the line that is named is among the bytes, so this does not come
             return Err(NoRoom);
-        }
+        };
         kept = start;
         let found = read_last(alloc, &bytes[..kept]);
         match found {
@@ -157,18 +173,20 @@ fn read_torn(alloc: Global, bytes: &[u8], error: SegmentError) -> Result<LastSeg
         return Err(SegmentError::OutOfMemory);
     };
     let Front { kept, found } = front;
-    if !has_bad_line(alloc, bytes, kept) {
-        // a line after the front is refused, so this does not come
-        return Err(SegmentError::OutOfMemory);
-    }
     let Ok(last) = found else {
         return Err(error);
     };
-    match later_in(alloc, &last, &bytes[kept..]) {
-        Ok(false) => Ok(last),
-        Ok(true) => Err(error),
-        Err(NoRoom) => Err(SegmentError::OutOfMemory),
+    let Ok(later) = later_in(alloc, &last, &bytes[kept..]) else {
+        return Err(SegmentError::OutOfMemory);
+    };
+    if later {
+        return Err(error);
     }
+    if !has_bad_line(alloc, bytes, kept) {
+        // the line after the front is refused, so this does not come
+        return Err(SegmentError::OutOfMemory);
+    }
+    Ok(last)
 }
 
 /// Reads the last file of a chain, alone, as [`read_last`] does, but without a torn end: if a line of it is bad, and neither that one
