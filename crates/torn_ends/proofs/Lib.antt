@@ -1,3 +1,3 @@
 pub mod Lines
-pub mod Reaching
+pub mod Fronts
 pub mod Staying

@@ -13,12 +13,6 @@ unfolding lines_in
 none_of_none f [] e = refl
 none_of_none f (b ∷ bs) e = absurd (omega (arith, e))
 
--- the bytes are those before the last one, and that one
-pub last_apart : (line : List ℕ) (last : ℕ) (d : ℕ) → length line ≡ last + 1 → get_or line last d ≡ 10 → line ≡ take last line ++ 10 ∷ []
-last_apart line last d many is =
-    sym (take_all (last + 1) line (omega (arith, many)))
-    ∙ (take_more line last d (omega (arith, many)) ∙ ap (λ (b : ℕ). take last line ++ b ∷ []) is)
-
 -- ---- a text in two ways
 
 -- the first part of the one way is as long as that of the other, or shorter

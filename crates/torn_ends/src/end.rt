@@ -87,6 +87,7 @@ struct Front {
 }
 
 /// Cuts the bytes of a file in front of the line that a refusal of them names, until no line of them is refused.
+#[tactic(auto, using(crate::proofs::Fronts::bad_from))]
 fn front_of(alloc: Global, bytes: &[u8], error: SegmentError) -> Result<Front, NoRoom>
     requires { IsRightLast bytes.now (Err error) }
     ensures within { IfOk result (λ front. front.kept ≤ length bytes.now) }
