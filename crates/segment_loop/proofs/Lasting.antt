@@ -16,6 +16,7 @@ use Rattle.segment_loop.specs.Segmenting.{Segmenting}
 use Rattle.segment_loop.specs.Segments.{Moment, IsReady}
 use Rattle.segment_loop.specs.Lasting.{LeavesSegment}
 use Rattle.segment_loop.proofs.Hashing.{is_hashed}
+use Rattle.segment_loop.proofs.Changing.{kept_file}
 
 -- ---- a journal that is known, and all of which lasts
 
@@ -92,7 +93,7 @@ ready_knows G folder None a b (inr h) some m e =
       G.text b.service b.number f.behind,
       if_some f.between (b.journal ≡ Some (G.text b.service b.number f.behind)) between h.1.journal,
     )
-ready_knows G folder (Some why) a b h some m e = kept_knows a b (segment_file folder a.number) h.1.file some m e
+ready_knows G folder (Some why) a b h some m e = kept_knows a b (segment_file folder a.number) (kept_file h.1.file) some m e
 
 -- ---- what a loss of power leaves
 

@@ -7,7 +7,7 @@ ghost use Rattle.disks.specs.Lasting.{bytes_in, Leaves, MayLeave, LeavesFront};
 ghost use Rattle.sha2.specs.Hashers.{Holds256};
 ghost use Rattle.line_loop.specs.declared.faults.LoopFault.TheVariants as fault;
 ghost use Rattle.segment_loop.specs.Digested.{hashed};
-ghost use Rattle.segment_loop.specs.Segments.{IsPrepared, IsNamed, IsReady, IsLeft, moment_of};
+ghost use Rattle.segment_loop.specs.Segments.{IsPrepared, IsUnprepared, IsFileCause, IsNamed, IsReady, IsLeft, moment_of};
 ghost use Rattle.segment_loop.specs.Lasting.{LeavesSegment};
 
 use crate::digested::Digested;
@@ -48,6 +48,8 @@ fn prepare<S: Segmented, W: Grow>(
     ensures ok { IfOk result (λ next. IsPrepared S.segmenting service.now segment.now.number
         (hashed (W.contents segment.now.writer.inner) segment.now.writer.hasher) folder.now next) }
     ensures open { IfOk result (λ next. S.is_over next.service ≡ false) }
+    ensures err { IfErr result
+        (λ e. IsUnprepared S.segmenting service.now segment.now.number e) }
 {
     let next = match service.next(alloc) {
         Ok(next) => next,
@@ -120,7 +122,9 @@ fn settle<D: Disk>(disk: &mut D, writer: Digested<D::Grown>, name: &str) -> Resu
 }
 
 /// Why a segment goes on, where the next file was not made.
-pub(crate) fn cause_of(fault: ReplaceFault) -> EndFault {
+pub(crate) fn cause_of(fault: ReplaceFault) -> EndFault
+    ensures { IsFileCause result }
+{
     match fault {
         ReplaceFault::OutOfMemory => EndFault::OutOfMemory,
         _ => EndFault::File,

@@ -39,7 +39,7 @@ returns-in-Ok-open_segment-2-clause-ok g c =
           (subst (λ (n : List ℕ). Replaces (g.D.Disk.holds c.args.disk.now) (g.D.Disk.holds c.settle.new.disk) n journal) c.as_str.ensures.value c.in-Ok.ensures.ok)
           c.requires.named
           c.keep_on.new.self c.cause_of-why.result (g.D.Disk.holds c.replace.new.disk) (g.D.Disk.holds c.open_segment-in-Err-replace.new.disk) c.in-Ok-open_segment-2.segment.number (hashed (g.D.Grown.Grow.contents v.inner) v.hasher)
-          c.in-Ok.hasher c.keep_on.ensures.kept c.in-Ok-open_segment-2.ensures.ok.0 c.in-Err-replace.ensures.kept c.in-Ok-open_segment-2.ensures.kept c.in-Ok.ensures.hasher c.in-Ok-open_segment-2.ensures.known,
+          c.in-Ok.hasher c.cause_of-why.ensures c.keep_on.ensures.kept c.in-Ok-open_segment-2.ensures.ok.0 c.in-Err-replace.ensures.kept c.in-Ok-open_segment-2.ensures.kept c.in-Ok.ensures.hasher c.in-Ok-open_segment-2.ensures.known,
     )
 
 pub returns-in-Err-clause-spared : goal.returns-in-Err-clause-spared
