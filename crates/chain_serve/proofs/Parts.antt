@@ -18,7 +18,7 @@ use Rattle.segment_loop.specs.Segments as at
 use Rattle.segment_loop.specs.Service as loop
 use Rattle.segment_loop.specs.Notes as notes
 use Rattle.segment_loop.specs.Lasting as lasting
-use Rattle.segment_loop.proofs.Changing.{kept_file}
+use Rattle.segment_loop.proofs.Changing.{kept_file, kept_cause}
 use Rattle.segment_loop.proofs.Lasting.{last_is, known_is, front_has}
 use Rattle.ring_serve.specs.declared.answers.Refusal.{Refusal}
 use Rattle.ring_serve.specs.Standings.{Standing}
@@ -137,9 +137,12 @@ file_cause : (m : Moment) (why : EndFault) → at.IsFileCause why → IsCause m 
 file_cause m why (inl e) = for_reason m why end.File e tt
 file_cause m why (inr e) = for_reason m why end.OutOfMemory e tt
 
-cause_in : {X Y : Type 0} (a : at.Moment ServiceView) (why : EndFault) → a.service.number ≡ a.number → (at.IsUnprepared segmenting a.service a.number why × X) ⊎ (at.IsFileCause why × Y) → IsCause (moment_in a) (refusal_of why)
-cause_in a why same (inl h) = unprepared_cause a why same h.0
-cause_in a why same (inr h) = file_cause (moment_in a) why h.0
+cause_in : (folder : List ℕ) (a b : at.Moment ServiceView) (why : EndFault) → a.service.number ≡ a.number → at.IsKept segmenting folder why a b → IsCause (moment_in a) (refusal_of why)
+cause_in folder a b why same h = by (kept_cause segmenting folder why a b h)
+  where
+    by : at.IsUnprepared segmenting a.service a.number why ⊎ at.IsFileCause why → IsCause (moment_in a) (refusal_of why)
+    by (inl k) = unprepared_cause a why same k
+    by (inr k) = file_cause (moment_in a) why k
 
 ready_in : (s : SegmentRules) (kept : Option EndFault) (a b : at.Moment ServiceView) → IsSound s a.number a.service → at.IsReady segmenting s.folder.now kept a b → IsReady s b.service.refusing (moment_in a) (moment_in b) × IsSound s b.number b.service
 unfolding put_in
@@ -170,7 +173,7 @@ ready_in s (Some why) a b is h =
     let kept : b.service ≡ record a.service { refusing = Some (refusal_of why) } = h.1.kept in
     let rings : b.service.rings ≡ a.service.rings = ap (λ (v : ServiceView). v.rings) kept in
     let off : b.service.refusing ≡ Some (refusal_of why) = ap (λ (v : ServiceView). v.refusing) kept in (
-      subst (λ (x : Option Refusal). IsReady s x (moment_in a) (moment_in b)) (sym off) (high, cause_in a why is.number_is h.1.file, record { rings = rings; number = h.1.number; file = kept_file h.1.file }),
+      subst (λ (x : Option Refusal). IsReady s x (moment_in a) (moment_in b)) (sym off) (high, cause_in s.folder.now a b why is.number_is h.1, record { rings = rings; number = h.1.number; file = kept_file segmenting s.folder.now why a b h.1 }),
       record {
         rules = ap (λ (v : ServiceView). v.rules) kept ∙ is.rules;
         number_is = ap (λ (v : ServiceView). v.number) kept ∙ (is.number_is ∙ sym h.1.number);

@@ -76,7 +76,7 @@ module _ (first : Moment Service) (before : List ℕ) where
   }
 
   holds_kept : (folder : List ℕ) (start : Service) (digest noted : List ℕ) (why : EndFault) (a b : Moment Service) → Holds start a digest noted → IsKept by_segments folder why a b → Holds start b digest noted
-  holds_kept folder start digest noted why a b h is = by (kept_file is.file)
+  holds_kept folder start digest noted why a b h is = by (kept_file by_segments folder why a b is)
     where
       renumbered : a.journal ≡ Some (by_segments.text start a.number digest ++ noted) → a.journal ≡ Some (by_segments.text start b.number digest ++ noted)
       renumbered e = e ∙ ap (λ (n : ℕ). Some (by_segments.text start n digest ++ noted)) (sym is.number)

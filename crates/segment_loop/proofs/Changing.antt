@@ -8,7 +8,7 @@ use Rattle.sha2.specs.Hashers.{Holds256}
 use Rattle.sha2.specs.declared.Sha256.{Sha256}
 use Rattle.segment_loop.specs.declared.segmented.EndFault.{EndFault}
 use Rattle.segment_loop.specs.Segmenting.{Segmenting}
-use Rattle.segment_loop.specs.Segments.{moment_of, IsPut, HasEnded, IsFileCause, IsKept}
+use Rattle.segment_loop.specs.Segments.{Moment, moment_of, IsPut, HasEnded, IsUnprepared, IsFileCause, IsKept}
 
 -- what its writer has, if the file holds what the hasher has taken in
 abbrev pub Knows : Option Held → List ℕ → Sha256 → Option (List ℕ) → Type 0
@@ -33,9 +33,25 @@ kept_known (Some was) None name (Some bytes) s w r f k = absurd r
 kept_known (Some was) (Some is) name (Some bytes) s w r f k = k bytes (r.here name refl) (f bytes refl)
 
 -- what holds of the file of a segment that goes on, whatever the reason
-pub kept_file : {A B C D : Type 0} → (A × B) ⊎ (C × D) → B ⊎ D
-kept_file (inl k) = inl k.1
-kept_file (inr k) = inr k.1
+abbrev pub HoldsSame : {S : Type 0} → List ℕ → Moment S → Moment S → Type 0
+HoldsSame folder a b =
+    ((b.files ≡ a.files) × (b.journal ≡ a.journal))
+    ⊎ (Replaces a.files b.files (segment_file folder a.number) a.journal × IfSome a.files (λ (held : Held). IfSome a.journal (λ (bytes : List ℕ). b.journal ≡ Some bytes)))
+
+pub kept_file : {S : Type 0} (G : Segmenting S) (folder : List ℕ) (why : EndFault) (a b : Moment S) → IsKept G folder why a b → HoldsSame folder a b
+kept_file G folder why a b h = by h.file
+  where
+    by : (IsUnprepared G a.service a.number why × (b.files ≡ a.files) × (b.journal ≡ a.journal)) ⊎ (IsFileCause why × Replaces a.files b.files (segment_file folder a.number) a.journal × IfSome a.files (λ (held : Held). IfSome a.journal (λ (bytes : List ℕ). b.journal ≡ Some bytes))) → HoldsSame folder a b
+    by (inl k) = inl k.1
+    by (inr k) = inr k.1
+
+-- and the reason
+pub kept_cause : {S : Type 0} (G : Segmenting S) (folder : List ℕ) (why : EndFault) (a b : Moment S) → IsKept G folder why a b → IsUnprepared G a.service a.number why ⊎ IsFileCause why
+kept_cause G folder why a b h = by h.file
+  where
+    by : (IsUnprepared G a.service a.number why × (b.files ≡ a.files) × (b.journal ≡ a.journal)) ⊎ (IsFileCause why × Replaces a.files b.files (segment_file folder a.number) a.journal × IfSome a.files (λ (held : Held). IfSome a.journal (λ (bytes : List ℕ). b.journal ≡ Some bytes))) → IsUnprepared G a.service a.number why ⊎ IsFileCause why
+    by (inl k) = inl k.0
+    by (inr k) = inr k.0
 
 -- ---- the next file is put there, the segment has ended, or it goes on
 

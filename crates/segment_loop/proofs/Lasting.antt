@@ -93,7 +93,7 @@ ready_knows G folder None a b (inr h) some m e =
       G.text b.service b.number f.behind,
       if_some f.between (b.journal ≡ Some (G.text b.service b.number f.behind)) between h.1.journal,
     )
-ready_knows G folder (Some why) a b h some m e = kept_knows a b (segment_file folder a.number) (kept_file h.1.file) some m e
+ready_knows G folder (Some why) a b h some m e = kept_knows a b (segment_file folder a.number) (kept_file G folder why a b h.1) some m e
 
 -- ---- what a loss of power leaves
 

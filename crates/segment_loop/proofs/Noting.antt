@@ -55,7 +55,7 @@ kept_goes m b name (inr k) = λ held e. (still_held m.files b.files name m.journ
 ready_goes : {S : Type 0} (G : Segmenting S) (folder : List ℕ) (kept : Option EndFault) (m b : Moment S) → IsReady G folder kept m b → b.number ≡ m.number → Goes m b []
 ready_goes G folder None m b (inl h) same = subst (λ (x : Moment _). Goes m x []) (sym h.1) (goes_none m)
 ready_goes G folder None m b (inr h) same = let up = h.1.number in absurd (omega (arith, up, same))
-ready_goes G folder (Some why) m b h same = kept_goes m b (segment_file folder m.number) (kept_file h.1.file)
+ready_goes G folder (Some why) m b h same = kept_goes m b (segment_file folder m.number) (kept_file G folder why m b h.1)
 
 is_held : (files : Option Held) → IsSome files → (h : Held) × (files ≡ Some h)
 is_held None some = absurd (false≢true some)
