@@ -3,12 +3,12 @@
 ghost use Rattle.std.specs.Prelude.{◌≡◌, ◌+◌, ◌<◌, ℕ, List, true, false, IfOk, IfErr, IfSome, OnOk, OnErr, IsSome, Some, string_bytes};
 ghost use Rattle.std.specs.Io.KnownBytes.{Keeps};
 ghost use Rattle.disks.specs.Held.{Replaces, bytes_of};
-ghost use Rattle.disks.specs.Lasting.{bytes_in, Leaves, MayLeave, LeavesFront};
+ghost use Rattle.disks.specs.Lasting.{bytes_in, BeginsWith, Leaves, MayLeave, LeavesFront};
 ghost use Rattle.sha2.specs.Hashers.{Holds256};
 ghost use Rattle.line_loop.specs.declared.faults.LoopFault.TheVariants as fault;
 ghost use Rattle.segment_loop.specs.Digested.{hashed};
 ghost use Rattle.segment_loop.specs.Segments.{IsPrepared, IsUnprepared, IsFileCause, IsNamed, IsReady, IsLeft, moment_of};
-ghost use Rattle.segment_loop.specs.Lasting.{LeavesSegment};
+ghost use Rattle.segment_loop.specs.Lasting.{LeavesSegment, LeavesFile, LeavesEarlier};
 
 use crate::digested::Digested;
 use crate::segmented::{EndFault, Segmented};
@@ -241,6 +241,18 @@ fn change<S: Segmented, D: Disk>(
         (moment_of service.old (D.holds disk.old) segment.number
         (hashed (D.Grown.contents segment.writer.inner) segment.writer.hasher)) bytes
         (D.leaves disk.new)) }
+    ensures earlier { IsSome (D.holds disk.old) → LeavesEarlier rules.entry.folder.now segment.number
+        (D.leaves disk.old) (D.leaves disk.new) }
+    ensures ended { IfOk result (λ ready. IsSome (D.holds disk.old) → (bytes : List ℕ)
+        → hashed (D.Grown.contents segment.writer.inner) segment.writer.hasher ≡ Some bytes
+        → (ready.segment.number ≡ segment.number → ⊥)
+        → LeavesFile rules.entry.folder.now segment.number (D.leaves disk.new)
+        (λ has. has ≡ Some bytes)) }
+    ensures front { OnErr result (IsSome (D.holds disk.old) → (bytes : List ℕ)
+        → hashed (D.Grown.contents segment.writer.inner) segment.writer.hasher ≡ Some bytes
+        → D.Grown.lasting segment.writer.inner ≡ Some bytes
+        → LeavesFile rules.entry.folder.now segment.number (D.leaves disk.new)
+        (λ has. BeginsWith has (Some bytes))) }
 {
     let OpenSegment {
         number,
@@ -318,6 +330,18 @@ pub(crate) fn make_ready<S: Segmented, D: Disk>(
         (moment_of service.old (D.holds disk.old) segment.number
         (hashed (D.Grown.contents segment.writer.inner) segment.writer.hasher)) bytes
         (D.leaves disk.new)) }
+    ensures earlier { IsSome (D.holds disk.old) → LeavesEarlier rules.entry.folder.now segment.number
+        (D.leaves disk.old) (D.leaves disk.new) }
+    ensures ended { IfOk result (λ ready. IsSome (D.holds disk.old) → (bytes : List ℕ)
+        → hashed (D.Grown.contents segment.writer.inner) segment.writer.hasher ≡ Some bytes
+        → (ready.segment.number ≡ segment.number → ⊥)
+        → LeavesFile rules.entry.folder.now segment.number (D.leaves disk.new)
+        (λ has. has ≡ Some bytes)) }
+    ensures front { OnErr result (IsSome (D.holds disk.old) → (bytes : List ℕ)
+        → hashed (D.Grown.contents segment.writer.inner) segment.writer.hasher ≡ Some bytes
+        → D.Grown.lasting segment.writer.inner ≡ Some bytes
+        → LeavesFile rules.entry.folder.now segment.number (D.leaves disk.new)
+        (λ has. BeginsWith has (Some bytes))) }
 {
     if !service.is_due() {
         return Ok(Ready {

@@ -1,9 +1,11 @@
-use Rattle.std.proofs.Common.{◌++◌, Option, subst, sym}
-use Rattle.std.specs.Prelude.{string_bytes}
+use Rattle.std.proofs.Common.{ℕ, List, ◌++◌, Option, subst, sym}
+use Rattle.std.specs.Prelude.{string_bytes, ⊤}
 use Rattle.disks.specs.Held.{Held}
+use Rattle.disks.specs.Lasting.{BeginsWith, Changes}
 use Rattle.line_loop.specs.Loop.{Stops, held_by}
 use Rattle.line_loop.specs.Stands.{by_stand, stand}
 use Rattle.segment_loop.proofs.Lasting.{front_has}
+use Rattle.segment_loop.proofs.Earlier.{changes_any}
 use Rattle.segment_loop.proofs.service.serve_in.Goals as goal
 
 pub returns-in-Err-clause-spared : goal.returns-in-Err-clause-spared
@@ -19,3 +21,11 @@ returns-in-Err-clause-spared g c = λ begun h.
     let told = subst (λ (j : Option _). Stops (by_stand g.S.AnswersLines.is_answered) old (record { journal = before; out = out }) (record { journal = held_by (λ d. g.D.Grown.Grow.lasting d.inner) j; out = after }) bytes (stand c.serve_part-served.new.service (g.D.Disk.holds c.serve_part-served.new.disk))) c.in-Some.is p.2 in
     let stops = subst (λ (f : Option Held). Stops (by_stand g.S.AnswersLines.is_answered) old (record { journal = before; out = out }) (record { journal = journal; out = after }) bytes (stand c.serve_part-served.new.service f)) (sym c.abandon.ensures.kept) told in
     (journal, (p.0, p.1, stops), front_has (g.D.Disk.leaves c.serve_part-served.new.disk) (g.D.Disk.leaves c.abandon.new.self) (string_bytes c.args.ready.segment.name) journal c.abandon.ensures.left)
+
+pub returns-in-Err-clause-others : goal.returns-in-Err-clause-others
+returns-in-Err-clause-others g c = λ none.
+    let name = string_bytes c.args.ready.segment.name in
+    let left = g.D.Disk.leaves c.abandon.new.self in
+    let lasting = g.D.Grown.Grow.lasting c.in-Some.writer.inner in
+    subst (λ (was : Option Held). Changes was left name (λ (_ : Option (List ℕ)). ⊤)) (c.serve_part-served.ensures.unchanged none)
+    (changes_any (g.D.Disk.leaves c.serve_part-served.new.disk) left name (λ (has : Option (List ℕ)). BeginsWith has lasting) c.abandon.ensures.left)
