@@ -1,6 +1,6 @@
 //! What answers a line.
 
-ghost use Rattle.std.specs.Prelude.{◌≡◌, ◌++◌, ◌⊎◌, ℕ, List, Option, Bool, false, OnOk, OnErr};
+ghost use Rattle.std.specs.Prelude.{◌≡◌, ◌++◌, ◌⊎◌, ℕ, List, Option, Bool, true, false, OnOk, OnErr};
 ghost use Rattle.disks.specs.Held.{Held};
 ghost use Rattle.line_loop.specs.Answering.{IsByStart};
 ghost use Rattle.line_loop.specs.Stands.{by_stand};

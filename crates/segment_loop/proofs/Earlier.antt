@@ -39,8 +39,8 @@ module _ (folder : List ℕ) where
     places = c.places;
     files = λ apart m lt. c.others (segment_file folder m)
         (λ one.
-            let same : k ≡ m = apart k m (subst (λ (x : List ℕ). IsOneFile was x (segment_file folder m)) named one) in
-            absurd (omega (arith, same, lt, most)));
+        let same : k ≡ m = apart k m (subst (λ (x : List ℕ). IsOneFile was x (segment_file folder m)) named one) in
+        absurd (omega (arith, same, lt, most)));
   }
 
   pub same_left : (number : ℕ) (left : Option Held) → LeavesEarlier folder number left left
