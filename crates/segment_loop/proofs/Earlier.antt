@@ -130,10 +130,6 @@ module _ {S : Type 0} (A : AnsweringWith S) (G : Segmenting S) (folder : List �
   step_up m n (inl e) = omega (arith, e)
   step_up m n (inr e) = omega (arith, e)
 
-  step_next : (m n : ℕ) → (n ≡ m) ⊎ (n ≡ m + 1) → (n ≡ m → ⊥) → m < n
-  step_next m n (inl e) differ = absurd (differ e)
-  step_next m n (inr e) differ = omega (arith, e)
-
   parts_up : (a b : Moment S) (ps : List (Part S)) → AreParts A G folder a ps b → a.number ≤ b.number
   parts_up a b [] h = let same : b.number ≡ a.number = ap (λ (m : Moment _). m.number) h in omega (arith, same)
   parts_up a b (p ∷ ps) h =
@@ -147,16 +143,15 @@ module _ {S : Type 0} (A : AnsweringWith S) (G : Segmenting S) (folder : List �
   whole_stays : (a b : Moment S) (ps : List (Part S)) → AreParts A G folder a ps b → (was is : Held) → ((m : ℕ) → m < b.number → bytes_of is (segment_file folder m) ≡ bytes_of was (segment_file folder m)) → AreWhole folder a ps was → AreWhole folder a ps is
   whole_stays a b [] served was is same h = tt
   whole_stays a b (p ∷ ps) served was is same h = (
-    λ differ.
-        let up = step_next a.number p.from.number (ready_step p.kept a p.from served.0) differ in
+    λ up.
         let number = served.1.number in
         let rest = parts_up p.to b ps served.2 in
-        same a.number (omega (arith, up, number, rest)) ∙ h.0 differ,
+        same a.number (omega (arith, up, number, rest)) ∙ h.0 up,
     whole_stays p.to b ps served.2 was is same h.1,
   )
 
-  whole_more : (a b : Moment S) (ps : List (Part S)) (p : Part S) (held : Held) → AreParts A G folder a ps b → ((p.from.number ≡ b.number → ⊥) → bytes_of held (segment_file folder b.number) ≡ b.journal) → AreWhole folder a ps held → AreWhole folder a (ps ++ p ∷ []) held
-  whole_more a b [] p held served new h = (subst (λ (m : Moment _). (p.from.number ≡ m.number → ⊥) → bytes_of held (segment_file folder m.number) ≡ m.journal) served new, tt)
+  whole_more : (a b : Moment S) (ps : List (Part S)) (p : Part S) (held : Held) → AreParts A G folder a ps b → (p.from.number ≡ b.number + 1 → bytes_of held (segment_file folder b.number) ≡ b.journal) → AreWhole folder a ps held → AreWhole folder a (ps ++ p ∷ []) held
+  whole_more a b [] p held served new h = (subst (λ (m : Moment _). p.from.number ≡ m.number + 1 → bytes_of held (segment_file folder m.number) ≡ m.journal) served new, tt)
   whole_more a b (q ∷ qs) p held served new h = (h.0, whole_more q.to b qs p held served.2 new h.1)
 
 -- where it is known what is left, and each segment has a file of its own
@@ -171,9 +166,9 @@ module _ {S : Type 0} (A : AnsweringWith S) (G : Segmenting S) (folder : List �
       let before = apart_back folder was is k.places apart in
       whole_stays A G folder a b ps served was is (k.files before) (h before)
 
-  pub whole_then : (a b : Moment S) (ps : List (Part S)) (p : Part S) → AreParts A G folder a ps b → (left : Option Held) → ((p.from.number ≡ b.number → ⊥) → LeavesFile folder b.number left (λ (has : Option (List ℕ)). has ≡ b.journal)) → LeavesWhole folder a ps left → LeavesWhole folder a (ps ++ p ∷ []) left
+  pub whole_then : (a b : Moment S) (ps : List (Part S)) (p : Part S) → AreParts A G folder a ps b → (left : Option Held) → (p.from.number ≡ b.number + 1 → LeavesFile folder b.number left (λ (has : Option (List ℕ)). has ≡ b.journal)) → LeavesWhole folder a ps left → LeavesWhole folder a (ps ++ p ∷ []) left
   whole_then a b ps p served None new h = tt
-  whole_then a b ps p served (Some held) new h = λ apart. whole_more A G folder a b ps p held served (λ differ. new differ apart) (h apart)
+  whole_then a b ps p served (Some held) new h = λ apart. whole_more A G folder a b ps p held served (λ up. new up apart) (h apart)
 
   pub none_whole : (a : Moment S) (unread line : List ℕ) (input out : Option (List ℕ)) (none : unread ≡ []) (empty : line ≡ []) (left : Option Held) → LeavesWhole folder a (none_served A G folder a unread line input out none empty).parts left
   unfolding none_served
@@ -190,7 +185,7 @@ module _ {S : Type 0} (A : AnsweringWith S) (G : Segmenting S) (folder : List �
 module _ {S : Type 0} (A : AnsweringWith S) (G : Segmenting S) (folder : List ℕ) (a b from : Moment S) (kept : Option EndFault) (unread line : List ℕ) (input middle out before : Option (List ℕ)) (d : Served A G folder a b unread line input middle out before) (ready : IsReady G folder kept b from) where
   pub one_whole : (end : Ending) (new : S) (files : Option Held) (journal : Option (List ℕ)) (number : ℕ) (left line' : List ℕ) (rest after : Option (List ℕ)) → (same : number ≡ from.number) →
       (p : ServesPart end (by_stand A) (stand_of from) (stand new files) d.begun unread left line' middle rest (record { journal = from.journal; out = before }) (record { journal = journal; out = after })) →
-      (was is : Option Held) → LeavesEarlier folder b.number was is → ((from.number ≡ b.number → ⊥) → LeavesFile folder b.number is (λ (has : Option (List ℕ)). has ≡ b.journal)) → LeavesWhole folder a d.parts was →
+      (was is : Option Held) → LeavesEarlier folder b.number was is → (from.number ≡ b.number + 1 → LeavesFile folder b.number is (λ (has : Option (List ℕ)). has ≡ b.journal)) → LeavesWhole folder a d.parts was →
       LeavesWhole folder a (one_served A G folder a b from kept unread line input middle out before d ready end new files journal number left line' rest after same p).parts is
   unfolding one_served
   one_whole end new files journal number left line' rest after same p was is keeps ended whole =

@@ -214,7 +214,7 @@ module _ {S : Type 0} (A : AnsweringWith S) (law : KeepsKnown A) (G : Segmenting
   pub some_each : (new : S) (files : Option Held) (journal : List ℕ) (rest after : Option (List ℕ)) → (read : List ℕ) → (consumed : Consumes input rest (d.read ++ read)) →
       (st : Stops (by_stand A) (stand_of from) (record { journal = from.journal; out = before }) (record { journal = Some journal; out = after }) (d.begun ++ (unread ++ read)) (stand new files)) →
       (was mid left : Option Held) (name : List ℕ) → (named : name ≡ segment_file folder from.number) → (l : IfSome left (λ (held : Held). HasFront held name (Some journal))) →
-      LeavesWhole folder a d.parts was → LeavesEarlier folder b.number was mid → ((from.number ≡ b.number → ⊥) → LeavesFile folder b.number mid (λ (has : Option (List ℕ)). has ≡ b.journal)) →
+      LeavesWhole folder a d.parts was → LeavesEarlier folder b.number was mid → (from.number ≡ b.number + 1 → LeavesFile folder b.number mid (λ (has : Option (List ℕ)). has ≡ b.journal)) →
       LeavesEarlier folder from.number mid left → LeavesFile folder from.number left (λ (has : Option (List ℕ)). BeginsWith has (Some journal)) → EachSegmentLasts A G folder a new input rest out after left
   unfolding some_last some_told
   some_each new files journal rest after read consumed st was mid left name named l whole keeps ended others front =

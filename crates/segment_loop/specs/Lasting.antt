@@ -45,12 +45,12 @@ abbrev pub AreApart : List ℕ → Held → Type 0
 AreApart folder held =
     (m n : ℕ) → IsOneFile held (segment_file folder m) (segment_file folder n) → m ≡ n
 
--- Where the segment of a moment has ended before the next part, its file is left whole, with all that
--- was written to it.
+-- Where the next part is in the next segment, that of the moment before has ended: its file is left
+-- whole, with all that was written to it.
 abbrev pub AreWhole : {S : Type 0} → List ℕ → Moment S → List (Part S) → Held → Type 0
 AreWhole folder a [] held = Unit {0}
 AreWhole folder a (p ∷ ps) held =
-    ((p.from.number ≡ a.number → ⊥) → bytes_of held (segment_file folder a.number) ≡ a.journal)
+    (p.from.number ≡ a.number + 1 → bytes_of held (segment_file folder a.number) ≡ a.journal)
     × AreWhole folder p.to ps held
 
 -- What was told in the last segment lasts; and if each segment has a file of its own, those that have

@@ -245,7 +245,7 @@ fn change<S: Segmented, D: Disk>(
         (D.leaves disk.old) (D.leaves disk.new) }
     ensures ended { IfOk result (λ ready. IsSome (D.holds disk.old) → (bytes : List ℕ)
         → hashed (D.Grown.contents segment.writer.inner) segment.writer.hasher ≡ Some bytes
-        → (ready.segment.number ≡ segment.number → ⊥)
+        → ready.segment.number ≡ segment.number + 1
         → LeavesFile rules.entry.folder.now segment.number (D.leaves disk.new)
         (λ has. has ≡ Some bytes)) }
     ensures front { OnErr result (IsSome (D.holds disk.old) → (bytes : List ℕ)
@@ -299,6 +299,7 @@ fn change<S: Segmented, D: Disk>(
 /// # Errors
 ///
 /// `Journal` if the file of the segment cannot be settled, or that file or the next one not be opened.
+#[tactic(auto, using(crate::proofs::Earlier::same_left))]
 pub(crate) fn make_ready<S: Segmented, D: Disk>(
     alloc: Global,
     service: &mut S,
@@ -334,7 +335,7 @@ pub(crate) fn make_ready<S: Segmented, D: Disk>(
         (D.leaves disk.old) (D.leaves disk.new) }
     ensures ended { IfOk result (λ ready. IsSome (D.holds disk.old) → (bytes : List ℕ)
         → hashed (D.Grown.contents segment.writer.inner) segment.writer.hasher ≡ Some bytes
-        → (ready.segment.number ≡ segment.number → ⊥)
+        → ready.segment.number ≡ segment.number + 1
         → LeavesFile rules.entry.folder.now segment.number (D.leaves disk.new)
         (λ has. has ≡ Some bytes)) }
     ensures front { OnErr result (IsSome (D.holds disk.old) → (bytes : List ℕ)

@@ -220,7 +220,7 @@ returns-clause-earlier g c = λ some.
     kept_earlier c.args.rules.folder.now c.args.segment.number c.args.next.number name other c.requires.named p.name p.next_number was mid made (Some text) put left contents there settled c.open_segment-in-Err-replace.ensures.left
 
 pub returns-in-Ok-open_segment-clause-ended : goal.returns-in-Ok-open_segment-clause-ended
-returns-in-Ok-open_segment-clause-ended g c = λ some bytes known differ.
+returns-in-Ok-open_segment-clause-ended g c = λ some bytes known up.
     let w = c.args.segment.writer in
     let contents = g.D.Grown.Grow.contents w.inner in
     let journal = hashed contents w.hasher in
@@ -244,8 +244,9 @@ returns-in-Ok-open_segment-clause-ended g c = λ some bytes known differ.
     put_whole c.args.rules.folder.now c.args.segment.number c.args.next.number name other c.requires.named p.name p.next_number was mid made (Some text) put left bytes there just c.open_segment.ensures.left
 
 pub returns-in-Ok-open_segment-2-clause-ended : goal.returns-in-Ok-open_segment-2-clause-ended
-returns-in-Ok-open_segment-2-clause-ended g c = λ some bytes known differ.
-    absurd (differ c.in-Ok-open_segment-2.ensures.ok.0)
+returns-in-Ok-open_segment-2-clause-ended g c = λ some bytes known up.
+    let same = c.in-Ok-open_segment-2.ensures.ok.0 in
+    absurd (omega (arith, same, up))
 
 pub returns-in-Err-clause-front : goal.returns-in-Err-clause-front
 returns-in-Err-clause-front g c = λ some bytes known lasts.

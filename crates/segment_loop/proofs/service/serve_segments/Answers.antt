@@ -1,4 +1,4 @@
-use Rattle.std.proofs.Common.{◌≡◌, ℕ, List, ◌++◌, Option, Some, ap, refl, sym, subst, ◌∙◌, inl, arith}
+use Rattle.std.proofs.Common.{◌≡◌, ℕ, ◌+◌, List, ◌++◌, Option, Some, ap, refl, sym, subst, ◌∙◌, inl, arith}
 use Rattle.std.specs.Prelude.{is_some, IfSome, string_bytes, ⊤}
 use Rattle.segment_folder.specs.Names.{segment_file}
 use Rattle.line_loop.specs.declared.faults.Ending.{Ending}
@@ -141,7 +141,7 @@ parts-preserved g c =
       λ none synced some all.
           let now = c.parts.invariant.3 synced some all in
           let known = known_is at.journal (g.D.Grown.Grow.lasting w.inner) now.1 in
-          let ended = λ (differ : c.in-Ok.ready.segment.number ≡ c.parts.segment.number → ⊥). file_map c.args.rules.folder.now at.number (g.D.Disk.leaves c.make_ready.new.disk) (λ (has : Option (List ℕ)). has ≡ Some known.0) (λ (has : Option (List ℕ)). has ≡ at.journal) (λ has e. e ∙ sym known.1) (c.in-Ok.ensures.ended now.0 known.0 known.1 differ) in
+          let ended = λ (up : c.in-Ok.ready.segment.number ≡ c.parts.segment.number + 1). file_map c.args.rules.folder.now at.number (g.D.Disk.leaves c.make_ready.new.disk) (λ (has : Option (List ℕ)). has ≡ Some known.0) (λ (has : Option (List ℕ)). has ≡ at.journal) (λ has e. e ∙ sym known.1) (c.in-Ok.ensures.ended now.0 known.0 known.1 up) in
           let parts = (one_served g.S.AnswersLines.is_answered g.S.Segmented.segmenting c.args.rules.folder.now start at from c.in-Ok.ready.kept c.parts.unread c.parts.line.items (g.I.Read.remaining c.args.input.now) (g.I.Read.remaining c.parts.input) (g.W.Write.contents c.args.out.now) (g.W.Write.contents c.parts.out) d c.in-Ok.ensures.ok
           c.in-Ok-serve_in.end.ending c.serve_in.new.service (g.D.Disk.holds c.serve_in.new.disk) journal x.number c.serve_in.new.unread c.serve_in.new.line.items (g.I.Read.remaining c.serve_in.new.input) (g.W.Write.contents c.serve_in.new.out) same.0 part).parts in
           subst (λ (left : Option Held). LeavesWhole c.args.rules.folder.now start parts left) (sym (c.in-Ok-serve_in.ensures.unchanged none))
@@ -313,7 +313,7 @@ returns-in-Err-serve_in-clause-earlier g c = λ none synced some all.
     let left = g.D.Disk.leaves c.serve_in.new.disk in
     let name = string_bytes c.in-Ok.ready.segment.name in
     let front = subst (λ (j : Option (List ℕ)). IfSome left (λ (held : Held). HasFront held name j)) has.1 p.2 in
-    let ended = λ (differ : c.in-Ok.ready.segment.number ≡ c.parts.segment.number → ⊥). file_map c.args.rules.folder.now at.number (g.D.Disk.leaves c.make_ready.new.disk) (λ (has : Option (List ℕ)). has ≡ Some known.0) (λ (has : Option (List ℕ)). has ≡ at.journal) (λ has e. e ∙ sym known.1) (c.in-Ok.ensures.ended now.0 known.0 known.1 differ) in
+    let ended = λ (up : c.in-Ok.ready.segment.number ≡ c.parts.segment.number + 1). file_map c.args.rules.folder.now at.number (g.D.Disk.leaves c.make_ready.new.disk) (λ (has : Option (List ℕ)). has ≡ Some known.0) (λ (has : Option (List ℕ)). has ≡ at.journal) (λ has e. e ∙ sym known.1) (c.in-Ok.ensures.ended now.0 known.0 known.1 up) in
     let ready_left = g.D.Disk.leaves c.make_ready.new.disk in
     some_each g.S.AnswersLines.is_answered g.met.S.Segmented.knows g.S.Segmented.segmenting c.args.rules.folder.now start at from c.in-Ok.ready.kept c.parts.unread c.parts.line.items (g.I.Read.remaining c.args.input.now) (g.I.Read.remaining c.parts.input) (g.W.Write.contents c.args.out.now) out d c.in-Ok.ensures.ok c.serve_in.new.service (g.D.Disk.holds c.serve_in.new.disk) has.0 (g.I.Read.remaining c.serve_in.new.input) after p.1.0 (consumes_then (g.I.Read.remaining c.args.input.now) (g.I.Read.remaining c.parts.input) (g.I.Read.remaining c.serve_in.new.input) d.read p.1.0 d.consumed p.1.1) stops
     (g.D.Disk.leaves c.parts.disk) ready_left left name c.in-Ok.ensures.named front (c.parts.invariant.4 none synced some all) (c.make_ready.ensures.earlier now.0) ended
@@ -346,7 +346,7 @@ returns-in-End-clause-earlier g c = λ none synced some all left l.
     let name = string_bytes x.name in
     let then = g.D.Disk.leaves c.serve_in.new.disk in
     let h = front_has then left name lasting l in
-    let ended = λ (differ : c.in-Ok.ready.segment.number ≡ c.parts.segment.number → ⊥). file_map c.args.rules.folder.now at.number (g.D.Disk.leaves c.make_ready.new.disk) (λ (has : Option (List ℕ)). has ≡ Some known.0) (λ (has : Option (List ℕ)). has ≡ at.journal) (λ has e. e ∙ sym known.1) (c.in-Ok.ensures.ended now.0 known.0 known.1 differ) in
+    let ended = λ (up : c.in-Ok.ready.segment.number ≡ c.parts.segment.number + 1). file_map c.args.rules.folder.now at.number (g.D.Disk.leaves c.make_ready.new.disk) (λ (has : Option (List ℕ)). has ≡ Some known.0) (λ (has : Option (List ℕ)). has ≡ at.journal) (λ has e. e ∙ sym known.1) (c.in-Ok.ensures.ended now.0 known.0 known.1 up) in
     let begun = one_whole g.S.AnswersLines.is_answered g.S.Segmented.segmenting c.args.rules.folder.now start at from c.in-Ok.ready.kept c.parts.unread c.parts.line.items (g.I.Read.remaining c.args.input.now) (g.I.Read.remaining c.parts.input) (g.W.Write.contents c.args.out.now) (g.W.Write.contents c.parts.out) d c.in-Ok.ensures.ok
     c.in-Ok-serve_in.end.ending c.serve_in.new.service (g.D.Disk.holds c.serve_in.new.disk) journal x.number c.serve_in.new.unread c.serve_in.new.line.items (g.I.Read.remaining c.serve_in.new.input) (g.W.Write.contents c.serve_in.new.out) c.in-Ok-serve_in.ensures.same.0 (c.in-Ok-serve_in.ensures.ok d.begun d.keeps)
     (g.D.Disk.leaves c.parts.disk) (g.D.Disk.leaves c.make_ready.new.disk) (c.make_ready.ensures.earlier now.0) ended (c.parts.invariant.4 none synced some all) in
