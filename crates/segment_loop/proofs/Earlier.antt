@@ -143,7 +143,7 @@ module _ {S : Type 0} (A : AnsweringWith S) (G : Segmenting S) (folder : List �
   whole_stays : (a b : Moment S) (ps : List (Part S)) → AreParts A G folder a ps b → (was is : Held) → ((m : ℕ) → m < b.number → bytes_of is (segment_file folder m) ≡ bytes_of was (segment_file folder m)) → AreWhole folder a ps was → AreWhole folder a ps is
   whole_stays a b [] served was is same h = tt
   whole_stays a b (p ∷ ps) served was is same h = (
-    λ up.
+    λ (up : p.from.number ≡ a.number + 1).
         let number = served.1.number in
         let rest = parts_up p.to b ps served.2 in
         same a.number (omega (arith, up, number, rest)) ∙ h.0 up,
