@@ -42,8 +42,8 @@ pub kept_file : {S : Type 0} (G : Segmenting S) (folder : List ℕ) (why : EndFa
 kept_file G folder why a b h = by h.file
   where
     by : (IsUnprepared G a.service a.number why × (b.files ≡ a.files) × (b.journal ≡ a.journal)) ⊎ (IsFileCause why × Replaces a.files b.files (segment_file folder a.number) a.journal × IfSome a.files (λ (held : Held). IfSome a.journal (λ (bytes : List ℕ). b.journal ≡ Some bytes))) → HoldsSame folder a b
-    by (inl k) = inl k.1
-    by (inr k) = inr k.1
+    by (inl k) = inl (k.1, k.2)
+    by (inr k) = inr (k.1, k.2)
 
 -- and the reason
 pub kept_cause : {S : Type 0} (G : Segmenting S) (folder : List ℕ) (why : EndFault) (a b : Moment S) → IsKept G folder why a b → IsUnprepared G a.service a.number why ⊎ IsFileCause why
