@@ -81,4 +81,5 @@ segmenting = record {
   is_due = λ s. is_due (Some s.rules.limit) s.rings;
   IsNext = IsNext;
   IsKept = λ old why new. new ≡ record old { refusing = Some (refusal_of why) };
+  HasText = λ s number behind. Unit {0};
 }

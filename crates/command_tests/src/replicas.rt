@@ -56,6 +56,7 @@ impl Segmented for Count {
       is_due = λ s. nat_lt 99 s.lines;
       IsNext = λ old new. new.lines ≡ old.lines;
       IsKept = λ old why new. new.lines ≡ old.lines;
+      HasText = λ s number behind. Unit {0};
     } };
 
     fn is_due(&self) -> bool {

@@ -68,6 +68,7 @@ impl Segmented for Tally {
       is_due = λ s. nat_lt 1 s.told;
       IsNext = λ old new. new.told ≡ 0;
       IsKept = λ old why new. (new.told ≡ old.told) × (new.kept ≡ Some why);
+      HasText = λ s number behind. Unit {0};
     } };
 
     fn is_due(&self) -> bool {

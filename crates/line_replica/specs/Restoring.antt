@@ -32,6 +32,7 @@ segmenting G = record {
   is_due = λ r. G.is_due r.inner;
   IsNext = λ old new. G.IsNext old.inner new.inner;
   IsKept = λ old why new. G.IsKept old.inner why new.inner;
+  HasText = λ r number behind. G.HasText r.inner number behind;
 }
 
 -- where the content of files is known before a line it is known after it

@@ -18,4 +18,5 @@ segmenting G = record {
   is_due = λ r. G.is_due r.numbered.inner;
   IsNext = λ old new. G.IsNext old.numbered.inner new.numbered.inner × IsSameAround old new;
   IsKept = λ old why new. G.IsKept old.numbered.inner why new.numbered.inner × IsSameAround old new;
+  HasText = λ r number behind. G.HasText r.numbered.inner number behind;
 }

@@ -1,6 +1,6 @@
 //! What answers lines in segments.
 
-ghost use Rattle.std.specs.Prelude.{◌≡◌, ◌<◌, ℕ, true, false, IfOk};
+ghost use Rattle.std.specs.Prelude.{◌≡◌, ◌<◌, ℕ, true, false, IfOk, OnOk};
 ghost use Rattle.ring_segments.specs.Spelling.{DigestFits};
 ghost use Rattle.segment_loop.specs.Segmenting.{Segmenting, KeepsKnown};
 
@@ -51,7 +51,8 @@ pub trait Segmented: AnswersLines + Drop {
     ) -> Result<Vec<u8>, EndFault>
         requires number { 0 < number }
         requires digits { DigestFits behind }
-        ensures { IfOk result (λ text. text.items ≡ segmenting.text self.now number behind) };
+        ensures text { IfOk result (λ text. text.items ≡ segmenting.text self.now number behind) }
+        ensures fits { OnOk result (segmenting.HasText self.now number behind) };
 
     /// The segment goes on although it is due, for this reason: lines are answered again.
     fn keep_on(&mut self, why: EndFault)
