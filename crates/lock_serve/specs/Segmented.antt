@@ -5,7 +5,7 @@ use Rattle.segment_loop.specs.Segmenting.{Segmenting}
 use Rattle.lock_serve.specs.declared.service.LockService.{LockService}
 use Rattle.lock_serve.specs.declared.service.Stage.{Stage}
 use Rattle.lock_serve.specs.declared.service.Stage.TheVariants as stage
-use Rattle.lock_serve.specs.Segments.{segment_text}
+use Rattle.lock_serve.specs.Segments.{segment_text, HasText}
 
 -- how many lines the journal of a segment may have
 abbrev pub limit_of : Option ℕ → ℕ
@@ -36,4 +36,5 @@ segmenting = record {
   is_due = λ s. is_to_end s.stage;
   IsNext = IsNext;
   IsKept = λ old why new. new ≡ record old { stage = stage.KeptOn };
+  HasText = λ s number behind. HasText number behind s.segment.locks;
 }
