@@ -7,7 +7,7 @@ use crate::descriptors::is_standard;
 use crate::disk::FolderEntry;
 use crate::grown::{opened_end, removed_empty};
 use crate::part::{NewFile, made_for, sync_folder};
-use crate::same_file::{FileId, end_of_links, file_id, folder_of, leads_to};
+use crate::same_file::{FileId, end_of_links, ends_in, file_id, folder_of, leads_to};
 use std::fs::{self, File};
 use std::io::{self, ErrorKind};
 use std::rt::Files;
@@ -66,6 +66,10 @@ impl<'a, R: Files<File = File> + AllocGlobal> FileCalls for SystemCalls<'a, R> {
             Err(e) if e.kind() == ErrorKind::NotFound => Ok(false),
             Err(e) => Err(e),
         }
+    }
+
+    fn leads_into(&self, folder: &str, name: &str) -> io::Result<bool> {
+        ends_in(self.files, folder, name)
     }
 
     fn is_standard(&self, name: &str) -> io::Result<bool> {
