@@ -2,7 +2,8 @@
 
 Without a program it only reads, in a few seconds, for ./test. Of each page, man pages too: no word or form of `page_words.py` is
 in it; each link leads to a file, and to a heading of it; each clause that it names is one of the crates (`page_clauses.py`). The first
-page has at most 150 lines of 120 characters, and cells of 200. The last line is `N passed, M failed`, one for each page.
+page has at most 150 lines of 120 characters, and cells of 200. Nor is such a word in help texts, in what the server logs and answers, or
+in comments (`source_words.py`). The last line is `N passed, M failed`, one for each page and each kind of source.
 
 With a program, of each page (README, CHANGELOG, docs/, each crate's README; of the others only links and names):
 
@@ -37,6 +38,7 @@ import tempfile
 import clauses
 import page_clauses
 import page_words
+import source_words
 from page import Page, cells
 
 PLACEHOLDER = re.compile(r"\b[A-Z][A-Z_]+\b|[][|]|\.\.\.|\b[A-Z]\b")
@@ -458,7 +460,7 @@ def wrong_form(page):
 
 
 def read_only(top):
-    """What can be seen by reading: words, clauses, links, and the form of the first page. Runs nothing."""
+    """What can be seen by reading: words of pages and sources, clauses, links, and the form of the first page. Runs nothing."""
     functions = page_clauses.Functions(top)
     excuses = page_words.Excuses(f"{top}/bench/excused_words.txt")
     passed = failed = 0
@@ -469,6 +471,9 @@ def read_only(top):
             said += [*page.wrong_links(), *page_clauses.wrong_clauses(page, functions)]
         said += wrong_form(page) if path == "README.md" else ()
         print("".join(f"{path}:{number}: {it}\n" for number, it in sorted(said)), end="")
+        passed, failed = (passed, failed + 1) if said else (passed + 1, failed)
+    for _, said in source_words.wrong_sources(top, excuses):
+        print("".join(f"{path}:{number}: \"{found}\": say {better}\n" for path, number, found, better, _ in said), end="")
         passed, failed = (passed, failed + 1) if said else (passed + 1, failed)
     for path, text in sorted(excuses.unused):
         print(f"bench/excused_words.txt: nothing needs the line {path}: {text}")

@@ -1,7 +1,8 @@
 """Words and forms that readers of the pages stumbled over, each with what to say instead. For bench/documents.py.
 
-They are looked for in the prose of a page: not in blocks, nor in what is between backticks, nor, of a man page, in what it shows
-literally. bench/excused_words.txt has the lines that excuse one: `PATH: TEXT`, where TEXT is what the page says there."""
+They are looked for in the prose of a page, and of a source (`source_words.py`): not in blocks, nor in what is between backticks, nor, of
+a man page, in what it shows literally. bench/excused_words.txt has the lines that excuse one: `PATH: TEXT`, where TEXT is what the page
+or source says there."""
 
 import os
 import re
@@ -105,11 +106,16 @@ class Excuses:
 def wrong_words(path, lines, excuses):
     """The number of a line, what is there, and what to say."""
     for unit in units(path, lines):
-        text, begins = joined(unit)
-        heading = text.startswith("#")
-        for form, better in FORMS:
-            for found in form.finditer(text):
-                if (heading and "who" in found[0].lower()) or excuses.excuse(path, text, found):
-                    continue
-                number = [number for at, number in begins if at <= found.start()][-1]
-                yield number, found[0].strip(), better
+        yield from wrong_in(path, unit, excuses)
+
+
+def wrong_in(path, unit, excuses):
+    """The same of one unit."""
+    text, begins = joined(unit)
+    heading = text.startswith("#")
+    for form, better in FORMS:
+        for found in form.finditer(text):
+            if (heading and "who" in found[0].lower()) or excuses.excuse(path, text, found):
+                continue
+            number = [number for at, number in begins if at <= found.start()][-1]
+            yield number, found[0].strip(), better

@@ -13,17 +13,16 @@
  *      nobody else writes during the call, and the written memory is apart from the memory that is read. For an empty
  *      list any address that is not null serves.
  *   4. malloc, realloc and free are one allocator's, and align a block as C asks.
- *   5. No call is made in a signal's handler, since calls allocate, nor in the child behind fork() of a process with
- *      threads. After fork() one of the two processes goes on with a ring: if both do, they give the same grant numbers
+ *   5. No call is made in a signal's handler, since calls allocate, nor after fork() in the child of a process with
+ *      threads. After fork() only one of the two processes uses a ring: if both do, they give the same grant numbers
  *      twice.
  *
- * The numbers of grants begin at 1 with `wozgirt_open` and `wozgirt_open_idle`: who uses them as fencing tokens keeps the
- * journal of a ring on a disk, and goes on by `wozgirt_open_segment`, which goes on with the numbers ("A journal", below). A
- * till stops at 2^64 - 1: what it would be given beyond that is lost.
+ * The numbers of grants begin at 1 with `wozgirt_open` and `wozgirt_open_idle`. A caller that uses them as fencing tokens
+ * keeps the journal of the ring on a disk, and resumes by `wozgirt_open_segment`, which continues the numbers ("A journal",
+ * below). A till stops at 2^64 - 1: what it would be given beyond that is lost.
  *
- * Each number is checked: a seat, machine, value or group that a ring does not have is refused, and then nothing has
- * changed. Each function returns a code of `enum wozgirt_code`, if nothing else is said. To poll, use
- * `wozgirt_try`.
+ * The library checks each number: it refuses a seat, machine, value or group that a ring does not have, and then nothing
+ * has changed. Each function returns a code of `enum wozgirt_code`, if nothing else is said. To poll, use `wozgirt_try`.
  */
 #ifndef WOZGIRT_H
 #define WOZGIRT_H
@@ -64,7 +63,7 @@ enum wozgirt_code {
     WOZGIRT_SYNTAX = 48,
     WOZGIRT_TRUNCATED = 49,
     WOZGIRT_NO_RING = 50,       /* the text has no ring at this place */
-    /* bytes are no file of a chain that a ring can go on in */
+    /* bytes are not a file of a chain that a ring can resume */
     WOZGIRT_NO_CHAIN = 52,      /* what it says of the files before it cannot be */
     WOZGIRT_MANY_RINGS = 53,    /* it is not of one ring */
     /* a saved text is not legal: the fault of its first bad line */
@@ -113,7 +112,7 @@ static inline const char *wozgirt_text(uint32_t code)
     case WOZGIRT_BAD_START: return "a start value is not below K";
     case WOZGIRT_OPEN: return "it is open already";
     case WOZGIRT_BAD_LOCKS: return "there are 1 to 1,000,000 locks";
-    case WOZGIRT_SYNTAX: return "a line cannot stand in a saved text";
+    case WOZGIRT_SYNTAX: return "a line cannot be in a saved text";
     case WOZGIRT_TRUNCATED: return "the saved text is cut short";
     case WOZGIRT_NO_RING: return "the saved text has no ring at this place";
     case WOZGIRT_NO_CHAIN: return "no chain of files ends with this one";
@@ -157,7 +156,7 @@ struct wozgirt_group {
     uint64_t number;  /* which grant that member's is; those of the others follow */
     uint64_t result;  /* the resource's answer to that member; over a till each further one gets more by the order */
     uint32_t count;   /* how many members it has */
-    uint32_t machine; /* with WOZGIRT_NOT_PRIVILEGED: the least machine that is not */
+    uint32_t machine; /* with WOZGIRT_NOT_PRIVILEGED: the least machine that is not privileged */
 };
 
 /* A survey of a ring. */
@@ -206,18 +205,18 @@ uint32_t wozgirt_open_idle(struct wozgirt_ring *ring, uint32_t n, uint32_t k, co
                            uint32_t seats);
 
 /* Opens a ring that resumes the one at this place, from 0, of a saved text, with its surveys. The first refusal that
- * applies: WOZGIRT_OPEN; what `wozgirt_check` refuses the text with; NO_RING; BAD_SEATS; NO_SEAT where the text names a
+ * applies: WOZGIRT_OPEN; what `wozgirt_check` refuses the text with; NO_RING; BAD_SEATS; NO_SEAT if the text names a
  * seat that the ring would not have; HISTORY_FULL; NO_MEMORY. `sums` is written as by `wozgirt_check`, whatever comes
- * behind the check; with WOZGIRT_OPEN it is not written. */
+ * after the check; with WOZGIRT_OPEN it is not written. */
 uint32_t wozgirt_open_saved(struct wozgirt_ring *ring, const uint8_t *text, size_t length, uint32_t place, uint32_t seats,
                             struct wozgirt_sums *sums);
 
-/* A seat asks for a machine's pass: WOZGIRT_DONE where it was granted, WOZGIRT_WAITS where the machine is not privileged. */
+/* A seat asks for a machine's pass: WOZGIRT_DONE if it was granted, WOZGIRT_WAITS if the machine is not privileged. */
 uint32_t wozgirt_pass(struct wozgirt_ring *ring, uint32_t seat, uint32_t machine, uint64_t order,
                       struct wozgirt_answer *answer);
 
-/* The same, but where the machine is not privileged nothing is recorded, and the answer is not written: the call to ask
- * with again and again, since each WOZGIRT_WAITS of `wozgirt_pass` is an event of the history, which can be full. */
+/* The same, but if the machine is not privileged, nothing is recorded and the answer is not written. Use it to poll, since
+ * each WOZGIRT_WAITS of `wozgirt_pass` is an event of the history, which can be full. */
 uint32_t wozgirt_try(struct wozgirt_ring *ring, uint32_t seat, uint32_t machine, uint64_t order,
                      struct wozgirt_answer *answer);
 
@@ -244,21 +243,21 @@ uint32_t wozgirt_event_at(const struct wozgirt_ring *ring, uint64_t number, stru
 
 /* Writes the saved text of the ring as it is now into the buffer, and returns its size. WOZGIRT_TOO_SMALL: nothing is
  * written, but the size is returned, so a buffer of length 0 asks for it. The ring stays as it was. It does not allocate.
- * Behind a `wozgirt_cut` this is the text of the new segment, whose numbers begin anew. */
+ * After a `wozgirt_cut` this is the text of the new segment, whose numbers begin anew. */
 uint32_t wozgirt_save(const struct wozgirt_ring *ring, uint8_t *buffer, size_t length, uint64_t *size);
 
 /* ---- A journal, and a history without end, of a ring over a till (else WOZGIRT_NO_TILL). The history is cut into segments,
- * each of which is a file of a chain, as `ring_tool serve` keeps one in a folder: 0000000001.ring and so on, which
+ * each of which is a file of a chain, as `ring_tool serve` keeps one in a directory: 0000000001.ring and so on, which
  * `ring_tool check FOLDER` checks. The caller writes the files:
  *
- *   1. `wozgirt_open_journal`: write the bytes as a new file, sync it, and put it in the place of the segment's file by a
- *      rename. Then the calls. Behind each, or behind some, `wozgirt_take_journal`: append the bytes to the file and sync
- *      it, before anybody acts on the answers.
- *   2. Where the segment is long enough, `wozgirt_cut`: put the bytes in the place of its file by a rename, and begin the
- *      next file with 1.
+ *   1. `wozgirt_open_journal`: write the bytes as a new file, fsync it, and rename it to the segment's file. Then make the
+ *      calls. After each, or after several, `wozgirt_take_journal`: append the bytes to the file and fsync it, before any
+ *      program acts on the answers.
+ *   2. When the segment is long enough, `wozgirt_cut`: replace its file with the bytes by a rename, and begin the next file
+ *      with 1.
  *   3. To resume, `wozgirt_open_segment` with the bytes of the last file, whatever was cut off of it, and then 1.
  *
- * So numbers never repeat, as long as one process at a time goes on from a file. Each of the three calls writes bytes into a
+ * So numbers never repeat, as long as one process at a time resumes from a file. Each of the three calls writes bytes into a
  * buffer, and is WOZGIRT_TOO_SMALL as `wozgirt_save` is; nothing has changed then. */
 
 /* The beginning of the journal of the ring's segment: its file with all of the segment so far. A journal is kept from then
@@ -266,15 +265,15 @@ uint32_t wozgirt_save(const struct wozgirt_ring *ring, uint8_t *buffer, size_t l
 uint32_t wozgirt_open_journal(struct wozgirt_ring *ring, uint8_t *buffer, size_t length, uint64_t *size);
 
 /* What was recorded since the journal was opened or taken from: a line for each event, and then one for each survey. Each is
- * handed out once. WOZGIRT_NO_JOURNAL where none is kept. */
+ * handed out once. WOZGIRT_NO_JOURNAL if none is kept. */
 uint32_t wozgirt_take_journal(struct wozgirt_ring *ring, uint8_t *buffer, size_t length, uint64_t *size);
 
-/* Seals the segment: the whole file of it. The ring goes on in the next segment, with its numbers, and no journal of that is
- * kept yet. WOZGIRT_HISTORY_FULL where the numbers of a further segment would not have 64 bits. */
+/* Seals the segment: the whole file of it. The ring continues in the next segment, with its numbers, and no journal of that is
+ * kept yet. WOZGIRT_HISTORY_FULL if the numbers of a further segment would not fit into 64 bits. */
 uint32_t wozgirt_cut(struct wozgirt_ring *ring, uint8_t *buffer, size_t length, uint64_t *size);
 
-/* Opens a ring that goes on where the last file of a chain ends. The first refusal that applies: WOZGIRT_OPEN; TRUNCATED,
- * SYNTAX or what is wrong with a line, which is written, from 1; NO_CHAIN, HISTORY_FULL; MANY_RINGS; BAD_SEATS; NO_SEAT where
+/* Opens a ring that resumes where the last file of a chain ends. The first refusal that applies: WOZGIRT_OPEN; TRUNCATED,
+ * SYNTAX or what is wrong with a line, which is written, from 1; NO_CHAIN, HISTORY_FULL; MANY_RINGS; BAD_SEATS; NO_SEAT if
  * the file names a seat that the ring would not have; NO_MEMORY. With another code the line is 0, with WOZGIRT_OPEN it is
  * not written. */
 uint32_t wozgirt_open_segment(struct wozgirt_ring *ring, const uint8_t *file, size_t length, uint32_t seats, uint64_t *line);
@@ -288,9 +287,9 @@ uint32_t wozgirt_check(const uint8_t *text, size_t length, struct wozgirt_sums *
 /* The library's version: 10,000 times its first number, 100 times its second, and its third. */
 uint32_t wozgirt_version(void);
 
-/* ---- Locks: the machine that `ring_tool locks` runs, for clients that the caller names by numbers of its own. It does
- * nothing by itself, and waits for nothing: who waits is told by a later grant, which `wozgirt_locks_next` hands out. The
- * rules for a ring hold for locks too. */
+/* ---- Locks: the machine that `ring_tool locks` runs, for clients that the caller names by numbers of its own. No call
+ * blocks: a client that waits gets a later grant, which `wozgirt_locks_next` hands out. The rules for a ring hold for locks
+ * too. */
 
 /* Locks. The memory that they point to is the library's; at null they are closed. */
 struct wozgirt_locks {
@@ -300,7 +299,7 @@ struct wozgirt_locks {
 /* The answer to a client that acquires a lock. */
 struct wozgirt_hold {
     uint64_t token; /* of a grant: its fencing token. The tokens of a lock rise */
-    uint64_t ahead; /* with WOZGIRT_WAITS: how many stand before the client */
+    uint64_t ahead; /* with WOZGIRT_WAITS: how many clients wait before this one */
 };
 
 /* A lock that was granted to a client that waited. */
@@ -314,34 +313,34 @@ struct wozgirt_grant {
  * WOZGIRT_OPEN, BAD_LOCKS, BAD_MACHINES; NO_MEMORY. */
 uint32_t wozgirt_locks_open(struct wozgirt_locks *locks, uint32_t count, uint32_t machines);
 
-/* A client acquires a lock: WOZGIRT_DONE where it holds it now, WOZGIRT_WAITS where it waits. The order is the caller's:
- * it stands in the lock's history. Refused, the first that applies: WOZGIRT_CLOSED, GRANTS_LEFT, NO_LOCK, HOLDS, STANDS,
- * CIRCLE; HISTORY_FULL where the lock was granted some 4,000,000 times, NO_MEMORY. */
+/* A client acquires a lock: WOZGIRT_DONE if it holds it now, WOZGIRT_WAITS if it waits. The order is a label that the
+ * caller chooses and the lock's history keeps. Refused, the first that applies: WOZGIRT_CLOSED, GRANTS_LEFT, NO_LOCK,
+ * HOLDS, STANDS, CIRCLE; HISTORY_FULL if the lock was granted some 4,000,000 times, NO_MEMORY. */
 uint32_t wozgirt_locks_acquire(struct wozgirt_locks *locks, uint64_t client, uint32_t lock, uint64_t order,
                                struct wozgirt_hold *hold);
 
-/* The same, but the client does not wait: WOZGIRT_BUSY where somebody holds the lock. STANDS only of this lock; no
+/* The same, but the client does not wait: WOZGIRT_BUSY if another client holds the lock. STANDS only of this lock; never
  * CIRCLE. */
 uint32_t wozgirt_locks_try(struct wozgirt_locks *locks, uint64_t client, uint32_t lock, uint64_t order,
                            struct wozgirt_hold *hold);
 
 /* A client ends its hold, which has this token. Refused: WOZGIRT_CLOSED, GRANTS_LEFT, NO_LOCK, NOT_HELD, but never
- * because memory runs out. Who is granted the lock is handed out by `wozgirt_locks_next`. */
+ * because memory runs out. `wozgirt_locks_next` says which client gets the lock. */
 uint32_t wozgirt_locks_release(struct wozgirt_locks *locks, uint64_t client, uint32_t lock, uint64_t token);
 
-/* A client waits no more. Refused: WOZGIRT_CLOSED, GRANTS_LEFT, NO_LOCK, NOT_WAITING. */
+/* A client stops waiting. Refused: WOZGIRT_CLOSED, GRANTS_LEFT, NO_LOCK, NOT_WAITING. */
 uint32_t wozgirt_locks_cancel(struct wozgirt_locks *locks, uint64_t client, uint32_t lock);
 
-/* A client leaves all locks: it holds none, and waits for none then. Refused: WOZGIRT_CLOSED, GRANTS_LEFT. */
+/* A client leaves all locks: then it holds none and waits for none. Refused: WOZGIRT_CLOSED, GRANTS_LEFT. */
 uint32_t wozgirt_locks_leave(struct wozgirt_locks *locks, uint64_t client);
 
-/* A grant to a client that waited, one of those that the last input brought about: WOZGIRT_DONE, or WOZGIRT_NO_MORE where
- * all were handed out. No other input is taken before. */
+/* A grant to a client that waited, one of those that the last input brought about: WOZGIRT_DONE, or WOZGIRT_NO_MORE if
+ * all were handed out. Until then every other input is refused. */
 uint32_t wozgirt_locks_next(struct wozgirt_locks *locks, struct wozgirt_grant *grant);
 
-/* Begins a new segment of each lock's history, as where HISTORY_FULL says that one is full: who holds, who waits and the
- * tokens go on, and the old histories are let go. Refused: WOZGIRT_CLOSED, GRANTS_LEFT, HISTORY_FULL where numbers would
- * not have 64 bits, NO_MEMORY, and the locks are as they were. */
+/* Begins a new segment of each lock's history, as when HISTORY_FULL says that one is full. Holds, waits and tokens
+ * continue, and the old histories are freed. Refused: WOZGIRT_CLOSED, GRANTS_LEFT, HISTORY_FULL if numbers would not fit
+ * into 64 bits, NO_MEMORY, and the locks are as they were. */
 uint32_t wozgirt_locks_cut(struct wozgirt_locks *locks);
 
 /* Closes the locks and frees what they have: the struct is empty then. A closed one stays as it is. */

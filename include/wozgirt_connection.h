@@ -1,5 +1,5 @@
 /* What the clients of wozgirt-server for C and C++ share: a socket with deadlines, and the lines of the server. Programs include
- * wozgirt_lock.h or wozgirt_session.h. Times are milliseconds of the clock that nobody sets; INT64_MAX is never. No function here
+ * wozgirt_lock.h or wozgirt_session.h. Times are milliseconds of the monotonic clock; INT64_MAX is never. No function here
  * allocates or keeps anything outside of its arguments. */
 #ifndef WOZGIRT_CONNECTION_H
 #define WOZGIRT_CONNECTION_H
@@ -41,13 +41,13 @@ enum wozgirt_lock_answer {
 
 enum { WOZGIRT_LOCK_LONGEST_NAME = 200, WOZGIRT_LOCK_LONGEST_LINE = 256 };
 
-/* A client. Programs read `line` alone. */
+/* A client. Programs read only `line`. */
 struct wozgirt_lock_client {
     int socket;
     pid_t owner;                          /* the process that opened it */
     volatile int asked;                   /* an enum wozgirt_lock_verb: what has no answer yet */
     int64_t patience;                     /* how long an answer may take that waits for no lock */
-    size_t have;                          /* so much of `bytes` was read and is not in `line` */
+    size_t have;                          /* how much of `bytes` was read and is not in `line` */
     char line[WOZGIRT_LOCK_LONGEST_LINE]; /* the last line of the server */
     char bytes[1024];
 };
@@ -83,7 +83,7 @@ static inline int64_t wozgirt_lock_now(void)
     return (int64_t)time.tv_sec * 1000 + time.tv_nsec / 1000000;
 }
 
-/* The time after so many milliseconds (negative: never). */
+/* The time this many milliseconds from now (negative: never). */
 static inline int64_t wozgirt_lock_after(int64_t milliseconds)
 {
     int64_t now = wozgirt_lock_now();
@@ -137,8 +137,8 @@ static inline int wozgirt_lock_connect(int file, const struct sockaddr *address,
     return 1;
 }
 
-/* Sends all of it: 1, 0, -1 as above. That the other end has closed the connection is not said here, but behind what it said before
- * that, by `wozgirt_lock_hear`. */
+/* Sends all of it: 1, 0, -1 as above. If the other end has closed the connection, `wozgirt_lock_hear` reports it, after the lines
+ * that the server sent before. */
 static inline int wozgirt_lock_send(int file, const char *bytes, size_t length, int64_t until)
 {
     while (length) {
@@ -225,7 +225,7 @@ static inline int wozgirt_lock_number(const char *text, uint64_t *number)
     return 1;
 }
 
-/* Writes a question, with the end of the line and nothing behind it: its length. NAME is "" where no lock is named. */
+/* Writes a question, with the end of the line and nothing after it: its length. NAME is "" where no lock is named. */
 static inline size_t wozgirt_lock_write(char *line, enum wozgirt_lock_verb verb, const char *name, uint64_t number)
 {
     static const char *const words[] = {"", "acquire", "try", "release", "cancel", "ping", "leave"};

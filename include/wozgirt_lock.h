@@ -18,7 +18,7 @@
  *
  * Each call ends within 0.2 s of its deadline, whether the server answers or not. An answer to something else than what was asked
  * ends the connection. A signal whose handler returns ends no call. If a handler leaves a call by siglongjmp(), or the thread is
- * cancelled in it, the next call ends the connection. A child behind fork() opens a client of its own: of its parent's it can only
+ * cancelled in it, the next call ends the connection. After fork() a child opens a client of its own: of its parent's it can only
  * close its copy, which the server does not notice. */
 #ifndef WOZGIRT_LOCK_H
 #define WOZGIRT_LOCK_H
@@ -30,18 +30,18 @@ extern "C" {
 
 enum wozgirt_lock_result {
     WOZGIRT_LOCK_DONE = 0,    /* granted, released, heard, connected */
-    WOZGIRT_LOCK_LATE = 1,    /* the lock was not to be had in time, and nothing waits for it */
+    WOZGIRT_LOCK_LATE = 1,    /* the lock was not granted in time, and nothing waits for it */
     WOZGIRT_LOCK_REFUSED = 2, /* `line` of the client is `refused` and the reason; nothing has changed */
-    WOZGIRT_LOCK_LOST = 3,    /* the connection is closed, and with it all that was held is gone: others may have it. errno says why:
+    WOZGIRT_LOCK_LOST = 3,    /* the connection is closed, and so all that was held is lost: others may have it. errno says why:
                                  ETIMEDOUT if no answer came in time, EPROTO if it was one to something else, ECANCELED if a call was
                                  left in its middle, ENOTCONN if it was closed before */
     WOZGIRT_LOCK_NAME = 4,    /* a lock's name has 1 to 200 visible ASCII characters, and a socket's fits its struct */
     WOZGIRT_LOCK_CHILD = 5,   /* another process opened this, or none: nothing was done */
-    WOZGIRT_LOCK_SILENT = 6   /* only of a session, see there */
+    WOZGIRT_LOCK_SILENT = 6   /* only of a session: see wozgirt_session.h */
 };
 
 /* In milliseconds: the deadline of a call that does not wait for a lock, and of the first answer to one that does; and how long
- * behind the deadline of a wait the server may take to withdraw it. */
+ * after the deadline of a wait the server may take to withdraw it. */
 enum { WOZGIRT_LOCK_PATIENCE = 10000, WOZGIRT_LOCK_WITHDRAWAL = 150 };
 
 static inline int wozgirt_lock_lose(struct wozgirt_lock_client *client, int why)
@@ -51,7 +51,7 @@ static inline int wozgirt_lock_lose(struct wozgirt_lock_client *client, int why)
     return WOZGIRT_LOCK_LOST;
 }
 
-/* Connects to the server at this path within so many milliseconds (negative: for ever), which for this client replace
+/* Connects to the server at this path within this many milliseconds (negative: for ever), which for this client replace
  * WOZGIRT_LOCK_PATIENCE. With WOZGIRT_LOCK_LOST errno says why not. */
 static inline int wozgirt_lock_open_within(struct wozgirt_lock_client *client, const char *path, int64_t milliseconds)
 {
@@ -96,7 +96,7 @@ static inline int wozgirt_lock_say(struct wozgirt_lock_client *client, enum wozg
     return ready == 1 ? WOZGIRT_LOCK_DONE : wozgirt_lock_lose(client, ready ? errno : ETIMEDOUT);
 }
 
-/* Hears what is answered to this; WOZGIRT_LOCK_LATE if nothing is until then. */
+/* Reads the answer to this question; WOZGIRT_LOCK_LATE if none comes until then. */
 static inline int wozgirt_lock_listen(struct wozgirt_lock_client *client, enum wozgirt_lock_verb verb, const char *name, int64_t until,
                                       enum wozgirt_lock_answer *answer, uint64_t *token)
 {
@@ -107,7 +107,7 @@ static inline int wozgirt_lock_listen(struct wozgirt_lock_client *client, enum w
     return *answer ? WOZGIRT_LOCK_DONE : wozgirt_lock_lose(client, EPROTO);
 }
 
-/* Asks what waits for no lock, and hears the answer. */
+/* Asks a question that waits for no lock, and reads the answer. */
 static inline int wozgirt_lock_ask(struct wozgirt_lock_client *client, enum wozgirt_lock_verb verb, const char *name, uint64_t number,
                                    uint64_t *token)
 {
@@ -124,7 +124,7 @@ static inline int wozgirt_lock_ask(struct wozgirt_lock_client *client, enum wozg
     return answer == WOZGIRT_LOCK_NOT_YET ? WOZGIRT_LOCK_LATE : answer == WOZGIRT_LOCK_YES ? WOZGIRT_LOCK_DONE : WOZGIRT_LOCK_REFUSED;
 }
 
-/* Withdraws an acquire, of which `answer` was heard so far: two more lines are missing, or one. */
+/* Withdraws an acquire, to which the server has given `answer` so far: two more lines are missing, or one. */
 static inline int wozgirt_lock_withdraw(struct wozgirt_lock_client *client, const char *name, enum wozgirt_lock_answer answer,
                                         int64_t until, uint64_t *token)
 {
@@ -147,9 +147,9 @@ static inline int wozgirt_lock_withdraw(struct wozgirt_lock_client *client, cons
     return result;
 }
 
-/* Asks for a lock, and waits for it so many milliseconds (0: not at all; negative: for ever). With WOZGIRT_LOCK_DONE it is held,
- * and the token is greater than that of every hold of it before. A server that does not even answer in time is taken for lost, with
- * WOZGIRT_LOCK_LOST: then all that this client held is. The journal keeps the label. */
+/* Asks for a lock, and waits for it this many milliseconds (0: not at all; negative: for ever). With WOZGIRT_LOCK_DONE it is held,
+ * and the token is greater than all earlier tokens of this lock. If the server does not answer in time, the result is
+ * WOZGIRT_LOCK_LOST, and this client has lost all that it held. The journal keeps the label. */
 static inline int wozgirt_lock_acquire(struct wozgirt_lock_client *client, const char *name, uint64_t label, int64_t wait,
                                        uint64_t *token)
 {
@@ -183,7 +183,7 @@ static inline int wozgirt_lock_release(struct wozgirt_lock_client *client, const
     return wozgirt_lock_is_name(name) ? wozgirt_lock_ask(client, WOZGIRT_LOCK_RELEASE, name, token, NULL) : WOZGIRT_LOCK_NAME;
 }
 
-/* Asks whether the server still hears this client: with WOZGIRT_LOCK_LOST others may hold what it held. */
+/* Asks whether the server still has this client: with WOZGIRT_LOCK_LOST others may hold what it held. */
 static inline int wozgirt_lock_check(struct wozgirt_lock_client *client)
 {
     return wozgirt_lock_ask(client, WOZGIRT_LOCK_PING, "", 0, NULL);

@@ -1,7 +1,7 @@
 /* The session of wozgirt_session.h, where it is described. That header includes this file; or it is compiled by itself, and linked.
  *
- * What is asked has a number, and is done once, so it is asked again of the next server until there is an answer. A call that breaks
- * off, at its deadline or by a jump out of it, leaves a `leave` behind as what is asked: the next call waits for its answer first. */
+ * Each question has a number, and is done once, so the session asks the next server again until there is an answer. A call that breaks
+ * off, at its deadline or by a jump out of it, leaves a `leave` without an answer: the next call waits for that answer first. */
 #ifndef WOZGIRT_SESSION_H
 #ifndef WOZGIRT_SESSION_LINKED
 #define WOZGIRT_SESSION_LINKED
@@ -24,7 +24,7 @@ enum {
     WOZGIRT_SESSION_PARTS = 8       /* after this part of its lease a session speaks, and after another one leaves the server */
 };
 
-/* Behind a place: the comma before the next one, or the end. */
+/* The end of a place: the comma before the next one, or the end of the text. */
 static inline size_t wozgirt_session_behind(const char *servers, size_t at)
 {
     while (servers[at] && !(servers[at] == ',' && (strncmp(servers + at + 1, "tcp:", 4) == 0 || servers[at + 1] == '/' ||
@@ -88,7 +88,7 @@ static inline int wozgirt_session_connect(struct wozgirt_session *it, int64_t un
     return it->client.socket >= 0;
 }
 
-/* Says a line, if there is a server; one that does not take it in time is lost, and the next one is told. */
+/* Sends a line, if there is a server; one that does not take it in time is lost, and the next one gets it. */
 static inline void wozgirt_session_say(struct wozgirt_session *it, const char *line, size_t length, int64_t until)
 {
     int64_t end = wozgirt_lock_earlier(until, wozgirt_lock_after(it->lease / WOZGIRT_SESSION_PARTS));
@@ -96,7 +96,7 @@ static inline void wozgirt_session_say(struct wozgirt_session *it, const char *l
         wozgirt_lock_close(&it->client);
 }
 
-/* Says `WORD NUMBER`. */
+/* Sends `WORD NUMBER`. */
 static inline void wozgirt_session_tell(struct wozgirt_session *it, const char *word, uint64_t number, int64_t until)
 {
     char line[WOZGIRT_LOCK_LONGEST_LINE];
@@ -108,7 +108,7 @@ static inline void wozgirt_session_tell(struct wozgirt_session *it, const char *
     wozgirt_session_say(it, line, length, until);
 }
 
-/* Says what has no answer yet, with its number. */
+/* Sends what has no answer yet, with its number. */
 static inline void wozgirt_session_repeat(struct wozgirt_session *it, int64_t until)
 {
     char line[WOZGIRT_LOCK_LONGEST_LINE];
@@ -135,14 +135,14 @@ static inline void wozgirt_session_pause(int64_t until)
     poll(NULL, 0, left > 0 ? (int)left : 0);
 }
 
-/* Ends the connection to a server that says what no server of locks says; it is not asked again at once. */
+/* Ends the connection to a server that says what no lock server says; the session does not ask it again at once. */
 static inline void wozgirt_session_shun(struct wozgirt_session *it, int64_t until)
 {
     wozgirt_lock_close(&it->client);
     wozgirt_session_pause(until);
 }
 
-/* Takes over what the answer to what is asked says. */
+/* Notes what the answer to the question says. */
 static inline void wozgirt_session_answered(struct wozgirt_session *it, enum wozgirt_lock_answer answer, uint64_t token)
 {
     switch (it->asked) {
@@ -166,7 +166,7 @@ static inline void wozgirt_session_answered(struct wozgirt_session *it, enum woz
     it->asked = WOZGIRT_LOCK_NOTHING;
 }
 
-/* Takes over a grant that has no number. One of a hold that was told before, or that is given up, means nothing. */
+/* Notes a grant that has no number. One of a hold that is known, or that is given up, means nothing. */
 static inline void wozgirt_session_granted(struct wozgirt_session *it, uint64_t token)
 {
     if (token <= it->last || it->token)
@@ -206,7 +206,7 @@ static inline void wozgirt_session_take(struct wozgirt_session *it, int64_t unti
     }
 }
 
-/* Hears how the session is: whether this server tells it. */
+/* Reads how the session is: whether this server reports it. */
 static inline int wozgirt_session_hear(struct wozgirt_session *it, uint64_t *holds, int *waits, int64_t until)
 {
     char key[24];
@@ -214,7 +214,7 @@ static inline int wozgirt_session_hear(struct wozgirt_session *it, uint64_t *hol
     wozgirt_session_tell(it, "session", it->key, until);
     if (it->client.socket < 0 || wozgirt_lock_hear(&it->client, until) != 1)
         return 0;
-    /* a server that is alone says so, and is taken only where there is no other: its locks are not those of others */
+    /* a server without etcd says `alone`, and is taken only if there is no other: its locks are not those of others */
     if (!it->servers[wozgirt_session_behind(it->servers, 0)])
         wozgirt_lock_drop(it->client.line, " alone");
     key[wozgirt_lock_decimal(key, it->key)] = '\0';
@@ -231,7 +231,7 @@ static inline int wozgirt_session_hear(struct wozgirt_session *it, uint64_t *hol
     return 1;
 }
 
-/* Takes over what a server tells of the session: whether what was held or waited for is still there. */
+/* Notes what a server reports of the session: whether what was held or waited for is still there. */
 static inline int wozgirt_session_is_kept(struct wozgirt_session *it, uint64_t holds, int waits)
 {
     if (it->asked == WOZGIRT_LOCK_LEAVE)
@@ -264,7 +264,7 @@ static inline int wozgirt_session_borrow(struct wozgirt_session *it, int64_t unt
     return 0;
 }
 
-/* Goes on with the next server, if it answers until then: WOZGIRT_LOCK_LOST if what was held or waited for is gone. */
+/* Continues with the next server, if it answers until then: WOZGIRT_LOCK_LOST if what was held or waited for is gone. */
 static inline int wozgirt_session_go_on(struct wozgirt_session *it, int64_t until)
 {
     uint64_t holds = 0;
@@ -273,7 +273,7 @@ static inline int wozgirt_session_go_on(struct wozgirt_session *it, int64_t unti
     int is_there = wozgirt_session_connect(it, until);
     int64_t end = wozgirt_lock_earlier(until, wozgirt_lock_after(WOZGIRT_SESSION_ANSWER));
     is_there = is_there && wozgirt_session_hear(it, &holds, &waits, end);
-    /* a grant may come from here on, so what was told is taken over first */
+    /* a grant may come from here on, so what the server reported is noted first */
     if (is_there && !wozgirt_session_is_kept(it, holds, waits))
         return wozgirt_session_lose(it, ESTALE);
     if (is_there && wozgirt_session_borrow(it, end)) {
@@ -301,7 +301,7 @@ static inline void wozgirt_session_speak(struct wozgirt_session *it, int64_t now
     }
 }
 
-/* Waits for one thing to happen, and does what is due; WOZGIRT_LOCK_LATE if that time comes. */
+/* Waits for one event, and does what is due; WOZGIRT_LOCK_LATE if that time comes. */
 static inline int wozgirt_session_step(struct wozgirt_session *it, int64_t until)
 {
     const int64_t now = wozgirt_lock_now(), end = it->spoken + it->lease / (it->token ? 2 : 1); /* half is left to stop work */
@@ -317,7 +317,7 @@ static inline int wozgirt_session_step(struct wozgirt_session *it, int64_t until
         wozgirt_lock_close(&it->client);
     else
         wozgirt_session_speak(it, wozgirt_lock_now(), until);
-    /* what is there already is read within this millisecond, but no more than that of a server that says much */
+    /* within this millisecond it reads what is there, but no more from a server that says much */
     return it->client.socket >= 0 && wozgirt_lock_now() - (ready > 0) >= until ? WOZGIRT_LOCK_LATE : WOZGIRT_LOCK_DONE;
 }
 
@@ -330,7 +330,7 @@ static inline int wozgirt_session_finish(struct wozgirt_session *it, int64_t unt
     return result == WOZGIRT_LOCK_DONE && it->is_refused ? WOZGIRT_LOCK_REFUSED : result;
 }
 
-/* Asks for something that is done once. The answer to what was asked before, if one is missing, means nothing any more. */
+/* Asks a question that is done once. An answer to the question before it, if one is missing, no longer counts. */
 static inline void wozgirt_session_put(struct wozgirt_session *it, enum wozgirt_lock_verb verb, const char *name, uint64_t number)
 {
     it->is_refused = 0;
@@ -340,7 +340,7 @@ static inline void wozgirt_session_put(struct wozgirt_session *it, enum wozgirt_
     it->number++;
 }
 
-/* Asks for it, and waits for the answer, which is then the client's `line`. */
+/* Asks, and waits for the answer, which is then the client's `line`. */
 static inline int wozgirt_session_ask(struct wozgirt_session *it, enum wozgirt_lock_verb verb, const char *name, uint64_t number,
                                       int64_t until)
 {
@@ -349,7 +349,7 @@ static inline int wozgirt_session_ask(struct wozgirt_session *it, enum wozgirt_l
     return wozgirt_session_finish(it, until);
 }
 
-/* Gives up what is held or waited for: the servers are told by `wozgirt_session_finish`. */
+/* Gives up what is held or waited for: `wozgirt_session_finish` gets the servers' answer. */
 static inline void wozgirt_session_give_up(struct wozgirt_session *it)
 {
     wozgirt_session_put(it, WOZGIRT_LOCK_LEAVE, "", 0);
@@ -358,7 +358,7 @@ static inline void wozgirt_session_give_up(struct wozgirt_session *it)
     it->is_waiting = 0;
 }
 
-/* Begins a call. If the last one was left in its middle, nobody knows what of it was sent and heard. */
+/* Begins a call. If the last one was left in its middle, it is unknown what of it was sent and read. */
 static inline int wozgirt_session_enter(struct wozgirt_session *it, enum wozgirt_lock_verb verb)
 {
     if (it->client.owner != getpid())
@@ -416,7 +416,7 @@ static inline int wozgirt_session_withdraw(struct wozgirt_session *it, int64_t u
     return it->token ? WOZGIRT_LOCK_DONE : WOZGIRT_LOCK_LATE;
 }
 
-/* The acquire of a session that is inside. */
+/* The acquire of a session that is inside a call. */
 static inline int wozgirt_session_get(struct wozgirt_session *it, const char *name, uint64_t label, int64_t wait, uint64_t *token)
 {
     const int64_t until = wozgirt_lock_after(wait == 0 ? -1 : wait);

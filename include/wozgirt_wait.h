@@ -1,4 +1,4 @@
-/* Locks for the threads of one process, in C and C++: a mutex, and a condition variable for each thread that waits, round the locks
+/* Locks for the threads of one process, in C and C++: a mutex, and a condition variable for each thread that waits, around the locks
  * of wozgirt.h. Nothing of this header is proved, and nothing here decides about locks. Link with -pthread.
  *
  *     static struct wozgirt_wait locks;
@@ -11,11 +11,11 @@
  *         wozgirt_wait_release(&locks, 7, 0, token);
  *     }
  *
- * Each thread calls itself by a number of its own, which no other uses meanwhile. Who waits is served in the order of the asks,
- * and only the thread that is granted a lock wakes. A thread that would wait for itself, over other threads, is refused with
- * WOZGIRT_CIRCLE. Where a history is full, new segments are begun, so there is no end; tokens go on. The rules of wozgirt.h hold: no
- * call in the handler of a signal, nor may one leave a call by siglongjmp(). To a child behind fork() the locks are closed: each call
- * returns WOZGIRT_CLOSED, and a close does nothing. With -std=c11 include this header before the system's. */
+ * Each thread calls itself by a number of its own, which no other uses meanwhile. Waiters are served first come, first served, and
+ * only the thread that gets the lock wakes. A thread that would wait for itself, over other threads, is refused with
+ * WOZGIRT_CIRCLE (a deadlock). If a history is full, the locks begin new segments, so there is no end; tokens continue. The rules of
+ * wozgirt.h hold: no call in the handler of a signal, nor may a handler leave a call by siglongjmp(). After fork() the locks are closed
+ * to the child: each call returns WOZGIRT_CLOSED, and a close does nothing. With -std=c11 include this header before the system's. */
 #ifndef WOZGIRT_WAIT_H
 #define WOZGIRT_WAIT_H
 #if defined(__STRICT_ANSI__) && !defined(_POSIX_C_SOURCE) && !defined(_DEFAULT_SOURCE) && !defined(_GNU_SOURCE)
@@ -70,7 +70,7 @@ static inline int wozgirt_wait_is_open(const struct wozgirt_wait *wait)
     return wait->owner == getpid();
 }
 
-/* Closes them, behind the last call of any thread. What was not opened stays as it is. */
+/* Closes them, after the last call of any thread. What was not opened stays as it is. */
 static inline void wozgirt_wait_close(struct wozgirt_wait *wait)
 {
     if (!wozgirt_wait_is_open(wait))
@@ -89,7 +89,7 @@ static inline struct wozgirt_waiter *wozgirt_wait_find(struct wozgirt_wait *wait
     return waiter;
 }
 
-/* Hands out what the last input granted, to those who wait for it. Under the mutex, behind each input. */
+/* Hands out what the last input granted, to the threads that wait for it. Under the mutex, after each input. */
 static inline void wozgirt_wait_hand_out(struct wozgirt_wait *wait)
 {
     struct wozgirt_grant grant;
@@ -116,7 +116,7 @@ static inline void wozgirt_wait_exit(struct wozgirt_wait *wait, struct wozgirt_w
     *(waiter->next ? &waiter->next->before : &wait->last) = waiter->before;
 }
 
-/* A condition variable by the clock that nobody sets. */
+/* A condition variable by the monotonic clock. */
 static inline int wozgirt_wait_condition(pthread_cond_t *condition)
 {
     pthread_condattr_t kind;
@@ -130,7 +130,7 @@ static inline int wozgirt_wait_condition(pthread_cond_t *condition)
     return fault;
 }
 
-/* So many milliseconds from now. */
+/* This many milliseconds from now. */
 static inline struct timespec wozgirt_wait_until(int64_t milliseconds)
 {
     struct timespec time = {0, 0};
@@ -152,7 +152,7 @@ static inline int wozgirt_wait_sleep(struct wozgirt_wait *wait, struct wozgirt_w
     return fault == ETIMEDOUT;
 }
 
-/* Stands in line until the grant, or until then. A grant that comes at the same time as the end is given on. */
+/* Waits in the queue until the grant, or until then. A grant that comes together with the end is released. */
 static inline uint32_t wozgirt_wait_stand(struct wozgirt_wait *wait, struct wozgirt_waiter *me, const struct timespec *until)
 {
     int is_over;
@@ -174,9 +174,9 @@ static inline uint32_t wozgirt_wait_stand(struct wozgirt_wait *wait, struct wozg
     return WOZGIRT_BUSY;
 }
 
-/* Asks for a lock, and waits for it so many milliseconds (0: not at all; negative: for ever). WOZGIRT_DONE: it is held, and the
- * token is greater than that of every hold of it before. WOZGIRT_BUSY: it was not to be had in time, and nothing waits for it.
- * Else as `wozgirt_locks_acquire`, or `wozgirt_locks_try` at 0, refuses. The order is the caller's: the history keeps it. */
+/* Asks for a lock, and waits for it this many milliseconds (0: not at all; negative: for ever). WOZGIRT_DONE: it is held, and the
+ * token is greater than all earlier tokens of this lock. WOZGIRT_BUSY: it was not granted in time, and nothing waits for it.
+ * Else as `wozgirt_locks_acquire`, or `wozgirt_locks_try` at 0, refuses. The order is a label of the caller: the history keeps it. */
 static inline uint32_t wozgirt_wait_acquire(struct wozgirt_wait *wait, uint64_t client, uint32_t lock, uint64_t order,
                                             int64_t milliseconds, uint64_t *token)
 {
@@ -212,7 +212,7 @@ static inline uint32_t wozgirt_wait_try(struct wozgirt_wait *wait, uint64_t clie
     return wozgirt_wait_acquire(wait, client, lock, order, 0, token);
 }
 
-/* Ends the hold with this token; the thread that is next in line wakes. */
+/* Ends the hold with this token; the first thread in the queue wakes. */
 static inline uint32_t wozgirt_wait_release(struct wozgirt_wait *wait, uint64_t client, uint32_t lock, uint64_t token)
 {
     if (!wozgirt_wait_is_open(wait))

@@ -1,4 +1,4 @@
-"""Builds the package's wheel and source archive with the standard library alone, so that `pip wheel .` and `pip install .`
+"""Builds the package's wheel and source archive with only the standard library, so that `pip wheel .` and `pip install .`
 need no network. It is the `build-backend` of pyproject.toml, as PEP 517 has it. If WOZGIRT_LIBRARY names the library of rings, or
 `library` does among the config settings, the wheel has it inside, and is for this machine and its C library or a later one."""
 

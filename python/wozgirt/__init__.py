@@ -1,4 +1,4 @@
-"""Locks of a wozgirt-server, on the standard library alone.
+"""Locks of a wozgirt-server, with only the standard library.
 
     from wozgirt import Lock
 

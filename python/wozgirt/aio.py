@@ -35,7 +35,7 @@ class Client(OfOneProcess):
     lease is, and what a child may do with it, the client for threads says.
 
     A task that is cancelled leaves nothing that waits or that is held. Its cancellation takes WITHDRAW seconds at most: a server that
-    takes longer is told in the background, and if it does not answer within a second, the connection is closed."""
+    takes longer gets it in the background, and if it does not answer within a second, the connection is closed."""
 
     def __init__(self, reader: asyncio.StreamReader, writer: asyncio.StreamWriter, sock: Optional[socket.socket] = None,
                  servers: Tuple[Any, ...] = ()):
@@ -45,7 +45,7 @@ class Client(OfOneProcess):
         self._wait: Optional[_Call] = None
         self._lost: Optional[str] = None
         self._lease = 0.0
-        self._spoken = self._said = time.monotonic()  # the server has heard this client by then, or later; it was told last
+        self._spoken = self._said = time.monotonic()  # the server has heard this client by then, or later; the last line was sent
         self._tasks = [asyncio.create_task(self._read())]
         self._undoing: set[asyncio.Task[None]] = set()
 
@@ -133,7 +133,7 @@ class Client(OfOneProcess):
         await self._close_within(WITHDRAW)
 
     async def _close_within(self, seconds: float) -> None:
-        """As `close`, where a connection that does not end has only so long."""
+        """As `close`, but a connection that does not end has only this time."""
         if self._is_inherited:
             self._close_copy()
             return
@@ -168,8 +168,8 @@ class Client(OfOneProcess):
         return outcome
 
     def _put(self, line: bytes) -> None:
-        """Sends it. That the server has closed the connection is not said here: `_read` hears first what it said before. (A transport
-        whose write fails reads nothing more.) Where the system refuses it for something else, nobody would ever answer it."""
+        """Sends it. It does not report that the server has closed the connection: `_read` gets first what it said before. (A transport
+        whose write fails reads nothing more.) If the system refuses it for another reason, no answer would ever come."""
         if self._sock is not None and not self._writer.transport.get_write_buffer_size():
             try:
                 line = line[self._sock.send(line):]
@@ -208,8 +208,8 @@ class Client(OfOneProcess):
             raise NotInTime(f"{name}: it was not granted in time, and is no longer waited for")
 
     async def _undo(self, name: str, outcome: asyncio.Future[Question]) -> None:
-        """After a cancellation: nothing waits, and nothing is held that nobody knows of. A task of its own does this to its end. It is
-        waited for as long as a server takes that is well; then the next call that asks for a lock waits for it."""
+        """After a cancellation: nothing waits, and nothing is held unknown to the caller. A task of its own does this to its end. This call
+        waits for it as long as a healthy server takes; after that the next call that asks for a lock waits for it."""
 
         async def undo() -> None:
             deadline = time.monotonic() + INTERRUPTED
@@ -397,7 +397,7 @@ class Lock(Settings):
     def __call__(self, function: Function) -> Function:
         """Has each call of the coroutine function hold the lock, by an object of its own."""
         if not inspect.iscoroutinefunction(function):
-            raise TypeError(f"{function!r} is no coroutine function")
+            raise TypeError(f"{function!r} is not a coroutine function")
 
         @functools.wraps(function)
         async def run(*words: Any, **more: Any) -> Any:

@@ -34,7 +34,7 @@ class Client(Turns):
     An exception out of a signal handler may break off a call. What was asked is then withdrawn, and what was granted is given back,
     within a second; or the connection is closed, and the next call raises `LockLost`. A handler itself calls only `check` and `close`.
 
-    With a lease (seconds) the server takes a silence so long for the client's end. A thread of this client then speaks
+    With a lease (seconds) the server takes a silence of this length for the client's end. A thread of this client then speaks
     each quarter of it, and `check` raises `LockLost` when half of it is over without an answer. Over TCP each connection has a
     lease, so one is asked for there in any case. On a Unix socket the server says whether it gave one, which is kept in the same way."""
 
@@ -69,10 +69,10 @@ class Client(Turns):
         self._waits: Optional[str] = None
         self._grant: Optional[Tuple[str, int]] = None  # that no caller has yet
         self._held: Dict[str, int] = {}
-        self._unclaimed: Dict[str, int] = {}  # holds whose holder was never told, or gave up
+        self._unclaimed: Dict[str, int] = {}  # holds whose holder never learned of them, or gave up
         self._is_closed, self._wake = False, threading.Event()
         self._lease = 0.0
-        self._spoken = self._said = time.monotonic()  # the server has heard this client by then, or later; it was told last
+        self._spoken = self._said = time.monotonic()  # the server has heard this client by then, or later; the last line was sent
 
     def acquire(self, name: str, *, label: int = 0, wait: Optional[float] = None) -> int:
         """The token, as soon as the lock is granted. `NotInTime` if it is not within `wait` seconds, at most WITHDRAW seconds
@@ -138,7 +138,7 @@ class Client(Turns):
             self._close_within(CLOSE)
 
     def _close_within(self, seconds: float) -> None:
-        """As `close`, where a server that has to be asked has only so long to answer."""
+        """As `close`, but a server that has to be asked has only this time to answer."""
         self._is_closed = True
         self._wake.set()
         self._drop("the client is closed")
@@ -170,7 +170,7 @@ class Client(Turns):
         return self._in_turn(take, until)
 
     def _disown(self, name: str, taken: List[int]) -> None:
-        """Ends the hold that nobody was told of, if there is one."""
+        """Ends the hold of which the caller did not learn, if there is one."""
         if taken:
             self._unclaimed[name] = taken[0]
             self._give_back(name, taken[0])
@@ -206,10 +206,10 @@ class Client(Turns):
                 self._ask(lines.cancel(self._waits), until)
             except NotWaiter:  # the grant came first
                 if self._waits is not None:
-                    self._cut("the server neither grants nor keeps a place in the line")
+                    self._cut("the server neither grants nor keeps a place in the queue")
 
     def _settle(self, until: Optional[float]) -> None:
-        """Puts in order what a call that was broken off has left: nothing is asked or waited for, or held by nobody."""
+        """Puts in order what a call that was broken off has left: nothing is asked or waited for, or held unknown to the caller."""
         if self._wire.is_torn:
             self._cut("a call was broken off within a line")
         self._flush()
@@ -248,7 +248,7 @@ class Client(Turns):
                 raise
 
     def _is_quiet(self) -> bool:
-        """Whether nothing is asked or waited for, and nothing granted that nobody knows of."""
+        """Whether nothing is asked or waited for, and nothing granted unknown to the caller."""
         return not (self._wire.is_torn or self._waits or self._grant or self._unclaimed or self._is_asking())
 
     def _is_asking(self) -> bool:
@@ -303,7 +303,7 @@ class Client(Turns):
         self._cut(str(fault))
 
     def _pump(self, until: Optional[float]) -> None:
-        """Hears what comes next; Late after the deadline. Speaks where the lease wants it."""
+        """Reads what comes next; Late after the deadline. Speaks if the lease needs it."""
         if until is None and not self._lease:
             self._receive(waits=True)
             return
@@ -349,7 +349,7 @@ class Client(Turns):
             self._hold(words[1], lines.number(words, 2))
             return
         if not self._questions:
-            raise LockLost(f"the server sent {' '.join(words)!r}, which nobody asked for")
+            raise LockLost(f"the server sent {' '.join(words)!r}, for which it was not asked")
         question = self._questions[0]
         question.hear(words)
         if question.is_answered:
@@ -403,7 +403,7 @@ class Client(Turns):
         raise LockLost(self._lost)
 
     def _drop(self, why: str) -> None:
-        """Ends the connection. Its file is closed by who has the turn, since another thread may be waiting for it."""
+        """Ends the connection. The thread that has the turn closes its file, since another thread may be waiting for it."""
         self._lost = self._lost or why
         self._wire.shut()
         if self._mutex.acquire(blocking=False):
@@ -418,7 +418,7 @@ class Client(Turns):
                          daemon=True).start()
 
     def _keep_on(self) -> bool:
-        """Speaks if nobody else does. False if there is nothing more to keep."""
+        """Speaks if no other call does. False if there is nothing more to keep."""
         until = time.monotonic() + self._lease / self._part / 2
         try:
             self._in_turn(self._speak, until)
@@ -439,7 +439,7 @@ class Client(Turns):
 
 
 def _keep(client: "weakref.ref[Client]", wake: threading.Event, pause: float) -> None:
-    """Keeps a client's lease until it is closed, or nobody has it any more."""
+    """Keeps a client's lease until it is closed, or no variable has it any more."""
     while True:
         wake.wait(pause)
         wake.clear()

@@ -8,7 +8,7 @@ from typing import Callable, Dict, Optional, Set, Tuple
 
 
 class Crowd:
-    """Who is alive, for several threads. `tell` is passed a line as soon as that is not what it was."""
+    """Which servers are alive, for several threads. `tell` gets a line as soon as that changes."""
 
     def __init__(self, tell: Callable[[str], None], own: str):
         self._tell, self._own, self._mutex = tell, own, threading.Lock()
@@ -36,7 +36,7 @@ class Crowd:
         self.set(self._alive | {who} if is_there else self._alive - {who})
 
     def tell(self) -> None:
-        """Tells who is alive, if it is not who was told last."""
+        """Reports which servers are alive, if that has changed since the last report."""
         with self._mutex:
             alive = self._alive - ({self._own} if self._has_left else set())
             if alive == self._told:

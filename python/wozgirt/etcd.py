@@ -1,4 +1,4 @@
-"""Members of etcd, asked through their JSON gateways, on the standard library alone."""
+"""Members of etcd, asked through their JSON gateways, with only the standard library."""
 
 from __future__ import annotations
 
@@ -54,7 +54,7 @@ def place(url: str) -> Place:
     """The place that a URL names, or HOST:PORT."""
     parts = urlsplit(url if "//" in url else f"http://{url}")
     if parts.scheme not in ("http", "https") or not parts.hostname or parts.path not in ("", "/"):
-        raise ValueError(f"no URL of a member: {url!r}")
+        raise ValueError(f"not a URL of a member: {url!r}")
     return parts.scheme == "https", parts.hostname, parts.port or 2379
 
 
@@ -73,7 +73,7 @@ def revision_of(answer: Answer) -> int:
 
 
 def context(cacert: Optional[str], cert: Optional[str], key: Optional[str]) -> ssl.SSLContext:
-    """What TLS needs: who signs the members' certificates, and our own certificate."""
+    """What TLS needs: the certificate that signed those of the members, and our own certificate."""
     made = ssl.create_default_context(cafile=cacert)
     if cert is not None:
         made.load_cert_chain(cert, key)

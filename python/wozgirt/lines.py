@@ -119,7 +119,7 @@ def place(given: Place) -> Union[str, Tuple[str, int]]:
 
 
 def places(given: Places) -> List[Union[str, Tuple[str, int]]]:
-    """One server or several: a text is cut at each comma behind which another place begins, with tcp:, / or ./."""
+    """One server or several: a text is cut at each comma after which another place begins, with tcp:, / or ./."""
     if isinstance(given, (tuple, os.PathLike)):
         return [place(given)]
     pieces = re.split(",(?=tcp:|/|[.]/)", given) if isinstance(given, str) else given

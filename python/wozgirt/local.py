@@ -1,5 +1,5 @@
-"""Locks for the threads of one process, by the library of rings: who waits is served in the order of the asks, and each hold has a
-token that is greater than that of every hold of its lock before.
+"""Locks for the threads of one process, by the library of rings: waiters are served first come, first served, and the token of each hold
+is greater than all earlier tokens of its lock.
 
     from wozgirt.local import Locks
 
@@ -7,8 +7,8 @@ token that is greater than that of every hold of its lock before.
         with locks.hold(0, wait=5) as token:
             ...
 
-A thread that would wait for itself, over other threads, is refused with `Circle`. No server is there, and nothing is kept when the
-process ends: `wozgirt.Lock` is for programs. What a thread holds when it ends stays held.
+A thread that would wait for itself, over other threads, is refused with `Circle` (a deadlock). There is no server, and nothing is kept
+when the process ends: `wozgirt.Lock` is for programs. What a thread holds when it ends stays held.
 """
 
 from __future__ import annotations
@@ -63,7 +63,7 @@ class Locks:
         return code
 
     def _ask(self, name: str, *given: Any) -> int:
-        """The code of an input, in new segments if a history is full; what it granted goes to those who wait. Under the mutex."""
+        """The code of an input, in new segments if a history is full; what it granted goes to the threads that wait. Under the mutex."""
         ask, grant = getattr(self._library, f"wozgirt_locks_{name}"), RawGrant()
         code = ask(byref(self._raw), *given)
         if code == Code.HISTORY_FULL and self._library.wozgirt_locks_cut(byref(self._raw)) == Code.DONE:
@@ -100,7 +100,7 @@ class Locks:
         return waiter.token
 
     def _give_up(self, client: int, lock: int) -> None:
-        """Waits no more."""
+        """Stops waiting."""
         if self._waiters.pop((client, lock)).token is None:
             self._ask("cancel", client, lock)
 

@@ -31,7 +31,7 @@ def client_of(given: Places, lease: Optional[float] = None, timeout: float = CON
 
 
 def until(seconds: Optional[float]) -> Optional[float]:
-    """The moment after so many seconds."""
+    """The moment this many seconds from now."""
     return None if seconds is None else time.monotonic() + seconds
 
 
@@ -86,7 +86,7 @@ class Settings:
         if timeout is Default:
             return until(self._wait)
         if timeout is not None and not timeout >= 0:  # type: ignore[operator]
-            raise ValueError(f"no timeout: {timeout}; None is no limit")
+            raise ValueError(f"not a timeout: {timeout}; None is without a limit")
         return until(timeout)  # type: ignore[arg-type]
 
     def _take(self, client: Any, token: int) -> int:

@@ -12,7 +12,7 @@ Out:  log IDENTITY INCARNATION, alive NAME:INCARNATION .., entry POSITION REVISI
 `known` comes first: what the server knows of the log from before, `known - 0 0 0` if nothing. TEXT is the rest of the line, of printable
 ASCII, spaces and tabs, and may be empty.
 
-Status 0: the end of the input. 1: it cannot go on. 2: wrong words. 4: the log is another one, or shorter than it was, or what
+Status 0: the end of the input. 1: it cannot continue. 2: usage error. 4: the log is another one, or shorter than it was, or what
 is wanted of it is gone."""
 
 from __future__ import annotations
@@ -40,7 +40,7 @@ PAUSE = 0.1
 QUIET = 60.0
 #: Milliseconds between two looks at whether the first line is done.
 LOOK = 500
-#: Seconds behind its lease until another server of the name is taken for one that lives.
+#: Seconds after its lease until another server of the name is taken for one that is alive.
 LATE = 2.0
 #: The first line of the input, and the others.
 FIRST = re.compile(rb"known (?:-|([!-~]+)) ([0-9]+) ([0-9]+) ([0-9]+)\n")
@@ -50,7 +50,7 @@ STRANGE = re.compile(rb"[^\t -~]")
 
 
 class Program:
-    """What the threads share: what is told, and how it ends."""
+    """What the threads share: its output, and its end."""
 
     def __init__(self, words: argparse.Namespace):
         self.prefix, self.name, self.lease, self.away = words.prefix, words.name, words.lease, words.away
@@ -155,7 +155,7 @@ class Keeper:
         return incarnation <= self._before or incarnation in self._drawn
 
     def _compared(self, member: Member) -> None:
-        """The log is the right one, and nobody else has this server's name. Only the identity of a new log is put."""
+        """The log is the right one, and no other server has this name. Only the identity of a new log is put."""
         program, known = self._program, self._program.place
         known.identity = identified(member, program.key("identity"), known.identity, os.urandom(16).hex())
         compare(member, program.key("log"), *known.get())
@@ -176,7 +176,7 @@ class Keeper:
         return incarnation, lease, asked
 
     def run(self) -> None:
-        """Renews the lease, and says so, until it is over, by etcd or by the own clock."""
+        """Renews the lease, and reports that, until it is over, by etcd or by the own clock."""
         while True:
             try:
                 number = self._program.heres.get(timeout=max(0.0, self._end() - time.monotonic()))
@@ -209,7 +209,7 @@ class Keeper:
 
 
 class Reader:
-    """Reads the log behind a place, and who is alive, from one member or another."""
+    """Reads the log after a position, and which servers are alive, from one member or another."""
 
     def __init__(self, program: Program, crowd: Crowd, last: Tuple[int, int]):
         self._program, self._crowd, self._member = program, crowd, program.member()
@@ -297,14 +297,14 @@ def place_of(value: str) -> Tuple[int, int]:
 
 
 class Shortener:
-    """Tells the others what this host needs, and has etcd drop what no host needs."""
+    """Records for the others what this host needs, and has etcd drop what no host needs."""
 
     def __init__(self, program: Program, crowd: Crowd, begin: Tuple[int, int]):
         self._program, self._crowd, self._member = program, crowd, program.member()
         self._need = begin
 
     def run(self) -> None:
-        """Looks at the list of hosts behind each checkpoint, and now and then."""
+        """Looks at the list of hosts after each checkpoint, and now and then."""
         self._program.done(self._member, self._begin)
         while True:
             try:
@@ -378,8 +378,8 @@ def append_all(program: Program) -> None:
 
 
 def end_with_the_input(program: Program) -> None:
-    """Ends the process where its input ends before the first line is done: that can take as long as etcd is away, and nobody reads the
-    input meanwhile. The server's next start needs what this process has inherited."""
+    """Ends the process if its input ends before the first line is done: that line can take as long as etcd is away, and no thread reads
+    the input meanwhile. The server's next start needs what this process has inherited."""
     end = select.poll()
     end.register(0, 0)
     while not program.is_begun.is_set():
@@ -452,9 +452,9 @@ def parsed(words: Optional[Sequence[str]]) -> argparse.Namespace:
             "--endpoints": {"required": True, "metavar": "URL,..", "help": "the members of etcd, the nearest first"},
             "--prefix": {"required": True, "type": prefix, "metavar": "KEY", "help": "what the keys of the log begin with"},
             "--name": {"required": True, "type": name, "help": "this host's name, another one on each host"},
-            "--lease": {"type": seconds, "default": 10, "metavar": "SECONDS", "help": "how long a silent server is not taken for dead (10)"},
-            "--away": {"type": seconds, "default": 60, "metavar": "SECONDS", "help": "how often hosts are named that are away (60)"},
-            "--cacert": {"metavar": "FILE", "help": "who signs the members' certificates"},
+            "--lease": {"type": seconds, "default": 10, "metavar": "SECONDS", "help": "lease of this server in etcd (10)"},
+            "--away": {"type": seconds, "default": 60, "metavar": "SECONDS", "help": "how often it reports hosts that are away (60)"},
+            "--cacert": {"metavar": "FILE", "help": "the certificate that signed those of the members"},
             "--cert": {"metavar": "FILE", "help": "the certificate that is shown to members"},
             "--key": {"metavar": "FILE", "help": "its key"}}.items():
         parser.add_argument(word, **more)

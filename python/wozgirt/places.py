@@ -1,7 +1,7 @@
 """Which log of a lock service is meant, and up to which entry it was read: compared with what etcd has.
 
 An etcd that was wiped has another identity, or none. One that was restored has the identity, but fewer entries than were read, or another
-entry in the place of the one that was read last. Nothing is written to either."""
+entry instead of the one that was read last. Nothing is written to either."""
 
 from __future__ import annotations
 
@@ -12,7 +12,7 @@ from .etcd import Answer, Denied, Member, below, coded, decoded
 
 
 class Lost(Exception):
-    """The log is not the one that is wanted: `kind` is `other` where it is another log, or an earlier state of it, and `gone` where it
+    """The log is not the one that is wanted: `kind` is `other` if it is another log, or an earlier state of it, and `gone` if it
     does not reach back to what is wanted."""
 
     def __init__(self, kind: str, why: str):
@@ -64,7 +64,7 @@ def is_identity(key: str, identity: str) -> Answer:
 
 
 def reaches(key: str, position: int, revision: int) -> List[Answer]:
-    """The conditions of a transaction: the log has at least so many entries, and the last of them at least this revision."""
+    """The conditions of a transaction: the log has at least this many entries, and the last of them at least this revision."""
     return [{"key": coded(key), "target": "VERSION", "result": "GREATER", "version": str(position - 1)},
             {"key": coded(key), "target": "MOD", "result": "GREATER", "mod_revision": str(revision - 1)}]
 

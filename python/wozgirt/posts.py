@@ -1,4 +1,4 @@
-"""Posts over a connection that is kept: as much of HTTP/1.1 as etcd's gateway speaks, on the standard library alone.
+"""Posts over a connection that is kept: as much of HTTP/1.1 as etcd's gateway speaks, with only the standard library.
 
 An entry of the log waits for a post. By `http.client` that takes three times the processor time, most of it for the headers."""
 
@@ -15,7 +15,7 @@ STATUS = re.compile(rb"HTTP/1\.1 ([0-9]{3})(?: |$)")
 
 
 class Garbled(OSError):
-    """What came is no answer by HTTP."""
+    """What came is not an answer by HTTP."""
 
 
 class Line:
@@ -48,7 +48,7 @@ class Line:
 
     @property
     def is_over(self) -> bool:
-        """Whether the other end closes the connection behind this answer."""
+        """Whether the other end closes the connection after this answer."""
         return self._fields.get(b"connection", b"").lower() == b"close"
 
     def body(self) -> bytes:
@@ -76,7 +76,7 @@ class Line:
         try:
             return int(text, base)
         except ValueError:
-            raise Garbled(f"this is no size: {text[:40]!r}") from None
+            raise Garbled(f"this is not a size: {text[:40]!r}") from None
 
     def _more(self) -> None:
         got = self._socket.recv(ROOM)

@@ -38,7 +38,7 @@ class Code(IntEnum):
     BAD_START = 36, "a start value is not below K"
     OPEN = 37, "it is open already"
     BAD_LOCKS = 38, "there are 1 to 1,000,000 locks"
-    SYNTAX = 48, "a line cannot stand in a saved text"
+    SYNTAX = 48, "a line cannot be in a saved text"
     TRUNCATED = 49, "the saved text is cut short"
     NO_RING = 50, "the saved text has no ring at this place"
     NO_CHAIN = 52, "no chain of files ends with this one"
@@ -260,7 +260,7 @@ class NotLegal(RingError):
 
 
 class BadSyntax(NotLegal):
-    """A line cannot stand in a saved text."""
+    """A line cannot be in a saved text."""
 
     code = Code.SYNTAX
 
@@ -272,7 +272,7 @@ class Truncated(NotLegal):
 
 
 class BadParameter(NotLegal):
-    """The line is a ring's, and has numbers of which there is no ring."""
+    """The line is a ring's, and its numbers are out of the limits."""
 
     code = Code.PARAMETER
 

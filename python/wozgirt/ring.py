@@ -6,7 +6,7 @@
         grant = ring.pass_(seat=0, machine=0, order=5)
 
 `include/wozgirt.h` says what each call returns. Each call that is refused raises the exception of its reason, from
-`wozgirt.refusals`. A number that the library's type cannot hold is refused with `ValueError`, and what is no number with
+`wozgirt.refusals`. A number that the library's type cannot hold is refused with `ValueError`, and another value with
 `TypeError`. A ring holds a lock of its own, so threads may share it. The library is the one that WOZGIRT_LIBRARY names, that
 of the wheel, or the system's; it is loaded at the first call.
 """
@@ -151,7 +151,7 @@ class Ring:
 
     @classmethod
     def from_segment(cls: Type[SomeRing], file: Text, seats: SupportsIndex) -> SomeRing:
-        """A ring that goes on where the last file of a chain ends, whatever was cut off of it; `NotLegal` with the bad line."""
+        """A ring that resumes where the last file of a chain ends, whatever was cut off of it; `NotLegal` with the bad line."""
         self = cls.__new__(cls)
         bytes_, count = text_of(file), number(seats, 32, "seats")
         self._own()
@@ -260,12 +260,12 @@ class Ring:
         return self._text("open_journal")
 
     def take_journal(self) -> bytes:
-        """What was recorded since the journal was opened or taken from, each line once: append it to the file and sync that, before
-        anybody acts on the answers."""
+        """What was recorded since the journal was opened or taken from, each line once: append it to the file and fsync that, before
+        any program acts on the answers."""
         return self._text("take_journal")
 
     def cut(self) -> bytes:
-        """Seals the segment: the whole file of it, to be put in the place of the file. The ring goes on in the next segment, with its
+        """Seals the segment: its whole file, which replaces the file. The ring continues in the next segment, with its
         numbers, and no journal of that is kept yet."""
         return self._text("cut")
 

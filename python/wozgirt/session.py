@@ -1,4 +1,4 @@
-"""The client of a session: it goes on with another server when its own does not answer, or with the same one when that is there again."""
+"""The client of a session: it continues with another server when its own does not answer, or with the same one after a restart."""
 
 from __future__ import annotations
 
@@ -28,8 +28,8 @@ PART = 8
 
 class Session(Client):
     """A `Client` of several servers that share their locks, or of one that is started again. It has a key that it drew, and numbers what
-    it asks: another server, or the new start, goes on with the same holds, and does not do again what was done. It has a lease in any
-    case; if no server answers for so long, it is lost.
+    it asks: another server, or the new start, continues with the same holds, and does not do again what was done. It has a lease in any
+    case; if no server answers for this time, it is lost.
 
     What cannot be withdrawn in time, since no server answers, is withdrawn as soon as one does; if none does, when the lease is over."""
 
@@ -171,7 +171,7 @@ class Session(Client):
     def _give_up(self, why: str) -> str:
         self._is_left = True
         self._break(why)
-        return f"so the connection is closed, and the next server is told, or else the lease ends ({self._lease:g} s)"
+        return f"so the connection is closed, and the next server learns of it, or else the lease ends ({self._lease:g} s)"
 
     def _find_first(self, until: float) -> None:
         """Connects to a server, or raises what kept the last one from it."""
@@ -205,7 +205,7 @@ class Session(Client):
                 time.sleep(max(0.0, min(PAUSE, until - time.monotonic())))
 
     def _attach_next(self, until: float) -> None:
-        """Goes on with the next server, or an OSError. What is done before the connection is this session's leaves no trace."""
+        """Continues with the next server, or an OSError. What is done before the connection is this session's leaves no trace."""
         self._at = (self._at + 1) % len(self.servers)
         begun = time.monotonic()
         wire = Wire(connected(self.servers[self._at], max(0.05, min(CONNECT_ONE, until - begun))))
@@ -216,7 +216,7 @@ class Session(Client):
             if words[:2] != ["session", str(self._key)]:
                 raise OSError(errno.EPROTO, f"the server sent {' '.join(words)!r}")
             if words[3:] == ["alone"] and len(self.servers) > 1:
-                raise OSError(errno.EPROTO, "the server is alone, so its locks are not those of the others")
+                raise OSError(errno.EPROTO, "the server runs without --etcd, so its locks are not those of the others")
             told = [lines.words_of(wire.line_until(end)) for _ in range(lines.number(words, 2))]
             wire.send(self._wanted, [], ANSWER)
             others, lease = self._settled_lease(wire, end)

@@ -16,7 +16,7 @@ Result = TypeVar("Result")
 
 
 class Turns(OfOneProcess):
-    """A connection that one thread has at a time. Before and behind each turn, what a call that was broken off has left is put in
+    """A connection that one thread has at a time. Before and after each turn, what a call that was broken off has left is put in
     order by `_settle` and `_clean_up`, unless it `_is_quiet`."""
 
     def __init__(self, wire: Wire):
@@ -47,7 +47,7 @@ class Turns(OfOneProcess):
 
     def _in_turn(self, do: Callable[[], Result], until: Optional[float] = None) -> Result:
         """Does it when it is this thread's turn with the connection; Late if that does not come by then. What a call that was broken
-        off has left is put in order behind it, or before the next one."""
+        off has left is put in order after it, or before the next one."""
         taken: List[Optional[bool]] = []
         left = -1.0 if until is None else min(threading.TIMEOUT_MAX, max(0.0, until - time.monotonic()))
         try:

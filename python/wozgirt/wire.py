@@ -124,8 +124,9 @@ class Wire:
         return bool(self._poll.poll(None if seconds is None else min(1e6, max(0.0, seconds * 1000))))
 
     def send(self, data: bytes, sent: List[int], patience: float) -> None:
-        """Sends what is left of the data, of which so many bytes were sent, and notes how many are. Late if the other end takes
-        nothing for so many seconds. That it has closed the connection is not said here: whoever reads hears first what it said before."""
+        """Sends what is left of the data. `sent` lists how many bytes were sent, and gets how many are. Late if the other end takes
+        nothing for `patience` seconds. It does not report that the other end has closed the connection: the next read gets first what
+        that said before."""
         while not sent or sum(sent) < len(data):
             try:
                 sent.extend(map(self._sock.send, (data[sum(sent):] if sent else data,), _QUIETLY))
@@ -145,7 +146,7 @@ class Wire:
         return bool(self._chunks)
 
     def receive(self, waits: bool = False) -> bool:
-        """Takes what has come; it waits for that only if it is told to. False if the other end has closed the connection."""
+        """Takes what has come; it waits for that only if `waits` is true. False if the other end has closed the connection."""
         try:
             self._chunks.extend(map(self._sock.recv, _SIZE, _WAIT if waits else _NOW))
         except BlockingIOError:

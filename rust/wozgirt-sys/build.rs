@@ -1,4 +1,4 @@
-//! Tells the linker where the library is. `README.md` has the order in which it is looked for.
+//! Says to the linker where the library is. `README.md` has the order in which it is looked for.
 
 use std::env;
 use std::path::Path;

@@ -42,7 +42,7 @@ class Admin(unittest.TestCase):
 
     def test_the_server_ends(self):
         with Server() as server:
-            self.assertEqual(admin(server.operators, "cluster"), (76, "", "wozgirt: refused: cluster (this server is alone)\n"))
+            self.assertEqual(admin(server.operators, "cluster"), (76, "", "wozgirt: refused: cluster (this server runs without --etcd)\n"))
             self.assertEqual(admin(server.operators, "stop"), (0, "stopping\n", ""))
             self.assertEqual(server.process.wait(PATIENCE), 0)
             status, _, errors = admin(server.operators, "stop")
@@ -58,7 +58,7 @@ class Admin(unittest.TestCase):
         with Double({"end a 7": ["ended a"], "end": ["refused holder a"]}) as server:
             self.assertEqual(admin(server.path, "end", "a", "7"), (0, "ended a\n", ""))
             self.assertEqual(admin(server.path, "end", "a", "8"),
-                             (76, "", "wozgirt: refused: holder a (nobody holds a with the token 8)\n"))
+                             (76, "", "wozgirt: refused: holder a (no client holds a with the token 8)\n"))
             wait_until(lambda: server.heard.count("") == 2)
             self.assertEqual([line for line in server.heard if line], ["end a 7", "end a 8"])
 

@@ -299,7 +299,7 @@ class Ends(Trial):
         with Server() as alone:
             it = subprocess.run(self.words("b", "--journal", alone.journal), capture_output=True, text=True, timeout=PATIENCE)
             self.assertEqual(it.returncode, 1)
-            self.assertIn("this folder has the journal of a server that was alone", it.stderr)
+            self.assertIn("this folder has the journal of a single server", it.stderr)
 
     def test_no_program_for_the_log(self):
         for program, why in (("/none", "cannot run"), ("false", "keeps ending before it has found the log: exit status: 1")):

@@ -201,7 +201,7 @@ class Sockets(unittest.TestCase):
                 pass
             second = subprocess.Popen(words_in(server, folder), stderr=subprocess.PIPE, text=True)
             try:
-                self.assertIn("somebody listens there, and takes no connection", second.communicate(timeout=LIMIT)[1])
+                self.assertIn("another process listens there, and takes no connection", second.communicate(timeout=LIMIT)[1])
                 self.assertEqual(second.returncode, 1)
             finally:
                 second.kill()
@@ -250,7 +250,7 @@ class Words(unittest.TestCase):
             self.assertEqual([say(holder, "acquire a 1\n"), say(waiter, "acquire a 1\n")], [["granted a 1"], ["waiting a 0"]])
 
     def test_what_is_no_text(self):
-        self.assertIn("is no text in UTF-8", self.refused(b"--socket", b"/tmp/\xff"))
+        self.assertIn("is not text in UTF-8", self.refused(b"--socket", b"/tmp/\xff"))
 
 
 if __name__ == "__main__":

@@ -249,7 +249,7 @@ class Memory(unittest.TestCase):
             it = subprocess.run([*server.words, "--connections", "10000", "--memory", "16"], capture_output=True, text=True,
                                 timeout=PATIENCE, check=False)
             self.assertEqual(it.returncode, 1)
-            self.assertIn("so many connections need --memory ", it.stderr)
+            self.assertIn("the connections need --memory ", it.stderr)
 
 
 @needs_programs

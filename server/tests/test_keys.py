@@ -129,7 +129,7 @@ class Sessions(Trial):
                 it = subprocess.run(["setpriv", "--reuid=65534", "--clear-groups", sys.executable, "-c", OTHER_USER, server.path],
                                     capture_output=True, text=True, timeout=PATIENCE, check=False)
                 self.assertEqual(it.stdout.split("\n")[:2], ["refused session", "granted b 1" if server is a else "granted b 2"], it.stderr)
-                self.assertIn("refused, the session is somebody else's: nobody, process ", server.text_of_log())
+                self.assertIn("refused, the session belongs to another user: nobody, process ", server.text_of_log())
         self.assertEqual(say(one, "ping\n"), ["pong"])
         self.assertEqual(over_tcp("127.0.0.1"), ["session 77 1", "holds a 1"])  # its client may go from the socket to TCP
         self.assertEqual(over_tcp("127.0.0.2"), ["refused session", "pong"])
@@ -164,7 +164,7 @@ class Sessions(Trial):
         self.assertIn("lock b held 3 5 1 ", a.operate("status", 4))
 
     def test_no_session_is_attached(self):
-        """The end of a connection says nothing where a client goes on with the next server; one that is alone is no cluster."""
+        """The end of a connection says nothing if a client continues with the next server; a single server is not a cluster."""
         self.assertEqual(say(self.raw(self.server("a")), "session 1 attached\nacquire a 1\n", 2), ["refused session", "granted a 1"])
         with Server() as server:
             self.assertEqual(server.operate("cluster"), "refused cluster")

@@ -134,7 +134,7 @@ class Replaced(Trial):
         a = self.server("a")
         self.take(a, 10)
         a.kill_engine()
-        wait_until(lambda: "in the log double as a 2, behind" in a.text_of_log())
+        wait_until(lambda: "in the log double as a 2, after" in a.text_of_log())
         self.assertEqual(self.take(a, 2), [11, 12])
 
 
@@ -183,7 +183,7 @@ class NoRoom(Trial):
         self.assertIn("\nwozgirt_in_log 0\n", metrics)
         self.assertIn("etcd has no room for entries.", page)
         text = a.text_of_log()
-        self.assertIn("etcd has no room for entries: nothing is granted until it has", text)
+        self.assertIn("etcd has no room for entries: the server grants nothing until it has", text)
         self.assertIn("out of the log (etcd has no room): all connections end", text)
         time.sleep(0.3)
         self.log.fill(False)

@@ -1,4 +1,4 @@
-"""Sessions of a server that is alone: what they have outlives the engine and the server, and what was done is not done again."""
+"""Sessions of a single server: what they have outlives the engine and the server, and what was done is not done again."""
 
 import os
 import shutil

@@ -328,7 +328,7 @@ class Ends(unittest.TestCase):
         with Server() as server:
             it = run(*server.words[1:])
             self.assertEqual(it.returncode, 1)
-            self.assertIn("somebody listens there", it.stderr)
+            self.assertIn("another process listens there", it.stderr)
 
     def test_an_engine_that_keeps_ending(self):
         with a_folder() as folder:
@@ -348,12 +348,13 @@ class Ends(unittest.TestCase):
             os.chmod(engine, 0o755)
             it = run("--engine", engine, "--journal", folder, "--locks", "a,b", "--socket", programs + "/s")
             self.assertEqual(it.returncode, 1)
-            self.assertIn("answered what nobody asked: 0 refused lock", it.stderr)
+            self.assertIn("answered what it was not asked: 0 refused lock", it.stderr)
             self.assertIn("the engine keeps ending before it is ready", it.stderr)
 
     def test_an_engine_that_talks_nonsense(self):
         with a_folder() as folder:
-            for text, why in (("1 sings", "said what is no answer (syntax): 1 sings"), ("0 granted 0 1", "answered what nobody asked: 0 granted 0 1")):
+            for text, why in (("1 sings", "said something that is not an answer (syntax): 1 sings"),
+                              ("0 granted 0 1", "answered what it was not asked: 0 granted 0 1")):
                 engine = folder + "/engine"
                 with open(engine, "w", encoding="ascii") as file:
                     file.write(f"#!/bin/sh\necho '{text}'\nexec sleep 100\n")

@@ -256,7 +256,7 @@ class Cuts(Commands):
         with self.arbiter.mutex:
             self.arbiter.lines.clear()
             self.doors[0].cut()
-        self.assertIn("the place in the line is gone", self.finish(it, 69, ""))
+        self.assertIn("the place in the queue is gone", self.finish(it, 69, ""))
 
     @by_the_clock
     def test_a_silent_server_is_left(self, longer):

@@ -46,7 +46,7 @@ pub(crate) enum Presence {
 pub(crate) struct Argument {
     /// Its name where it is read back, and in help where it has no other.
     pub(crate) id: &'static str,
-    /// Its name behind two dashes. With none it is positional.
+    /// Its name after two dashes. With none it is positional.
     pub(crate) long: Option<&'static str>,
     /// What help calls its value: one name, or none where that is `id`.
     pub(crate) value_names: &'static [&'static str],
@@ -87,7 +87,7 @@ fn parser_of(takes: Takes) -> ValueParser<'static> {
     }
 }
 
-/// The ids of the arguments any of which stands in for this one.
+/// The ids of the arguments any of which replaces this one.
 fn stand_ins_of(presence: Presence) -> &'static [&'static str] {
     match presence {
         Presence::RequiredUnless(others) => others,

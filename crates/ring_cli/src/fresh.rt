@@ -18,8 +18,8 @@ Example:
   $ ring_tool check fresh.txt
   legal rings 2 events 0 granted 0 corrupted 0 surveys 0
 
-Exit status: 0 where it was printed, 1 where a number is out of its limits, memory runs out or printing fails, 2 where
-the words cannot be read: each is two decimals below 2^32 with a colon between, without signs or leading zeros.";
+Exit status: 0 if it was printed, 1 if a number is out of its limits, memory runs out or printing fails, 2 after a usage
+error: each N:K is two decimals below 2^32 with a colon between, without signs or leading zeros.";
 
 /// The arguments of `new`.
 static NEW_ARGUMENTS: [Argument; 1] = [Argument {

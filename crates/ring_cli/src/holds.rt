@@ -8,15 +8,15 @@ use std::alloc::Global;
 const ABOUT: &str = "Lists who held which lock, from the history of the locks";
 
 const HELP: &str = "\
-It checks FILE as `check` does: a saved history, or, if FILE is a folder, the segments that `locks` keeps there. Where that
+It checks FILE as `check` does: a saved history, or, if FILE is a folder, the segments that `locks` keeps there. If that
 is legal, and each ring of it has the history of a lock, it prints a line for each hold, lock by lock and in their order:
   lock LOCK token TOKEN label LABEL from FROM to TO ENDING
 LOCK is the number of the lock, TOKEN that of the grant, and LABEL the label that the client chose. FROM is how many events
 of the lock's ring come before the grant, TO how many come before the end; they are counted from the first event of all, as
-TOKEN is. ENDING is `released`, `left`, or `open` with `-` for TO. Where the grant is in a segment that is gone, LABEL and FROM
+TOKEN is. ENDING is `released`, `left`, or `open` with `-` for TO. If the grant is in a segment that is gone, LABEL and FROM
 are `-`.
 
-With `--by label` it prints a line for each label that a hold has, in rising order, and no line of a hold:
+With `--by label` it prints a line for each label that a hold has, in rising order, instead of the lines of holds:
   label LABEL holds HOLDS released RELEASED left LEFT open OPEN
 
 Example, after that of `locks`:
@@ -24,8 +24,8 @@ Example, after that of `locks`:
   lock 0 token 1 label 77 from 0 to 1 released
   lock 0 token 2 label 78 from 1 to - open
 
-Exit status: 0 where it was printed, 1 where FILE is not legal, is not the history of locks, or cannot be read, 2 where the
-words cannot be read. No file changes.";
+Exit status: 0 if it was printed, 1 if FILE is not legal, is not the history of locks, or cannot be read, 2 after a usage
+error. No file changes.";
 
 /// The arguments of `holds`.
 static HOLDS_ARGUMENTS: [Argument; 4] = [

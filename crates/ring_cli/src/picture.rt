@@ -6,23 +6,23 @@ use clap::{ArgMatches, Command, Error};
 use ring_requests::{PictureWords, Request};
 use std::alloc::Global;
 
-/// How many events are drawn where no word says it.
+/// How many events are drawn if no option says it.
 const DRAWN: u32 = 2_000;
 
 const ABOUT: &str = "Checks a saved history as `check` does, and draws one of its rings";
 
 const HELP: &str = "\
 The picture is an SVG: time goes to the right, an event a column. Each machine has a row, which is filled where it is
-privileged; below stands the rest, which falls to 0 until one machine is privileged. Only where the history is legal is it
-written, beside PICTURE, and then takes its place: an old one is whole after a refusal or an interrupt.
-PICTURE cannot be FILE. Then it prints the sums over all rings, as `check` does. Where PICTURE is `-`, it goes to
-standard output, and the sums to standard error.
+privileged; below is the rest, which falls to 0 until one machine is privileged. The picture is written only if the
+history is legal, beside PICTURE, and then replaces it: an old PICTURE is whole after a refusal or an interrupt.
+PICTURE cannot be FILE. Then the command prints the sums over all rings, as `check` does. If PICTURE is `-`, the picture
+goes to standard output, and the sums to standard error.
 
 Example:
   $ ring_tool picture saved.txt ring.svg
   legal rings 1 events 3 granted 2 corrupted 0 surveys 1
 
-Exit status: 0 where PICTURE was written, 1 where FILE is not legal or a file fails, 2 where the words cannot be read.";
+Exit status: 0 if PICTURE was written, 1 if FILE is not legal or a file fails, 2 after a usage error.";
 
 /// The arguments of `picture`.
 static PICTURE_ARGUMENTS: [Argument; 5] = [
@@ -49,7 +49,7 @@ static PICTURE_ARGUMENTS: [Argument; 5] = [
         value_names: &["P"],
         takes: Takes::Number,
         presence: Presence::Optional,
-        help: "How many events stand before the first that is drawn [default: 0]",
+        help: "How many events come before the first that is drawn [default: 0]",
     },
     Argument {
         id: "events",

@@ -9,10 +9,10 @@ use std::alloc::Global;
 const ABOUT: &str = "Prints the report of a saved history, with what each seat did";
 
 const HELP: &str = "\
-It reads and checks FILE as `check` does. Only where that is legal it prints what `run` prints of such rings: four lines for
-each ring, and one for all. Behind the four lines of a ring stands a fifth: for each seat, from seat 0 to seat 9, how many
-events are its own, how many of those are granted passes, and how many surveys it has. A history whose ring has more than
-4000000 events is refused. No file changes. A folder of segments is joined first: `ring_tool join FOLDER NEW`.
+It reads and checks FILE as `check` does. If FILE is legal, it prints what `run` prints of such rings: four lines for each
+ring, and one for all. A fifth line follows the four of a ring: for each seat, from seat 0 to seat 9, how many events are
+its own, how many of those are granted passes, and how many surveys it has. A history whose ring has more than 4000000
+events is refused. No file changes. Join a folder of segments first: `ring_tool join FOLDER NEW`.
 
 Example:
   $ ring_tool report saved.txt
@@ -23,8 +23,8 @@ Example:
   seats calls 3,0,0,0,0,0,0,0,0,0 granted 2,0,0,0,0,0,0,0,0,0 surveys 1,0,0,0,0,0,0,0,0,0
   total rings 1 events 3 granted 2 surveys 1
 
-Exit status: 0 where it was printed, 1 where FILE is not legal, has too many events or cannot be read, or printing fails, 2
-where the words cannot be read. A file whose name is `-` is `./-`; one whose name begins with a dash stands behind `--`.";
+Exit status: 0 if it was printed, 1 if FILE is not legal, has too many events or cannot be read, or printing fails, 2 after
+a usage error. Write `./-` for a file whose name is `-`; a name that begins with a dash comes after `--`.";
 
 /// The arguments of `report`.
 static REPORT_ARGUMENTS: [Argument; 1] = [SAVED_HISTORY];

@@ -22,13 +22,13 @@ const STATUSES: &str = "\
 Exit status:
   0  it was done
   1  it was refused, input or output failed, or there was too little memory or no thread
-  2  the words, or a list of `step` or `locks`, cannot be read
-Where it is not 0, standard error says why.";
+  2  usage error, or a list of `step` or `locks` that cannot be read
+If it is not 0, standard error says why.";
 
 const STEP_ABOUT: &str = "Lets chosen machines of one ring ask to pass, one after the other";
 
 const STEP_HELP: &str = "\
-For each choice it prints `M granted NUMBER`, where machine M was privileged and moved, or
+For each choice it prints `M granted NUMBER` if machine M was privileged and moved, else
 `M not privileged`. Then it prints the last values, how many machines are privileged, and the first of them.
 
 Example:
@@ -39,7 +39,7 @@ Example:
   states 1,2,2
   privileged 1 first 1
 
-Exit status: 0 where it was done, 2 where the words or a list cannot be read, 1 after each other refusal.";
+Exit status: 0 if it was done, 2 after a usage error or if a list cannot be read, 1 after each other refusal.";
 
 const RUN_ABOUT: &str =
     "Runs the rings of a settings file, driven by clients on threads, and prints a report";
@@ -47,9 +47,9 @@ const RUN_ABOUT: &str =
 const RUN_HELP: &str = "\
 Each client of the settings, and the injector of faults, has a thread of its own on each ring. When all have
 done their actions, the report has four lines for each ring and one for the farm. The history is written beside FILE,
-and then takes its place: an old one is whole after a refusal or an interrupt. FILE cannot be the settings
-file. A file that is a pipe is waited for until somebody opens its other end. A file whose name is `-` is `./-`; one
-whose name begins with a dash stands behind `--`, or as `--history=FILE`.
+and then replaces it: an old FILE is whole after a refusal or an interrupt. FILE cannot be the settings file. If
+a file is a pipe, the program waits until its other end is opened. Write `./-` for a file whose name is `-`; a name
+that begins with a dash comes after `--`, or as `--history=FILE`.
 
 Example, where settings.json is {\"rings\":[{\"n\":3,\"k\":3,\"start\":[0,2,0]}],
 \"workers\":[{\"script\":[[\"pass\",0,0,5],[\"pass\",0,0,1],[\"pass\",0,2,4],[\"survey\",0]]}]}:
@@ -60,25 +60,25 @@ Example, where settings.json is {\"rings\":[{\"n\":3,\"k\":3,\"start\":[0,2,0]}]
   grants 1,0,1 settled 0,0,0
   total rings 1 events 3 granted 2 surveys 1
 
-Exit status: 0 where all was run and written, 2 where the words cannot be read, 1 after each refusal of the settings, of
-the run, or of a file.";
+Exit status: 0 if all was run and written, 2 after a usage error, 1 after each refusal of the settings, of the run, or of
+a file.";
 
 const CHECK_ABOUT: &str = "Checks a saved history, line by line";
 
 const CHECK_HELP: &str = "\
-It replays each ring of the file on one thread, and trusts nothing that the file says. Where each event, each
-survey and each count is right it prints the sums over all rings. Else it says which line is the first bad one,
-and why: `parameter`, `range`, `reply`, `count`, `survey`, `group`, or `syntax` where the file is no saved history.
+It replays each ring of the file on one thread, and trusts nothing that the file says. If each event, each
+survey and each count is right, it prints the sums over all rings. Else it says which line is the first bad one,
+and why: `parameter`, `range`, `reply`, `count`, `survey`, `group`, or `syntax` if the file is not a saved history.
 
-Where FILE is a folder, it is one of segments, the files 0000000001.ring, 0000000002.ring and so on of a served journal.
-Each has to begin where the one before it ends, and to have its digest. Then it prints how many there are, and from which
-on if the first are gone; the sums over all rings from the first event of all; and the digest of the last file, which the
-next one has to have. Else it says the file, and its line or why: `foreign`, `missing`, `number`, `behind`, `base`,
-`start`, `full`, `unfinished`.
+If FILE is a folder, it has the segments of a served journal, the files 0000000001.ring, 0000000002.ring and so on.
+Each has to begin where the one before it ends, and to have its digest. Then `check` prints how many there are, and from
+which on if the first are gone; the sums over all rings from the first event of all; and the digest of the last file, which
+the next one has to have. Else it names the file, and its line or the reason: `foreign`, `missing`, `number`, `behind`,
+`base`, `start`, `full`, `unfinished`.
 
 With --all it prints each bad line of a file, with what is there and what should be, before it says which is the first one.
-After a bad reply the ring goes on with its own. Behind a ring that cannot be, or a call that none of its machines can make,
-no line of that ring is judged. A folder cannot be read so.
+After a bad reply the checker continues with its own. After a ring that is out of the limits, or a call that none of its
+machines can make, it judges no further line of that ring. It cannot read a folder so.
 
 Example:
   $ ring_tool check saved.txt
@@ -87,22 +87,22 @@ Example:
   line 6: reply: g 2 8, should be g 2 9
   line 6: reply
 
-Exit status: 0 where it is legal, 1 where it is not or cannot be read, 2 where the words cannot be read. A file whose
-name is `-` is `./-`; one whose name begins with a dash stands behind `--`.";
+Exit status: 0 if FILE is legal, 1 if it is not legal or cannot be read, 2 after a usage error. Write `./-` for a file
+whose name is `-`; a name that begins with a dash comes after `--`.";
 
-const UPGRADE_ABOUT: &str = "Carries a saved history over into the latest version of its text";
+const UPGRADE_ABOUT: &str = "Saves a history in the latest version of its text";
 
 const UPGRADE_HELP: &str = "\
-It reads and checks FILE as `check` does, and only where that is legal makes NEW, writes the same history there in the
-latest version, and prints what `check` prints of it. The text is written beside NEW, and then takes its place:
-an old one is whole after a refusal or an interrupt, and NEW may be FILE. Where NEW is `-`, the text goes to
-standard output, and the line to standard error. A FILE that is refused makes no NEW.
+It reads and checks FILE as `check` does. If FILE is legal, it writes the same history to NEW in the latest version, and
+prints what `check` prints of it. The text is written beside NEW, and then replaces it: an old NEW is whole after a
+refusal or an interrupt, and NEW may be FILE. If NEW is `-`, the text goes to standard output, and the line to
+standard error. If FILE is refused, NEW is not made.
 
 Example, where old.txt begins with `ringfarm 1`:
   $ ring_tool upgrade old.txt new.txt
   legal rings 1 events 3 granted 2 corrupted 0 surveys 1
 
-Exit status: 0 where NEW was written, 1 where FILE is not legal or a file fails, 2 where the words cannot be read.";
+Exit status: 0 if NEW was written, 1 if FILE is not legal or a file fails, 2 after a usage error.";
 
 /// The name of a command.
 #[derive(Clone, Copy)]
@@ -204,7 +204,7 @@ static RUN_ARGUMENTS: [Argument; 3] = [
         value_names: &["FILE"],
         takes: Takes::Text,
         presence: Presence::Optional,
-        help: "Writes each ring's history to FILE, which `check` reads; a file that is there is replaced, and `-` is standard output, in the place of the report",
+        help: "Writes each ring's history to FILE, which `check` reads, and replaces an old FILE; `-` is standard output, instead of the report",
     },
     Argument {
         id: "QUIET",
@@ -212,7 +212,7 @@ static RUN_ARGUMENTS: [Argument; 3] = [
         value_names: &[],
         takes: Takes::Nothing,
         presence: Presence::Optional,
-        help: "Prints the report's last line alone, which adds up over the rings",
+        help: "Prints only the report's last line, the sums over all rings",
     },
 ];
 

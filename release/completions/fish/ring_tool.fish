@@ -35,7 +35,7 @@ complete -c ring_tool -n "__fish_seen_subcommand_from locks" -l sync -d "The jou
 complete -c ring_tool -n "__fish_seen_subcommand_from locks" -l no-sync -d "An answer may come first"
 complete -c ring_tool -n "__fish_seen_subcommand_from locks" -l faults -d "Lines may write values into machines"
 complete -c ring_tool -n "__fish_seen_subcommand_from locks" -l strict -d "End where memory is short"
-complete -c ring_tool -n "__fish_seen_subcommand_from recover" -l salvage -d "Leave out a bad line and all behind it"
+complete -c ring_tool -n "__fish_seen_subcommand_from recover" -l salvage -d "Leave out a bad line and all after it"
 complete -c ring_tool -n "__fish_seen_subcommand_from holds" -l lock -x -d "Only this lock"
 complete -c ring_tool -n "__fish_seen_subcommand_from holds" -l label -x -d "Only this label"
 complete -c ring_tool -n "__fish_seen_subcommand_from holds" -l by -x -a label -d "Count the holds of each label"

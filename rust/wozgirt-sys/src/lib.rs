@@ -118,7 +118,7 @@ pub struct wozgirt_locks {
 pub struct wozgirt_hold {
     /// Of a grant: its fencing token.
     pub token: u64,
-    /// With [`WOZGIRT_WAITS`]: how many stand before the client.
+    /// With [`WOZGIRT_WAITS`]: how many clients wait before this one.
     pub ahead: u64,
 }
 
@@ -126,7 +126,7 @@ pub struct wozgirt_hold {
 #[repr(C)]
 #[derive(Clone, Copy, Debug, Default, PartialEq, Eq)]
 pub struct wozgirt_grant {
-    /// Who holds it now.
+    /// The client that holds it now.
     pub client: u64,
     /// Its fencing token.
     pub token: u64,
@@ -169,7 +169,7 @@ codes! {
     WOZGIRT_BAD_START = 36, "a start value is not below K";
     WOZGIRT_OPEN = 37, "it is open already";
     WOZGIRT_BAD_LOCKS = 38, "there are 1 to 1,000,000 locks";
-    WOZGIRT_SYNTAX = 48, "a line cannot stand in a saved text";
+    WOZGIRT_SYNTAX = 48, "a line cannot be in a saved text";
     WOZGIRT_TRUNCATED = 49, "the saved text is cut short";
     WOZGIRT_NO_RING = 50, "the saved text has no ring at this place";
     WOZGIRT_NO_CHAIN = 52, "no chain of files ends with this one";
@@ -273,9 +273,9 @@ extern "C" {
     pub fn wozgirt_open_journal(ring: *mut wozgirt_ring, buffer: *mut u8, length: usize, size: *mut u64) -> u32;
     /// What was recorded since.
     pub fn wozgirt_take_journal(ring: *mut wozgirt_ring, buffer: *mut u8, length: usize, size: *mut u64) -> u32;
-    /// Seals the segment: its whole file. The ring goes on in the next one.
+    /// Seals the segment: its whole file. The ring continues in the next one.
     pub fn wozgirt_cut(ring: *mut wozgirt_ring, buffer: *mut u8, length: usize, size: *mut u64) -> u32;
-    /// Opens a ring that goes on where the last file of a chain ends.
+    /// Opens a ring that resumes where the last file of a chain ends.
     pub fn wozgirt_open_segment(
         ring: *mut wozgirt_ring,
         file: *const u8,

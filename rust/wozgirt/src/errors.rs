@@ -100,7 +100,7 @@ kinds! {
 kinds! {
     /// The reason why a text is not legal.
     Fault {
-        /// The line cannot stand in a saved text.
+        /// The line cannot be in a saved text.
         Syntax = WOZGIRT_SYNTAX,
         /// The text is cut short.
         Truncated = WOZGIRT_TRUNCATED,

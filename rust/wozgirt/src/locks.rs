@@ -4,19 +4,19 @@ use crate::Refused;
 use core::{fmt, ptr};
 use wozgirt_sys as sys;
 
-/// What a client is told that acquires a lock.
+/// The answer to a client that acquires a lock.
 #[derive(Clone, Copy, Debug, PartialEq, Eq, Hash)]
 pub enum Acquired {
     /// It holds the lock, with this token, which is greater than that of every hold of the lock before.
     Held(u64),
-    /// It waits, and this many clients stand before it.
+    /// It waits, and this many clients wait before it.
     Waits(u64),
 }
 
 /// A lock that was granted to a client that waited.
 #[derive(Clone, Copy, Debug, PartialEq, Eq, Hash)]
 pub struct Granted {
-    /// Who holds it now.
+    /// The client that holds it now.
     pub client: u64,
     /// The lock.
     pub lock: u32,
@@ -24,8 +24,8 @@ pub struct Granted {
     pub token: u64,
 }
 
-/// Locks over rings: who holds, and who waits in line. It asks no clock and no thread: a client that waits is told by the grants of a
-/// later call. It is freed when it is dropped. Like [`Ring`](crate::Ring) it is `Send` and not `Sync`.
+/// Locks over rings: holders, and queues of waiting clients. They use no clock and no thread: a client that waits gets the lock by the
+/// grants of a later call. They are freed when they are dropped. Like [`Ring`](crate::Ring) they are `Send` and not `Sync`.
 ///
 /// ```
 /// use wozgirt::{Acquired, Granted, Locks};
@@ -41,13 +41,13 @@ pub struct Locks {
     raw: sys::wozgirt_locks,
 }
 
-// SAFETY: the library keeps nothing of a thread. The memory behind the pointer is these locks' alone, and malloc's.
+// SAFETY: the library keeps nothing of a thread. The memory that the pointer leads to belongs only to these locks, and is malloc's.
 unsafe impl Send for Locks {}
 
 /// The locks that were granted to clients that waited. What is not taken keeps the locks from another input, which is refused
 /// with [`Reason::GrantsLeft`](crate::Reason::GrantsLeft), and is handed out by [`Locks::grants`].
 #[derive(Debug)]
-#[must_use = "a client that is not told of its grant waits for ever"]
+#[must_use = "a client that does not learn of its grant waits for ever"]
 pub struct Grants<'a> {
     locks: &'a mut Locks,
 }
@@ -84,8 +84,8 @@ impl Locks {
     ///
     /// # Errors
     ///
-    /// The first that applies: `GrantsLeft`, `NoLock`, `Holds`, `Stands` where it waits already, `Circle` where it would wait for
-    /// itself; `HistoryFull`, behind which [`Locks::cut`] makes room; `NoMemory`.
+    /// The first that applies: `GrantsLeft`, `NoLock`, `Holds`, `Stands` if it waits already, `Circle` if it would wait for
+    /// itself; `HistoryFull`, after which [`Locks::cut`] makes room; `NoMemory`.
     pub fn acquire(&mut self, client: u64, lock: u32, order: u64) -> Result<Acquired, Refused> {
         let mut hold = sys::wozgirt_hold::default();
         // SAFETY: the locks are open, and nobody else has them
@@ -151,11 +151,11 @@ impl Locks {
         Grants { locks: self }
     }
 
-    /// Begins a new segment of each lock's history: who holds, who waits and the tokens go on.
+    /// Begins a new segment of each lock's history: holds, waits and tokens continue.
     ///
     /// # Errors
     ///
-    /// `GrantsLeft`; `HistoryFull` where numbers would have more than 64 bits; `NoMemory`.
+    /// `GrantsLeft`; `HistoryFull` if numbers would have more than 64 bits; `NoMemory`.
     pub fn cut(&mut self) -> Result<(), Refused> {
         // SAFETY: as in `acquire`
         match unsafe { sys::wozgirt_locks_cut(&mut self.raw) } {

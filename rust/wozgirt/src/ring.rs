@@ -108,7 +108,7 @@ pub struct Ring {
     raw: UnsafeCell<sys::wozgirt_ring>,
 }
 
-// SAFETY: the library keeps nothing of a thread. The memory behind the pointer is this ring's alone, and malloc's.
+// SAFETY: the library keeps nothing of a thread. The memory that the pointer leads to belongs only to this ring, and is malloc's.
 unsafe impl Send for Ring {}
 
 const NONE: sys::wozgirt_ring = sys::wozgirt_ring { at: ptr::null_mut() };
@@ -208,7 +208,7 @@ impl Ring {
         }
     }
 
-    /// Opens a ring that goes on where the last file of a chain ends, whatever was cut off of it.
+    /// Opens a ring that resumes where the last file of a chain ends, whatever was cut off of it.
     ///
     /// # Errors
     ///
@@ -361,7 +361,7 @@ impl Ring {
         text(|buffer, length, size| unsafe { sys::wozgirt_take_journal(ring, buffer, length, size) })
     }
 
-    /// Seals the segment: the whole file of it, to be put in the place of the file. The ring goes on in the next segment, with its
+    /// Seals the segment: its whole file, which replaces the file. The ring continues in the next segment, with its
     /// numbers, and no journal of that is kept yet.
     ///
     /// # Errors

@@ -22,7 +22,7 @@ pub enum Answer {
     Waiting {
         /// The lock.
         lock: Lock,
-        /// How many stand before it in the line.
+        /// How many are before it in the queue.
         before: u64,
     },
     /// Somebody holds the lock that was tried.
@@ -69,7 +69,7 @@ pub struct Stats {
     pub waiters: u64,
     /// How many passes were granted, repairs among them.
     pub passes: u64,
-    /// Who holds it: [`crate::NOBODY`] with a token is a hold from before the engine's start.
+    /// Its holder: [`crate::NOBODY`] with a token is a hold from before the engine's start.
     pub holder: Client,
     /// The token of the hold, or 0 if nobody holds.
     pub token: Token,

@@ -66,10 +66,10 @@ impl fmt::Display for Input {
     }
 }
 
-/// An input, with who asks.
+/// An input, with the client that asks.
 #[derive(Clone, Copy, Debug, PartialEq, Eq)]
 pub struct Asked {
-    /// Who asks.
+    /// The client that asks.
     pub client: Client,
     /// What is asked.
     pub input: Input,

@@ -31,5 +31,5 @@ pub type Token = u64;
 /// A number that a client chooses for a hold; the journal keeps it.
 pub type Label = u64;
 
-/// The client that is no connection.
+/// The client that is not a connection.
 pub const NOBODY: Client = 0;

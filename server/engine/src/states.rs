@@ -17,7 +17,7 @@ pub enum StateLine {
         /// The client.
         client: Client,
     },
-    /// The client waits for the lock, behind those that were told before.
+    /// The client waits for the lock, after those that were listed before.
     Wait {
         /// The client.
         client: Client,
@@ -35,7 +35,7 @@ pub enum StateLine {
         /// The first line of its answer; empty if it had none.
         answer: String,
     },
-    /// A place in a log, and the digest of all that was told up to there.
+    /// A place in a log, and the digest of all answers up to there.
     At {
         /// The place.
         place: u64,

@@ -1,4 +1,4 @@
-//! The calls of the system themselves: the only unsafe code of the workspace, each call behind a safe function that says why it is
+//! The calls of the system themselves: the only unsafe code of the workspace, each call inside a safe function that says why it is
 //! sound. What it means is said in the modules that use it.
 //!
 //! Every number, struct and function that is declared here is the system's own: `server/tests/test_declarations.py` compares them
@@ -187,7 +187,7 @@ pub fn wait_for_epoll(epoll: BorrowedFd<'_>, events: &mut [EpollEvent], millisec
         .map(|count| count as usize)
 }
 
-/// Waits until the file can be read, something is wrong with it, a signal comes, or for so long: which of these is not told.
+/// Waits until the file can be read, something is wrong with it, a signal comes, or for this time: it does not report which of these.
 pub fn wait_until_readable(file: BorrowedFd<'_>, time: Duration) {
     let mut file = PollFile { fd: file.as_raw_fd(), events: POLLIN, revents: 0 };
     let seconds = c_long::try_from(time.as_secs()).unwrap_or(c_long::MAX);
@@ -216,7 +216,7 @@ impl SignalSet {
     }
 
     pub fn add(&mut self, signal: i32) -> io::Result<()> {
-        // SAFETY: the set is valid, and a number that is no signal is refused.
+        // SAFETY: the set is valid, and a number that is not a signal is refused.
         checked(unsafe { sigaddset(self, signal) }).map(drop)
     }
 
@@ -246,7 +246,7 @@ impl SignalSet {
 
 /// Has the signal do to this program what it does by default.
 pub fn reset_signal(number: i32) -> io::Result<()> {
-    // SAFETY: the default is no function of this program.
+    // SAFETY: the default is not a function of this program.
     match unsafe { signal(number, SIG_DFL) } {
         SIG_ERR => Err(io::Error::last_os_error()),
         _ => Ok(()),
@@ -302,7 +302,7 @@ pub fn lock_file(file: BorrowedFd<'_>) -> io::Result<()> {
 /// How many files may be open.
 pub fn limit_of_files() -> io::Result<Limit> {
     let mut limit = Limit { rlim_cur: 0, rlim_max: 0 };
-    // SAFETY: the limit is valid, and the call writes to it alone.
+    // SAFETY: the limit is valid, and the call writes only to it.
     checked(unsafe { getrlimit(RLIMIT_NOFILE, &mut limit) })?;
     Ok(limit)
 }
@@ -312,7 +312,7 @@ pub fn set_limit_of_files(limit: &Limit) -> io::Result<()> {
     checked(unsafe { setrlimit(RLIMIT_NOFILE, limit) }).map(drop)
 }
 
-/// Who made the other end of a socket.
+/// The process that made the other end of a socket.
 pub fn peer_credentials(socket: BorrowedFd<'_>) -> io::Result<Credentials> {
     let mut credentials = Credentials { pid: 0, uid: 0, gid: 0 };
     let (value, mut length) = (ptr::addr_of_mut!(credentials).cast(), size_of::<Credentials>() as u32);
@@ -321,8 +321,8 @@ pub fn peer_credentials(socket: BorrowedFd<'_>) -> io::Result<Credentials> {
     Ok(credentials)
 }
 
-/// The supplementary groups of who made the other end of a socket, at the beginning of `groups`; and how many there are, also if the
-/// call fails because there is no room for them.
+/// The supplementary groups of the process that made the other end of a socket, at the beginning of `groups`; and how many there are, also
+/// if the call fails because there is no room for them.
 pub fn peer_groups(socket: BorrowedFd<'_>, groups: &mut [u32]) -> (io::Result<()>, usize) {
     let mut length = u32::try_from(size_of_val(groups)).unwrap_or(u32::MAX);
     let value = groups.as_mut_ptr().cast();

@@ -1,8 +1,8 @@
-//! Who can write what is created.
+//! Which users can write what is created.
 
 use crate::calls;
 
-/// The modes of those who are not the owner that allow to write.
+/// The modes that allow other users than the owner to write.
 const OTHERS_WRITE: u32 = 0o022;
 
 /// What this program and its children create from now on, nobody but the owner can write. Else it has the modes that it had. To be

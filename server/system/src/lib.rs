@@ -1,14 +1,14 @@
-//! The calls of the system that the standard library has no stable form of, each behind a safe function.
+//! The calls of the system that the standard library has no stable form of, each inside a safe function.
 //!
 //! Unsafe code is in one file of this crate, `calls.rs`, and nowhere else in the workspace. What is called:
 //!
 //! | Call | For |
 //! |---|---|
-//! | `getsockopt` | who is at the other end of a Unix socket ([`peer_of`]) |
+//! | `getsockopt` | the process at the other end of a Unix socket ([`peer_of`]) |
 //! | `epoll_create1`, `epoll_ctl`, `epoll_wait`, `ppoll` | one thread that serves all connections ([`Poller`]) |
 //! | `sigemptyset`, `sigfillset`, `sigaddset`, `pthread_sigmask`, `signalfd` | signals as a file that is read ([`Signals`]) |
 //! | `signal`, `raise` | what a signal does by default ([`Signal::reset`], [`Signal::end_program`]) |
-//! | `socket`, `connect` | a Unix socket that is waited for only so long ([`connect_within`]) |
+//! | `socket`, `connect` | a Unix socket that is waited for with a deadline ([`connect_within`]) |
 //! | `kill` | the end of a command, asked for ([`send_signal`]) |
 //! | `getrlimit`, `setrlimit` | how many files may be open ([`permit_files`]) |
 //! | `flock` | a folder that only one server has ([`try_lock`]) |

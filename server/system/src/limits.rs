@@ -3,7 +3,7 @@
 use crate::calls::{limit_of_files, set_limit_of_files, LimitCount};
 use std::io;
 
-/// Lets this process have so many files open, or as many as it may: how many that are. One that may have more keeps that.
+/// Lets this process have this many files open, or as many as it may: how many that are. One that may have more keeps that.
 pub fn permit_files(wanted: u64) -> io::Result<u64> {
     let wanted = LimitCount::try_from(wanted).unwrap_or(LimitCount::MAX);
     let mut limit = limit_of_files()?;

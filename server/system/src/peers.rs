@@ -1,4 +1,4 @@
-//! Who is at the other end of a Unix socket, as the kernel noted it when the connection was made.
+//! The process at the other end of a Unix socket, as the kernel noted it when the connection was made.
 
 use crate::calls::{peer_credentials, peer_groups};
 use std::io;
@@ -18,7 +18,7 @@ pub struct Peer {
     pub groups: Vec<u32>,
 }
 
-/// Who is at the other end of a connected Unix socket.
+/// The process at the other end of a connected Unix socket.
 pub fn peer_of(socket: impl AsFd) -> io::Result<Peer> {
     let credentials = peer_credentials(socket.as_fd())?;
     let mut groups = vec![credentials.gid];

@@ -12,7 +12,7 @@ const FIRST_ROOM: usize = 256;
 /// A wait that is shorter ends to the microsecond: `epoll_wait` counts milliseconds.
 const FINE: Duration = Duration::from_millis(10);
 
-/// What to wait for at a file. That it is gone is told in any case.
+/// What to wait for at a file. That it is gone is reported in any case.
 #[derive(Clone, Copy, Debug, PartialEq, Eq)]
 pub struct Interest {
     /// That it can be read.
@@ -43,7 +43,7 @@ pub struct Event {
     pub is_gone: bool,
 }
 
-/// A set of files that are waited for. As long as something can be done at a file, each wait tells it again.
+/// A set of files that are waited for. As long as something can be done at a file, each wait reports it again.
 pub struct Poller {
     epoll: OwnedFd,
     raw: Vec<EpollEvent>,
@@ -87,15 +87,15 @@ impl Poller {
         }
     }
 
-    /// Waits until something happens, or for so long, and puts what happened into `events`. It may be nothing. True if that
-    /// is all that had happened; else the next wait tells of more, and has twice the room: so whoever keeps many files busy
+    /// Waits until something happens, or for this time, and puts what happened into `events`. It may be nothing. True if that
+    /// is all that had happened; else the next wait has more, and twice the room: so a client that keeps many files busy
     /// delays this answer for a few waits only.
     pub fn wait(&mut self, time: Option<Duration>, events: &mut Vec<Event>) -> io::Result<bool> {
         events.clear();
         let epoll = self.epoll.as_fd();
         let milliseconds = match time {
             Some(time) if !time.is_zero() && time < FINE => {
-                calls::wait_until_readable(epoll, time); // what comes of it the next call tells
+                calls::wait_until_readable(epoll, time); // the next call reports what comes of it
                 0
             }
             // rounded up, so that a wait for a deadline does not end just before it

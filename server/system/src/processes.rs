@@ -26,7 +26,7 @@ pub fn try_lock(file: impl AsFd) -> io::Result<bool> {
     }
 }
 
-/// From now on nobody waits who reads or writes this end of a pipe. The other end stays as it is.
+/// From now on no read or write of this end of a pipe waits. The other end stays as it is.
 pub fn never_wait(pipe: impl AsFd) -> io::Result<()> {
     let flags = calls::file_flags(pipe.as_fd())?;
     calls::set_file_flags(pipe.as_fd(), flags | O_NONBLOCK)

@@ -11,8 +11,8 @@ use std::time::{Duration, Instant};
 /// The least time that the system takes for one: no time at all would be for ever.
 const LEAST: Duration = Duration::from_millis(1);
 
-/// Connects to the Unix socket with this name. If so many wait there already that there is no place for one more, as at a server that
-/// stands still, that is waited for until `until`: then the error is `TimedOut`.
+/// Connects to the Unix socket with this name. If its queue is full, as at a server that hangs, this waits for a place until `until`: then
+/// the error is `TimedOut`.
 pub fn connect_within(path: &Path, until: Instant) -> io::Result<UnixStream> {
     let address = UnixAddress::new(path.as_os_str().as_bytes()).ok_or_else(|| {
         let why = "the name of a socket has 1 to 107 bytes, and none of them is zero";

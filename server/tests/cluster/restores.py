@@ -231,7 +231,7 @@ class Restores(unittest.TestCase):
         with server.raw() as sock:
             sock.sendall(b"acquire a 1\n")
             self.assertEqual(sock.recv(100), b"")
-        wait_until(lambda: "etcd has no room for entries: nothing is granted until it has" in server.text_of_log())
+        wait_until(lambda: "etcd has no room for entries: the server grants nothing until it has" in server.text_of_log())
         self.assertIn("out of the log (etcd has no room)", server.text_of_log())
         self.members.kill()
         self.members.more = []  # the quota that etcd has by itself

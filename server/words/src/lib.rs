@@ -68,7 +68,7 @@ pub enum Word<I> {
     End,
     /// An option, by the name that was written, with its value. One that has none has an empty one.
     Option(I, String, OsString),
-    /// A word that is no option.
+    /// A word that is not an option.
     Other(OsString),
 }
 
@@ -81,7 +81,7 @@ pub enum BadWord {
     NoValue(String),
 }
 
-/// The next of these words, and the value behind it if it is an option that has one: `--wait 1`, `--wait=1`, `-w 1` and `-w1`.
+/// The next of these words, and the value after it if it is an option that has one: `--wait 1`, `--wait=1`, `-w 1` and `-w1`.
 pub fn next_word<'a, I: Copy + 'static>(
     words: &mut impl Iterator<Item = OsString>,
     options: impl IntoIterator<Item = &'a OptionWord<I>>,

@@ -1,4 +1,4 @@
-//! Names of users and groups, from the files of the system. Accounts of other sources (LDAP) are known by number alone.
+//! Names of users and groups, from the files of the system. Accounts of other sources (LDAP) are known only by number.
 
 use std::collections::HashMap;
 use std::fs;

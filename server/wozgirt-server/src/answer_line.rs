@@ -26,7 +26,7 @@ impl fmt::Display for AnswerLine<'_> {
                 let Stats { lock, machines, waiters, passes, holder, token } = it;
                 write!(f, "stats {} {machines} {waiters} {passes} {holder} {token}", name(lock))
             }
-            // here it is no lock, but the last number of the session
+            // here it is not a lock, but the last number of the session
             Answer::Refused { why, lock: Some(last) } if why.word() == "past" => write!(f, "refused {why} {last}"),
             Answer::Refused { why, lock: None } => write!(f, "refused {why}"),
             Answer::Refused { why, lock: Some(lock) } => write!(f, "refused {why} {}", name(lock)),

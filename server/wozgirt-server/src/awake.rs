@@ -6,7 +6,7 @@ use std::time::Duration;
 /// How long it looks before it sleeps.
 const MOMENT: Duration = Duration::from_micros(20);
 /// A look in vain takes as much of the processor as some that find something save, so it loses what these earn. With nothing left, one
-/// is tried each so many sleeps.
+/// is tried each time after this many sleeps.
 const MOST_EARNED: u32 = 16;
 const LOSS: u32 = 4;
 const BETWEEN_TRIES: u32 = 256;
@@ -16,7 +16,7 @@ const BETWEEN_TRIES: u32 = 256;
 pub enum For {
     /// The engine, which has lines.
     Engine,
-    /// Clients, who were told something.
+    /// Clients that got an answer.
     Clients,
 }
 
@@ -67,7 +67,7 @@ impl Awake {
         }
     }
 
-    /// How long is looked, if at all, before a sleep of at most so long.
+    /// How long is looked, if at all, before a sleep of at most this time.
     pub fn look(&mut self, whom: For, sleep: Duration) -> Option<Duration> {
         (self.has_others && sleep >= MOMENT && self.worth(whom).is_any()).then_some(MOMENT)
     }
@@ -84,7 +84,7 @@ mod tests {
 
     const LONG: Duration = Duration::from_secs(1);
 
-    /// How many of so many sleeps begin with a look, none of which finds anything.
+    /// How many of this many sleeps begin with a look, none of which finds anything.
     fn in_vain(awake: &mut Awake, whom: For, sleeps: u32) -> usize {
         (0..sleeps).filter(|_| awake.look(whom, LONG).map(|_| awake.note(whom, false)).is_some()).count()
     }

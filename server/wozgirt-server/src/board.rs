@@ -1,12 +1,12 @@
-//! What the engine told about each lock, for those who look: `status`, the page, the metrics. Nothing is decided by it,
-//! but how many may wait.
+//! What the engine answered about each lock, for readers: `status`, the page, the metrics. It decides nothing, except
+//! how many clients may wait.
 
 use crate::log::Utc;
 use std::collections::VecDeque;
 use std::time::{Duration, Instant};
 use wozgirt_engine::{Client, Label, Lock, Stats, Token, NOBODY};
 
-/// Who holds a lock.
+/// The holder of a lock.
 #[derive(Debug, Clone, Copy, PartialEq, Eq)]
 pub struct Holder {
     /// The client; [`NOBODY`] for a hold from before the engine's start.
@@ -19,7 +19,7 @@ pub struct Holder {
     pub since: Instant,
 }
 
-/// Who waits for a lock.
+/// A client that waits for a lock.
 #[derive(Debug, Clone, Copy, PartialEq, Eq)]
 pub struct Waiter {
     /// The client.
@@ -50,9 +50,9 @@ pub struct Sight {
     pub machines: u64,
     /// How many passes were granted, as far as the engine said.
     pub passes: u64,
-    /// Who holds it.
+    /// Its holder.
     pub holder: Option<Holder>,
-    /// Who waits, in the order of the line.
+    /// The clients that wait, in the order of the queue.
     pub line: VecDeque<Waiter>,
     /// How often it was granted since the server started.
     pub grants: u64,
@@ -76,7 +76,7 @@ impl Sight {
     }
 
     fn take_waiter(&mut self, client: Client) -> Option<Waiter> {
-        // the one who is granted stands first
+        // the one that is granted is the first
         let place = self.line.iter().position(|waiter| waiter.client == client)?;
         self.line.remove(place)
     }
@@ -110,7 +110,7 @@ pub struct Board {
 }
 
 impl Board {
-    /// Of so many locks, of which nothing is known.
+    /// For this many locks, of which nothing is known.
     pub fn new(locks: usize) -> Board {
         Board { locks: (0..locks).map(|_| Sight::default()).collect(), waits: Waits::default() }
     }
@@ -120,7 +120,7 @@ impl Board {
         &self.waits
     }
 
-    /// There are so many locks now; nothing is known of those that are new.
+    /// There are this many locks now; nothing is known of those that are new.
     pub fn resize(&mut self, locks: usize) {
         self.locks.resize_with(locks, Sight::default);
     }
@@ -151,7 +151,7 @@ impl Board {
         self.with(lock, |sight| sight.asked = sight.asked.saturating_sub(1));
     }
 
-    /// The client stands at the end of the line.
+    /// The client is at the end of the queue.
     pub fn waits(&mut self, lock: Lock, client: Client, label: Label, now: Instant) {
         self.with(lock, |sight| sight.line.push_back(Waiter { client, label, since: now }));
     }
@@ -163,7 +163,7 @@ impl Board {
         });
     }
 
-    /// The client holds the lock. The label of one who waited is known.
+    /// The client holds the lock. The label of one that waited is known.
     pub fn granted(&mut self, lock: Lock, client: Client, token: Token, label: Option<Label>, now: Instant) {
         let Board { locks, waits } = self;
         if let Some(sight) = locks.get_mut(lock) {

@@ -1,4 +1,4 @@
-//! One connection: what it said and was not answered yet, and what it was told and did not read yet.
+//! One connection: what it said and was not answered yet, and answers that it has not read yet.
 
 use crate::cluster::Who;
 use crate::log::End;
@@ -36,7 +36,7 @@ pub enum Door {
 pub enum Pending {
     /// The engine answers it.
     Asked(Input),
-    /// A leave, which the engine does not answer; another input behind it shows when it is done.
+    /// A leave, which the engine does not answer; another input after it shows when it is done.
     Left,
     /// An operator, this client, ends its hold of a lock with a token: a release that it has not asked for itself.
     Ended(Client, Lock, Token),
@@ -47,9 +47,9 @@ pub enum Pending {
     Leaving(u64),
     /// Its session begins when the log says so, or when what was asked before for it is answered.
     Opening,
-    /// The server has answered it, and that is told when all before it is answered.
+    /// The server has answered it, and sends that when all before it is answered.
     Told(Vec<u8>),
-    /// The server tells all locks, as much at a time as there is room for; until that is done, no other line is taken.
+    /// The server lists all locks, as much at a time as there is room for; until that is done, it takes no other line.
     Listing(Listing),
 }
 
@@ -70,11 +70,11 @@ pub struct Seat {
     pub is_attached: bool,
 }
 
-/// Who has come in at a door.
+/// A client that has come in at a door.
 pub struct Visit {
     /// The socket.
     pub stream: Stream,
-    /// Who is at the other end, if the system knows.
+    /// The process at the other end, if the system knows it.
     pub peer: Option<Peer>,
     /// The same for a reader.
     pub who: String,
@@ -98,7 +98,7 @@ pub struct Connection {
     pub client: Client,
     /// Its door.
     pub door: Door,
-    /// Who is at the other end, if the system knows.
+    /// The process at the other end, if the system knows it.
     pub peer: Option<Peer>,
     /// The same for a reader.
     pub who: String,
@@ -108,13 +108,13 @@ pub struct Connection {
     pub pending: VecDeque<Pending>,
     /// Its session, if it has one.
     pub seat: Option<Seat>,
-    /// The lock for which it waits, as far as the engine told.
+    /// The lock for which it waits, as far as the engine has answered.
     pub waits_for: Option<Lock>,
-    /// The locks that it holds, as far as the engine told.
+    /// The locks that it holds, as far as the engine has answered.
     pub holds: Vec<Lock>,
     /// The silence after which it is taken for dead.
     pub lease: Option<Duration>,
-    /// Why it is to be closed when it was told all, if it is.
+    /// Why it is to be closed when all is sent to it, if it is.
     pub ending: Option<End>,
     /// The other end says nothing more; it may still read.
     pub has_said_all: bool,
@@ -122,9 +122,9 @@ pub struct Connection {
     is_gone: bool,
     /// Something is to be written to it at the end of this round.
     pub is_dirty: bool,
-    /// It stands in the line of those who have said more than was taken.
+    /// It is in the queue of those that have said more than was taken.
     pub is_queued: bool,
-    /// When its turn to ask the engine comes, and its place in the line of those who wait for that.
+    /// When its turn to ask the engine comes, and its place in the queue of those that wait for that.
     pub tag: u64,
     pub place: Option<u64>,
     /// How many of its lines wait for the engine, and whether one ever did.
@@ -132,7 +132,7 @@ pub struct Connection {
     pub has_asked: bool,
     /// When it was last heard.
     heard: Instant,
-    /// Since when it takes nothing of what it is told.
+    /// Since when it takes nothing of what is sent to it.
     stuck: Option<Instant>,
     stream: Stream,
     interest: Interest,
@@ -140,15 +140,15 @@ pub struct Connection {
     outbox: Outbox,
     /// With more bytes untold and unread than this, no more is read of it.
     most_unread: usize,
-    /// How many bytes wait among the answers to be told.
+    /// How many bytes wait among the answers to be sent.
     untold: usize,
-    /// Whether all locks are to be told, and what came while they were.
+    /// Whether all locks are to be listed, and what came meanwhile.
     has_listing: bool,
     late: Vec<u8>,
 }
 
 impl Connection {
-    /// A new connection, which may leave so many bytes unread.
+    /// A new connection, which may leave this many bytes unread.
     pub fn new(client: Client, door: Door, visit: Visit, most_unread: usize, now: Instant) -> Connection {
         let Visit { stream, peer, who, guest } = visit;
         Connection {
@@ -184,7 +184,7 @@ impl Connection {
         }
     }
 
-    /// Who is at the other end, as far as sessions are concerned.
+    /// The user or address at the other end, as far as sessions are concerned.
     pub fn identity(&self) -> Who {
         let user = || self.peer.as_ref().map(|peer| Who::User(peer.user));
         self.stream.address().map(Who::at).or_else(user).unwrap_or(Who::Unknown)
@@ -209,8 +209,8 @@ impl Connection {
         }
     }
 
-    /// Reads a little of what it still says, unheard: a socket that is closed with something unread may take back what
-    /// was told last.
+    /// Reads a little of what it still says, and ignores it: a socket that is closed with something unread may take back what
+    /// was sent last.
     pub fn drain(&mut self, buffer: &mut [u8; SHARE]) {
         for _ in 0..MOST_DRAINED {
             if !matches!(self.stream.read(buffer), Ok(count) if count > 0) {
@@ -248,7 +248,7 @@ impl Connection {
         self.seat.as_ref().is_some_and(|seat| seat.is_keyed && !seat.is_attached)
     }
 
-    /// The other end is gone, and is told nothing more. Reads its last share: whether something is to be done that it has said.
+    /// The other end is gone, and gets nothing more. Reads its last share: whether something is to be done that it has said.
     pub fn note_gone(&mut self, buffer: &mut [u8; SHARE]) -> bool {
         if !self.is_read_enough() {
             let count = self.stream.read(buffer).unwrap_or(0);
@@ -286,7 +286,7 @@ impl Connection {
         matches!(self.pending.front(), Some(Pending::Opening))
     }
 
-    /// Whether its session begins, behind the answers to what it said before.
+    /// Whether its session begins, after the answers to what it said before.
     pub fn is_to_be_opened(&self) -> bool {
         self.pending.iter().any(|it| matches!(it, Pending::Opening))
     }
@@ -295,13 +295,13 @@ impl Connection {
         self.outbox.len() + self.untold < self.most_unread
     }
 
-    /// Tells all locks behind the answers to what it said before.
+    /// Lists all locks after the answers to what it said before.
     pub fn put_listing(&mut self, listing: Listing) {
         self.has_listing = true;
         self.pending.push_back(Pending::Listing(listing));
     }
 
-    /// Takes out the line that the engine answers next. In front of one that an operator asked for there may be a list that is told.
+    /// Takes out the line that the engine answers next. Before one that an operator asked for there may be a list that is being sent.
     pub fn take_asked(&mut self) -> Option<Pending> {
         let is_asked = |it: &Pending| matches!(it, Pending::Asked(_) | Pending::Left | Pending::Ended(..));
         match self.pending.iter().position(is_asked)? {
@@ -319,12 +319,12 @@ impl Connection {
         self.pending.iter().filter_map(ended).collect()
     }
 
-    /// Tells an operator what came of the end of a hold that it asked for, in its place among the answers.
+    /// Sends an operator what came of the end of a hold that it asked for, in its place among the answers.
     pub fn tell_ending(&mut self, line: impl std::fmt::Display) {
         self.tell_in_place(|it| matches!(it, Pending::Ending), line);
     }
 
-    /// Tells it this in the place of the first line of its kind.
+    /// Sends it this instead of the first line of its kind.
     pub fn tell_in_place(&mut self, is_its: impl Fn(&Pending) -> bool, line: impl std::fmt::Display) {
         if let Some(pending) = self.pending.iter_mut().find(|it| is_its(it)) {
             let mut lines = Vec::new();
@@ -334,7 +334,7 @@ impl Connection {
         self.tell_what_waited();
     }
 
-    /// Tells more of the list of all locks, if that is to be told now: by `go_on`, which is passed the text and its longest length,
+    /// Sends more of the list of all locks, if that is due: by `go_on`, which gets the text and its longest length,
     /// and says whether it is done.
     pub fn tell_listing(&mut self, go_on: impl FnOnce(&mut Listing, &mut Vec<u8>, usize) -> bool) {
         let room = self.most_unread.saturating_sub(self.outbox.len() + self.untold);
@@ -348,12 +348,12 @@ impl Connection {
         }
     }
 
-    /// Whether there is a list of all locks that is to be told now, and room for more of it.
+    /// Whether there is a list of all locks that is due, and room for more of it.
     pub fn is_listing(&self) -> bool {
         matches!(self.pending.front(), Some(Pending::Listing(_))) && self.has_room()
     }
 
-    /// Tells it something that the server says itself, after the answers to what it said before.
+    /// Sends it something that the server says itself, after the answers to what it said before.
     pub fn tell_in_order(&mut self, line: impl std::fmt::Display) {
         let added = match self.pending.back_mut() {
             None => return self.tell(line),
@@ -368,7 +368,7 @@ impl Connection {
         self.untold += added;
     }
 
-    /// Tells it the answer to an input, with the number if the client gave that.
+    /// Sends it the answer to an input, with the number if the client gave that.
     pub fn tell_numbered(&mut self, number: u64, line: impl std::fmt::Display) {
         if self.seat.as_ref().is_some_and(|seat| seat.is_keyed) {
             self.tell(format_args!("{number} {line}"));
@@ -377,13 +377,13 @@ impl Connection {
         }
     }
 
-    /// Tells it something at once, or behind the list of all locks that it is being told.
+    /// Sends it something at once, or after the list of all locks that is being sent.
     pub fn tell(&mut self, line: impl std::fmt::Display) {
         let is_listing = matches!(self.pending.front(), Some(Pending::Listing(listing)) if listing.has_begun());
         put_line(if is_listing { &mut self.late } else { self.outbox.bytes() }, line);
     }
 
-    /// Tells what waited only for the answers that are told now.
+    /// Sends what waited only for the answers that are sent now.
     pub fn tell_what_waited(&mut self) {
         while let Some(Pending::Told(lines)) = self.pending.front() {
             self.untold -= lines.len();
@@ -407,7 +407,7 @@ impl Connection {
         Ok(())
     }
 
-    /// Why it is to be closed now: it was told all that it asked for.
+    /// Why it is to be closed now: all that it asked for is sent.
     pub fn is_over(&self) -> Option<End> {
         let is_told_all = self.pending.is_empty() && self.outbox.is_empty();
         match self.ending {
@@ -447,12 +447,12 @@ impl Connection {
         self.lease.is_some_and(|lease| now.saturating_duration_since(self.heard) > lease)
     }
 
-    /// Whether it left what it was told unread for longer than this.
+    /// Whether it left what was sent to it unread for longer than this.
     pub fn is_deaf(&self, now: Instant, longest: Duration) -> bool {
         self.stuck.is_some_and(|since| now.saturating_duration_since(since) > longest)
     }
 
-    /// Whether it takes nothing of what it is told, as far as is known.
+    /// Whether it takes nothing of what is sent to it, as far as is known.
     pub fn is_stuck(&self) -> bool {
         self.stuck.is_some()
     }

@@ -21,7 +21,7 @@ use std::rc::Rc;
 use std::time::{Duration, Instant};
 use wozgirt_engine::{Answer, Asked, Client, Input, Lock, NotALine, Token, NOBODY};
 
-/// After so many lines it is looked what time it is.
+/// After this many lines the server looks at the clock.
 const LINES_BY_CLOCK: u32 = 8;
 
 /// What is left to do after some lines.
@@ -31,7 +31,7 @@ pub enum Then {
     Wait,
     /// To end the connection.
     End(End),
-    /// To tell an operator who is connected.
+    /// To list the connected clients for an operator.
     Clients,
     /// To end this other connection, whose session has come here.
     Moved(Client),
@@ -53,7 +53,7 @@ pub struct Desk {
     pub settings: Settings,
     /// The names of locks.
     pub names: Names,
-    /// Who may use them.
+    /// The rules: which users may use them.
     pub rules: Rc<Rules>,
     /// The engine.
     pub engine: Engine,
@@ -61,13 +61,13 @@ pub struct Desk {
     pub questions: Questions,
     /// So much waits for it that nothing more is taken of clients, and nobody is let in.
     pub is_full: bool,
-    /// What it told.
+    /// What it answered.
     pub board: Board,
     /// What is counted.
     pub sums: Sums,
     /// The log.
     pub log: Log,
-    /// Alone, or as one of several.
+    /// A single server, or one of several.
     pub mode: Mode,
     /// The time of this round.
     pub now: Instant,
@@ -94,7 +94,7 @@ impl Desk {
             taken += length + 1;
         }
         if taken > 0 {
-            self.step_out(connection); // it stood there for the lines that were taken
+            self.step_out(connection); // it was in the queue for the lines that were taken
         }
         connection.put_back(input, taken);
         if then == Then::Wait && connection.has_endless_line() && connection.takes_more() {
@@ -113,7 +113,7 @@ impl Desk {
         }
     }
 
-    /// The same for a line that is no client's own.
+    /// The same for a line that no client has sent.
     pub(crate) fn ask_engine_line(&mut self, line: impl fmt::Display) {
         self.engine.ask_line(line);
         if self.questions.ask() {
@@ -137,7 +137,7 @@ impl Desk {
         self.mode.waiting_lines(&self.questions)
     }
 
-    /// Tells more of the list of all locks, until this time.
+    /// Sends more of the list of all locks, until this time.
     pub fn tell_listing(&mut self, connection: &mut Connection, until: Instant) {
         let peer = connection.peer.take();
         let view = Locks { board: &self.board, names: &self.names, peer: peer.as_ref(), now: self.now };
@@ -195,7 +195,7 @@ impl Desk {
         Then::Wait
     }
 
-    /// A line that is no request. If not even its first word is, the connection ends: a web page that makes a browser
+    /// A line that is not a request. If not even its first word is known, the connection ends: a web page that makes a browser
     /// send lines to a port ends in this way too.
     fn refuse(&mut self, connection: &mut Connection, fault: &BadRequest) -> Then {
         self.sums.refused(&fault.to_string());
@@ -302,7 +302,7 @@ impl Desk {
         self.note_asked(holder, Pending::Ended(operator, lock, token));
     }
 
-    /// The engine does not answer a leave: a question behind it shows when it is done.
+    /// The engine does not answer a leave: the next question after it shows when it is done.
     fn ask_to_leave(&mut self, connection: &mut Connection) {
         self.sums.inputs += 1;
         for input in [Input::Leave, Input::Stats { lock: 0 }] {
@@ -311,7 +311,7 @@ impl Desk {
         self.note_asked(connection, Pending::Left);
     }
 
-    /// Tells the connection an answer of the engine. If it is about a hold that an operator ends: which operator, and which hold.
+    /// Sends the connection an answer of the engine. If it is about a hold that an operator ends: which operator, and which hold.
     pub fn tell_answer(
         &mut self,
         connection: &mut Connection,

@@ -17,7 +17,7 @@ use std::time::Duration;
 /// listens a moment longer, by that child.
 const TRIES: u32 = 6;
 const PAUSE: Duration = Duration::from_millis(200);
-/// Who does not take a connection in this time listens, but stands still.
+/// A server that does not take a connection in this time listens, but hangs.
 const LONGEST_CONNECT: Duration = Duration::from_secs(1);
 
 /// Why a socket cannot be listened to.
@@ -61,9 +61,9 @@ impl fmt::Display for CannotListen {
     fn fmt(&self, f: &mut fmt::Formatter<'_>) -> fmt::Result {
         write!(f, "cannot listen at {}: ", self.place)?;
         match &self.why {
-            Why::InUse => f.write_str("somebody listens there"),
-            Why::Standing => f.write_str("somebody listens there, and takes no connection"),
-            Why::NoSocket => f.write_str("a file has this name, and is no socket"),
+            Why::InUse => f.write_str("another process listens there"),
+            Why::Standing => f.write_str("another process listens there, and takes no connection"),
+            Why::NoSocket => f.write_str("a file has this name, and is not a socket"),
             Why::Group(group) => write!(f, "there is no group {group}"),
             Why::System(fault) => fault.fmt(f),
         }
@@ -95,7 +95,7 @@ impl UnixDoor {
     }
 }
 
-/// What tells a file from all others.
+/// What distinguishes a file from all others.
 fn file_at(path: &Path) -> io::Result<(u64, u64)> {
     fs::symlink_metadata(path).map(|data| (data.dev(), data.ino()))
 }
@@ -179,7 +179,7 @@ mod tests {
         let door = UnixDoor::open(&named, &accounts).unwrap();
         assert_eq!(fs::metadata(&named.path).unwrap().permissions().mode() & 0o777, 0o660);
         let again = UnixDoor::open(&named, &accounts).err().unwrap().to_string();
-        assert!(again.ends_with("somebody listens there"), "{again}");
+        assert!(again.ends_with("another process listens there"), "{again}");
         drop(door);
         assert!(!named.path.exists());
         fs::remove_dir_all(folder).unwrap();
@@ -219,7 +219,7 @@ mod tests {
         let named = Named { path: folder.join("s"), mode: 0o600, group: None };
         fs::write(&named.path, "mine").unwrap();
         let fault = UnixDoor::open(&named, &Accounts::default()).err().unwrap().to_string();
-        assert!(fault.ends_with("a file has this name, and is no socket"), "{fault}");
+        assert!(fault.ends_with("a file has this name, and is not a socket"), "{fault}");
         assert_eq!(fs::read_to_string(&named.path).unwrap(), "mine");
         fs::remove_file(&named.path).unwrap();
         drop(UnixListener::bind(&named.path).unwrap()); // nobody listens any more

@@ -12,12 +12,12 @@ use wozgirt_system::{never_wait, Interest, Signals};
 
 /// How much is read of its lines at once, at first. No answer of the engine is longer.
 pub const ROOM: usize = 64 << 10;
-/// An engine that ends before it is ready, so many times in a row, is not started again.
+/// An engine that ends before it is ready, this many times in a row, is not started again.
 const MOST_FAILURES: u32 = 6;
 /// How long the next start waits after one that did not last; twice as long after each other one in a row, up to 32 times.
 const FIRST_PAUSE: Duration = Duration::from_millis(50);
 const MOST_DOUBLINGS: u32 = 5;
-/// A start that lasts so long is none of these.
+/// A start that lasts this long does not count.
 const LASTING: Duration = Duration::from_secs(1);
 /// How long the engine may take to end when its input has ended, or its output.
 const LONGEST_END: Duration = Duration::from_secs(10);
@@ -61,7 +61,7 @@ enum State {
 pub enum Unheard {
     /// Its output ended.
     Ended,
-    /// It said what is no answer.
+    /// It said something that is not an answer.
     Unreadable(String, NotALine),
 }
 
@@ -159,7 +159,7 @@ impl Engine {
         self.is_ready = true;
     }
 
-    /// When something is to be done at it without being told.
+    /// When something is to be done at it without an event.
     pub fn next_look(&self, now: Instant) -> Option<Instant> {
         match self.state {
             State::Away(start) => Some(start),
@@ -180,7 +180,7 @@ impl Engine {
         }
         let mut command = Command::new(&self.program);
         command.args(&self.words).stdin(Stdio::piped()).stdout(Stdio::piped());
-        // a key of the terminal is for the server alone, which has this one answer what it was asked
+        // a key of the terminal is only for the server, which has this one answer what it was asked
         command.process_group(0);
         command.env_remove(notify::SOCKET);
         Signals::hear_all(&mut command).map_err(CannotStart::Pipes)?;
@@ -261,7 +261,7 @@ impl Engine {
         Ok(())
     }
 
-    /// Starts it without a pause, if it is to be started at all: it ended because it was told to.
+    /// Starts it without a pause, if it is to be started at all: it ended because it had to.
     pub fn start_at_once(&mut self, now: Instant) {
         if let State::Away(start) = &mut self.state {
             *start = now;

@@ -4,7 +4,7 @@ use std::fs;
 use std::path::Path;
 use std::time::{Duration, Instant};
 
-/// A size that was looked up may be shown for so long, and for so many times as long as the look took: a folder may have many files.
+/// How long a size that was looked up may be shown, and how many times as long as the look took, since a folder may have many files.
 const FRESH: Duration = Duration::from_secs(1);
 const TIMES: u32 = 100;
 

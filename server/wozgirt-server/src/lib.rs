@@ -1,7 +1,7 @@
-//! The server in front of the lock engine: sockets, connections, leases, a log, a page. It decides nothing about locks.
+//! The server between clients and the lock engine: sockets, connections, leases, a log, a page. It decides nothing about locks.
 //!
 //! One thread serves all: a round takes what is there of every connection and of the engine, each no more than its
-//! share, and ends with one write to the engine and one to each connection that was told something. So a hand-over costs
+//! share, and ends with one write to the engine and one to each connection that has an answer. So a hand-over costs
 //! one wake-up, and many inputs go in one write if many come.
 
 pub mod accounts;

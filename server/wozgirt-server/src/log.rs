@@ -12,7 +12,7 @@ use wozgirt_engine::{Client, NotALine, Token};
 /// How many lines, and bytes, may wait to be written. The server never waits for its log.
 const ROOM: usize = 4096;
 const MOST_BYTES: usize = 1 << 20;
-/// But at its end it gives the log so long to be written.
+/// But at its end it gives the log this time to be written.
 const LAST_LINES: Duration = Duration::from_secs(1);
 
 /// Why a connection ended.
@@ -34,7 +34,7 @@ pub enum End {
     Stop,
     /// This server is cut off from the log.
     Log,
-    /// The session goes on at another connection.
+    /// The session continues at another connection.
     Moved,
     /// An operator said so.
     Kicked,
@@ -172,9 +172,9 @@ impl fmt::Display for Event<'_> {
             Event::EngineReady { held } => write!(f, "engine ready, {held} locks held from before"),
             Event::EngineEnded { status } => write!(f, "engine ended: {status}"),
             Event::EngineUnreadable { line, fault: Some(fault) } => {
-                write!(f, "engine said what is no answer ({fault}): {line}")
+                write!(f, "engine said something that is not an answer ({fault}): {line}")
             }
-            Event::EngineUnreadable { line, fault: None } => write!(f, "engine answered what nobody asked: {line}"),
+            Event::EngineUnreadable { line, fault: None } => write!(f, "engine answered what it was not asked: {line}"),
             Event::EngineSilent { time } => write!(f, "engine has not answered for {:.1} s", time.as_secs_f64()),
             Event::EngineAnswers { time } => write!(f, "engine answers again, after {:.1} s", time.as_secs_f64()),
             Event::EngineHangs { time } => {
@@ -207,11 +207,11 @@ impl fmt::Display for Event<'_> {
             Event::Stopped => f.write_str("stopped"),
             Event::LogStarted { process } => write!(f, "wozgirt-log started, process {process}"),
             Event::LogEnded { status } => write!(f, "wozgirt-log ended: {status}"),
-            Event::LogUnreadable { line } => write!(f, "wozgirt-log said what it should not: {line}"),
+            Event::LogUnreadable { line } => write!(f, "wozgirt-log said something that it should not: {line}"),
             Event::LogLeft { why } => write!(f, "out of the log ({why}): all connections end"),
-            Event::LogFull => f.write_str("etcd has no room for entries: nothing is granted until it has"),
+            Event::LogFull => f.write_str("etcd has no room for entries: the server grants nothing until it has"),
             Event::LogJoined { identity, server, position } => {
-                write!(f, "in the log {identity} as {server}, behind position {position}")
+                write!(f, "in the log {identity} as {server}, after position {position}")
             }
             Event::ServerOver { server, position } => {
                 write!(f, "server {server} is over at position {position}, with all its sessions")
@@ -220,12 +220,12 @@ impl fmt::Display for Event<'_> {
                 write!(f, "the log has {count} locks, and --locks {own} of them: put them all there: {list}")
             }
 
-            Event::SessionRefused { who } => write!(f, "refused, the session is somebody else's: {who}"),
+            Event::SessionRefused { who } => write!(f, "refused, the session belongs to another user: {who}"),
             Event::SessionsKept { sessions, held } => {
-                write!(f, "{sessions} sessions go on, with {held} holds, if their clients come back")
+                write!(f, "{sessions} sessions continue, with {held} holds, if their clients come back")
             }
             Event::SessionsUnkept { fault } => {
-                write!(f, "sessions are not kept beside the journal, and do not outlive this server: {fault}")
+                write!(f, "sessions cannot be kept beside the journal, and do not outlive this server: {fault}")
             }
             Event::SessionOver { session, held } => write!(f, "session {session} did not come back; it held {held}"),
             Event::Contradiction { name, position } => {
@@ -235,7 +235,7 @@ impl fmt::Display for Event<'_> {
                 write!(f, "host {name} is away for {seconds} s, and keeps the log from being compacted")
             }
             Event::Checkpoint { position, segment } => {
-                write!(f, "checkpoint at position {position}, behind segment {segment}")
+                write!(f, "checkpoint at position {position}, after segment {segment}")
             }
         }
     }
@@ -258,7 +258,7 @@ impl Log {
         let left = waiting.clone();
         let write = move || {
             for line in written {
-                let _ = std::io::stderr().write_all(line.as_bytes()); // nobody can be told
+                let _ = std::io::stderr().write_all(line.as_bytes()); // there is no other place to report it
                 left.fetch_sub(line.len(), Ordering::Relaxed);
             }
         };
@@ -266,7 +266,7 @@ impl Log {
         Ok(Log { lines: Some(lines), thread: Some(thread), waiting, lost: 0 })
     }
 
-    /// Logs the event. If the log is far behind, only that something was lost is logged later.
+    /// Logs the event. If the log cannot keep up, it is only logged later that lines were lost.
     pub fn say(&mut self, event: &Event<'_>) {
         let time = Utc::now();
         if self.lost > 0 && self.put(format!("{time} lines-lost {} lines of the log are lost\n", self.lost)) {

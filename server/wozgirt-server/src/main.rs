@@ -46,7 +46,7 @@ fn main() -> ExitCode {
 /// nobody takes it, the program ends all the same.
 fn complain(why: fmt::Arguments<'_>) {
     let (text, (tell, told)) = (format!("wozgirt-server: {why}\n"), channel());
-    // (if it cannot be written, nobody can be told)
+    // (if it cannot be written, there is no other place to report it)
     let write = move || drop(tell.send(std::io::stderr().write_all(text.as_bytes())));
     if thread::Builder::new().spawn(write).is_ok() {
         let _ = told.recv_timeout(LONGEST_COMPLAINT);

@@ -10,12 +10,12 @@ use crate::settings::Settings;
 const MIB: usize = 1 << 20;
 /// For the engine, the log and the page.
 const FIXED: usize = 8 * MIB;
-/// What a connection takes besides what it leaves unread: what it said and was not taken yet, lines that wait for the engine.
+/// What a connection takes in addition to what it leaves unread: what it said and was not taken yet, lines that wait for the engine.
 const PLACE: usize = 36 << 10;
 /// How much a connection may leave unread. The list that has it grows by doubling, so it takes twice that.
 const LEAST_UNREAD: usize = 4 << 10;
 const MOST_UNREAD: usize = 64 << 10;
-/// What is taken if nothing is said, in MiB, unless so many connections need more.
+/// What is taken if nothing is said, in MiB, unless the connections need more.
 const USUAL: usize = 128;
 
 /// How many bytes a connection may leave unread; or how many MiB `--memory` has to have at least.

@@ -1,4 +1,4 @@
-//! How a server is run: alone, or as one of several that have one log. What differs stands here, event by event.
+//! How a server is run: as a single server, or as one of several that have one log. This file has what differs, event by event.
 
 use crate::alone::Alone;
 use crate::cluster::Cluster;
@@ -8,7 +8,7 @@ use crate::questions::Questions;
 use std::time::Instant;
 use wozgirt_engine::{Client, Lock};
 
-/// With so many lines that wait to be put into the log, no more are taken.
+/// With this many lines that wait to be put into the log, no more are taken.
 const MOST_FOR_LOG: usize = 10_000;
 
 /// How a server is run.
@@ -36,7 +36,7 @@ impl Mode {
         }
     }
 
-    /// A number for a client that comes: no client has had it, and no session of a server that is alone.
+    /// A number for a client that comes: no client has had it, and no session of a single server.
     pub fn next_client(&mut self) -> Client {
         match self {
             Mode::Alone(alone) => alone.next_number(),
@@ -52,12 +52,12 @@ impl Mode {
         self.in_log().map_or(true, |cluster| cluster.log.is_over())
     }
 
-    /// Whether clients are heard: of a server that is alone, if its engine has begun.
+    /// Whether clients are heard: of a single server, if its engine has begun.
     pub fn is_ready(&self, has_begun: bool) -> bool {
         self.in_log().map_or(has_begun, Cluster::is_ready)
     }
 
-    /// When something is to be done for the log without being told.
+    /// When something is to be done for the log without an event.
     pub fn next_times(&self, now: Instant) -> [Option<Instant>; 2] {
         match self {
             Mode::Alone(_) => [None, None],
@@ -99,7 +99,7 @@ impl Mode {
         }
     }
 
-    /// What a client holds and waits for, as far as the engine told.
+    /// What a client holds and waits for, as far as the engine has answered.
     pub fn standing(&self, connection: &Connection) -> (Vec<Lock>, Option<Lock>) {
         match (self, &connection.seat) {
             (Mode::InLog(cluster), Some(seat)) => {
@@ -116,7 +116,7 @@ impl Mode {
         }
     }
 
-    /// Whether the client holds the lock, as far as the engine told.
+    /// Whether the client holds the lock, as far as the engine has answered.
     pub fn holds(&self, connection: &Connection, lock: Lock) -> bool {
         match (self, &connection.seat) {
             (Mode::Alone(alone), Some(seat)) => {

@@ -15,7 +15,7 @@ pub struct Names {
     numbers: HashMap<String, Lock>,
 }
 
-/// Why a text is no list of locks.
+/// Why a text is not a list of locks.
 #[derive(Debug, PartialEq, Eq)]
 pub enum BadNames {
     /// There is no lock in it.

@@ -1,4 +1,4 @@
-//! What systemd is told: that the server serves, that it still runs its rounds, that it ends. Nothing where nobody asked for it.
+//! What the server reports to systemd: that it serves, that it still runs its rounds, that it ends. Nothing without NOTIFY_SOCKET.
 
 use std::os::linux::net::SocketAddrExt;
 use std::os::unix::net::{SocketAddr, UnixDatagram};
@@ -50,7 +50,7 @@ impl Notify {
 
     fn say(&self, text: &str) {
         if let Some(socket) = &self.socket {
-            let _ = socket.send(text.as_bytes()); // who does not take it does not want to know
+            let _ = socket.send(text.as_bytes()); // if systemd does not take it, it does not need it
         }
     }
 }

@@ -87,7 +87,7 @@ pub static SECTIONS: [Section; 5] = [
                 Name::EnginePatience,
                 "--engine-patience",
                 "SECONDS",
-                "an engine that leaves a question unanswered for so long is ended, and started again [60]",
+                "an engine that does not answer within this time is ended, and started again [60]",
             ),
             flag(Name::Faults, "--faults", "operators may write faults"),
         ],
@@ -101,7 +101,7 @@ pub static SECTIONS: [Section; 5] = [
             valued(Name::Operators, "--operators", "PATH", "for operators; without it there is none"),
             valued(Name::OperatorsMode, "--operators-mode", "OCTAL", "its mode [600]"),
             valued(Name::OperatorsGroup, "--operators-group", "NAME", "its group"),
-            valued(Name::Tcp, "--tcp", "ADDRESS:PORT", "for clients, who are not asked who they are"),
+            valued(Name::Tcp, "--tcp", "ADDRESS:PORT", "for clients; not authenticated"),
             valued(Name::Page, "--page", "ADDRESS:PORT", "`GET /` is a page, `GET /metrics` is for Prometheus"),
             flag(
                 Name::ListenAnywhere,
@@ -121,14 +121,14 @@ pub static SECTIONS: [Section; 5] = [
                 "KEY",
                 "what its keys in etcd begin with, the same for all servers [wozgirt]",
             ),
-            over_etcd(EtcdName::Authority, "--cacert", "FILE", "who signs the certificates of etcd"),
+            over_etcd(EtcdName::Authority, "--cacert", "FILE", "the certificate that signed those of etcd"),
             over_etcd(EtcdName::Certificate, "--cert", "FILE", "this server's own certificate"),
             over_etcd(EtcdName::Key, "--key", "FILE", "its key"),
             over_etcd(
                 EtcdName::HostLease,
                 "--host-lease",
                 "SECONDS",
-                "how long etcd takes a silent server for alive [10]",
+                "lease of this server in etcd [10]",
             ),
             over_etcd(
                 EtcdName::Checkpoint,
@@ -142,14 +142,14 @@ pub static SECTIONS: [Section; 5] = [
     Section {
         title: "Limits:",
         options: &[
-            valued(Name::Rules, "--rules", "FILE", "who may use which lock"),
+            valued(Name::Rules, "--rules", "FILE", "which users may use which lock"),
             valued(
                 Name::LongestLease,
                 "--longest-lease",
                 "SECONDS",
                 "the longest lease of a client, and of each over TCP that asks for none [30]",
             ),
-            flag(Name::LeaseForAll, "--lease-for-all", "clients on the Unix socket who ask for none have it too"),
+            flag(Name::LeaseForAll, "--lease-for-all", "clients on the Unix socket that ask for none have it too"),
             valued(
                 Name::Grace,
                 "--grace",
@@ -168,7 +168,7 @@ pub static SECTIONS: [Section; 5] = [
                 "MIB",
                 "how much memory all connections may take together [128, or what COUNT needs]",
             ),
-            valued(Name::Waiters, "--waiters", "COUNT", "how many wait for one lock at once [10000]"),
+            valued(Name::Waiters, "--waiters", "COUNT", "how many clients may wait for one lock at once [10000]"),
             valued(Name::Deaf, "--deaf", "SECONDS", "how long a client may leave its answers unread [30]"),
         ],
     },
@@ -188,7 +188,7 @@ wozgirt-server --journal FOLDER [--locks NAME[:N[:K]],..] [OPTION ..]
 Gives the locks of one engine to clients on sockets. It decides nothing about locks: the engine does.
 ";
 
-/// All options, one behind the other.
+/// All options, one after the other.
 pub fn options() -> impl Iterator<Item = &'static OptionWord<Name>> {
     SECTIONS.iter().flat_map(|section| section.options)
 }

@@ -4,7 +4,7 @@ use std::io::{self, ErrorKind, Write};
 
 /// What is kept of the room for bytes when all are written.
 const KEPT: usize = 16 << 10;
-/// So many bytes that are written are let go at the latest, even if more are not.
+/// When this many bytes are written they are let go, even if more are not.
 const MOST_WRITTEN: usize = 4 << 10;
 
 /// Bytes that are to be written.
@@ -64,7 +64,7 @@ impl Outbox {
 mod tests {
     use super::*;
 
-    /// Takes so many bytes at once, and as many in all as it has room for.
+    /// Takes this many bytes at once, and as many in all as it has room for.
     struct Narrow(Vec<u8>, usize, usize);
 
     impl Write for Narrow {

@@ -1,4 +1,4 @@
-//! Who has a place: each door has places of its own, and the last of them are for users, or addresses, that have few.
+//! The places: each door has places of its own, and the last of them are for users, or addresses, that have few.
 
 use crate::connection::Door;
 use crate::settings::Settings;
@@ -7,7 +7,7 @@ use std::net::{IpAddr, Ipv4Addr, Ipv6Addr};
 
 /// How many operators there may be at once.
 const OPERATORS: usize = 32;
-/// How many more than `--connections` may come in at a door, and who may: who has fewer places than this.
+/// How many more than `--connections` may come in at a door, and which: those that have fewer places than this.
 const MOST_EXTRA: usize = 64;
 const MOST_FEW: usize = 8;
 
@@ -52,7 +52,7 @@ pub struct Places {
 }
 
 impl Places {
-    /// So many for clients at each door, and nobody is there.
+    /// This many for clients at each door, all of them free.
     pub fn new(most: usize) -> Places {
         Places { most, clients: AtDoor::default(), network: AtDoor::default(), operators: AtDoor::default() }
     }
@@ -112,7 +112,7 @@ mod tests {
         Guest::User(Some(number))
     }
 
-    /// How many of so many tries succeed.
+    /// How many of this many tries succeed.
     fn taken(places: &mut Places, door: Door, guest: Guest, tries: usize) -> usize {
         (0..tries).filter(|_| places.take(door, guest)).count()
     }

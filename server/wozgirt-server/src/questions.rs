@@ -1,7 +1,7 @@
 //! How far the engine is with what it was asked, and what the server itself asks it.
 //!
 //! The engine answers in order. So a question of the server's own, a *mark*, shows that all lines before it are done, whosever they
-//! were, of clients that are gone too. One goes to it each second, and behind each some hundred lines. What a leave costs grows with
+//! were, of clients that are gone too. One goes to it each second, and one after each some hundred lines. What a leave costs grows with
 //! the locks there are, so it counts for more than one.
 
 use crate::turns::Turns;
@@ -19,7 +19,7 @@ const LONG: Duration = Duration::from_millis(5);
 /// How many lines lie between marks at most, and how many times at least a mark comes in as many as are wanted.
 const BETWEEN_MARKS: usize = 128;
 const LEAST_MARKS: usize = 4;
-/// For so many locks a leave takes as long as another line does.
+/// For this many locks a leave takes as long as another line does.
 const LOCKS_AS_LONG_AS_A_LINE: usize = 8;
 /// How long it takes at most to the next mark.
 const PERIOD: Duration = Duration::from_secs(1);
@@ -46,7 +46,7 @@ pub struct Questions {
     wanted: usize,
     wanted_since: Instant,
     leave_cost: u64,
-    /// Who asks when there is room for more.
+    /// The clients that ask when there is room for more.
     pub turns: Turns,
     /// How many of these are beginnings.
     begins: usize,
@@ -55,7 +55,7 @@ pub struct Questions {
 }
 
 impl Questions {
-    /// Nothing was asked of an engine that has so many locks.
+    /// Nothing was asked of an engine that has this many locks.
     pub fn new(now: Instant, locks: usize) -> Questions {
         let leave_cost = 1 + locks / LOCKS_AS_LONG_AS_A_LINE;
         Questions {
@@ -73,7 +73,7 @@ impl Questions {
         }
     }
 
-    /// A line goes to the engine: whether a mark is to go behind it.
+    /// A line goes to the engine: whether a mark is to go after it.
     pub fn ask(&mut self) -> bool {
         self.ask_much(1)
     }
@@ -137,7 +137,7 @@ impl Questions {
         is_right.then_some(own)
     }
 
-    /// A mark that had so many lines before it took so long.
+    /// A mark that had this many lines before it took this long.
     fn note_time(&mut self, before: usize, took: Duration, now: Instant) {
         let wanted = match took {
             _ if took > LONG => (self.wanted / 2).max(LEAST_WANTED),
@@ -164,12 +164,12 @@ impl Questions {
         has.saturating_add(cost) <= self.wanted || has < self.between_marks()
     }
 
-    /// Whether a client that has so many lines there has less than its part, and never more than `most`.
+    /// Whether a client that has this many lines there has less than its part, and never more than `most`.
     pub fn has_part(&self, asked: usize, most: usize) -> bool {
         asked < (self.wanted / self.askers.max(1)).clamp(1, most)
     }
 
-    /// Whether a client with this tag, and so many lines there, may have one more now: one that has none there, and asks no more than
+    /// Whether a client with this tag, and this many lines there, may have one more now: one that has none there, and asks no more than
     /// its part, always, unless that line is a leave.
     pub fn permits(&self, asked: usize, tag: u64, is_leave: bool) -> bool {
         asked == 0 && !is_leave && self.turns.is_light(tag) || self.has_room(is_leave) && self.turns.is_next(tag)

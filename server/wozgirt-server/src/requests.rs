@@ -22,11 +22,11 @@ pub enum Request<'a> {
     GivenLease,
     /// How all locks are.
     Status,
-    /// To go on with the session that has this key.
+    /// To continue the session that has this key.
     Session(u64, bool),
     /// Of an operator: where this server is in the log.
     Cluster,
-    /// Of an operator: who is connected.
+    /// Of an operator: a list of the connected clients.
     Clients,
     /// Of an operator: that this client goes.
     Kick(Client),
@@ -61,7 +61,7 @@ pub enum Verb {
 /// Why a line is not a request.
 #[derive(Debug, PartialEq, Eq)]
 pub enum BadRequest {
-    /// Its first word is none: who says that is no client of this server.
+    /// Its first word is unknown: it is not from a client of this server.
     Word,
     /// The rest is not as it has to be.
     Rest(NotALine),
@@ -115,7 +115,7 @@ pub fn parse(line: &str, is_operator: bool) -> Result<Request<'_>, BadRequest> {
     }
 }
 
-/// The number in front of a line, if there is one, and the rest.
+/// The number before a line, if there is one, and the rest.
 pub fn numbered(line: &str) -> Result<(Option<u64>, &str), BadRequest> {
     match line.split_once(' ') {
         Some((word, rest)) if word.starts_with(|c: char| c.is_ascii_digit()) => Ok((Some(decimal(word)?), rest)),

@@ -1,7 +1,7 @@
-//! Old segments of the journal, of which only the last so many are kept.
+//! Old segments of the journal, of which only the last ones are kept.
 //!
-//! The digest of a segment stands in the head of the next one. Before a segment is removed, that is noted in a file beside the
-//! journal's folder, which the engine does not look at: so the chain can still be told from another one.
+//! The digest of a segment is in the head of the next one. Before a segment is removed, that is noted in a file beside the
+//! journal's folder, which the engine does not look at: so the chain can still be distinguished from another one.
 
 use std::fs::{self, OpenOptions};
 use std::io::{self, BufRead, BufReader, Write};
@@ -16,7 +16,7 @@ const PERIOD: Duration = Duration::from_secs(5);
 /// A segment that was removed, by its name and digest; or why none can be.
 pub type Removal = Result<(String, String), io::Error>;
 
-/// Starts a thread that removes old segments, as long as the program runs: what it does is told here.
+/// Starts a thread that removes old segments, as long as the program runs, and reports what it does.
 pub fn start(folder: PathBuf, kept: usize) -> io::Result<Receiver<Removal>> {
     let (tell, told) = channel();
     thread::Builder::new().name("retention".into()).spawn(move || watch(&folder, kept, &tell))?;
@@ -35,7 +35,7 @@ fn watch(folder: &Path, kept: usize, tell: &Sender<Removal>) {
                 continue; // there may be more
             }
             Ok(None) => {}
-            Err(_) if has_failed => {} // it was told
+            Err(_) if has_failed => {} // it was reported
             Err(fault) => {
                 has_failed = true;
                 if tell.send(Err(fault)).is_err() {
@@ -68,7 +68,7 @@ fn is_segment(name: &str) -> bool {
     name.strip_suffix(".ring").is_some_and(|number| number.len() >= 10 && number.bytes().all(|b| b.is_ascii_digit()))
 }
 
-/// The digest of the segment in front of this one.
+/// The digest of the segment before this one.
 fn digest_behind(segment: &Path) -> io::Result<String> {
     let mut lines = BufReader::new(fs::File::open(segment)?).lines();
     let line = lines.nth(1).transpose()?.unwrap_or_default();
@@ -83,7 +83,7 @@ fn record(folder: &Path) -> PathBuf {
     folder.with_file_name(name)
 }
 
-/// Puts the line at the end of the record, unless it stands there already, and on the disk.
+/// Puts the line at the end of the record, unless it is there already, and on the disk.
 fn note(record: &Path, line: &str) -> io::Result<()> {
     let before = fs::read_to_string(record).or_else(|fault| match fault.kind() {
         io::ErrorKind::NotFound => Ok(String::new()),

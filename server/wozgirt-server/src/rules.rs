@@ -1,4 +1,4 @@
-//! Who may use which lock: a file of lines `lock NAME: WORD ..`.
+//! The rules: which users may use which lock. A file of lines `lock NAME: WORD ..`.
 //!
 //! A WORD is a user, `%GROUP`, or `*` for all; users and groups also by number. The line of the lock named `*` is for all
 //! locks without a line of their own; without it, those are for all. A user who connects over TCP has no name, so only
@@ -11,7 +11,7 @@ use std::fmt;
 use wozgirt_engine::Lock;
 use wozgirt_system::Peer;
 
-/// For whom a lock is.
+/// Whom a lock is for.
 #[derive(Debug, Default, Clone, PartialEq, Eq)]
 struct Rule {
     is_for_all: bool,
@@ -96,7 +96,7 @@ impl Rules {
         self.rules.get(&lock).unwrap_or(&self.others).permits(peer)
     }
 
-    /// How many of so many locks this one may use.
+    /// How many of this many locks this one may use.
     pub fn count(&self, locks: usize, peer: Option<&Peer>) -> usize {
         let others = if self.others.permits(peer) { locks - self.rules.len() } else { 0 };
         others + self.rules.values().filter(|rule| rule.permits(peer)).count()

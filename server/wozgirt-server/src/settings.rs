@@ -84,13 +84,13 @@ pub enum Words {
 /// What is wrong with the words.
 #[derive(Debug, PartialEq, Eq)]
 pub enum BadWords {
-    /// A word is no text.
+    /// A word is not text.
     NoText(OsString),
     /// There is no such word.
     Unknown(String),
     /// It needs a value.
     NoValue(String),
-    /// This is no value of it.
+    /// This is not a value of it.
     Value(String, String),
     /// This one has to be there.
     Missing(&'static str),
@@ -107,16 +107,16 @@ pub enum BadWords {
 impl fmt::Display for BadWords {
     fn fmt(&self, f: &mut fmt::Formatter<'_>) -> fmt::Result {
         match self {
-            BadWords::NoText(word) => write!(f, "{word:?} is no text in UTF-8"),
+            BadWords::NoText(word) => write!(f, "{word:?} is not text in UTF-8"),
             BadWords::Unknown(word) => write!(f, "there is no option {word}"),
             BadWords::NoValue(word) => write!(f, "{word} needs a value"),
             BadWords::Value(word, value) => write!(f, "{word}: bad value `{value}`"),
             BadWords::Missing(word) => write!(f, "{word} is missing"),
             BadWords::Anywhere(address) => {
-                write!(f, "{address} can be reached from other machines, and nobody is asked who it is: see --listen-anywhere")
+                write!(f, "{address} can be reached from other machines, and connections are not authenticated: see --listen-anywhere")
             }
             BadWords::Grace => f.write_str("--grace is shorter than --longest-lease"),
-            BadWords::NotAlone(word) => write!(f, "{word} is for a server that is alone, without --etcd"),
+            BadWords::NotAlone(word) => write!(f, "{word} is for a single server, without --etcd"),
             BadWords::Alone(word) => write!(f, "{word} is for several servers: see --etcd"),
         }
     }
@@ -338,7 +338,7 @@ mod tests {
         for words in [vec!["--journal".into(), word.clone()], vec![word.clone()]] {
             assert_eq!(parse(words), Err(BadWords::NoText(word.clone())));
         }
-        assert_eq!(BadWords::NoText(word).to_string(), "\"\\xFF\" is no text in UTF-8");
+        assert_eq!(BadWords::NoText(word).to_string(), "\"\\xFF\" is not text in UTF-8");
     }
 
     #[test]
@@ -399,7 +399,7 @@ mod tests {
             ("--journal j --keep-segments 1", "--keep-segments: bad value `1`"),
             (
                 "--journal j --keep-segments 2 --etcd e --name a",
-                "--keep-segments is for a server that is alone, without --etcd",
+                "--keep-segments is for a single server, without --etcd",
             ),
             ("--journal j --memory 0", "--memory: bad value `0`"),
             ("--journal j --etcd e", "--name is missing"),

@@ -12,10 +12,10 @@ use std::time::Instant;
 use wozgirt_engine::{Lock, NOBODY};
 use wozgirt_system::Peer;
 
-/// After so many locks it is looked whether time or room is over.
+/// After this many locks the server looks whether time or room is over.
 const STEP: usize = 32;
 
-/// An answer to `status` that is told in parts: of which locks, and how far it is.
+/// An answer to `status` that is sent in parts: of which locks, and how far it is.
 #[derive(Debug)]
 pub struct Listing {
     /// Nothing if all locks are shown, else the rules that held at the beginning.
@@ -30,12 +30,12 @@ impl Listing {
         Listing { rules, next: 0, has_begun: false }
     }
 
-    /// Whether some of it is told.
+    /// Whether some of it is sent.
     pub fn has_begun(&self) -> bool {
         self.has_begun
     }
 
-    /// Puts the next lines into `text`, until that has so many bytes or it is this time: whether it is done.
+    /// Puts the next lines into `text`, until that has this many bytes or it is this time: whether it is done.
     pub fn go_on(&mut self, text: &mut Vec<u8>, view: &Locks<'_>, most: usize, until: Instant) -> bool {
         let count = view.board.locks().len();
         let rules = self.rules.clone();
@@ -66,7 +66,7 @@ pub struct Locks<'a> {
     pub board: &'a Board,
     /// Their names.
     pub names: &'a Names,
-    /// Who asks, if the system knows.
+    /// The process that asks, if the system knows it.
     pub peer: Option<&'a Peer>,
     /// The time.
     pub now: Instant,
@@ -92,7 +92,7 @@ mod tests {
     use crate::accounts::Accounts;
     use std::time::Duration;
 
-    /// The whole text, told in parts of at least so many bytes, and how many parts there were.
+    /// The whole text, sent in parts of at least this many bytes, and how many parts there were.
     fn told(view: &Locks<'_>, rules: Option<Rules>, most: usize) -> (String, usize) {
         let (mut listing, mut whole, mut parts) = (Listing::new(rules.map(Rc::new)), String::new(), 0);
         loop {

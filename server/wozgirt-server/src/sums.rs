@@ -3,7 +3,7 @@
 use crate::log::End;
 use std::collections::BTreeMap;
 
-/// The most reasons of refusals that are told apart.
+/// How many reasons of refusals are counted by themselves, at most.
 const MOST_REASONS: usize = 64;
 
 /// Sums.

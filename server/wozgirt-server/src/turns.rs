@@ -1,23 +1,24 @@
 //! Whose lines go to the engine next.
 //!
-//! The engine answers in order, so whatever it has got already stands before a line that comes. It gets only so much at once, and
-//! who has more to ask stands in line here: by start-time fair queueing. Each client has a *tag*, to which is added what each of its
-//! lines costs the engine; the lowest tag is next, and a client that asks seldom begins at the tag that was served last. So a
-//! client waits for what the engine has, and not for what others want of it, whatever that costs.
+//! The engine answers in order, so whatever it has got already comes before a new line. It gets only a limited amount at once, and a
+//! client that has more to ask waits in a queue here, by start-time fair queueing. Each client has a *tag*, to which is added what each of
+//! its lines costs the engine; the lowest tag is next, and a client that asks seldom begins at the tag that was served last. So a
+//! client waits for what the engine has, and not for what other clients ask of it, whatever that costs.
 
 use std::collections::BTreeMap;
 use wozgirt_engine::Client;
 
-/// A connection that has just come stands so far behind those that are here.
+/// A new connection begins this far after those that are here.
 const NEWCOMERS: u64 = 32;
-/// Who is no farther behind than this has asked for no more than its part, and may have one line at the engine at any time, but for a leave.
+/// A client that is at most this far back has asked for no more than its part, and may have one line at the engine at any time, but
+/// not a leave.
 const LIGHT: u64 = 16;
 /// The tag of one that has asked for nothing for a while.
 pub const FIRST_TAG: u64 = 0;
-/// So many that have left and wait for that keep others from coming in, until a quarter of them is left.
+/// When this many that have left wait for that, others are kept from coming in, until a quarter of them is left.
 const MOST_LEAVING: usize = 64;
 
-/// For what somebody stands in line.
+/// What a client waits for in the queue.
 #[derive(Debug, Clone, Copy, PartialEq, Eq)]
 pub enum Turn {
     /// To ask more.
@@ -29,7 +30,7 @@ pub enum Turn {
 }
 
 impl Turn {
-    /// Whether the engine is to be told a leave.
+    /// Whether the engine is to get a leave.
     pub fn is_leave(self) -> bool {
         self != Turn::Ask
     }
@@ -54,7 +55,7 @@ impl Turns {
         self.served + NEWCOMERS
     }
 
-    /// Whether nobody stands before this tag.
+    /// Whether no client is before this tag.
     pub fn is_next(&self, tag: u64) -> bool {
         self.line.first_key_value().map_or(true, |((first, _), _)| tag.max(self.served) <= *first)
     }
@@ -73,7 +74,7 @@ impl Turns {
         self.served + cost
     }
 
-    /// Somebody stands in line from now on: its place there.
+    /// A client waits in the queue from now on: its place there.
     pub fn line_up(&mut self, client: Client, tag: u64, turn: Turn) -> u64 {
         let place = tag.max(self.served);
         self.line.insert((place, client), turn);
@@ -86,7 +87,7 @@ impl Turns {
         self.line.remove(&(place, client));
     }
 
-    /// For what the next one stands there.
+    /// What the next one waits for there.
     pub fn first(&self) -> Option<Turn> {
         self.line.first_key_value().map(|(_, turn)| *turn)
     }
@@ -107,7 +108,7 @@ impl Turns {
         self.leaving = 0;
     }
 
-    /// Whether so many have left that others are to be kept out, if they are already or if not.
+    /// Whether others are kept out, since many have left. `is_so`: they are already.
     pub fn keeps_out(&self, is_so: bool) -> bool {
         self.leaving >= if is_so { MOST_LEAVING / 4 } else { MOST_LEAVING }
     }

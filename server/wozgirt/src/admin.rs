@@ -60,14 +60,14 @@ fn is_answer(line: &str, order: &Order) -> bool {
     }
 }
 
-/// What a refusal means, where its words alone do not say it.
+/// What a refusal means, if its words do not say it.
 fn why(line: &str, order: &Order) -> Option<String> {
     Some(match (line.strip_prefix("refused ")?.split(' ').next()?, order) {
-        ("holder", Order::End(lock, token)) => format!("nobody holds {lock} with the token {token}"),
+        ("holder", Order::End(lock, token)) => format!("no client holds {lock} with the token {token}"),
         ("client", Order::Kick(client)) => format!("there is no client {client}"),
         ("lock", Order::End(lock, _) | Order::Corrupt(lock, ..)) => format!("there is no lock {lock}"),
         ("off", Order::Corrupt(..)) => "the server was started without --faults".into(),
-        ("cluster", Order::Cluster) => "this server is alone".into(),
+        ("cluster", Order::Cluster) => "this server runs without --etcd".into(),
         ("syntax", _) => "this server does not know that".into(),
         _ => return None,
     })
@@ -105,7 +105,7 @@ mod tests {
         let corrupt = Order::Corrupt("a".into(), 1, 2);
         assert!(is_answer("corrupted a 5", &corrupt) && !is_answer("corrupted ab 5", &corrupt));
         assert!(is_answer("stopping", &Order::Stop) && !is_answer("pong", &Order::Stop));
-        assert_eq!(why("refused holder a", &end).unwrap(), "nobody holds a with the token 7");
+        assert_eq!(why("refused holder a", &end).unwrap(), "no client holds a with the token 7");
         assert_eq!((why("refused full a", &end), why("ended b", &end)), (None, None));
     }
 }

@@ -12,7 +12,7 @@ use std::time::{Duration, Instant};
 use wozgirt_system::{inherit, Event, Interest, Poller};
 
 const SERVER: u64 = 1;
-/// A server that just came up is asked later by who does not wait for the lock: who waits for both, and came first, is then before it.
+/// How much later a client that does not wait for the lock asks a server that just came up: clients that wait for both are served first.
 const AFTER_OTHERS: Duration = Duration::from_millis(200);
 /// How long a line is read that the system has already.
 const AT_ONCE: Duration = Duration::from_millis(1);
@@ -150,7 +150,7 @@ impl Link for Alone {
         self.lease.as_ref().map(|lease| lease.time)
     }
 
-    /// A lease is kept by this program alone, so it ends with COMMAND.
+    /// Only this program keeps a lease, so it ends with COMMAND.
     fn share(&self) -> io::Result<bool> {
         if self.closes {
             return Ok(false);

@@ -1,5 +1,5 @@
 //! `wozgirt bench`: clients that take and release locks without a pause. What is measured begins when each has been granted its
-//! lock once: until then some are alone, which a busy machine makes long.
+//! lock once: until then some have no rivals, which a busy machine makes long.
 
 use crate::answers::{Answer, Verb};
 use crate::client::{fault_of, question, soon, Client, Fault};
@@ -14,7 +14,7 @@ const STACK: usize = 256 << 10;
 /// How often is looked whether all have begun.
 const LOOK: Duration = Duration::from_millis(1);
 
-/// One lock: who is inside, and its last token.
+/// One lock: the client inside, and its last token.
 #[derive(Default)]
 struct Inside {
     count: AtomicU64,
@@ -23,7 +23,7 @@ struct Inside {
 
 /// How far the measure is.
 struct Run {
-    /// Who has it first has no client begin meanwhile.
+    /// While a client has it, no other one begins.
     gate: Mutex<()>,
     /// How many clients were never granted their lock.
     away: AtomicUsize,
@@ -85,7 +85,7 @@ pub fn run(place: &Place, load: &Load) -> Result<String, Wrong> {
             match thread::Builder::new().stack_size(STACK).spawn_scoped(scope, work) {
                 Ok(thread) => threads.push(thread),
                 Err(fault) => {
-                    run.is_over.store(true, Ordering::Relaxed); // who waits at the gate begins nothing
+                    run.is_over.store(true, Ordering::Relaxed); // a client that waits at the gate begins nothing
                     return Err(Wrong::Server(Fault::System(fault)));
                 }
             }
@@ -115,7 +115,7 @@ fn measure(
 /// The times of one client's acquires while all take part, in tenths of microseconds.
 fn hand_over(mut client: Client, name: &str, number: usize, inside: &Inside, run: &Run) -> Result<Vec<u32>, Wrong> {
     let mut times = Vec::with_capacity(1 << 12);
-    let acquire = question(Verb::Acquire, name, Some(number as u64)); // so the journal tells the clients apart
+    let acquire = question(Verb::Acquire, name, Some(number as u64)); // so the journal distinguishes the clients
     let mut is_new = true;
     while !run.is_over.load(Ordering::Relaxed) {
         let begun = Instant::now();

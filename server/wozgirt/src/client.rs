@@ -41,7 +41,7 @@ pub enum Fault {
     At(Place, Box<Fault>),
     /// None of several servers answers.
     Nobody,
-    /// The session went on, and what it had is gone.
+    /// The session continued, and what it had is gone.
     Gone(&'static str),
 }
 
@@ -122,7 +122,7 @@ impl Client {
         matches!(self.stream, Stream::Tcp(_))
     }
 
-    /// Sends a line. That the server has closed the connection is not said here: who reads hears first what it said before.
+    /// Sends a line. It does not report that the server has closed the connection: the next read gets first what the server said before.
     pub fn send(&mut self, line: &str) -> Result<(), Fault> {
         let mut text = Vec::with_capacity(line.len() + 1);
         text.extend_from_slice(line.as_bytes());
@@ -169,7 +169,7 @@ impl Client {
         Some(line)
     }
 
-    /// Reads what is there, or waits so long for it.
+    /// Reads what is there, or waits this long for it.
     pub fn read(&mut self, timeout: Option<Duration>) -> Result<(), Fault> {
         if timeout != self.timeout {
             match &self.stream {
@@ -216,7 +216,7 @@ impl Client {
         Ok((milliseconds > 0).then(|| Duration::from_millis(milliseconds)))
     }
 
-    /// The lines behind the one that answers `question`, which begins with its word and tells their number.
+    /// The lines after the one that answers `question`, which begins with its word and has their number.
     pub fn list(&mut self, question: &str, until: Instant) -> Result<Vec<String>, Fault> {
         self.send(question)?;
         let first = self.line(Some(until))?;

@@ -10,7 +10,7 @@ use std::thread;
 use std::time::{Duration, Instant};
 use wozgirt_system::{connect_within, hear_nothing};
 
-/// The pause until a server that may just be starting is looked for again. Short, since who comes later may find it at once.
+/// The pause until a server that may just be starting is looked for again. Short, since a client that comes later may find it at once.
 const PAUSE: Duration = Duration::from_millis(10);
 /// The least time that a connection over TCP may take: none at all is refused.
 const LEAST: Duration = Duration::from_millis(1);

@@ -1,4 +1,4 @@
-//! The search for a server that goes on with a session, in a thread of its own where something else is to be watched meanwhile.
+//! The search for a server that continues a session, in a thread of its own if something else is to be watched meanwhile.
 
 use crate::client::{unexpected, Client, Fault};
 use crate::places::Place;
@@ -53,7 +53,7 @@ pub struct Found {
     pub away: Duration,
     /// What the session has: `holds NAME TOKEN` and `waits NAME`.
     pub told: Vec<String>,
-    /// What it said besides.
+    /// What it also said.
     pub others: Vec<String>,
 }
 
@@ -73,7 +73,7 @@ impl Search {
                     Err(other) => Fault::At(self.places[at].clone(), Box::new(other)),
                 };
                 is_starting |= other.is_of_a_start();
-                // what a server says, or that it says nothing, tells more than that another is not there
+                // what a server says, or that it says nothing, is more than that another is not there
                 if matches!(fault, Fault::Nobody) || fault.is_of_a_start() || !other.is_of_a_start() {
                     fault = other;
                 }
@@ -90,7 +90,7 @@ impl Search {
         Err(fault)
     }
 
-    /// Tries one server; so many share the time that is left.
+    /// Tries one server; this many share the time that is left.
     fn try_one(&self, at: usize, sharers: usize) -> Result<Found, Fault> {
         let begun = Instant::now();
         let share = self.until.saturating_duration_since(begun) / u32::try_from(sharers).unwrap_or(1);

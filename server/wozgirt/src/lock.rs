@@ -48,7 +48,7 @@ pub enum Unanswered {
     NotAsked,
     /// The connection is closed, and with it what was asked on it.
     Closed,
-    /// It is the session's, which is over when it was silent for so long.
+    /// It is the session's, which is over after a silence of this length.
     Lease(Duration),
 }
 
@@ -116,7 +116,7 @@ pub trait Link {
     fn lease(&self) -> Option<Duration>;
     /// Has COMMAND inherit what keeps the lock, if that is wanted: whether nothing else keeps it.
     fn share(&self) -> io::Result<bool>;
-    /// When something is to be done without being told.
+    /// When something is to be done without an event.
     fn next_time(&self) -> Option<Instant>;
     /// Does what is due. Why the lock is lost, if it is.
     fn look(&mut self, events: &[Event], now: Instant) -> Option<Fault>;
@@ -208,7 +208,7 @@ fn command(hold: &Hold, token: u64, link: &mut impl Link, mut signals: Signals) 
         return Ok(Ending::Lost);
     }
     if left_behind.is_some_and(LeftBehind::has_both) {
-        return Ok(Ending::Command(status)); // who was left behind keeps the lock
+        return Ok(Ending::Command(status)); // a program that COMMAND left running keeps the lock
     }
     if let Err(fault) = link.release(token) {
         complain(format_args!("after COMMAND had ended: {fault}"));
@@ -216,8 +216,8 @@ fn command(hold: &Hold, token: u64, link: &mut impl Link, mut signals: Signals) 
     Ok(Ending::Command(status))
 }
 
-/// One end of a pair, of which COMMAND inherits the other beside the connection. So it tells whether a program that COMMAND left
-/// behind has both.
+/// One end of a pair, of which COMMAND inherits the other with the connection. So it shows whether a program that COMMAND left
+/// running has both.
 struct LeftBehind(UnixStream);
 
 impl LeftBehind {
@@ -289,7 +289,7 @@ impl Guard {
         }
     }
 
-    /// A key of the terminal sends its signal to the command too, unless that has a group of its own; a process, to this program alone.
+    /// A key of the terminal sends its signal to the command too, unless that has a group of its own; a process, only to this program.
     fn pass_on(&mut self, Heard { signal, is_of_kernel }: Heard) {
         match signal {
             Signal::Terminate | Signal::HangUp => self.send(signal),

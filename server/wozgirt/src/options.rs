@@ -14,7 +14,7 @@ pub enum Verb {
     Admin,
 }
 
-/// What stands for a command.
+/// The word of a command.
 #[derive(Debug)]
 pub struct CommandWord {
     /// Which command.
@@ -47,7 +47,7 @@ pub enum OrderName {
     Stop,
 }
 
-/// What stands for an order.
+/// The word of an order.
 #[derive(Debug)]
 pub struct OrderWord {
     /// Which order.
@@ -116,7 +116,7 @@ pub static COMMANDS: [CommandWord; 6] = [
         verb: Verb::Status,
         name: "status",
         operands: "",
-        help: "prints each lock: who holds it, since when, how many wait",
+        help: "prints each lock: its holder, since when, how many clients wait",
         options: &[Name::Socket, Name::ServerWait],
     },
     CommandWord {
@@ -130,7 +130,7 @@ pub static COMMANDS: [CommandWord; 6] = [
         verb: Verb::Bench,
         name: "bench",
         operands: " [CLIENTS [LOCKS [SECONDS]]]",
-        help: "measures hand-overs of the server's first locks, which nobody else should use meanwhile",
+        help: "measures hand-overs of the server's first locks, which no other client should use meanwhile",
         options: &[Name::Socket],
     },
     CommandWord {
@@ -147,7 +147,7 @@ pub static ORDERS: [OrderWord; 6] = [
     OrderWord {
         order: OrderName::Clients,
         words: "clients",
-        help: "prints who is connected, with what each holds and waits for",
+        help: "prints the connected clients, with what each holds and waits for",
     },
     OrderWord {
         order: OrderName::Cluster,
@@ -185,7 +185,7 @@ pub static OPTIONS: [OptionWord<Name>; 13] = [
         Name::ServerWait,
         "--server-wait",
         "SECONDS",
-        "how long a server may take to come up that is just starting; 0: not at all [5]",
+        "how long to wait for a server that is just starting; 0: not at all [5]",
     ),
     OptionWord::valued(
         Name::Operators,
@@ -197,7 +197,7 @@ pub static OPTIONS: [OptionWord<Name>; 13] = [
         Name::Wait,
         "--wait",
         "SECONDS",
-        "give up after so long, whatever the server does; without it, wait for as long as it takes",
+        "give up after this time, whatever the server does; without it, wait for as long as it takes",
     )
     .short("-w")
     .others(&["--timeout"]),
@@ -208,7 +208,12 @@ pub static OPTIONS: [OptionWord<Name>; 13] = [
         .short("-E")
         .others(&["--conflict-exit-code"]),
     OptionWord::valued(Name::Label, "--label", "NUMBER", "what the journal keeps of this hold [the process number]"),
-    OptionWord::valued(Name::Lease, "--lease", "SECONDS", "a silence so long lets the server give the lock to another"),
+    OptionWord::valued(
+        Name::Lease,
+        "--lease",
+        "SECONDS",
+        "after a silence of this length the server may give the lock to another",
+    ),
     OptionWord::valued(
         Name::KillAfter,
         "--kill-after",
@@ -224,15 +229,15 @@ pub static OPTIONS: [OptionWord<Name>; 13] = [
     OptionWord::flag(
         Name::CommandOnly,
         "--command-only",
-        "the lock is free when COMMAND has ended, even if its children run on",
+        "the lock is free when COMMAND has ended, even if its children still run",
     ),
     OptionWord::flag(Name::Group, "--group", "COMMAND gets a process group of its own, and signals go to all in it"),
     OptionWord::valued(Name::Every, "--every", "SECONDS", "how often `watch` prints [1]"),
 ];
 
 const STATUSES: &str = "\
-Statuses: COMMAND's; 128 and its signal; 1 the lock was not to be had in time, or standard output cannot be written;
-64 wrong words; 69 there is no server, or COMMAND cannot be run; 75 the lock was lost while COMMAND ran; 76 the server
+Exit status: COMMAND's; 128 and its signal; 1 timed out waiting for the lock, or standard output cannot be written;
+64 usage error; 69 no server answers, or COMMAND cannot be run; 75 the lock was lost while COMMAND ran; 76 the server
 refused.
 ";
 

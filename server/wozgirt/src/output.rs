@@ -1,4 +1,4 @@
-//! What the program prints, and what becomes of it where nobody reads, or there is no room.
+//! What the program prints, and what becomes of it if no program reads it, or there is no room.
 
 use std::fmt::Display;
 use std::io::{self, ErrorKind, Write};
@@ -21,7 +21,7 @@ pub fn print(text: &str) -> io::Result<()> {
 
 /// Says something on standard error, if that can be written.
 pub fn complain(what: impl Display) {
-    let _ = writeln!(io::stderr().lock(), "wozgirt: {what}"); // there is nobody else to tell
+    let _ = writeln!(io::stderr().lock(), "wozgirt: {what}"); // there is no other place to report it
 }
 
 /// A message on standard error that may not hold anything up.

@@ -33,7 +33,7 @@ impl Place {
     }
 }
 
-/// The places in a text, at least one; nothing if one is no place. It is cut at each comma behind which another place begins, with
+/// The places in a text, at least one; nothing if one is not a place. It is cut at each comma after which another place begins, with
 /// `tcp:`, `/` or `./`: a path may have commas too.
 pub fn places(text: &OsStr) -> Option<Vec<Place>> {
     let bytes = text.as_bytes();

@@ -1,6 +1,6 @@
-//! A lock in a session: if the server is lost, the next one goes on with the same hold, or the same server when it was started again.
+//! A lock in a session: if the server is lost, the next one continues the same hold, or the same server after a restart.
 //!
-//! The client has a key that it drew, and numbers what it asks. Another server tells what the session has, and does not do again what
+//! The client has a key that it drew, and numbers what it asks. Another server reports what the session has, and does not do again what
 //! was done. Of several servers the client has a lease in any case; if no server answers for half of it, the lock is lost. Of one server
 //! the session is attached: it is over when the connection is closed on this side. There the client has a lease if it asks for one; else
 //! the lock is lost when the server has been away for half of the time that it keeps the session.
@@ -26,7 +26,7 @@ const ROUNDS: usize = 3;
 const PARTS: u32 = 8;
 /// Where there is no other server, it speaks after this part.
 const PARTS_OF_ONE: u32 = 4;
-/// A server that just came up is asked later by who does not wait for the lock: who waits for both, and came first, is then before it.
+/// How much later a client that does not wait for the lock asks a server that just came up: clients that wait for both are served first.
 const AFTER_OTHERS: Duration = Duration::from_millis(200);
 
 /// What was asked last and has no answer yet.
@@ -36,7 +36,7 @@ struct Asked {
     line: String,
 }
 
-/// Who is asked.
+/// The server that is asked.
 enum Server {
     Here(Client),
     Sought(Finding),
@@ -240,7 +240,7 @@ impl Session {
         Ok(())
     }
 
-    /// Goes on with this server.
+    /// Continues with this server.
     fn go_on(&mut self, found: Found) -> Result<(), Fault> {
         let Found { client, at, begun, lease, away, told, others, .. } = found;
         self.poller.add(&client, SERVER, Interest::READS)?;
@@ -255,7 +255,7 @@ impl Session {
         self.say_again()
     }
 
-    /// Hears the lines that were read already, as those behind what a server says first: nothing tells of them any more.
+    /// Reads the lines that were read already, as those after what a server says first: no event comes for them any more.
     fn hear_what_is_there(&mut self) -> Result<(), Fault> {
         let Server::Here(client) = &mut self.server else { return Ok(()) };
         let lines: Vec<String> = std::iter::from_fn(|| client.line_that_is_there()).collect();
@@ -276,7 +276,7 @@ impl Session {
         if self.is_waiting && holds.is_some() {
             (self.is_waiting, self.token) = (false, holds);
         } else if self.is_waiting && !waits && verb != Some(Verb::Cancel) {
-            return Err(Fault::Gone("the place in the line is gone, since its session was over"));
+            return Err(Fault::Gone("the place in the queue is gone, since its session was over"));
         } else if self.token.is_none() {
             self.early = holds;
         }
@@ -290,7 +290,7 @@ impl Session {
             let asked = self.asked.as_ref().map(|asked| (asked.number, asked.verb));
             return match (number.parse::<u64>(), asked) {
                 (Ok(number), Some((last, verb))) if number == last => self.answered(verb, answer),
-                (Ok(number), _) if number <= self.number => Ok(()), // told again by another server
+                (Ok(number), _) if number <= self.number => Ok(()), // repeated by another server
                 _ => Err(Fault::Unexpected(line)),
             };
         }
@@ -298,7 +298,7 @@ impl Session {
             Some(Answer::Pong) => self.spoken = self.pinged.take().unwrap_or(self.spoken),
             Some(Answer::Granted(token)) if self.is_waiting => (self.is_waiting, self.token) = (false, Some(token)),
             Some(Answer::Granted(token)) if self.token.is_none() => self.early = Some(token),
-            Some(Answer::Granted(token)) if self.token == Some(token) => {} // told again by another server
+            Some(Answer::Granted(token)) if self.token == Some(token) => {} // repeated by another server
             _ => return Err(fault_of(line, &self.name)),
         }
         Ok(())
@@ -326,7 +326,7 @@ impl Session {
         [silence, absence].into_iter().flatten().min()
     }
 
-    /// Hears what has come, speaks where it is time, and goes on with another server where this one is silent.
+    /// Reads what has come, speaks if it is time, and continues with another server if this one is silent.
     fn step(&mut self, events: &[Event], now: Instant) -> Result<(), Fault> {
         match &mut self.server {
             Server::Here(client) => {
@@ -383,8 +383,8 @@ impl Link for Session {
         Some(self.lease.unwrap_or(self.away))
     }
 
-    /// Where there is a lease, a server takes a client for dead that says nothing, whoever has the connection. So COMMAND inherits that
-    /// of one server only, and it alone keeps the lock there without a lease, until the server is started again.
+    /// With a lease, a server takes a silent client for dead, whichever program has the connection. So COMMAND inherits the connection
+    /// only if there is one server, and by itself keeps the lock there without a lease, until the server is started again.
     fn share(&self) -> io::Result<bool> {
         match &self.server {
             Server::Here(client) if self.is_attached && !self.closes => {

@@ -17,7 +17,7 @@ pub enum Words {
     Status(Look),
     /// To measure.
     Bench(Place, Load),
-    /// To tell a server something, over the socket of operators.
+    /// To send a server an order, over the socket of operators.
     Admin(PathBuf, Order),
     /// To print the help.
     Help,
@@ -30,7 +30,7 @@ pub enum Words {
 pub enum Patience {
     /// For as long as it takes.
     Endless,
-    /// So long.
+    /// This long.
     For(Duration),
     /// Not at all.
     None,
@@ -55,7 +55,7 @@ pub struct Hold {
     pub kill_after: Duration,
     /// Whether the command does not inherit the connection.
     pub closes: bool,
-    /// Whether what the command leaves behind does not keep the lock.
+    /// Whether programs that the command leaves running do not keep the lock.
     pub is_of_command_only: bool,
     /// Whether the command gets a group of its own.
     pub is_group: bool,
@@ -84,7 +84,7 @@ pub struct Look {
 /// What an operator asks for.
 #[derive(Debug, Clone, PartialEq, Eq)]
 pub enum Order {
-    /// Who is connected.
+    /// To list the connected clients.
     Clients,
     /// Where the server is in the log.
     Cluster,
@@ -118,7 +118,7 @@ pub enum BadWords {
     Unknown(String),
     /// It needs a value.
     NoValue(String),
-    /// This is no value of it.
+    /// This is not a value of it.
     Value(String, String),
     /// No lock is named.
     NoName,

@@ -1,4 +1,4 @@
-//! Between the connections and the engine: what the client of a session says, and what it is told.
+//! Between the connections and the engine: what the client of a session says, and what it is answered.
 
 use super::{Alone, Ask, At, NoSession, What};
 use crate::cluster::Key;
@@ -19,7 +19,7 @@ impl Desk {
         }
     }
 
-    /// The client gives its key. Its session begins, or goes on. One that is attached is over when the client closes the connection.
+    /// The client gives its key. Its session begins or continues. One that is attached is over when the client closes the connection.
     pub(crate) fn begin_session(&mut self, connection: &mut Connection, key: Key, is_attached: bool) -> Then {
         if connection.seat.is_some() || connection.has_asked {
             connection.tell_in_order(format_args!("refused {}", BadRequest::Rest(NotALine::Syntax)));
@@ -51,7 +51,7 @@ impl Desk {
         Then::Wait
     }
 
-    /// Tells the client of a session what that has, as soon as the engine has answered all that was asked for it.
+    /// Sends the client of a session what the session has, as soon as the engine has answered all that was asked for it.
     pub(crate) fn tell_opened(&mut self, connection: &mut Connection) {
         let (Mode::Alone(alone), Some(seat)) = (&self.mode, &connection.seat) else { return };
         let Some(session) = seat.session.and_then(|number| alone.session(number)) else { return };
@@ -76,7 +76,7 @@ impl Desk {
     }
 
     /// The session of a client that says something, and the connection where it was, if it comes from there. One that has left
-    /// begins anew, or goes on where another connection has begun it since.
+    /// begins anew, or continues where another connection has begun it since.
     fn session_of(&mut self, connection: &mut Connection) -> Option<(Client, Option<Client>)> {
         let (who, lease) = (connection.identity(), connection.lease.unwrap_or(self.settings.longest_lease));
         let client = connection.client;
@@ -119,7 +119,7 @@ impl Desk {
         };
         let last = self.last_asked(session);
         self.ask_to_forget(session, last);
-        // the engine does not answer a leave: a question behind it shows when it is done
+        // the engine does not answer a leave: the next question after it shows when it is done
         self.ask_engine_line(format_args!("{session} {}", Input::Stats { lock: 0 }));
         if let Some(alone) = self.alone() {
             alone.end(session);
@@ -275,7 +275,7 @@ impl Desk {
         Ok(())
     }
 
-    /// Tells the client the answer to its input with this number.
+    /// Sends the client the answer to its input with this number.
     pub(crate) fn tell_done(&mut self, connection: &mut Connection, number: u64, answer: &Answer) {
         let its = |it: &Pending| match it {
             Pending::Numbered(its, input) if *its == number => Some(*input),
@@ -293,7 +293,7 @@ impl Desk {
         connection.tell_what_waited();
     }
 
-    /// Tells the client that its session has left.
+    /// Reports to the client that its session has left.
     pub(crate) fn tell_session_left(&mut self, connection: &mut Connection, number: u64) {
         let its = |it: &Pending| matches!(it, Pending::Leaving(its) if *its == number);
         if connection.pending.iter().any(its) {
@@ -302,7 +302,7 @@ impl Desk {
         }
     }
 
-    /// Somebody was granted the lock.
+    /// A client was granted the lock.
     pub(crate) fn note_token(&mut self, lock: Lock, token: Token) {
         if let Some(alone) = self.alone() {
             alone.note_token(lock, token);

@@ -1,8 +1,8 @@
-//! A server that is alone: the sessions of its clients, which outlive its engine and itself.
+//! A single server: the sessions of its clients, which outlive its engine and the server itself.
 //!
 //! An input of a session goes to the engine with the session's number as its key, so the journal has what was done last of each. A
-//! [`Store`] beside the journal has whose each session is, and what the engine told of it. When the engine starts, it tells which holds
-//! are open; where some of them are sessions', it is started once more, and reads a file that says whose they are.
+//! [`Store`] beside the journal records whose each session is, and what the engine answered it. When the engine starts, it lists the
+//! open holds. If sessions have some of them, the engine starts once more, and reads a file that says whose they are.
 
 mod desk;
 mod session;
@@ -23,9 +23,9 @@ use wozgirt_engine::{Client, Label, Lock, StateLine, Token};
 /// What the engine is started for.
 #[derive(Debug, Clone, Copy, PartialEq, Eq)]
 pub enum Start {
-    /// To tell which holds are open.
+    /// To list the open holds.
     Looking,
-    /// It has told that, and is to end.
+    /// It has listed them, and is to end.
     Turning,
     /// To serve.
     Serving,
@@ -40,7 +40,7 @@ pub enum NoSession {
     Full,
 }
 
-/// The sessions of a server that is alone.
+/// The sessions of a single server.
 pub struct Alone {
     store: Option<Store>,
     /// The system's word for this start of the machine, if it has one.
@@ -56,13 +56,13 @@ pub struct Alone {
     pub start: Start,
     /// The greatest token of each lock that this server has heard of.
     heard: Vec<Token>,
-    /// Who stood first in the line of each lock when the engine was lost.
+    /// The first client in the queue of each lock when the engine was lost.
     firsts: Vec<Option<Client>>,
-    /// Of which locks clients without a session may have been told something since the engine started, or before.
+    /// Of which locks the server may have answered clients without a session since the engine started, or before.
     plain: Vec<bool>,
     /// Holds that were given up, where the engine may not have heard that: of each lock the last.
     given: BTreeMap<Lock, Token>,
-    /// Holds of sessions that are over, and operators who wait to be told that.
+    /// Holds of sessions that are over, and the operators that wait for an answer about them.
     ended: Vec<Ended>,
 }
 
@@ -88,7 +88,7 @@ impl Alone {
             let lines = store.read()?;
             let is_of_this_start = |boot: &String| lines.contains(&Line::Boot(boot.clone()));
             if !alone.boot.as_ref().is_some_and(is_of_this_start) {
-                alone.plain.fill(true); // what was told last may be missing
+                alone.plain.fill(true); // the last answers may be missing
             }
             lines.into_iter().for_each(|line| alone.read(line));
             alone.store = Some(store);
@@ -211,7 +211,7 @@ impl Alone {
         Ok((number, None))
     }
 
-    /// The client may be away for so long.
+    /// The client may be away for this time.
     pub fn set_lease(&mut self, number: Client, lease: Duration) {
         if let Some(session) = self.sessions.get_mut(&number).filter(|session| session.lease != lease) {
             session.lease = lease;
@@ -243,12 +243,12 @@ impl Alone {
         Some(session)
     }
 
-    /// Holds of which operators are to be told that they ended with their sessions.
+    /// Holds whose operators have to learn that they ended with their sessions.
     pub fn take_ended(&mut self) -> Vec<Ended> {
         std::mem::take(&mut self.ended)
     }
 
-    /// All sessions are over, since the engine cannot be told what they hold: that is nobody's.
+    /// All sessions are over, since the engine cannot learn what they hold: no session has that any more.
     pub fn end_all(&mut self) {
         self.sessions.clear();
         self.keys.clear();
@@ -272,7 +272,7 @@ impl Alone {
         self.put(&Line::Has(StateLine::Hold { lock, token, client: number }));
     }
 
-    /// The session waits, and the input of which it was told so is done.
+    /// The session waits, and the input that was answered so is done.
     pub fn place(&mut self, number: Client, lock: Lock, label: Label) {
         self.wait(number, lock, label);
         self.put(&Line::Has(StateLine::Wait { client: number, lock, label }));
@@ -291,7 +291,7 @@ impl Alone {
         self.read(line);
     }
 
-    /// The engine grants the lock to somebody who may be gone: then nobody is told, and the engine may not have heard that.
+    /// The engine grants the lock to a client that may be gone: no client learns of it, and the engine may not know that.
     pub fn note_grant(&mut self, number: Client, lock: Lock, token: Token) {
         if self.sessions.get(&number).is_some_and(|session| !session.is_left) || self.is_given(lock, token) {
             return;
@@ -320,7 +320,7 @@ impl Alone {
         }
     }
 
-    /// Writes what is new, before anybody is told of it.
+    /// Writes what is new, before any client gets an answer about it.
     pub fn write(&mut self) -> io::Result<()> {
         let Some(store) = &mut self.store else { return Ok(()) };
         if !store.write()? {
@@ -352,8 +352,8 @@ impl Alone {
         first.chain(sessions).chain(has.chain(waits).map(Line::Has)).chain(plain).chain(given).collect()
     }
 
-    /// The engine is lost, and all connections are. Who stood first in a line then, on this board, may have been granted the lock, and
-    /// nobody was told.
+    /// The engine is lost, and so are all connections. The client that was first in a queue then, on this board, may have been granted
+    /// the lock without an answer.
     pub fn lose_engine(&mut self, board: &Board, was_serving: bool) {
         self.start = Start::Serving;
         if was_serving {
@@ -361,7 +361,7 @@ impl Alone {
         }
     }
 
-    /// The engine starts. What the journal says of inputs that were done counts, since it is told to nobody else. It is written to the
+    /// The engine starts. What the journal says of inputs that were done counts, since no other client learns of it. It is written to the
     /// disk.
     pub fn prepare(&mut self) -> io::Result<()> {
         let Some(store) = &self.store else { return Ok(()) };
@@ -390,8 +390,8 @@ impl Alone {
         self.rewrite()
     }
 
-    /// These holds are open. Only those that are sessions' are kept of theirs, and one that nobody was told of is that of who stood first
-    /// in the line. Whether any is a session's, and a file says so.
+    /// These holds are open. Only sessions keep their holds. A hold of which no client learned belongs to the client that was first in the
+    /// queue. Returns whether any is a session's, and a file says so.
     pub fn settle(&mut self, open: &[(Lock, Token)]) -> io::Result<bool> {
         for session in self.sessions.values_mut() {
             session.holds.retain(|hold| open.contains(hold));
@@ -419,8 +419,8 @@ impl Alone {
         Ok(!text.is_empty())
     }
 
-    /// Whose an open hold is that nobody was told of: who stood first in the line. Where no client is without a session, that is known of
-    /// each hold that is no session's; else if this server has heard of all tokens that were told.
+    /// The holder of an open hold of which no client learned: the client that was first in the queue. If every client has a session, this
+    /// is known of each hold that no session has; else only if this server knows all tokens that were answered.
     fn heir(&self, lock: Lock, token: Token) -> Option<Client> {
         if self.is_given(lock, token) {
             return None;
@@ -444,7 +444,7 @@ impl Alone {
         self.store.as_ref().map(Store::holders)
     }
 
-    /// What the engine is told first: what was done, and who waits, in their order.
+    /// What the engine gets first: what was done, and which sessions wait, in their order.
     pub fn lines(&mut self) -> Vec<StateLine> {
         let mut lines = Vec::new();
         let mut waits = Vec::new();

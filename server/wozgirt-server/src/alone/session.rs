@@ -1,4 +1,4 @@
-//! A session of a server that is alone: what it has, and what it asked.
+//! A session of a single server: what it has, and what it asked.
 
 use crate::cluster::{Key, Owner};
 use std::collections::VecDeque;
@@ -56,16 +56,16 @@ pub struct Place {
     pub lock: Lock,
     /// What the journal keeps of the hold.
     pub label: Label,
-    /// Who has a smaller one came before.
+    /// A client with a smaller one came before.
     pub order: u64,
 }
 
-/// An input that was told to wait, with a label that is not known.
+/// An input whose answer was to wait, with a label that is not known.
 #[derive(Debug, Clone, PartialEq, Eq)]
 pub struct Unlabelled {
     /// The lock.
     pub lock: Lock,
-    /// Who has a smaller one came before.
+    /// A client with a smaller one came before.
     pub order: u64,
     /// The input's number, and its answer.
     pub done: (u64, String),
@@ -94,7 +94,7 @@ pub struct Session {
     pub asked: VecDeque<Ask>,
     /// It leaves, and its key is another session's.
     pub is_left: bool,
-    /// It was told to wait, and it is not known yet with which label.
+    /// Its answer was to wait, and its label is not known yet.
     pub unlabelled: Option<Unlabelled>,
 }
 
@@ -145,8 +145,8 @@ impl Session {
         self.unlabelled.take().filter(|it| it.lock == place.lock).into_iter().for_each(|it| self.last = Some(it.done));
     }
 
-    /// An input was done. One that was told to wait, with a label that is not known, counts as not done unless it is: nobody waits any
-    /// more when the engine has ended, and the client asks again. Its place would be behind those that have a smaller `order`.
+    /// An input was done. One whose answer was to wait, with a label that is not known, counts as not done unless it is: no client waits
+    /// any more when the engine has ended, and the client asks again. Its place would be after those that have a smaller `order`.
     pub fn did(&mut self, number: u64, answer: &str, order: u64) {
         if self.last.as_ref().is_some_and(|(last, _)| number <= *last) {
             return;
@@ -179,13 +179,13 @@ impl Session {
         waits.or(self.unlabelled.as_ref().filter(|it| it.lock == lock).map(|it| it.order))
     }
 
-    /// Nothing is asked any more: the engine is gone.
+    /// The engine is gone: no question is open any more.
     pub fn forget_asked(&mut self) {
         self.asked.clear();
         self.last_asked = self.last.as_ref().map(|(number, _)| *number);
     }
 
-    /// The lines that bring back what it has, but for its place.
+    /// The lines that bring back what it has, except its place.
     pub fn lines(&self, session: Client) -> impl Iterator<Item = StateLine> + '_ {
         let did = self.last.iter().map(move |(number, answer)| StateLine::Did {
             key: session,

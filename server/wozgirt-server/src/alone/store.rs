@@ -1,8 +1,8 @@
 //! The folder beside the journal, with what is kept of sessions.
 //!
-//! The file `sessions` has a line for each change. It is written before anybody is told of that, so it outlives the server; it is on the
-//! disk where the server starts its engine, which writes the last segment anew, without what that has of sessions. A file that has become
-//! long is replaced, by one that is on the disk before it gets that name; the server does not wait for that.
+//! The file `sessions` has a line for each change. It is written before a client gets an answer about the change, so it outlives the
+//! server. It is on the disk when the server starts its engine, which writes the last segment anew, without what that has of sessions. A
+//! file that has become long is replaced, by one that is on the disk before it gets that name; the server does not wait for that.
 //!
 //! ```text
 //! wozgirt sessions 1
@@ -54,7 +54,7 @@ pub enum Line {
     Over(Client),
     /// Clients without a session may hold the lock, or wait for it.
     Plain(Lock),
-    /// Who held the lock with this token has given it up; the engine may not have heard that.
+    /// The holder of the lock with this token has given it up; the engine may not know that.
     Given(Lock, Token),
     /// The start of the machine in which all this was written.
     Boot(String),
@@ -114,7 +114,7 @@ struct Next {
     is_there: Receiver<io::Result<()>>,
 }
 
-/// Has another thread write a file to the disk: what came of that, which nobody tells where there is no thread.
+/// Has another thread fsync a file, and sends the result; without a thread nothing is sent.
 fn sync_aside(file: File) -> Receiver<io::Result<()>> {
     let (told, is_there) = channel();
     let _ = thread::Builder::new().name("sessions".into()).spawn(move || told.send(file.sync_all()));
@@ -137,7 +137,7 @@ pub struct Store {
 }
 
 impl Store {
-    /// Makes what is not there, and has it for this server alone.
+    /// Makes what is missing, and locks it for this server.
     pub fn open(journal: &Path) -> Result<Store, NoFolder> {
         let mut name: OsString = journal.file_name().ok_or(io::Error::from(ErrorKind::InvalidInput))?.to_owned();
         name.push(".sessions");
@@ -184,7 +184,7 @@ impl Store {
         fs::write(self.holders(), text)
     }
 
-    /// The lines of the file. What comes behind one that is none, as after a loss of power, does not count.
+    /// The lines of the file. After a line that cannot be read, as after a loss of power, no line counts.
     pub fn read(&self) -> io::Result<Vec<Line>> {
         let text = match fs::read(self.sessions()) {
             Err(fault) if fault.kind() == ErrorKind::NotFound => return Ok(Vec::new()),
@@ -251,7 +251,7 @@ impl Store {
         }
     }
 
-    /// A file that does not tell all would tell what is wrong: there is none, until all is written anew.
+    /// A file that misses something would mislead: it is removed until all is written anew.
     pub fn remove(&mut self) -> io::Result<()> {
         (self.file, self.next) = (None, None);
         self.lines.clear();

@@ -1,4 +1,4 @@
-//! What an entry of the log means: a function of the log alone, so that the engines of all servers get the same lines.
+//! What an entry of the log means: a function of nothing but the log, so that the engines of all servers get the same lines.
 
 use super::common::extends;
 use super::entries::{Entry, Key, Line, Server, Session};
@@ -11,9 +11,9 @@ use wozgirt_engine::{Input, Lock};
 /// What the engine is given, in this order.
 #[derive(Debug, Clone, PartialEq, Eq)]
 pub enum Given {
-    /// An input. If it is not new, the engine tells its first answer again, or that it is past.
+    /// An input. If it is not new, the engine repeats its first answer, or says that it is past.
     Do {
-        /// Who said it.
+        /// The server that said it.
         key: Key,
         /// Whose it is.
         session: Session,
@@ -26,7 +26,7 @@ pub enum Given {
     },
     /// Nothing: here the session has come to the writer of the entry.
     Here(Key, Session),
-    /// Nothing: here it has not come to the writer, since it is somebody else's.
+    /// Nothing: here it has not come to the writer, since it belongs to another user.
     Closed(Key),
     /// Nothing: what its client had is given up here.
     Gone(Key),
@@ -82,7 +82,7 @@ pub struct Applied {
     pub last_session: Session,
     /// The lines since the last checkpoint.
     pub lines: u64,
-    /// With so many there is one.
+    /// With this many there is one.
     pub most_lines: u64,
 }
 
@@ -97,9 +97,9 @@ pub struct Step {
     pub over: Vec<Server>,
     /// Sessions that have come from one server to another.
     pub moved: Vec<(Key, Server)>,
-    /// Whether there is a checkpoint behind it.
+    /// Whether there is a checkpoint after it.
     pub is_checkpoint: bool,
-    /// Whether there are more locks behind it.
+    /// Whether there are more locks after it.
     pub has_more_locks: bool,
 }
 
@@ -119,7 +119,7 @@ impl Applied {
         }
     }
 
-    /// The next entry; nothing stands for a text that is none.
+    /// The next entry; nothing for a text that is not an entry.
     pub fn apply(&mut self, position: u64, revision: u64, entry: Option<&Entry>) -> Step {
         let mut step = Step::default();
         (self.position, self.revision) = (position, revision);
@@ -152,7 +152,7 @@ impl Applied {
             *last = entry.serial.max(*last);
             return is_later;
         }
-        // a server begins with the settings of all, but for the end of the list of locks
+        // a server begins with the settings of all, except for the end of the list of locks
         let Some(Line::With(settings)) = entry.lines.first() else { return false };
         let of_all = self.settings.get_or_insert_with(|| settings.clone());
         step.has_more_locks = extends(settings, of_all);
@@ -188,7 +188,7 @@ impl Applied {
                 }
             }
             Line::Gone(key) => {
-                // who has no session has nothing to give up
+                // a client without a session has nothing to give up
                 if self.sessions.get(key).map_or(true, |known| known.home == *writer) {
                     self.go(*key, step);
                     step.given.push(Given::Gone(*key));
@@ -198,7 +198,7 @@ impl Applied {
         }
     }
 
-    /// The session is the writer's from here on, if it is not somebody else's.
+    /// The session is the writer's from here on, unless it belongs to another user.
     fn come(&mut self, key: Key, who: Who, writer: &Server, step: &mut Step) -> Option<Session> {
         let last = &mut self.last_session;
         let known = self.sessions.entry(key).or_insert_with(|| {

@@ -1,4 +1,4 @@
-//! The file CHECKPOINT: what the log says up to a place, and what the engine needs to go on from there.
+//! The file CHECKPOINT: what the log says up to a place, and what the engine needs to resume from there.
 
 use super::apply::{Applied, Known};
 use super::entries::server;
@@ -29,7 +29,7 @@ pub struct Checkpoint {
     pub state: Vec<StateLine>,
 }
 
-/// A text is no checkpoint: the number of its first wrong line.
+/// A text is not a checkpoint: the number of its first wrong line.
 #[derive(Debug, PartialEq, Eq)]
 pub struct BadCheckpoint(pub usize);
 
@@ -154,7 +154,7 @@ pub struct Folder {
 pub enum NoFolder {
     /// Another server has it.
     InUse,
-    /// It has the journal of a server that was alone.
+    /// It has the journal of a single server.
     Alone,
     /// There are too many locks.
     Locks,
@@ -169,7 +169,7 @@ impl From<io::Error> for NoFolder {
 }
 
 impl Folder {
-    /// Makes what is not there, and has it for this server alone.
+    /// Makes what is missing, and locks it for this server.
     pub fn open(path: &Path) -> Result<Folder, NoFolder> {
         fs::create_dir_all(path.join("journal"))?;
         if numbers(path)?.next().is_some() {

@@ -1,7 +1,7 @@
 //! What all servers of a log have in common: `CHECKPOINT SEGMENT FAULTS LOCKS`, as the log has it. The list of locks may become longer:
-//! a server that begins with more locks behind those of the log adds them for all.
+//! a server that begins with more locks after those of the log adds them for all.
 
-/// Whether these settings are the others with more locks behind theirs.
+/// Whether these settings are the others with more locks after theirs.
 pub fn extends(these: &str, others: &str) -> bool {
     these.strip_prefix(others).is_some_and(|more| more.starts_with(','))
 }

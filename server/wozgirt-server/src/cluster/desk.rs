@@ -9,12 +9,12 @@ use crate::requests::BadRequest;
 use wozgirt_engine::{Answer, Input, Lock, NotALine, Stats, Token};
 
 impl Desk {
-    /// The client gives its key. Its session begins, or goes on, where the log has it.
+    /// The client gives its key. Its session begins, or continues, where the log has it.
     pub(crate) fn open_session(&mut self, connection: &mut Connection, key: u64, is_attached: bool) -> Then {
         let cluster = match &mut self.mode {
             Mode::Alone(_) => return self.begin_session(connection, key, is_attached),
             Mode::InLog(_) if is_attached => {
-                // where a client goes on with the next server, the end of a connection says nothing
+                // when a client continues with the next server, the end of a connection says nothing
                 self.sums.refused("session");
                 connection.tell_in_order("refused session");
                 return Then::Wait;
@@ -90,7 +90,7 @@ impl Desk {
         connection.tell_in_order(self.line(&stats));
     }
 
-    /// Tells an operator where this server is in the log.
+    /// Sends an operator where this server is in the log.
     pub(crate) fn tell_cluster(&mut self, connection: &mut Connection) {
         let Some(cluster) = self.mode.in_log() else {
             self.sums.refused("cluster");
@@ -105,7 +105,7 @@ impl Desk {
         connection.tell_in_order(format_args!("cluster {me} {position} {digest} {} {alive}", cluster.saved.1));
     }
 
-    /// Tells the client an answer to its own input, if it waits for that.
+    /// Sends the client an answer to its own input, if it waits for that.
     pub(crate) fn tell_numbered(&mut self, connection: &mut Connection, number: u64, answer: &Answer) {
         if !matches!(connection.pending.front(), Some(Pending::Numbered(first, _)) if *first == number) {
             return;
@@ -120,7 +120,7 @@ impl Desk {
         connection.tell_what_waited();
     }
 
-    /// Tells the client that it is granted what it waited for. One whose session is on its way here is told then.
+    /// Sends the client the grant of what it waited for. A client whose session is on its way here gets it then.
     pub(crate) fn tell_grant(&self, connection: &mut Connection, lock: Lock, token: Token) {
         if !matches!(connection.pending.front(), Some(Pending::Opening)) {
             self.tell(connection, &Answer::Granted { lock, token });
@@ -147,7 +147,7 @@ impl Desk {
         connection.tell_what_waited();
     }
 
-    /// The session is somebody else's. The connection goes on without it.
+    /// The session belongs to another user. The connection continues without it.
     pub(crate) fn tell_closed(&mut self, connection: &mut Connection) {
         if matches!(connection.pending.front(), Some(Pending::Opening)) {
             connection.pending.pop_front();

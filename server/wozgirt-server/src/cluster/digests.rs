@@ -1,17 +1,17 @@
-//! Digests of all that the own engine told, by positions, and who told others.
+//! Digests of all that the own engine answered, by positions, and which servers had others.
 
 use std::collections::{BTreeSet, VecDeque};
 use std::rc::Rc;
 
 /// How many positions are kept.
 const KEPT: usize = 10_000;
-/// So many others that contradict are right.
+/// This many others that contradict are right.
 const MANY: usize = 2;
 
 /// The last digests.
 #[derive(Debug, Default)]
 pub struct Digests {
-    /// They stand one behind the other.
+    /// They follow one another.
     kept: VecDeque<String>,
     /// The position of the last.
     last: u64,
@@ -21,7 +21,7 @@ pub struct Digests {
 /// What another server's digest says.
 #[derive(Debug, PartialEq, Eq)]
 pub enum Verdict {
-    /// It is the own one, or the position is too old or too new to tell, or it was told before.
+    /// It is the own one, or the position is too old or too new to compare, or it was reported before.
     Nothing,
     /// It is another one: one of the two is damaged.
     Other,

@@ -1,4 +1,4 @@
-//! An entry of the log: who wrote it, what its engine had told by then, and lines for the engines of all.
+//! An entry of the log: its writer, what the writer's engine had answered by then, and lines for the engines of all.
 //!
 //! ```text
 //! by NAME INCARNATION SERIAL POSITION DIGEST
@@ -9,7 +9,7 @@
 //! server NAME INCARNATION
 //! ```
 //!
-//! The lines stand one behind the other, with a tab between them. So an entry is one line of printable ASCII.
+//! The lines follow one another, with a tab between them. So an entry is one line of printable ASCII.
 
 use super::owner::Who;
 use std::fmt;
@@ -67,7 +67,7 @@ impl fmt::Display for Line {
 /// An entry.
 #[derive(Debug, Clone, PartialEq, Eq)]
 pub struct Entry {
-    /// Who wrote it.
+    /// Its writer.
     pub writer: Server,
     /// The number of this entry among those of its writer, from 1.
     pub serial: u64,
@@ -86,7 +86,7 @@ impl fmt::Display for Entry {
     }
 }
 
-/// A text is no entry.
+/// A text is not an entry.
 #[derive(Debug, PartialEq, Eq)]
 pub struct NoEntry;
 

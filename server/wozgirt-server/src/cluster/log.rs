@@ -5,7 +5,7 @@ use std::collections::BTreeSet;
 use std::str::FromStr;
 use wozgirt_engine::{decimal, NotALine};
 
-/// What it tells.
+/// A line of it.
 #[derive(Debug, PartialEq, Eq)]
 pub enum Told {
     /// The log, and the number of this start.
@@ -26,7 +26,7 @@ pub enum Told {
     },
     /// The servers whose lease lives.
     Alive(BTreeSet<Server>),
-    /// The server's lease was renewed behind this of its signs of life.
+    /// The server's lease was renewed after this of its signs of life.
     Kept(u64),
     /// A host that keeps the log from being shortened.
     Away {

@@ -1,7 +1,7 @@
-//! Which answer of the engine is whose: what it was given, and what it tells, in the same order.
+//! Which answer of the engine is whose: what it was given, and what it answers, in the same order.
 //!
-//! The engine tells one line for an input, and then the grants that the input brings to others. The board says who is next in
-//! a line, and so which grants these are. An engine that tells something else is not the one that was asked.
+//! The engine answers an input by one line, followed by the grants that the input brings to others. The board says who is next in
+//! a queue, and so which grants these are. An engine that answers something else is not the one that was asked.
 
 use super::apply::Given;
 use super::entries::{is_digest, Key, Session};
@@ -33,7 +33,7 @@ pub enum Effect {
         /// What is answered.
         answer: Answer,
     },
-    /// Who waited is granted the lock.
+    /// A client that waited is granted the lock.
     Granted {
         /// Whose it is.
         session: Session,
@@ -44,7 +44,7 @@ pub enum Effect {
     },
     /// The client's session has come here.
     Here(Key, Session),
-    /// The session is somebody else's, and has not come here.
+    /// The session belongs to another user, and has not come here.
     Closed(Key),
     /// What the client had is given up.
     Gone(Key),
@@ -59,7 +59,7 @@ pub enum Effect {
     },
 }
 
-/// The engine told what it was not asked.
+/// The engine answered what it was not asked.
 #[derive(Debug, PartialEq, Eq)]
 pub struct NotAsked;
 
@@ -109,7 +109,7 @@ impl Mirror {
         self.standing.entry(session).or_default().waits = Some(lock);
     }
 
-    /// Nobody is to be told of sessions that come and go.
+    /// No client needs to know of sessions that come and go.
     pub fn forget_clients(&mut self) {
         self.items.retain(|item| !matches!(item, Item::Given(Given::Here(..) | Given::Closed(_) | Given::Gone(_))));
     }
@@ -151,7 +151,7 @@ impl Mirror {
         Ok(Effect::Done { position: decimal(position).map_err(|_| NotAsked)?, digest: digest.into() })
     }
 
-    /// What stands next and is not answered.
+    /// What is next and not answered.
     fn pass_silent(&mut self, board: &mut Board, effects: &mut Vec<Effect>) {
         while self.next.is_empty() {
             match self.items.front() {

@@ -46,20 +46,20 @@ use wozgirt_engine::{Client, StateLine};
 const LONGEST_LOG_LINE: usize = 8 << 20;
 /// The longest list of locks, which has to go into an entry.
 pub const LONGEST_LIST: usize = 200_000;
-/// With so many entries unread, or bytes for the engine, no more is read of the log.
+/// With this many entries unread, or bytes for the engine, no more is read of the log.
 const MOST_UNREAD: usize = 64;
 const MOST_FOR_ENGINE: usize = 1 << 20;
 
 /// What the engine is at.
 #[derive(Debug)]
 pub enum Phase {
-    /// It is started with a state, and tells it again.
+    /// It is started with a state, and reports that again.
     Restoring(Vec<String>),
     /// It is given entries.
     Following,
-    /// The last entry before a checkpoint is done, and it tells its state.
+    /// The last entry before a checkpoint is done, and it reports its state.
     Asking(Vec<String>),
-    /// It has told this state, and is to end.
+    /// It has reported this state, and is to end.
     Ending(Vec<StateLine>),
 }
 
@@ -75,9 +75,9 @@ pub struct Read {
 
 /// An entry that the engine was given.
 pub struct Block {
-    /// What its writer's engine had told: a name, a position, a digest.
+    /// What its writer's engine had answered: a name, a position, a digest.
     pub claim: Option<(Rc<str>, u64, String)>,
-    /// Whether there is a checkpoint behind it.
+    /// Whether there is a checkpoint after it.
     pub is_checkpoint: bool,
 }
 
@@ -99,7 +99,7 @@ pub struct Cluster {
     pub applied: Applied,
     /// What the engine was given.
     pub mirror: Mirror,
-    /// What it told.
+    /// What it answered.
     pub digests: Digests,
     /// What it is at.
     pub phase: Phase,
@@ -123,7 +123,7 @@ pub struct Cluster {
     pub absent: BTreeMap<Server, Instant>,
     /// Until when this server's lease in etcd lives for sure, once that is known.
     pub lease: Option<Instant>,
-    /// Whether the engine owed an answer at the last sign of life, and whether it has told something since.
+    /// Whether the engine owed an answer at the last sign of life, and whether it has answered anything since.
     is_owing: bool,
     pub has_answered: bool,
     /// The signs of life that were given and not answered: the number of the first, and when.
@@ -231,7 +231,7 @@ impl Cluster {
         self.owns.session(key).map_or_else(Standing::default, |session| self.mirror.standing(session))
     }
 
-    /// What the process that speaks to etcd is told first.
+    /// What the process that speaks to etcd gets first.
     pub fn known(&self) -> String {
         self.place.known().map_or("known - 0 0 0".into(), |it| {
             format!("known {} {} {} {}", it.identity, it.position, it.revision, it.incarnation)
@@ -264,7 +264,7 @@ impl Cluster {
         self.last_sign + lease / 4
     }
 
-    /// Gives a sign of life, behind which the lease is renewed; not while the engine owes an answer for as long as this.
+    /// Gives a sign of life, after which the lease is renewed; not while the engine owes an answer for as long as this.
     pub fn say_alive(&mut self, now: Instant) {
         let is_stuck =
             std::mem::replace(&mut self.is_owing, !self.mirror.is_idle()) && self.is_owing && !self.has_answered;
@@ -277,7 +277,7 @@ impl Cluster {
         }
     }
 
-    /// The lease was renewed behind this sign of life: whether it is the first time.
+    /// The lease was renewed after this sign of life: whether it is the first time.
     pub fn kept(&mut self, number: u64, lease: Option<Duration>) -> bool {
         let mut is_first = false;
         while self.first_sign <= number {
@@ -310,7 +310,7 @@ impl Cluster {
         Some(())
     }
 
-    /// The engine is given this. What only clients of the writer are told is not for those of other servers, of whom one may be
+    /// The engine is given this. Answers that only clients of the writer get are not for those of other servers, of which one may be
     /// on its way to this one.
     pub fn give(&mut self, given: Given, is_own: bool) {
         match given {

@@ -8,7 +8,7 @@ use std::net::IpAddr;
 use std::str::FromStr;
 use wozgirt_engine::{decimal, NotALine};
 
-/// Who is at the other end of a connection.
+/// The client at the other end of a connection.
 #[derive(Debug, Clone, Copy, PartialEq, Eq)]
 pub enum Who {
     /// A user of this machine, by its number.

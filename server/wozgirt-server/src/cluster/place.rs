@@ -8,8 +8,8 @@
 //! ```
 //!
 //! SETTINGS are those with which the log began, or `-` as long as this server has not read them. The last line counts: the last entry
-//! that was read, and the last that the engine has done, with the digest there. A line is written before anybody is told an answer of its
-//! entry, so that an etcd that was wiped or restored is known by it; it is on the disk within a second, and at once where this server
+//! that was read, and the last that the engine has done, with the digest there. A line is written before a client gets an answer of its
+//! entry, so that an etcd that was wiped or restored is detected by it. It is on the disk within a second, and at once when this server
 //! comes into the log and at checkpoints.
 
 use super::entries::is_digest;
@@ -60,7 +60,7 @@ impl Known {
         Known { identity, incarnation: 0, settings: None, position: 0, revision: 0, done: 0, digest: "0".repeat(64) }
     }
 
-    /// Nothing if it is no such text. A last line that is not whole, as after a loss of power, does not count.
+    /// Nothing if the text is of another form. A last line that is not whole, as after a loss of power, does not count.
     fn parse(text: &str) -> Option<Known> {
         let mut lines = text.split_inclusive('\n');
         let mut whole = || lines.next().and_then(|line| line.strip_suffix('\n'));
@@ -108,7 +108,7 @@ pub struct Place {
 }
 
 impl Place {
-    /// The file in this folder, which may be missing. The text is no such file: an error.
+    /// The file in this folder, which may be missing. An error if its text is of another form.
     pub fn open(folder: &Path, now: Instant) -> io::Result<Place> {
         let path = folder.join(NAME);
         let known = match fs::read_to_string(&path) {
@@ -220,7 +220,7 @@ impl Place {
         Ok(())
     }
 
-    /// Writes what has changed. Nobody is told an answer of an entry before.
+    /// Writes what has changed. No client gets an answer of an entry before.
     pub fn write(&mut self, now: Instant) -> io::Result<()> {
         self.syncer.check()?;
         if let (Some(file), Some(known), false) = (&mut self.file, &self.known, self.is_written) {

@@ -28,7 +28,7 @@ enum Own {
 #[derive(Debug, Default)]
 pub struct Owns {
     all: HashMap<Key, Own>,
-    /// Who came with the key last.
+    /// The client that came with the key last.
     whos: HashMap<Key, Who>,
     /// The number of the client's last session, as soon as the log has given it.
     sessions: HashMap<Key, Session>,

@@ -53,7 +53,7 @@ impl ReadingOverEtcd {
         Some(())
     }
 
-    /// The words together; nothing if there is no `--etcd`.
+    /// The words together; nothing without `--etcd`.
     pub fn settings(mut self) -> Result<Option<OverEtcd>, BadWords> {
         let Some(members) = self.members.take() else {
             let words = [

@@ -14,16 +14,16 @@ use std::time::{Duration, Instant};
 /// How many lines, and bytes, an entry has at most.
 const MOST_LINES: usize = 2000;
 const MOST_BYTES: usize = 256 << 10;
-/// A server whose entries have so many lines is busy.
+/// A server whose entries have this many lines is busy.
 const MANY_LINES: usize = 4;
-/// A busy server's next entry waits until clients, who are told answers, have said nothing for so long. At first it waits twice
-/// as long, since they have to hear them.
+/// A busy server's next entry waits until clients, which get answers, have said nothing for this time. At first it waits twice
+/// as long, since they have to read them.
 const SILENCE: Duration = Duration::from_micros(300);
 /// But no longer than this.
 const GATHERING: Duration = Duration::from_millis(2);
 /// How long a busy server waits for the entry of the first one.
 const ROUND: Duration = Duration::from_millis(8);
-/// One that has not written for so long is not busy.
+/// One that has not written for this time is not busy.
 const LATELY: Duration = Duration::from_millis(50);
 
 /// The next entry waits.
@@ -165,7 +165,7 @@ mod tests {
         (0..count).for_each(|key| writer.put(here(key)));
     }
 
-    /// An entry of another server, with so many lines.
+    /// An entry of another server, with this many lines.
     fn other(name: &str, count: u64) -> Entry {
         let lines = (0..count).map(here).collect();
         Entry { writer: server(name), serial: 1, position: 0, digest: String::new(), lines }

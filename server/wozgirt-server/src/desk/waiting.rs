@@ -7,13 +7,13 @@ use crate::turns::Turn;
 use wozgirt_engine::Client;
 
 impl Desk {
-    /// Whether the connection has a line that may be taken now. If that only waits for the engine, it stands in line from now on.
+    /// Whether the connection has a line that may be taken now. If that only waits for the engine, it is in the queue from now on.
     pub fn has_work(&mut self, connection: &mut Connection) -> bool {
         if !connection.has_line() {
             return false;
         }
         let may_ask = self.may_ask(connection, connection.input());
-        // one that has its part there is told an answer before long
+        // one that has its part there gets an answer before long
         if !may_ask && connection.place.is_none() && self.questions.has_part(connection.asked, MOST_PENDING) {
             let turn = if asks_to_leave(connection.input()) { Turn::AskToLeave } else { Turn::Ask };
             connection.place = Some(self.questions.turns.line_up(connection.client, connection.tag, turn));
@@ -21,7 +21,7 @@ impl Desk {
         may_ask
     }
 
-    /// The connection stands in line no longer.
+    /// The connection leaves the queue.
     pub(super) fn step_out(&mut self, connection: &mut Connection) {
         if let Some(place) = connection.place.take() {
             self.questions.turns.step_out(connection.client, place);
@@ -38,7 +38,7 @@ impl Desk {
         !is_refused && is_permitted && self.questions.has_part(connection.asked, MOST_PENDING)
     }
 
-    /// Whether so many times as many lines wait for the log as may, or so many parts of that.
+    /// Whether of the lines that may wait for the log `times` parts in `parts` do.
     fn waits_for_log(&self, times: usize, parts: usize) -> bool {
         self.mode.most_waiting().is_some_and(|most| self.waiting_lines() >= times * most / parts)
     }
@@ -48,12 +48,12 @@ impl Desk {
         self.is_full && !self.waits_for_log(1, 2)
     }
 
-    /// Whether nobody is to be let in: who is here has a turn before others come. `is_so`: it was so before.
+    /// Whether no client is to be let in: those that are here have a turn before others come. `is_so`: it was so before.
     pub fn keeps_out(&self, is_so: bool) -> bool {
         self.is_full || self.questions.turns.keeps_out(is_so) || is_so && self.waits_for_log(1, 4)
     }
 
-    /// Who may ask the engine next, of those who stand in line for that. At the end all who have left do.
+    /// Which client may ask the engine next, of those that wait in the queue for that. At the end all that have left do.
     pub fn next_turn(&mut self, is_ending: bool) -> Option<(Client, Turn)> {
         self.has_next_turn(is_ending).then(|| self.questions.turns.next()).flatten()
     }

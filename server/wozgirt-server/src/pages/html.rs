@@ -20,10 +20,10 @@ td:not(:last-child), th { white-space: nowrap; } td.n, th.n { text-align: right;
 </style></head><body>
 ";
 
-/// How many of a line are named.
+/// How many clients of a queue are named.
 const NAMED: usize = 5;
 
-/// What stands above the rows.
+/// What is above the rows.
 pub fn head(text: &mut String, view: &View<'_>) {
     text.push_str(HEAD);
     summary(text, view);
@@ -35,9 +35,9 @@ pub fn head(text: &mut String, view: &View<'_>) {
     );
 }
 
-/// What stands below them.
+/// What is below them.
 pub const TAIL: &str = "</tbody></table>
-<p>This page shows what the server was told by the engine. What was granted stands in the journal.</p>
+<p>This page shows what the engine answered to the server. The journal has what was granted.</p>
 </body></html>
 ";
 
@@ -153,7 +153,7 @@ mod tests {
     use crate::pages::Telling;
     use crate::sums::Sums;
 
-    /// The text, told in parts of at least so many bytes.
+    /// The text, sent in parts of at least this many bytes.
     fn shown(wanted: Wanted, most: usize) -> String {
         let (mut board, started, mut sums) = (Board::new(2), Instant::now(), Sums::default());
         board.granted(0, 7, 12, Some(77), started);

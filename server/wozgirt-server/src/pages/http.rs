@@ -46,7 +46,7 @@ pub struct Asked {
     pub wanted: Wanted,
     /// Whether it wants more than the head of the answer.
     pub has_body: bool,
-    /// Whether it knows a body that is told in parts, each with its length; else the end of the connection ends it.
+    /// Whether it knows a body that is sent in parts, each with its length; else the end of the connection ends it.
     pub takes_parts: bool,
 }
 
@@ -102,7 +102,7 @@ fn is_of_this_machine(host: &str) -> bool {
 const HEADERS: &str = "Connection: close\r\nCache-Control: no-store\r\nX-Content-Type-Options: nosniff\r\n\
     Content-Security-Policy: default-src 'none'; style-src 'unsafe-inline'; frame-ancestors 'none'\r\n";
 
-/// The head of an answer that is told in parts.
+/// The head of an answer that is sent in parts.
 pub fn head(asked: Asked) -> String {
     let kind = match asked.wanted {
         Wanted::Page => "text/html",

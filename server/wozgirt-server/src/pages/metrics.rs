@@ -41,7 +41,7 @@ pub fn head(text: &mut String, view: &View<'_>) {
 
 fn waits(text: &mut String, waits: &Waits) {
     let mut family =
-        Family::new(text, "wozgirt_wait_seconds", "histogram", "How long grants were waited for, of all locks.");
+        Family::new(text, "wozgirt_wait_seconds", "histogram", "How long clients waited for grants, of all locks.");
     let mut count = 0;
     for (i, of_range) in waits.counts.iter().enumerate() {
         count += of_range;
@@ -92,7 +92,7 @@ fn log(text: &mut String, it: &InLog) {
         ("wozgirt_log_full", "gauge", "1 if etcd has no room for entries.", &u8::from(it.is_full)),
         ("wozgirt_log_position", "gauge", "The last entry of the log that the engine has done.", &it.position),
         ("wozgirt_checkpoint_position", "gauge", "The entry of the last checkpoint.", &it.checkpoint),
-        ("wozgirt_servers_alive", "gauge", "Servers whose lease in etcd lives.", &it.alive),
+        ("wozgirt_servers_alive", "gauge", "Servers whose lease in etcd is valid.", &it.alive),
         ("wozgirt_contradictions_total", "counter", "How often another server had other answers.", &it.contradictions),
     ];
     for (name, kind, help, value) in values {
@@ -110,16 +110,16 @@ pub const OF_LOCKS: [OfLock; 8] = [
         it.holder.map_or(0.0, |holder| view.now.saturating_duration_since(holder.since).as_secs_f64())
     }),
     ("wozgirt_waiting", "gauge", "Clients that wait.", |it, _| it.line.len() as f64),
-    ("wozgirt_oldest_wait_seconds", "gauge", "How long the first of the line has waited.", |it, view| {
+    ("wozgirt_oldest_wait_seconds", "gauge", "How long the first client in the queue has waited.", |it, view| {
         it.line.front().map_or(0.0, |waiter| view.now.saturating_duration_since(waiter.since).as_secs_f64())
     }),
     ("wozgirt_grants_total", "counter", "Grants.", |it, _| it.grants as f64),
-    ("wozgirt_waited_seconds_total", "counter", "Time that was waited for grants.", |it, _| it.waited.as_secs_f64()),
+    ("wozgirt_waited_seconds_total", "counter", "Time that clients waited.", |it, _| it.waited.as_secs_f64()),
     ("wozgirt_longest_wait_seconds", "gauge", "The longest wait for a grant.", |it, _| it.longest_wait.as_secs_f64()),
     ("wozgirt_faults_total", "counter", "Faults that were written.", |it, _| it.faults as f64),
 ];
 
-/// The value of one lock, behind the head of its family if it is the first.
+/// The value of one lock, after the head of its family if it is the first.
 pub fn of_lock(text: &mut String, view: &View<'_>, (name, kind, help, value): &OfLock, lock: Lock) {
     let mut family = if lock == 0 { Family::new(text, name, kind, help) } else { Family { text, name } };
     if let Some(sight) = view.board.lock(lock) {

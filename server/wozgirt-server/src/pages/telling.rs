@@ -1,29 +1,29 @@
-//! A text about all locks, told in parts: a reader that is slow, or a list that is long, keeps neither memory nor time from others.
+//! A text about all locks, sent in parts: a reader that is slow, or a list that is long, keeps neither memory nor time from others.
 
 use super::http::Wanted;
 use super::{html, metrics, View};
 use std::time::Instant;
 use wozgirt_engine::Lock;
 
-/// After so many locks it is looked whether time or room is over.
+/// After this many locks the server looks whether time or room is over.
 const STEP: usize = 32;
 
-/// How far a text is told.
+/// How far a text is sent.
 pub struct Telling {
     wanted: Wanted,
     has_begun: bool,
-    /// Of the metrics, the family whose values are told next.
+    /// Of the metrics, the family whose values are sent next.
     family: usize,
     lock: Lock,
 }
 
 impl Telling {
-    /// Nothing is told.
+    /// Nothing is sent.
     pub fn new(wanted: Wanted) -> Telling {
         Telling { wanted, has_begun: false, family: 0, lock: 0 }
     }
 
-    /// Puts the next part into `text`, until that has so many bytes or it is this time: whether it is the last.
+    /// Puts the next part into `text`, until that has this many bytes or it is this time: whether it is the last.
     pub fn go_on(&mut self, text: &mut String, view: &View<'_>, most: usize, until: Instant) -> bool {
         let (head, families, tail): (fn(&mut String, &View<'_>), _, _) = match self.wanted {
             Wanted::Page => (html::head, 1, html::TAIL),

@@ -11,7 +11,7 @@ use wozgirt_system::Interest;
 /// How long a visit lasts at most, and how much of that a visitor has to say what it wants.
 const LONGEST_VISIT: Duration = Duration::from_secs(10);
 const LONGEST_ASKING: Duration = Duration::from_secs(3);
-/// A visitor that has been here for so long may have to go for one that comes.
+/// A visitor that has been here for this time may have to go for one that comes.
 const SHORTEST_VISIT: Duration = Duration::from_secs(1);
 /// How many bytes of an answer wait to be written.
 const MOST_AHEAD: usize = 16 << 10;
@@ -24,7 +24,7 @@ pub struct Visitor {
     input: Vec<u8>,
     outbox: Outbox,
     has_asked: bool,
-    /// What is still to be told.
+    /// What is still to be sent.
     telling: Option<(Asked, Telling)>,
 }
 
@@ -53,7 +53,7 @@ impl Visitor {
         self.since + if self.has_asked { LONGEST_VISIT } else { LONGEST_ASKING }
     }
 
-    /// Who goes first where there are too many: the smaller it is, the sooner. Nothing if it stays.
+    /// Which visitor goes first if there are too many: the smaller it is, the sooner. Nothing if it stays.
     pub fn turn_to_go(&self, now: Instant) -> Option<(bool, Instant)> {
         let may_go = !self.has_asked || now.saturating_duration_since(self.since) > SHORTEST_VISIT;
         may_go.then_some((self.has_asked, self.since))

@@ -1,4 +1,4 @@
-//! Who comes: clients, operators, and visitors of the page.
+//! Arrivals: clients, operators, and visitors of the page.
 
 use super::{Server, CLIENTS, CONNECTIONS, NETWORK, OPERATORS, PAGE, VISITORS};
 use super::{LATE, MOST_COMERS, MOST_VISITORS, SHORTEST_TURN, SHUT, TURNS};
@@ -48,7 +48,7 @@ impl Doors {
         Ok(doors)
     }
 
-    /// Who comes in at this door, and from which address, if somebody does.
+    /// The client that comes in at this door, and its address, if one does.
     fn accept(&self, key: u64) -> io::Result<Option<(Stream, Option<SocketAddr>)>> {
         let unix = |door: &Option<UnixDoor>| {
             let Some(door) = door else { return Ok(None) };
@@ -109,7 +109,7 @@ impl Server {
         let (door, guest) = (connection.door, connection.guest);
         if self.stopping.is_some() || !self.places.take(door, guest) {
             connection.tell("refused connections");
-            let _ = connection.write(self.desk.now); // it is told if it takes it at once
+            let _ = connection.write(self.desk.now); // it gets that if it takes it at once
             self.desk.sums.turned_away += 1;
             self.desk.log.say(&Event::TooMany { who: &connection.who });
             return;
@@ -128,7 +128,7 @@ impl Server {
         self.touch(client);
     }
 
-    /// The system has no place for one more: others have to close first, and the door would tell of it without an end.
+    /// The system has no place for one more: others have to close first, and the door would report it without an end.
     pub(super) fn shut_doors(&mut self, fault: &io::Error) {
         self.desk.log.say(&Event::CannotAccept { fault });
         self.shut_until = Some(self.desk.now + SHUT);

@@ -78,7 +78,7 @@ impl Server {
         Ok(())
     }
 
-    /// The engine has told its state and ended: that is the checkpoint, from which it starts again.
+    /// The engine has reported its state and ended: that is the checkpoint, from which it starts again.
     pub(super) fn save(&mut self) -> Result<(), CannotServe> {
         let now = self.desk.now;
         let Some(cluster) = self.desk.mode.in_log_mut() else { return Ok(()) };
@@ -109,7 +109,7 @@ impl Server {
     }
 }
 
-/// Who holds and who waits in a state.
+/// The holders and the waiting clients of a state.
 fn put_state(cluster: &mut Cluster, board: &mut Board, state: &[StateLine], now: Instant) {
     for line in state {
         match *line {
@@ -126,7 +126,7 @@ fn put_state(cluster: &mut Cluster, board: &mut Board, state: &[StateLine], now:
     }
 }
 
-/// The settings of this server are those of the log, but for the end of the list of locks.
+/// The settings of this server are those of the log, except for the end of the list of locks.
 pub(super) fn check_settings(cluster: &Cluster, log: &str) -> Result<(), CannotServe> {
     if agrees(&cluster.with, log) {
         return Ok(());

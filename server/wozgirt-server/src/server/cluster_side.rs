@@ -1,4 +1,4 @@
-//! One of several servers: the log is read, the engine does what it says, and clients are told.
+//! One of several servers: it reads the log, its engine does what the log says, and clients get the answers.
 
 use super::checkpoints::check_settings;
 use super::{Server, ENGINE, ENGINE_INPUT};
@@ -88,7 +88,7 @@ impl Server {
         Ok(())
     }
 
-    /// What the engine has told.
+    /// What the engine has answered.
     pub(super) fn hear_engine_of_cluster(&mut self) -> Result<(), CannotServe> {
         let mut lines = Vec::new();
         let heard = self.desk.engine.read_lines(&mut lines);
@@ -151,7 +151,7 @@ impl Server {
         }
     }
 
-    /// The engine has told its whole state.
+    /// The engine has reported its whole state.
     fn hear_state(&mut self) -> Result<(), CannotServe> {
         let Some(cluster) = self.desk.mode.in_log_mut() else { return Ok(()) };
         let phase = mem::replace(&mut cluster.phase, Phase::Following);
@@ -178,7 +178,7 @@ impl Server {
         self.restored(&lines)
     }
 
-    /// The engine has the state of the checkpoint, and has said this besides.
+    /// The engine has the state of the checkpoint, and has also said this.
     fn restored(&mut self, lines: &[String]) -> Result<(), CannotServe> {
         let desk = &mut self.desk;
         let Some(cluster) = desk.mode.in_log_mut() else { return Ok(()) };
@@ -221,7 +221,7 @@ impl Server {
         }
     }
 
-    /// Gives the engine what is there of the log. How far that was read is written before anybody is told what comes of it.
+    /// Gives the engine what is there of the log. How far that was read is written before a client gets an answer that comes of it.
     pub(super) fn pump(&mut self) -> Result<(), CannotServe> {
         loop {
             let waiting = self.desk.engine.waiting();
@@ -287,7 +287,7 @@ impl Server {
         }
     }
 
-    /// What the engine said is told to whom it concerns.
+    /// Sends the answers of the engine to those that they concern.
     fn tell_effect(&mut self, effect: Effect) -> Result<(), CannotServe> {
         let (desk, connections) = (&mut self.desk, &mut self.connections);
         let Some(cluster) = desk.mode.in_log_mut() else { return Ok(()) };
@@ -335,13 +335,13 @@ impl Server {
         Ok(())
     }
 
-    /// The connection was told something, and may say more.
+    /// The connection got an answer, and may say more.
     fn go_on(&mut self, client: Client) {
         self.queue(client);
         self.touch(client);
     }
 
-    /// The session has come here. A client may have come twice, and is told what it has where it came last.
+    /// The session has come here. A client may have come twice, and gets what it has where it came last.
     fn opened(&mut self, key: Key, effect: Effect) -> Result<(), CannotServe> {
         let (now, lease) = (self.desk.now, self.desk.settings.longest_lease);
         let Some(cluster) = self.desk.mode.in_log_mut() else { return Ok(()) };

@@ -10,13 +10,13 @@ use std::time::{Duration, Instant};
 use wozgirt_engine::{Answer, Answered, Asked, Client, Input, Lock, Token, NOBODY};
 use wozgirt_system::Interest;
 
-/// An engine that leaves a question unanswered for so long is called silent.
+/// An engine that leaves a question unanswered for this time is called silent.
 const SILENCE: Duration = Duration::from_secs(2);
 /// How many times longer it may take to answer when it starts.
 const TIMES_AT_START: u32 = 10;
 
 impl Server {
-    /// What the engine has told.
+    /// What the engine has answered.
     pub(super) fn hear_engine(&mut self) -> Result<(), CannotServe> {
         match self.desk.mode {
             Mode::Alone(_) => {
@@ -123,11 +123,11 @@ impl Server {
         }
     }
 
-    /// Tells the operator what came of that.
+    /// Sends the operator what came of that.
     pub(super) fn tell_ended(&mut self, operator: Client, holder: Client, lock: Lock, token: Token, answer: &Answer) {
         let is_ended = matches!(answer, Answer::Released { .. });
         let name = self.desk.names.name(lock);
-        let by = self.connections.get(&operator).map_or("who is gone", |connection| &connection.who);
+        let by = self.connections.get(&operator).map_or("an operator that is gone", |connection| &connection.who);
         if is_ended {
             self.desk.log.say(&Event::HoldEnded { by, lock: name, token, client: holder });
         }
@@ -245,7 +245,7 @@ impl Server {
         Ok(())
     }
 
-    /// Who held a lock when the engine ended has heard by now that it lost it, or its lease is over.
+    /// A holder of a lock when the engine ended knows by now that it lost it, or its lease is over.
     pub(super) fn end_grace(&mut self) {
         self.grace_until = None;
         self.desk.ask_engine(NOBODY, Input::Leave);

@@ -41,7 +41,7 @@ impl Server {
         }
     }
 
-    /// What the log has told.
+    /// What the log has reported.
     pub(super) fn hear_log(&mut self) -> Result<(), CannotServe> {
         let mut lines = Vec::new();
         let Some(cluster) = self.desk.mode.in_log_mut() else { return Ok(()) };
@@ -144,7 +144,7 @@ impl Server {
         }
     }
 
-    /// Who does not know that its lease lives may have been declared over, as one that was stopped for a while.
+    /// A server that does not know that its lease is valid may have been declared over, as one that was stopped for a while.
     pub(super) fn check_lease(&mut self) {
         let is_over = |cluster: &Cluster| cluster.lease.is_some_and(|until| until <= self.desk.now);
         if self.desk.mode.in_log().is_some_and(is_over) {

@@ -56,13 +56,13 @@ const VISITORS: u64 = 1 << 63;
 const MOST_COMERS: usize = 64;
 /// How many visitors the page has at once.
 const MOST_VISITORS: usize = 32;
-/// Files that are open besides connections.
+/// Files that are open in addition to connections.
 const OTHER_FILES: usize = 32;
 /// How long an end in good order may take; and how long after that the server waits for its processes to be gone.
 const LONGEST_STOP: Duration = Duration::from_secs(10);
 const LONGEST_KILL: Duration = Duration::from_secs(2);
-/// How long lines are taken in a round, of those who have just spoken, of those who waited for the engine, and then of those whose
-/// turn comes again: each has its part of that. So long at most some come in, too.
+/// How long lines are taken in a round, of those that have just spoken, of those that waited for the engine, and then of those whose
+/// turn comes again: each has its part of that. For this time at most some come in, too.
 const TURNS: Duration = Duration::from_millis(1);
 const SHORTEST_TURN: Duration = Duration::from_micros(20);
 const LONGEST_TURN: Duration = Duration::from_micros(500);
@@ -98,9 +98,9 @@ pub struct Server {
     last_visitor: u64,
     /// Whether the log says that sessions are not kept.
     says_unkept: bool,
-    /// Who is told something at the end of this round.
+    /// The connections that get something at the end of this round.
     dirty: Vec<Client>,
-    /// Who has just spoken, and who has said more than was taken in its turn.
+    /// The connections that have just spoken, and those that have said more than was taken in their turn.
     fresh: VecDeque<Client>,
     backlog: VecDeque<Client>,
     /// The locks that were held when the engine started.
@@ -188,7 +188,7 @@ impl Server {
         })
     }
 
-    /// Serves until it is told to end.
+    /// Serves until it has to end.
     pub fn run(mut self) -> Result<(), CannotServe> {
         let mut events = Vec::new();
         let mut buffer = [0; SHARE];
@@ -252,7 +252,7 @@ impl Server {
         self.desk.engine.is_over() && self.desk.mode.is_over()
     }
 
-    /// Whether the server was to end long ago: a process may stand still in the system, where nothing ends it.
+    /// Whether the server was to end long ago: a process may hang in the system, where nothing ends it.
     fn is_late(&self) -> bool {
         self.stopping.is_some_and(|until| until + LONGEST_KILL <= self.desk.now)
     }
@@ -289,8 +289,8 @@ impl Server {
         next.saturating_duration_since(now)
     }
 
-    /// `seen`: everything that had come by then was seen. This server may have been stopped since, so nothing else tells who
-    /// is silent.
+    /// `seen`: everything that had come by then was seen. This server may have been stopped since, so nothing else shows which
+    /// client is silent.
     fn pass_time(&mut self, seen: Option<Instant>, buffer: &mut [u8; SHARE]) -> Result<(), CannotServe> {
         let now = self.desk.now;
         self.look_at_engine()?;
@@ -314,7 +314,7 @@ impl Server {
         Ok(())
     }
 
-    /// Lets those go who are silent for longer than their lease, or do not read.
+    /// Drops connections that are silent for longer than their lease, or do not read.
     fn sweep(&mut self, seen: Instant, buffer: &mut [u8; SHARE]) {
         let now = self.desk.now;
         let deaf = self.desk.settings.deaf;
@@ -323,7 +323,7 @@ impl Server {
         let mut next = now + (shortest / 20).clamp(LEAST_PAUSE, LONGEST_PAUSE);
         let mut gone = Vec::new();
         for (client, connection) in &mut self.connections {
-            // the system tells late of a little room at a socket: who reads slowly would look deaf
+            // the system reports a little room at a socket late: a slow reader would look deaf
             if connection.is_stuck() && connection.write(now).is_err() {
                 gone.push((*client, End::Closed));
             } else if connection.is_silent(seen) && connection.is_silent_for_sure(buffer, now) {
@@ -372,7 +372,7 @@ impl Server {
         }
     }
 
-    /// Rules hold for what is asked from now on. If they are wrong, the old ones go on.
+    /// Rules hold for what is asked from now on. If they are wrong, the old ones stay in force.
     fn read_rules_again(&mut self) {
         let accounts = Accounts::of_the_system();
         if self.desk.settings.rules.is_some() {

@@ -39,11 +39,11 @@ pub enum CannotServe {
         /// How many are needed.
         needed: u64,
     },
-    /// Each connection needs some memory: so many MiB for all.
+    /// Each connection needs some memory: this many MiB for all.
     Memory(usize),
     /// A socket cannot be listened to.
     Listen(CannotListen),
-    /// There is no engine.
+    /// The engine cannot be started.
     Engine(CannotStart),
     /// The engine keeps ending before it is ready.
     EngineEnds(ExitStatus),
@@ -94,7 +94,7 @@ impl fmt::Display for CannotServe {
                 )
             }
             CannotServe::Memory(needed) => {
-                write!(f, "so many connections need --memory {needed} at least: raise that, or lower --connections")
+                write!(f, "the connections need --memory {needed} at least: raise that, or lower --connections")
             }
             CannotServe::Listen(fault) => fault.fmt(f),
             CannotServe::Engine(fault) => fault.fmt(f),
@@ -102,7 +102,7 @@ impl fmt::Display for CannotServe {
             CannotServe::Folder(path, NoFolder::InUse) => write!(f, "{}: another server has this folder", path.display()),
             CannotServe::Folder(path, NoFolder::Alone) => write!(
                 f,
-                "{}: this folder has the journal of a server that was alone; one of several needs a folder of its own, and its tokens begin at 1",
+                "{}: this folder has the journal of a single server; one of several needs a folder of its own, and its tokens begin at 1",
                 path.display()
             ),
             CannotServe::Folder(_, NoFolder::Locks) => {
@@ -195,7 +195,7 @@ pub(super) fn read_rules(settings: &Settings, names: &Names, accounts: &Accounts
     Rules::parse(&text, names, accounts).map_err(|fault| CannotServe::Rule(path.clone(), fault))
 }
 
-/// The sessions that are kept beside the journal of a server that is alone. Where nothing can be kept there, it has none.
+/// The sessions that are kept beside the journal of a single server. If nothing can be kept there, it has none.
 pub(super) fn open_sessions(settings: &Settings, names: &Names, log: &mut Log) -> Result<Alone, CannotServe> {
     let store = match Store::open(&settings.journal) {
         Ok(store) => Some(store),

@@ -1,4 +1,4 @@
-//! A server that is alone: its sessions, at the start of the engine, and what the engine answers them.
+//! A single server: its sessions, at the start of the engine, and what the engine answers them.
 
 use super::Server;
 use crate::alone::{Ask, At, Start, What};
@@ -68,7 +68,7 @@ impl Server {
         }
     }
 
-    /// Who has come back while something was on its way is told what the session has when that is answered.
+    /// A client that has come back while something was on its way gets what the session has when that is answered.
     fn open_if_answered(&mut self, session: Client) {
         let Some(client) = self.client_of(session) else { return };
         let Some(connection) = self.connections.get_mut(&client).filter(|it| it.is_to_be_opened()) else { return };
@@ -87,7 +87,7 @@ impl Server {
         self.tell_ended(operator, session, lock, token, answer);
     }
 
-    /// Writes what is new of sessions, before anybody is told of it. If that cannot be, they end with this server.
+    /// Writes what is new of sessions, before a client gets an answer about it. If that cannot be, they end with this server.
     pub(super) fn write_sessions(&mut self) {
         for it in self.desk.alone().map(|alone| alone.take_ended()).unwrap_or_default() {
             // its session has left all
@@ -119,7 +119,7 @@ impl Server {
         Ok(())
     }
 
-    /// The engine has started: it is asked how all locks are, and first told what was done and who waits, if it is to serve.
+    /// The engine has started: it is asked how all locks are, and first gets what was done and which sessions wait, if it is to serve.
     pub(super) fn begin_engine(&mut self) {
         let now = self.desk.now;
         self.desk.board.forget();
@@ -140,7 +140,7 @@ impl Server {
         }
     }
 
-    /// The engine has told how all locks are: whether it serves from here on.
+    /// The engine has answered how all locks are: whether it serves from here on.
     pub(super) fn has_begun(&mut self) -> bool {
         let open = self.held_before.iter().filter_map(|lock| {
             let holder = self.desk.board.lock(*lock)?.holder?;

@@ -36,7 +36,7 @@ impl Server {
         }
     }
 
-    /// The other end is gone. What it has said for a session that goes on is done as soon as it may be asked.
+    /// The other end is gone. What it has said for a session that continues is done as soon as it may be asked.
     pub(super) fn lose(&mut self, client: Client, buffer: &mut [u8; SHARE]) {
         let Some(connection) = self.connections.get_mut(&client) else { return };
         let stays = connection.may_be_left() && self.stopping.is_none() && connection.note_gone(buffer);
@@ -88,7 +88,7 @@ impl Server {
         self.touch(client);
     }
 
-    /// Has the connection's turn come again, if it has more lines that may be taken, or more is to be told to it.
+    /// Has the connection's turn come again, if it has more lines that may be taken, or more is to be sent to it.
     pub(super) fn queue(&mut self, client: Client) {
         if self.has_turn(client) {
             self.backlog.push_back(client);
@@ -104,14 +104,14 @@ impl Server {
         connection.is_queued
     }
 
-    /// Takes lines of those who have just spoken, and of those who waited until the engine had done enough; each time for a while.
+    /// Takes lines of connections that have just spoken, and of those that waited until the engine had done enough; each time for a while.
     pub(super) fn take_turns(&mut self) {
         let fresh = std::mem::take(&mut self.fresh);
         self.fresh = self.take_some(fresh);
         self.take_next();
     }
 
-    /// Takes lines of those who have said more.
+    /// Takes lines of connections that have said more.
     pub(super) fn take_backlog(&mut self) {
         let backlog = std::mem::take(&mut self.backlog);
         let mut rest = self.take_some(backlog);
@@ -134,7 +134,7 @@ impl Server {
         }
     }
 
-    /// Those who had no turn.
+    /// Those that had no turn.
     fn take_some(&mut self, mut line: VecDeque<Client>) -> VecDeque<Client> {
         if line.is_empty() {
             return line;
@@ -226,7 +226,7 @@ impl Server {
     pub(super) fn write_all(&mut self, buffer: &mut [u8; SHARE]) -> Result<(), CannotServe> {
         self.note_full();
         self.write_sessions();
-        // it works while the clients are told
+        // it works while the clients get their answers
         self.desk.engine.write();
         // mostly the last one was granted what the one before it gave back: others wait for that
         for client in std::mem::take(&mut self.dirty).into_iter().rev() {
@@ -252,7 +252,7 @@ impl Server {
         if connection.is_stuck() {
             self.note_deadline(client);
         }
-        self.queue(client); // it may say more, since it has read what it was told
+        self.queue(client); // it may say more, since it has read what was sent
         let hears = self.connections.get(&client).is_some_and(|connection| self.hears(connection.door));
         let Some(connection) = self.connections.get_mut(&client) else { return };
         if let Some(interest) = connection.new_interest(hears) {

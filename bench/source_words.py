@@ -1,0 +1,156 @@
+"""The prose of the sources: comments, help texts, what the server logs and answers. For bench/documents.py, which looks in it for the
+words and forms of `page_words.py`, as in a page.
+
+`python3 bench/source_words.py TOP` prints what it finds of each kind, with the text around it, and how many of each."""
+
+import glob
+import io
+import os
+import re
+import sys
+import tokenize
+
+import page_words
+
+#: a comment, or a text between quotes, of Rust, Rattle and C; one character between quotes is skipped
+TOKENS = re.compile(
+    r"""(?P<line>//[^\n]*)|(?P<block>/\*.*?\*/)|(?P<raw>\br\#*"(?:[^"]*)"\#*)|"(?P<text>(?:[^"\\]|\\.)*)"|'(?:[^'\\\n]|\\.[^'\n]*)'""",
+    re.S,
+)
+MARK = re.compile(r"//[/!]? ?")
+#: a text of fewer words is not prose
+FEWEST_WORDS = 3
+TESTS = re.compile(r"^#\[cfg\(test\)\]\nmod \w+ \{", re.M)
+
+#: what is judged: the name of the kind, its files, and what of them is read
+KINDS = (
+    ("help of ring_tool", ("crates/ring_cli/src/*.rt",), "texts"),
+    ("texts of the server and the command", ("server/*/src/**/*.rs",), "texts"),
+    ("texts of the clients", ("python/wozgirt/*.py", "rust/*/src/*.rs", "include/*.h", "include/*.c"), "texts"),
+    ("comments of the C headers", ("include/*.h", "include/*.c"), "comments"),
+    ("comments of the server and the command", ("server/*/src/**/*.rs",), "comments"),
+    ("comments of the clients", ("python/wozgirt/*.py", "python/wozgirt-log", "python/*.py", "rust/*/src/*.rs", "rust/*/*.rs"), "comments"),
+)
+
+
+def numbered(text, start, lines):
+    """Lines of a page with the numbers that they have in the file."""
+    first = text.count("\n", 0, start) + 1
+    return [(first + at, line) for at, line in enumerate(lines)]
+
+
+def units_of(block):
+    """The paragraphs, items and rows of numbered lines, as those of a page."""
+    shift = block[0][0] - 1
+    for unit in page_words.text_units([line for _, line in block]):
+        yield [(number + shift, line) for number, line in unit]
+
+
+def comments_of_code(text):
+    """Blocks of lines: comments that follow one another, and each comment after code by itself."""
+    block, after = [], -1
+    for found in TOKENS.finditer(text):
+        if found["block"]:
+            lines = [re.sub(r"^\s*\*? ?", "", it) for it in found["block"][2:-2].split("\n")]
+            yield numbered(text, found.start(), lines)
+        if not found["line"]:
+            continue
+        before = text[text.rfind("\n", 0, found.start()) + 1 : found.start()]
+        number = text.count("\n", 0, found.start()) + 1
+        if block and (before.strip() or number != after + 1):
+            yield block
+            block = []
+        block.append((number, MARK.sub("", found["line"], count=1)))
+        after = number if not before.strip() else -1
+    if block:
+        yield block
+
+
+def texts_of_code(text):
+    """Blocks of lines: the texts between quotes that are prose, except in tests."""
+    found = TESTS.search(text)
+    for it in TOKENS.finditer(text[: found.start()] if found else text):
+        said = it["text"] or it["raw"]
+        if said and is_prose(said):
+            lines = re.sub(r'^r#*"|"#*$', "", said).split("\n")
+            yield numbered(text, it.start(), [spoken(line.replace('\\"', '"').rstrip("\\")) for line in lines])
+
+
+def is_prose(said):
+    """A text of fewer words is a name, or a part of a line."""
+    return len([it for it in said.split() if re.search(r"[A-Za-z]{2}", it)]) >= FEWEST_WORDS
+
+
+def spoken(line):
+    """A line of a text without the values that are filled in."""
+    return re.sub(r"\{[^{}]*\}", "_", line.replace("\\n", " "))
+
+
+def python_tokens(text):
+    """What is a comment or a docstring, and what is another text, each with its line."""
+    first = True
+    for it in tokenize.generate_tokens(io.StringIO(text).readline):
+        if it.type == tokenize.COMMENT:
+            yield "comments", it.start[0], re.sub(r"^#[:!]? ?", "", it.string)
+        elif it.type in (tokenize.STRING, getattr(tokenize, "FSTRING_MIDDLE", -1)):
+            said = re.sub(r'^[a-zA-Z]*("""|\'\'\'|"|\')(.*)\1$', r"\2", it.string, flags=re.S)
+            yield "comments" if first and it.type == tokenize.STRING else "texts", it.start[0], said
+        if it.type in (tokenize.NEWLINE, tokenize.INDENT, tokenize.DEDENT):
+            first = True
+        elif it.type not in (tokenize.NL, tokenize.COMMENT, tokenize.ENCODING):
+            first = False
+
+
+def blocks_of_python(text, kind):
+    block = []
+    for what, number, said in python_tokens(text):
+        if what != kind:
+            continue
+        if kind == "texts" and not is_prose(said):
+            continue
+        lines = [spoken(it.strip()) for it in said.split("\n")] if kind == "texts" else said.split("\n")
+        here = [(number + at, re.sub(r"^ {4}(?! )|^ {8}(?! )", "", line)) for at, line in enumerate(lines)]
+        if block and (kind == "texts" or number != block[-1][0] + 1):
+            yield block
+            block = []
+        block += here
+    if block:
+        yield block
+
+
+def blocks_of(path, text, kind):
+    if path.endswith(".py") or text.startswith("#!/usr/bin/env python3"):
+        return blocks_of_python(text, kind)
+    return comments_of_code(text) if kind == "comments" else texts_of_code(text)
+
+
+def files_of(top, patterns):
+    found = {it for pattern in patterns for it in glob.glob(f"{top}/{pattern}", recursive=True)}
+    return sorted(os.path.relpath(it, top) for it in found)
+
+
+def wrong_sources(top, excuses):
+    """Each kind with what it has: the path, the number of a line, what is there, what to say, and the text around it."""
+    for name, patterns, kind in KINDS:
+        said = []
+        for path in files_of(top, patterns):
+            with open(f"{top}/{path}", encoding="utf-8") as file:
+                text = file.read()
+            for block in blocks_of(path, text, kind):
+                for unit in units_of(block):
+                    said += [(path, *it, unit) for it in page_words.wrong_in(path, unit, excuses)]
+        yield name, said
+
+
+def main(top):
+    excuses = page_words.Excuses(f"{top}/bench/excused_words.txt")
+    counts = []
+    for name, said in wrong_sources(top, excuses):
+        for path, number, found, better, unit in said:
+            print(f"{path}:{number}: {found!r}: say {better}", *(f"    {it}: {line}" for it, line in unit), sep="\n")
+        counts.append(f"{name}: {len(said)}")
+    print(*counts, sep="\n")
+
+
+if __name__ == "__main__":
+    main(sys.argv[1])
