@@ -36,7 +36,7 @@ KINDS = (
 #: crates whose comments are not judged
 UNREAD = (
     "disks segment_folder segment_loop line_loop line_replica lock_serve lock_laws lock_folder lock_commands chain_serve serve_commands "
-    "ring_model folder_commands text_commands tool_parts ring_serve ring_text ring_report command_tests"
+    "folder_commands text_commands tool_parts ring_serve ring_text ring_report command_tests"
 ).split()
 
 
