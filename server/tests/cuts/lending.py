@@ -148,9 +148,12 @@ class Locks:
         kept, places = {}, [0]
         for line in remarks:
             words = line.split(" ", 3)
-            if words[0] == "at" and words[1].isdigit():
+            if not (len(words) > 1 and words[1].isdigit()):
+                # old blocks and holes leave parts of lines
+                continue
+            if words[0] == "at":
                 places.append(int(words[1]))
-            elif words[1].isdigit() and words[2:3] == ["did"]:
+            elif words[2:3] == ["did"]:
                 kept.setdefault(words[0], []).append((int(words[1]), " ".join(words[3:])))
         first = -1 if are_last else 0
         missing = [f"what key {key} was told is missing: {last}, there is {kept.get(key, [])[-1:]}" for key, last in heard.keys.items()
