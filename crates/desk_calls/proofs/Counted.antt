@@ -1,4 +1,4 @@
--- The number of locks stays the same, a leave tells of each at most once, and what a test of the grants says.
+-- The number of locks stays the same, a leave reports each at most once, and what a test of the grants says.
 use Rattle.std.proofs.Common.{◌≡◌, ◌≢◌, ◌==◌, Bool, true, false, ℕ, zero, suc, ◌+◌, ◌≤◌, List, [], ◌∷◌, ◌++◌, length, drop, get_or, inl, inr, refl, subst, add-one, drop-cons, append_assoc, ◌<◌, sym, ap, ◌∙◌, Option, Some, None, arith}
 use Rattle.std.specs.Prelude.{slice_get}
 use Rattle.std.proofs.lemmas.Bool.{eq-eqb, eqb-true}
@@ -59,7 +59,7 @@ of_few c vs (suc n) =
 pub left_few : (old new : List LockView) (c : ℕ) (said : List Left) → IsLeft old new c said → length said ≤ length old
 left_few old new c said left = let few = of_few c old (length old) in let same : length said ≡ length (left_of c old (length old)) = ap length left.told in omega arith
 
--- what is put so far, with what the rest tells, is what all tell
+-- what is put so far, with what the rest reports, is what all report
 pub put_more : (ls : List Left) (i : ℕ) (d : Left) (before now next : List Grant) → i < length ls → before ++ grants_in ls ≡ now ++ grants_in (drop i ls)
     → next ≡ now ++ grant_at (get_or ls i d).lock (get_or ls i d).granted → before ++ grants_in ls ≡ next ++ grants_in (drop (i + 1) ls)
 put_more ls i d before now next h so put =
@@ -68,7 +68,7 @@ put_more ls i d before now next h so put =
     subst (λ (n : ℕ). grants_in (drop i ls) ≡ grant_at x.lock x.granted ++ grants_in (drop n ls)) (sym (add-one i)) (ap grants_in (drop-cons ls i d h)) in
     so ∙ (ap (λ (g : List Grant). now ++ g) rest ∙ (sym (append_assoc now (grant_at x.lock x.granted) (grants_in (drop (i + 1) ls))) ∙ ap (λ (g : List Grant). g ++ grants_in (drop (i + 1) ls)) (sym put)))
 
--- as many locks go on
+-- as many locks continue
 pub next_long : (old new : List LockView) → AreNext old new → length new ≡ length old
 next_long [] new a = ap length a
 next_long (v ∷ vs) [] a = absurd a

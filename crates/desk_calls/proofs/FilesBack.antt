@@ -1,4 +1,4 @@
--- What goes on from the file of a ring's segment is that ring.
+-- What resumes the file of a ring's segment is that ring.
 use Rattle.std.proofs.Common.{◌≡◌, List, [], ◌∷◌, map, refl, sym, ap, ◌∙◌}
 use Rattle.std.specs.Prelude.{slice_get}
 use Rattle.std.proofs.lemmas.Option.{same_Some}

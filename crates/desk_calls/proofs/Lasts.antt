@@ -22,7 +22,7 @@ right_ring bytes last ring right one =
     let text : IsRightText (content last.saved) = (legal_means (content last.saved) (file_starts (last_file bytes last) file)).0 file.recovered.legal in
     right_at last.saved.version 0 last.saved.rings.items 0 ring text.blocks (ap (λ (rs : List SavedRing). slice_get rs 0) one)
 
--- a ring that goes on there
+-- a ring that resumes there
 pub gone_on : (bytes : List ℕ) (last : LastSegment) (saved : SavedRing) (base : Base) (seats : ℕ) (place : PlaceView) (ring : RingView ℕ) (d : FilesView) → d ≡ filed_at place base ring
     → place ≡ record { number = last.head.number; behind = last.head.behind } → IsRightLast bytes (Ok last) → last.saved.rings.items ≡ saved ∷ [] → last.head.bases.items ≡ base ∷ []
     → IsResumedAs saved seats ring → IsGoneOn bytes seats d

@@ -65,7 +65,7 @@ few w a h seat front (entry.Survey s ∷ log) i o =
     let split = ap length (own_split seat front s.position h i.0 i.1.0) ∙ length-append (receipts_by seat front (slice_range h front s.position)) (own seat h s.position) in
     omega arith
 
--- ---- the surveys of a log stand in order
+-- ---- the surveys of a log are in order
 
 in_order : {C : Type 0} (w : Works C) (a : State C) (h : List Event) (front : ℕ) (log : List Entry) → front ≤ length h → IsFollowed w a h front log → StandInOrder front (length h) (surveys_in log)
 in_order w a h front [] le i = le
@@ -89,7 +89,7 @@ get_taken (x ∷ h) (suc n) (suc p) lt = get_taken h n p (omega (arith, lt))
 range_taken : (h : List Event) (n a b : ℕ) → b ≤ n → slice_range (take n h) a b ≡ slice_range h a b
 range_taken h n a b le = between_is (take n h) a b ∙ (ap (drop a) (take-take b n h le) ∙ sym (between_is h a b))
 
--- the next receipt is the only one up to the place behind it
+-- the next receipt is the only one up to the place after it
 next_own : (seat front : ℕ) (h : List Event) (r : Receipt) → front ≤ r.position → slice_get h r.position ≡ Some r.event → r.event.seat ≡ seat → receipts_by seat front (slice_range h front r.position) ≡ [] →
     entry.Receipt r ∷ own seat h (r.position + 1) ≡ own seat h front
 next_own seat front h r le at is none =

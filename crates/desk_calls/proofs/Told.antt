@@ -8,7 +8,7 @@ use Rattle.desk_calls.specs.Reports.{IsTextReport, HasNoSize}
 none_before : (n : ℕ) → 0 + n ≡ n
 none_before n = omega arith
 
--- here are the code and the size that are told of what was measured
+-- here are the code and the size that are reported of what was measured
 module _ (text : List ℕ) {none some : List ℕ} {whole : ℕ} (measured : Fills none some 0 whole text) {old : List ℕ} {code size said : ℕ}
     (lost : whole ≡ 2 ^ 64 - 1 → (code ≡ no_memory) × (said ≡ size)) (small : whole < 2 ^ 64 - 1 → length old < whole → (code ≡ too_small) × (said ≡ whole))
     (enough : whole < 2 ^ 64 - 1 → whole ≤ length old → (code ≡ 0) × (said ≡ whole)) where

@@ -26,13 +26,13 @@ abbrev pub grant_at : ℕ → Option Holder → List Grant
 grant_at lock None = []
 grant_at lock (Some h) = record { client = h.client; token = h.token; lock = lock } ∷ []
 
--- the grants behind holds that a leave ended
+-- the grants after holds that a leave ended
 abbrev pub grants_in : List Left → List Grant
 grants_in [] = []
 grants_in (l ∷ ls) = grant_at l.lock l.granted ++ grants_in ls
 
--- An ask is answered as the machine of locks says, or refused for want, and a grant to another is to
--- be handed out. Where grants are left it is not taken, and nothing has changed.
+-- An ask is answered as the machine of locks says, or refused for lack of room or memory, and a grant
+-- to another is to be handed out. Where grants are left it is not taken, and nothing has changed.
 abbrev pub IsAsked : DeskView → DeskView → ℕ → ℕ → Ask → Option Answers → Type 0
 IsAsked old new client lock ask (Some r) =
     (old.grants ≡ [])
@@ -48,7 +48,7 @@ IsDoneAsk old new client lock ask (Some r) =
     × (new.grants ≡ grant_at lock r.granted)
 IsDoneAsk old new client lock ask None = (old.grants ≢ []) × (new ≡ old)
 
--- a client left all locks, and who is granted one behind it is to be handed out
+-- a client left all locks, and the grants that follow are to be handed out
 pub record IsDeskLeft (old new : DeskView) (client : ℕ) : Type 0 where
   pub none : old.grants ≡ []
   pub said : List Left
@@ -96,7 +96,7 @@ IsLocksRefused count machines code =
     ⊎ (((code ≡ bad_machines) × IsLockCount count × (¬ IsMachineCount machines))
     ⊎ ((code ≡ no_memory) × IsLockCount count × IsMachineCount machines))
 
--- ---- what is told of an input
+-- ---- what an input is answered
 
 -- of a leave
 abbrev pub IsLeaveReport : DeskView → DeskView → ℕ → ℕ → Type 0
@@ -104,7 +104,7 @@ IsLeaveReport old new client code =
     ((code ≡ 0) × IsDeskLeft old new client)
     ⊎ ((code ≡ grants_left) × (old.grants ≢ []) × (new ≡ old))
 
--- of a cut: the locks go on in their next segments; or grants are left; or there is no next segment
+-- of a cut: the locks continue in their next segments; or grants are left; or there is no next segment
 -- of one, or no memory
 abbrev pub IsCutAnswer : DeskView → DeskView → ℕ → Type 0
 IsCutAnswer old new code =

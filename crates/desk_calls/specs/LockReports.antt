@@ -23,14 +23,14 @@ lock_code refusal.Value = 18
 lock_code refusal.Full = history_full
 lock_code refusal.Memory = no_memory
 
--- the code of what the client is told who asks
+-- the code of the answer to the client that asks
 abbrev pub own_code : Option Answer → ℕ
 own_code (Some (answer.Waiting ahead)) = 1
 own_code (Some answer.Busy) = 2
 own_code (Some (answer.Refused why)) = lock_code why
 own_code _ = 0
 
--- what is written for that client: the token of a grant, or how many stand before it
+-- what is written for that client: the token of a grant, or how many wait before it
 abbrev pub own_hold : Option Answer → Hold → Hold
 own_hold (Some (answer.Granted token)) old = record { token = token; ahead = 0 }
 own_hold (Some (answer.Waiting ahead)) old = record { token = 0; ahead = ahead }

@@ -24,7 +24,7 @@ pub record NamesOnly (ring : SavedRing) (seats : ℕ) : Type 0 where
   pub callers : All (λ (e : SavedEvent). (event_of e).seat < seats) ring.events.items
   pub surveyors : All (λ (s : SavedSurvey). s.seat < seats) ring.surveys.items
 
--- a ring of so many seats may resume it, if it is of a legal text
+-- a ring of this many seats may resume it, if it is of a legal text
 pub record FitsSeats (ring : SavedRing) (seats : ℕ) : Type 0 where
   pub count : IsSeatCount seats
   pub names : NamesOnly ring seats
@@ -46,7 +46,7 @@ abbrev pub IsRingRefused : SavedRing → ℕ → ℕ → Type 0
 IsRingRefused ring seats code =
     IsSeatsFault ring seats code ⊎ ((code ≡ no_memory) × FitsSeats ring seats)
 
--- the ring has so many seats; it started as the saved one did, and has its history and its surveys
+-- the ring has this many seats; it started as the saved one did, and has its history and its surveys
 pub record IsResumedAs (ring : SavedRing) (seats : ℕ) (d : RingView ℕ) : Type 0 where
   pub fits : FitsSeats ring seats
   pub start : d.book.start ≡ ring_with ring.k ring.start.items

@@ -40,7 +40,7 @@ kept_after (Idle d) = Idle d
 
 -- ---- the next segment
 
--- The segment was sealed: its file's text was written, and the ring goes on in the next one, whose
+-- The segment was sealed: its file's text was written, and the ring continues in the next one, whose
 -- file comes after these bytes.
 abbrev pub IsSealed : Kept → Kept → List ℕ → Type 0
 IsSealed (Till d) (Till e) bytes = IsFileText d bytes × IsNextFile d bytes e
@@ -52,7 +52,7 @@ IsNotSealed (Till d) code = ((code ≡ history_full) × HasNoNext d) ⊎ (code �
 IsNotSealed (Idle d) code = code ≡ no_till
 
 -- Of a cut: the sealed segment's text is at the front of the buffer; or the buffer is too small, and
--- its size is said; or nothing is written. But for a cut that is done the ring is as it was.
+-- its size is said; or nothing is written. Except after a cut that is done the ring is as it was.
 abbrev pub IsCutReport : Kept → Kept → ℕ → List ℕ → List ℕ → ℕ → ℕ → Type 0
 IsCutReport old new code was out size said =
     ((bytes : List ℕ)
@@ -69,9 +69,9 @@ IsCutReport old new code was out size said =
     × (new ≡ old))
     ⊎ (IsNotSealed old code × (out ≡ was) × (said ≡ size) × (new ≡ old)))
 
--- ---- the last file of a chain, to go on from
+-- ---- the last file of a chain, to resume from
 
--- the code of bytes that are no file with which a chain ends
+-- the code of bytes that are not a file with which a chain ends
 abbrev pub no_chain : ℕ
 no_chain = 52
 
@@ -122,8 +122,8 @@ IsLastRefused last seats code =
     ((code ≡ many_rings) × (length last.saved.rings.items ≢ 1))
     ⊎ ((saved : SavedRing) × (last.saved.rings.items ≡ saved ∷ []) × IsRingRefused saved seats code)
 
--- The bytes are no such file, with the line that is told; or they are, and any code but 0 says why
--- the ring is not resumed.
+-- The bytes are not such a file, with the line that is reported; or they are, and any code but 0 says
+-- why the ring is not resumed.
 abbrev pub IsSegmentAnswer : List ℕ → ℕ → ℕ → ℕ → Type 0
 IsSegmentAnswer bytes seats code line =
     ((error : SegmentError)

@@ -25,7 +25,7 @@ SavesComeBack =
     (d e : RingView ℕ) (bytes : List ℕ) (place seats : ℕ) → IsOneThreadRing till 0 d
     → IsSavedText d bytes → IsResumedFrom bytes place seats e → (place ≡ 0) × IsBackAs d e
 
--- Whatever goes on from the file of a ring's segment, as its journal begins or as it is sealed, is
+-- Whatever resumes the file of a ring's segment, as its journal begins or as it is sealed, is
 -- that ring again, in the same file and after the same base.
 abbrev pub FilesComeBack : Type 0
 FilesComeBack =

@@ -30,7 +30,7 @@ impl Model for LockDesk {
         × (length d.locks ≤ vec_capacity d.left) };
 }
 
-/// Puts the grant of a lock behind others, if there is one.
+/// Appends the grant of a lock to others, if there is one.
 #[inline(always)]
 fn put(grants: &mut Vec<Grant>, lock: u32, granted: Option<Holder>)
     requires { vec_len grants.old < vec_capacity grants.old }
@@ -47,7 +47,7 @@ fn put(grants: &mut Vec<Grant>, lock: u32, granted: Option<Holder>)
     }
 }
 
-/// Puts the grants that a leave brought about behind others.
+/// Appends the grants that a leave brought about to others.
 fn put_all(grants: &mut Vec<Grant>, left: &[Left])
     requires { vec_len grants.old + length left.now ≤ vec_capacity grants.old }
     ensures put { grants.new.items ≡ grants.old.items ++ grants_in left.now }
@@ -58,7 +58,7 @@ fn put_all(grants: &mut Vec<Grant>, left: &[Left])
     }
 }
 
-/// Room for what may be granted by an input, and for what a leave tells, where there are so many locks.
+/// Room for what may be granted by an input, and for what a leave reports, with this many locks.
 fn room_for(alloc: Global, count: u32) -> Result<(Vec<Grant>, Vec<Left>), AllocError>
     ensures { IfOk result (λ r. (r.0.items ≡ [])
         × (count < vec_capacity r.0)
@@ -75,7 +75,7 @@ fn room_for(alloc: Global, count: u32) -> Result<(Vec<Grant>, Vec<Left>), AllocE
     }
 }
 
-/// A client acquires a lock, if no grants are left, and who is granted it stands among them.
+/// A client acquires a lock, if no grants are left; a grant to another client is put among them.
 #[inline(always)]
 fn acquire_in(
     locks: &mut Locks,
@@ -122,7 +122,7 @@ fn try_in(
     Some(answers)
 }
 
-/// A client releases a lock, if no grants are left, and who is granted it stands among them.
+/// A client releases a lock, if no grants are left; the grant to the next client is put among them.
 #[inline(always)]
 fn release_in(
     locks: &mut Locks,
@@ -163,7 +163,7 @@ fn cancel_in(locks: &mut Locks, grants: &mut Vec<Grant>, client: u64, lock: u32)
     Some(answers)
 }
 
-/// The client leaves all locks, if no grants are left, and who is granted one behind it stands among them: whether it left.
+/// The client leaves all locks, if no grants are left; the grants that follow are put among them: whether it left.
 fn leave_in(locks: &mut Locks, grants: &mut Vec<Grant>, left: &mut Vec<Left>, client: u64) -> bool
     requires grants { length locks.old < vec_capacity grants.old }
     requires left { length locks.old ≤ vec_capacity left.old }
@@ -187,7 +187,7 @@ fn leave_in(locks: &mut Locks, grants: &mut Vec<Grant>, left: &mut Vec<Left>, cl
     true
 }
 
-/// The locks go on in new segments of their histories, if no grants are left: the code.
+/// The locks continue in new segments of their histories, if no grants are left: the code.
 fn cut_in(locks: &mut Locks, grants: &Vec<Grant>, alloc: Global) -> u32
     ensures is { IsCutReport (record { locks = locks.old; grants = grants.now.items })
         (record { locks = locks.new; grants = grants.now.items }) result }
@@ -258,7 +258,7 @@ impl LockDesk {
         leave_in(&mut self.locks, &mut self.grants, &mut self.left, client)
     }
 
-    /// The locks go on in new segments of their histories, if no grants are left: the code.
+    /// The locks continue in new segments of their histories, if no grants are left: the code.
     pub fn cut(&mut self, alloc: Global) -> u32
         ensures { IsCutReport self.old self.new result }
     {

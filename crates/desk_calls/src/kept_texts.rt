@@ -15,7 +15,7 @@ use ring_endless::NextError;
 use ring_files::FileRing;
 use std::alloc::Global;
 
-/// Tells the size of a text, if it has one, and whether there is room for it.
+/// Reports the size of a text, if it has one, and whether there is room for it.
 fn tell_size(whole: usize, room: usize, size: &mut u64) -> u32
     ensures none { whole ≡ 2 ^ 64 - 1 → (result ≡ no_memory) × (size.new ≡ size.old) }
     ensures small { whole < 2 ^ 64 - 1 → room < whole
@@ -32,7 +32,7 @@ fn tell_size(whole: usize, room: usize, size: &mut u64) -> u32
     0
 }
 
-/// The saved text of the segment of a ring without end, at the front of the bytes, if there is room. Its size is told.
+/// The saved text of the segment of a ring without end, at the front of the bytes, if there is room. Reports its size.
 fn save_ring(ring: &FileRing, out: &mut [u8], size: &mut u64) -> u32
     ensures { (answer : Result (List ℕ) TextError)
         × IsTextAnswer (Kept.Till ring.now) answer
@@ -57,7 +57,7 @@ pub fn save(kept: &Kept, out: &mut [u8], size: &mut u64) -> u32
     }
 }
 
-/// The text of the file of the segment of a ring without end, at the front of the bytes, if there is room. Its size is told.
+/// The text of the file of the segment of a ring without end, at the front of the bytes, if there is room. Reports its size.
 fn put_ring_file(ring: &FileRing, out: &mut [u8], size: &mut u64) -> u32
     ensures { (answer : Result (List ℕ) TextError)
         × IsFileAnswer (Kept.Till ring.now) answer
@@ -82,8 +82,8 @@ fn put_file(kept: &Kept, out: &mut [u8], size: &mut u64) -> u32
     }
 }
 
-/// The lines of a ring without end that its journal does not have, if one is kept, at the front of the bytes, if there is room. Their
-/// size is told.
+/// The lines of a ring without end that its journal does not have, if one is kept, at the front of the bytes, if there is room.
+/// Reports their size.
 fn put_ring_lines(ring: &FileRing, out: &mut [u8], size: &mut u64) -> u32
     ensures { (answer : Result (List ℕ) TextError)
         × IsLinesAnswer (Kept.Till ring.now) answer
@@ -161,7 +161,7 @@ fn seal(ring: &mut FileRing, alloc: Global, text: &[u8], out: &mut [u8], size: &
     }
 }
 
-/// Seals the segment of a ring without end, which goes on in the next one.
+/// Seals the segment of a ring without end, which continues in the next one.
 fn cut_ring(ring: &mut FileRing, alloc: Global, out: &mut [u8], size: &mut u64) -> u32
     ensures { IsCutReport (Kept.Till ring.old) (Kept.Till ring.new) result out.old out.new
         size.old size.new }
@@ -172,8 +172,8 @@ fn cut_ring(ring: &mut FileRing, alloc: Global, out: &mut [u8], size: &mut u64) 
     }
 }
 
-/// Seals the segment: the text of its file is at the front of the bytes, if there is room, and its size is told. What C holds goes
-/// on in the next segment, with its numbers; no journal of that is kept.
+/// Seals the segment: the text of its file is at the front of the bytes, if there is room. Reports its size. The struct that C holds
+/// continues in the next segment, with its numbers; no journal of that is kept.
 pub fn cut(kept: &mut Kept, alloc: Global, out: &mut [u8], size: &mut u64) -> u32
     ensures { IsCutReport kept.old kept.new result out.old out.new size.old size.new }
 {

@@ -6,7 +6,7 @@ ghost use Rattle.desk_calls.specs.LockReports;
 use desk_codes::{GRANTS_LEFT, HISTORY_FULL, NO_MEMORY, NO_MORE};
 use ring_locks::{Answer, Answers, Refusal};
 
-/// The answer to a client that acquires a lock: its token, or how many stand before it.
+/// The answer to a client that acquires a lock: its token, or how many clients wait before it.
 #[repr(C)]
 #[derive(Clone, Copy)]
 pub struct Hold {
@@ -41,7 +41,7 @@ pub(crate) fn lock_code(refusal: Refusal) -> u32
     }
 }
 
-/// The code of what a client is told.
+/// The code of a client's answer.
 #[inline(always)]
 fn own_code(own: Option<Answer>) -> u32
     ensures { result ≡ LockReports.own_code own }

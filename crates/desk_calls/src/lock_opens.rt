@@ -14,7 +14,7 @@ use ring_locks::{LOCK_LIMIT, Locks};
 use ring_model::limits::MACHINE_LIMIT;
 use std::alloc::{AllocError, Global};
 
-/// A ring of so many machines for a lock, with no events.
+/// A ring of this many machines for a lock, with no events.
 fn fresh_ring(alloc: Global, machines: u32, start: &[u32]) -> Result<EndlessRing, AllocError>
     requires { start.now ≡ replicate machines 0 }
     ensures { IfOk result (λ e. IsKeptRing e × IsNewRing machines e) }
@@ -25,7 +25,7 @@ fn fresh_ring(alloc: Global, machines: u32, start: &[u32]) -> Result<EndlessRing
     }
 }
 
-/// So many locks, each over a ring that starts so.
+/// This many locks, each over a ring that starts so.
 fn fresh_locks(alloc: Global, count: u32, machines: u32, start: &[u32]) -> Result<Locks, AllocError>
     requires { start.now ≡ replicate machines 0 }
     ensures { IfOk result (λ ls. (length ls ≡ count) × All (IsFree machines) ls) }
@@ -44,7 +44,7 @@ fn fresh_locks(alloc: Global, count: u32, machines: u32, start: &[u32]) -> Resul
     Ok(locks)
 }
 
-/// A desk of so many locks, each over a ring of so many machines.
+/// A desk of this many locks, each over a ring of this many machines.
 fn fresh_desk(alloc: Global, count: u32, machines: u32) -> Result<LockDesk, AllocError>
     ensures { IfOk result (λ d. AreFreeLocks count machines d) }
 {

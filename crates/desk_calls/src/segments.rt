@@ -13,10 +13,10 @@ use ring_saved::SavedRing;
 use ring_segments::{LastSegment, SegmentError, read_last};
 use std::alloc::Global;
 
-/// The code of bytes that are no file with which a chain ends.
+/// The code of bytes that are not a file with which a chain ends.
 const NO_CHAIN: u32 = 52;
 
-/// The code of why bytes are no file with which a chain ends.
+/// The code of why bytes are not a file with which a chain ends.
 fn segment_code(error: SegmentError) -> u32
     ensures { result ≡ segment_code error }
 {
@@ -67,7 +67,7 @@ fn only_base(bases: &[Base]) -> Option<Base>
     }
 }
 
-/// A ring that goes on in the last file of a chain, or the code of why there is none.
+/// A ring that resumes the last file of a chain, or the code of why there is none.
 fn go_on_in(alloc: Global, bytes: &[u8], last: &LastSegment, seats: u32) -> Result<FileRing, u32>
     requires right { IsRightLast bytes.now (Ok last.now) }
     requires many { length last.now.head.bases.items ≡ length last.now.saved.rings.items }

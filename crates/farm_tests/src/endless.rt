@@ -29,7 +29,7 @@ fn told(rt: &impl Abort, call: Result<Receipt, CallError>) -> (u64, Reply) {
     }
 }
 
-// The history that is worked by hand in `ring_model`: positions, grants, amounts and calm go on over the cut.
+// The history that is worked by hand in `ring_model`: positions, grants, amounts and calm continue over the cut.
 #[test]
 fn goes_on_over_a_cut(rt: HostRuntime) {
     let granted = |number, amount| Reply::Granted {

@@ -131,7 +131,7 @@ module _ (stop : ℕ) (apart : stop < 48) where
   unfolding Comes
   decimal_comes n = by_digits Comes comes_one comes_more n
 
-  -- a byte that is no digit and does not end it
+  -- a byte that is not a digit and does not end it
   pub decimal_fails : (n b : ℕ) (rest : List ℕ) → b ≢ stop → is_digit b ≡ false → decimal_at stop ((number_text n ++ b ∷ []) ++ rest) ≡ Err (Bad (suc (length rest)))
   unfolding digits_at
   decimal_fails n b rest ne other = ap (decimal_at stop) (append_assoc (number_text n) (b ∷ []) rest) ∙ decimal_comes n (b ∷ rest) ∙ rw (ne_eqb b stop ne, and_no (ltb 0 n) (is_digit b) other) refl

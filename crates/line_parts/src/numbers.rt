@@ -79,7 +79,7 @@ pub fn decimal(bytes: &[u8], stop: u8) -> Result<(Option<u64>, &[u8]), Stop>
     }
 }
 
-/// The number of 32 bits that stands for a number.
+/// The number of 32 bits that is equal to a number.
 fn in_32_bits(number: Option<u64>) -> u32
     ensures { (n : ℕ) → number ≡ in_64_bits n → result ≡ in_32_bits n }
 {

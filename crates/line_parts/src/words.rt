@@ -5,7 +5,7 @@ ghost use Rattle.text_lines.specs.Spelling.{spaced, ended};
 
 use text_lines::Line;
 
-/// Puts the word in front of a line.
+/// Puts the word before a line.
 pub fn put_word(line: &mut Line, word: &[u8])
     requires { length line.old + length word.now ≤ 128 }
     ensures { line.new ≡ word.now ++ line.old }

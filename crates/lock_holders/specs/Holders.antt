@@ -1,4 +1,4 @@
--- Who gets the holds that are open at a start, as a text (this project's own).
+-- The clients that get the holds which are open at a start, as a text (this project's own).
 use Rattle.std.specs.Prelude.{◌≡◌, ◌≢◌, ℕ, ◌+◌, ◌<◌, ◌^◌, List, [], ◌++◌, length, take, slice_get, Some, codes}
 use Rattle.std.specs.List.{flat_map, AllByRecursion}
 use Rattle.text_lines.specs.Spelling.{spaced, ended}
@@ -48,7 +48,7 @@ abbrev pub IsTextFault : List ℕ → HoldersError → Type 0
 IsTextFault bytes (fault.Line line) = IsBadLine bytes line
 IsTextFault bytes fault.OutOfMemory = Unit {0}
 
--- why no hold is read behind these
+-- why no hold is read after these
 abbrev pub IsNoLine : List Handover → List ℕ → HoldersError → Type 0
 IsNoLine before bytes (fault.Line line) = (line ≡ length before + 1) × HasNoHold bytes
 IsNoLine before bytes fault.OutOfMemory = Unit {0}

@@ -1,4 +1,4 @@
-//! Who gets the holds that are open at a start: lines of them, and the hand-over.
+//! The clients that get the holds which are open at a start: lines of them, and the hand-over.
 #![tactic(auto)]
 
 mod handing;

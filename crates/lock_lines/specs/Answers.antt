@@ -22,7 +22,7 @@ refusal_text lock refusal.Value = codes "refused value " ++ ended lock
 refusal_text lock refusal.Full = codes "refused full " ++ ended lock
 refusal_text lock refusal.Memory = codes "refused memory " ++ ended lock
 
--- who holds a lock, and the token; or two zeros, and no token is 0
+-- the holder of a lock, and the token; or two zeros, and no token is 0
 abbrev pub holder_text : Option Holder → List ℕ
 holder_text None = codes "0 0\n"
 holder_text (Some h) = spaced h.client ++ ended h.token

@@ -30,7 +30,7 @@ pub record IsOf (client : ℕ) (line : List ℕ) : Type 0 where
   pub front : IsFront client (front_of line)
 
 -- What is read of a line: what a connection asks, with numbers of 64 bits; or that the line is a
--- connection's, and its ask has a greater number, or it asks nothing; or that the line is no
+-- connection's, and its ask has a greater number, or it asks nothing; or that the line is not a
 -- connection's.
 abbrev pub IsReadAs : List ℕ → Input → Type 0
 IsReadAs line (input.Asked client ask) =

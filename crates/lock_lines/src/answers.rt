@@ -22,7 +22,7 @@ pub enum Denial {
     Off,
 }
 
-/// Puts the word in front of a line, as [`line_parts::put_word`] does. Where the word is known, no loop is left.
+/// Puts the word before a line, as [`line_parts::put_word`] does. If the word is known, no loop is left.
 #[inline(always)]
 fn put_front(line: &mut Line, word: &[u8])
     requires { length line.old + length word.now ≤ 128 }
@@ -33,7 +33,7 @@ fn put_front(line: &mut Line, word: &[u8])
     }
 }
 
-/// Puts the number's decimal in front of a line. Most locks and clients have a number of one digit.
+/// Puts the number's decimal before a line. Most locks and clients have a number of one digit.
 #[inline(always)]
 fn put_decimal(line: &mut Line, number: u64)
     requires { length line.old ≤ 108 }
@@ -91,7 +91,7 @@ fn refusal_line(client: u64, lock: u32, why: Refusal) -> Line
     }
 }
 
-/// The end of a line: who holds a lock.
+/// The end of a line: the holder of a lock.
 fn holder_end(holder: Option<Holder>) -> Line
     ensures is { result ≡ holder_text holder }
     ensures short { length result ≤ 42 }
@@ -222,7 +222,7 @@ fn put_stats(text: &mut Vec<u8>, client: u64, lock: u32, stats: Stats) -> Result
 ///
 /// # Errors
 ///
-/// Out of memory alone. The text is as it was then.
+/// Only out of memory. The text is as it was then.
 pub fn put_answer(
     text: &mut Vec<u8>,
     client: u64,
@@ -248,7 +248,7 @@ pub fn put_answer(
 ///
 /// # Errors
 ///
-/// Out of memory alone. The text is as it was then.
+/// Only out of memory. The text is as it was then.
 pub fn put_denial(text: &mut Vec<u8>, client: u64, why: Denial) -> Result<(), AllocError>
     ensures ok { OnOk result (text.new.items ≡ text.old.items ++ denial_line client why) }
     ensures err { OnErr result (text.new.items ≡ text.old.items) }

@@ -14,7 +14,7 @@ use Rattle.text_lines.proofs.Decimals.{is_digit_at}
 use Rattle.lock_lists.specs.Lists.{Listed, IsName, IsSizeText, IsLockText, is_name_byte}
 use Rattle.lock_lists.specs.Steps.{IsMark, IsAfterName, IsPlain, IsCut, AreMarks}
 
--- a mark is no byte of a plain text
+-- a mark is not a byte of a plain text
 pub not_in : (m : ℕ) (a b : List ℕ) → IsPlain m (a ++ m ∷ b) → ⊥
 not_in m a b p =
     let at : get_or (a ++ m ∷ b) (length a + 0) 0 ≡ m = get_or-append-add a (m ∷ b) 0 0 in
@@ -61,7 +61,7 @@ begins m x n k size (inl z) = absurd (none x size z.0)
 begins m x n k size (inr (inl z)) = head x m size _ z.0
 begins m x n k size (inr (inr z)) = head x m size _ z
 
--- where a lock's text is cut: its name, and what stands after it
+-- where a lock's text is cut: its name, and what comes after it
 pub parts : (m : ℕ) (text before : List ℕ) (after : Option (List ℕ)) (l : Listed) (size : List ℕ) → IsMark m → IsName l.name → IsCut m text before after → text ≡ l.name ++ size → IsSizeText m size l.n l.k → (l.name ≡ before) × IsAfterName m after size
 parts m text before None l [] mark name cut s z = (sym (append-nil l.name) ∙ sym s ∙ cut.0, refl)
 parts m text before None l (x ∷ size) mark name cut s z =
@@ -79,7 +79,7 @@ pub whole : (m : ℕ) (text before size : List ℕ) (after : Option (List ℕ)) 
 whole m text before size None cut is = cut.0 ∙ sym (append-nil before) ∙ ap (λ (t : List ℕ). before ++ t) (sym is)
 whole m text before size (Some after) cut is = cut.0 ∙ ap (λ (t : List ℕ). before ++ t) (sym is)
 
--- what stands after a name, if it is known
+-- what comes after a name, if it is known
 pub after_size : ℕ → Option (List ℕ) → List ℕ
 after_size m None = []
 after_size m (Some after) = m ∷ after

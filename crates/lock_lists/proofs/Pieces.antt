@@ -55,7 +55,7 @@ read_more end mark bytes rest piece more ls l marks h is plain text = record { m
         let many : length left.0 ≡ suc (length first.more) = ap (λ (x : List Listed). length x) first.is in
         (first.more, first.rest, omega (arith, left.2, many, length-append ls (l ∷ [])))
 
--- a piece that is no lock's text
+-- a piece that is not a lock's text
 pub bad_piece : (end mark : ℕ) (bytes rest piece more tail : List ℕ) (ls : List Listed) (e : ListError) → AreMarks end mark → HasRead end mark bytes ls rest → rest ++ tail ≡ piece ++ end ∷ more → IsPlain end piece → IsPieceFault mark piece e →
     IsReadFault end mark (bytes ++ tail) e
 bad_piece end mark bytes rest piece more tail ls refused.Syntax marks h is plain none = λ all a.
@@ -94,7 +94,7 @@ no_list end mark bytes rest ls h plain why all some a =
     let zero : length left.0 ≡ 0 = no_text end mark left.0 (subst (λ (t : List ℕ). AreTexts end mark t left.0) none texts) in
     elim why [ inl other ↦ other none | inr few ↦ absurd (omega (arith, left.2, zero, few, some)) ]
 
--- a refusal of bytes that are no texts, and one of the locks that they are the texts of
+-- a refusal of bytes that are not texts, and one of the locks that they are the texts of
 pub of_texts : (end mark : ℕ) (bytes : List ℕ) (e : ListError) → IsReadFault end mark bytes e → IsTextsFault end mark bytes e
 of_texts end mark bytes refused.Syntax h = λ ls some. h ls
 of_texts end mark bytes refused.OutOfMemory h = tt

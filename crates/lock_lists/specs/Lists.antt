@@ -34,7 +34,7 @@ pub record IsName (name : List ℕ) : Type 0 where
   pub most : length name ≤ 64
   pub each : (i : ℕ) → i < length name → is_name_byte (slice_index name i) ≡ true
 
--- What stands after a name, where the parts have this mark between them: nothing, for 8 machines
+-- What comes after a name, where the parts have this mark between them: nothing, for 8 machines
 -- of 8 values; a number, for as many machines and values; or both numbers.
 abbrev pub IsSizeText : ℕ → List ℕ → ℕ → ℕ → Type 0
 IsSizeText mark text n k =
@@ -80,7 +80,7 @@ pub record AreLocks (ls : List Listed) : Type 0 where
   pub sizes : All IsSize (map size_of ls)
   pub apart : IsDistinct bytes_eq (names_of ls)
 
--- The word is the text of just these locks: a comma stands between two, and a colon between the
+-- The word is the text of just these locks: a comma is between two, and a colon between the
 -- parts of one.
 abbrev pub IsLockList : List ℕ → List Listed → Type 0
 IsLockList word ls = AreTexts 44 58 (word ++ 44 ∷ []) ls × AreLocks ls
@@ -98,7 +98,7 @@ IsSizeFault l params.TooMany = machine_limit < l.n
 IsSizeFault l params.FewValues = (2 ≤ l.n) × (l.n ≤ machine_limit) × (l.k < l.n)
 IsSizeFault l params.ManyValues = (2 ≤ l.n) × (l.n ≤ machine_limit) × (value_limit < l.k)
 
--- why these are no locks of one list
+-- why these are not locks of one list
 abbrev pub IsLocksFault : List Listed → ListError → Type 0
 IsLocksFault ls refused.Many = lock_limit < length ls
 IsLocksFault ls (refused.Size i cause) =
@@ -110,7 +110,7 @@ IsLocksFault ls (refused.Twice j) =
 IsLocksFault ls refused.OutOfMemory = Unit {0}
 IsLocksFault ls refused.Syntax = ⊥
 
--- why the bytes are no list: they are the texts of no locks, or of these, and those are refused
+-- why the bytes are not a list: they are the texts of no locks, or of these, and those are refused
 abbrev pub IsTextsFault : ℕ → ℕ → List ℕ → ListError → Type 0
 IsTextsFault end mark bytes refused.Syntax =
     (ls : List Listed) → 0 < length ls → ¬ AreTexts end mark bytes ls

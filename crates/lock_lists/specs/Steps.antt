@@ -11,7 +11,7 @@ pub record IsMark (b : ℕ) : Type 0 where
   pub name : is_name_byte b ≡ false
   pub digit : is_digit b ≡ false
 
--- what stands after a name: nothing, or the mark and this
+-- what comes after a name: nothing, or the mark and this
 abbrev pub IsAfterName : ℕ → Option (List ℕ) → List ℕ → Type 0
 IsAfterName mark None text = text ≡ []
 IsAfterName mark (Some after) text = text ≡ mark ∷ after

@@ -12,7 +12,7 @@ pub struct ListedLock<'t> {
     pub k: u32,
 }
 
-/// Why a text is no list of locks. Places are from 0.
+/// Why a text is not a list of locks. Places are from 0.
 #[derive(Clone, Copy)]
 pub enum ListError {
     /// It is not the text of one lock or more.

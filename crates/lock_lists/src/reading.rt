@@ -47,7 +47,7 @@ fn add_lock<'t>(locks: &mut Vec<ListedLock<'t>>, text: &'t str, mark: char) -> R
 /// A text, as far as it was read.
 struct Read<'t> {
     locks: Vec<ListedLock<'t>>,
-    /// What stands after the last end.
+    /// What comes after the last end.
     rest: &'t str,
 }
 

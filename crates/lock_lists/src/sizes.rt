@@ -42,7 +42,7 @@ fn read_both(n: &str, k: &str) -> Option<(u32, u32)>
     }
 }
 
-/// What stands before the first mark, and after it, if there is one.
+/// What comes before the first mark, and after it, if there is one.
 pub(crate) fn cut(text: &str, mark: char) -> (&str, Option<&str>)
     requires { IsMark mark }
     ensures { IsCut mark text.now result.0.now (option_map (λ t. t.now) result.1) }
@@ -53,7 +53,7 @@ pub(crate) fn cut(text: &str, mark: char) -> (&str, Option<&str>)
     }
 }
 
-/// The numbers of machines and values, by what stands after the name and a mark.
+/// The numbers of machines and values, by what comes after the name and a mark.
 pub(crate) fn read_size(after: Option<&str>, mark: char) -> Option<(u32, u32)>
     requires { IsMark mark }
     ensures { MatchOption result

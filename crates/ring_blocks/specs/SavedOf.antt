@@ -22,9 +22,9 @@ abbrev pub old_of : ℕ → Reply → ℕ
 old_of value (Corrupted old) = old
 old_of value _ = value
 
--- The line of an event. Where the reply is none to the call there is none: a refused pass stands
--- for a pass then, and a corruption that changes nothing for a corruption. No history has such an
--- event.
+-- The line of an event. If the reply does not fit the call, there is none: then it is here the line
+-- of a refused pass for a pass, and of a corruption that changes nothing for a corruption. No history
+-- has such an event.
 abbrev pub saved_for : ℕ → Op → Reply → SavedEvent
 saved_for seat (Pass machine order) (Granted number result) =
     saved.Granted seat machine order number result
@@ -73,6 +73,6 @@ block_by place start history surveys = record {
   surveys = surveys;
 }
 
--- that of a ring that was closed: the surveys stand log by log
+-- that of a ring that was closed: the surveys follow log by log
 abbrev pub block_at : ℕ → RingOutcome → Block
 block_at place r = block_by place r.book.start r.book.history (flat_map log_surveys r.logs.items)

@@ -118,7 +118,7 @@ calm_is_at_least before h =
     by true = omega arith
     by false = omega arith
 
--- where a segment stands
+-- where a segment begins
 
 pub record Stands (b : Base) (r : Ring) (front : List Segment) (s : Segment) : Type 0 where
   pub events : s.base.events ≡ b.events + length (chain_history front)

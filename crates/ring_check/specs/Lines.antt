@@ -1,4 +1,4 @@
--- A saved text as its lines, but for the first one, which says its version (this project's own).
+-- A saved text as its lines, except for the first one, which says its version (this project's own).
 use Rattle.std.specs.Prelude.{ℕ, ◌+◌, ◌≤◌, ◌<◌, ◌^◌, List, [], ◌∷◌, ◌++◌, map, length, Ok}
 use Rattle.std.specs.List.{flat_map}
 use Rattle.ring_saved.specs.declared.saved.SavedEvent.{SavedEvent}

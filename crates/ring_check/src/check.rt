@@ -22,7 +22,7 @@ use std::alloc::Global;
 /// of the text, and its first fault in the order of [`Kind`].
 /// Memory can run out, and the text is then neither.
 ///
-/// It takes time in proportion to the length of the text, but for the surveys: each ring is replayed for them at most
+/// It takes time in proportion to the length of the text, except for the surveys: each ring is replayed for them at most
 /// ten times more, and each place that a survey names costs a few passes over the machines.
 ///
 /// That the text has fewer than 2 to the power 64 lines holds of each that was read ([`lines_are_few`](crate::lines_are_few)).

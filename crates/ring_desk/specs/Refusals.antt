@@ -52,11 +52,11 @@ pass_refusal b seat machine = first_of (
     ∷ when (b.events == event_limit) call.HistoryFull
     ∷ [])
 
--- of memory for so many events
+-- of memory for this many events
 abbrev pub reserve_refusal : Bounds → ℕ → Option CallError
 reserve_refusal b more = when (nat_lt event_limit (b.events + more)) call.HistoryFull
 
--- of a call that is no event
+-- of a call that is not an event
 abbrev pub place_refusal : Bounds → ℕ → ℕ → Option CallError
 place_refusal b seat machine = first_of (
     when (nat_le b.seats seat) call.NoSeat

@@ -70,7 +70,7 @@ abbrev pub told_more : List LogView → ℕ → List Entry → List LogView
 told_more cs seat es =
     slice_set cs seat (grown (slice_index_or cs seat (record { number = seat; log = [] })) es)
 
--- A try passes if the machine is privileged, and is told as that pass; else nothing changes.
+-- A try passes if the machine is privileged, and is answered as that pass; else nothing changes.
 abbrev pub IsTried : {C : Type 0} → Works C → RingView C → RingView C → ℕ → ℕ → ℕ → Option Receipt
     → Type 0
 IsTried w old new seat machine order (Some r) =

@@ -89,7 +89,7 @@ fn book_of(
     }
 }
 
-/// Whether the survey lines tell surveys of the book's history.
+/// Whether the survey lines record surveys of the book's history.
 fn surveys_hold(
     alloc: Global,
     book: &Book<Till>,

@@ -263,7 +263,7 @@ impl<R: Resource + Drop> OneThreadRing<R> {
         Ok(log)
     }
 
-    /// Takes memory for `more` events, so that as many calls are not refused for want of it.
+    /// Takes memory for `more` events, so that this many calls are not refused for lack of it.
     ///
     /// # Errors
     ///
@@ -283,7 +283,7 @@ impl<R: Resource + Drop> OneThreadRing<R> {
 
     /// A pass by a machine, for a seat.
     ///
-    /// With room for an event, it is refused for want of neither.
+    /// With room for an event, it is not refused for lack of room or memory.
     ///
     /// # Errors
     ///
@@ -349,7 +349,7 @@ impl<R: Resource + Drop> OneThreadRing<R> {
 
     /// A fault, for a seat: a value is written into a machine.
     ///
-    /// With room for an event, it is refused for want of neither.
+    /// With room for an event, it is not refused for lack of room or memory.
     ///
     /// # Errors
     ///

@@ -52,7 +52,7 @@ abbrev pub nulled : (p : Ptr) → (y : Bool) × (op2_val ptr_eq (ptr_val p) vnul
 nulled (block_ptr b o) = (false, refl)
 nulled null_ptr = (true, refl)
 
--- what is held at a pointer tells whether it is null
+-- what is held at a pointer shows whether it is null
 abbrev pub Told : Ptr → Bool → Type 0
 Told p full = Testable p × ((nulled p).0 ≡ not full)
 

@@ -12,7 +12,7 @@ use desk_codes::CLOSED;
 use std::alloc::Global;
 
 /// Writes the beginning of the journal of the ring's segment, all of the segment so far, to the front of the caller's bytes, if
-/// there is room, and tells its size. From now on a journal is kept. It takes no memory.
+/// there is room, and returns its size. From now on a journal is kept. It takes no memory.
 #[unsafe(no_mangle)]
 pub extern "C" fn wozgirt_open_journal(ring: &mut Handle, out: &mut [u8], size: &mut u64) -> u32
     ensures closed { ring.old.full ≡ false → (result ≡ closed)
@@ -35,7 +35,7 @@ pub extern "C" fn wozgirt_open_journal(ring: &mut Handle, out: &mut [u8], size: 
     begin_journal(kept, out, size)
 }
 
-/// Writes the lines that the journal does not have to the front of the caller's bytes, if there is room, and tells their size.
+/// Writes the lines that the journal does not have to the front of the caller's bytes, if there is room, and returns their size.
 /// The journal has them then. It takes no memory.
 #[unsafe(no_mangle)]
 pub extern "C" fn wozgirt_take_journal(ring: &mut Handle, out: &mut [u8], size: &mut u64) -> u32
@@ -60,7 +60,7 @@ pub extern "C" fn wozgirt_take_journal(ring: &mut Handle, out: &mut [u8], size: 
 }
 
 /// Seals the segment: copies the text of its file to the front of the caller's bytes, if there is room, and returns its size. The
-/// ring goes on in the next segment, with its numbers. No journal of that is kept.
+/// ring continues in the next segment, with its numbers. No journal of that is kept.
 #[unsafe(no_mangle)]
 pub extern "C" fn wozgirt_cut(
     alloc: Global,

@@ -36,7 +36,7 @@ impl Model for Handle {
 // C may give a handle to another thread, one call at a time.
 unsafe impl Send for Handle {}
 
-/// A handle may go to another thread: without a proof of that, this is no program.
+/// A handle may go to another thread: without a proof of that, this is not a program.
 pub(crate) fn handles_are_sent(handle: &Handle) {
     send(handle);
 }

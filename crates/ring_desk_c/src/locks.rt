@@ -141,7 +141,7 @@ pub extern "C" fn wozgirt_locks_next(locks: &mut LockHandle, out: &mut Grant) ->
     report_grant(answer, out)
 }
 
-/// Begins a new segment of each lock's history: who holds, who waits and the tokens go on.
+/// Begins a new segment of each lock's history: holds, waits and tokens continue.
 #[unsafe(no_mangle)]
 pub extern "C" fn wozgirt_locks_cut(alloc: Global, locks: &mut LockHandle) -> u32
     ensures closed { locks.old.full ≡ false → (result ≡ closed) × (locks.new ≡ locks.old) }

@@ -10,7 +10,7 @@ use desk_calls::segments::go_on;
 use desk_codes::STILL_OPEN;
 use std::alloc::Global;
 
-/// Opens a ring over a till that goes on where the last file of a chain ended: 0, or why it was not, and the struct is as it was
+/// Opens a ring over a till that resumes where the last file of a chain ended: 0, or why it was not, and the struct is as it was
 /// then. A cut end of the file is left out. The line is the first bad one, or 0.
 #[unsafe(no_mangle)]
 pub extern "C" fn wozgirt_open_segment(

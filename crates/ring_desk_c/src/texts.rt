@@ -10,7 +10,7 @@ use crate::handle::{Handle, opened};
 use desk_calls::kept_texts::save;
 use desk_codes::CLOSED;
 
-/// Writes the saved text of the ring as it is now to the front of the caller's bytes, if there is room, and tells its size. The
+/// Writes the saved text of the ring as it is now to the front of the caller's bytes, if there is room, and returns its size. The
 /// ring stays as it was. It takes no memory.
 #[unsafe(no_mangle)]
 pub extern "C" fn wozgirt_save(ring: &mut Handle, out: &mut [u8], size: &mut u64) -> u32

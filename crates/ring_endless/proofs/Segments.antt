@@ -162,7 +162,7 @@ known_after b d t is i q = record {
   quiet = ap (λ (x : Tally). x.quiet) (q ∙ kept_is d.book.start d.book.history i.book.legal);
 }
 
--- no corruption came behind
+-- no corruption came after it
 known_more : (b : Base) (q : Bool) (d e : RingView ℕ) (es : List Event) → IsKnown b q d → IsOneThreadRing till 0 e → e.book.history ≡ d.book.history ++ es → corrupted_count es ≡ 0 → IsKnown b q e
 known_more b q d e es k j grown none =
     let more : corrupted_count (d.book.history ++ es) ≡ corrupted_count d.book.history + corrupted_count es = joined_count d.book.history es in

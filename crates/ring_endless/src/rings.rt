@@ -98,7 +98,7 @@ impl EndlessRing {
         self.base.grants + self.tally().grants
     }
 
-    /// Takes memory for `more` events of the segment, so that as many calls are not refused for want of it.
+    /// Takes memory for `more` events of the segment, so that this many calls are not refused for lack of it.
     ///
     /// # Errors
     ///
@@ -118,7 +118,7 @@ impl EndlessRing {
 
     /// A pass by a machine, for a seat; its receipt is shifted.
     ///
-    /// With room for an event, it is refused for want of neither room nor memory.
+    /// With room for an event, it is not refused for lack of room or memory.
     ///
     /// # Errors
     ///
@@ -167,7 +167,7 @@ impl EndlessRing {
 
     /// A fault, for a seat: a value is written into a machine; its receipt is shifted.
     ///
-    /// With room for an event, it is refused for want of neither room nor memory.
+    /// With room for an event, it is not refused for lack of room or memory.
     ///
     /// # Errors
     ///

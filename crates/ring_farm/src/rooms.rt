@@ -44,7 +44,7 @@ impl Room {
             .map_err(fault_of)
     }
 
-    /// Takes memory for the entries that are to come in each seat's log. But for that the seats stay as they are.
+    /// Takes memory for the entries that are to come in each seat's log. Except for that the seats stay as they are.
     ///
     /// # Errors
     ///

@@ -63,7 +63,7 @@ module _ (start : Ring) (version rings line : ℕ) (es : List SavedEvent) (said 
       ∙ ap (λ (x : Known). bad_among k (map EventLine es) ++ bad_among x (EndLine said ∷ map SurveyLine ss)) (known_all start version rings line [] es c)
       ∙ ap (λ (u : List BadLine). bad_among k (map EventLine es) ++ u) rest
 
-  -- what is told of the events, of the end line and of the surveys, one after the other
+  -- what is reported of the events, of the end line and of the surveys, one after the other
   pub tail_told : (old o1 o2 o3 : List BadLine) (end : ℕ) → end ≡ line + length es → o1 ≡ old ++ bad_among (known_at start version rings line []) (map EventLine es) →
       o2 ≡ o1 ++ told end (bad_of (end_fault said (map event_of es)) (end_wrong said (map event_of es))) →
       o3 ≡ o2 ++ bad_among (known (marked version (end + 1) rings start es 0 0)) (map SurveyLine ss) →
@@ -109,7 +109,7 @@ module _ (r : Block) (version line place : ℕ) (k : Known) (v : k.before.versio
         let params : not (are_parameters k.before.version r.n r.k) ≡ false = ap (λ (x : ℕ). not (are_parameters x r.n r.k)) v ∙ ap not yes in
         ap (λ (b : Bool). let t : Known = record { lost = b; before = opened } in t) params
 
-    -- the fault of the start line, and what comes behind
+    -- the fault of the start line, and what comes after it
     whole : (out : List BadLine) (rest : List BadLine) (start_found : Option Bad) → bad opened (StartLine r.start) ≡ start_found → bad_among (after_known (known opened) (StartLine r.start)) tail ≡ rest →
         out ≡ (one ++ told (line + 1) start_found) ++ rest → out ≡ old ++ bad_among k (block_lines r)
     unfolding head behind_is
@@ -208,7 +208,7 @@ all_rings k (l ∷ ls) n = all_rings (after_known k l) ls n.1 ∙ rings_next k.b
 block_rings : (k : Known) (r : Block) → (after_all k (block_lines r)).before.rings ≡ k.before.rings + 1
 block_rings k r = all_rings (after_known k (RingLine r.index r.n r.k)) (StartLine r.start ∷ tail_lines r.events r.events_said r.surveys) (refl, tail_none r.events r.events_said r.surveys)
 
--- the bad lines of the first i blocks are told
+-- the bad lines of the first i blocks are reported
 pub record AreToldBlocks (version : ℕ) (rs : List SavedRing) (old : List BadLine) (i line : ℕ) (out : List BadLine) : Type 0 where
   pub told : out ≡ old ++ bad_among (known (nothing version)) (flat_map block_lines (take i (map block_of rs)))
   pub rings : (after_all (known (nothing version)) (flat_map block_lines (take i (map block_of rs)))).before.rings ≡ i

@@ -125,7 +125,7 @@ module _ (start : Ring) (version rings : ℕ) where
       ∙ ap (λ (l : ℕ). bad_of (event_fault n run a (event_of e)) (event_wrong n run l a (event_of e))) (own_left (first_state start) h)
       ∙ own_bad n (first_state start) a h (left_after h) (event_of e)
 
--- the bad lines among the first i events are told, each of these is a call that the ring can answer, and the replay is
+-- the bad lines among the first i events are reported, each of these is a call that the ring can answer, and the replay is
 -- after them; the block that is open there begins at `first`
 pub record AreTold (line : ℕ) (start : Ring) (es : List SavedEvent) (old : List BadLine) (first i : ℕ) (r : Replay) (out : List BadLine) : Type 0 where
   pub within : first ≤ i
@@ -200,7 +200,7 @@ module _ (line : ℕ) (start : Ring) (es : List SavedEvent) (old : List BadLine)
         told = told_next last found new l f e;
       }
 
-  -- an event that is not: behind it nothing is told, and the ring is lost
+  -- an event that is not: after it nothing is reported, and the ring is lost
   lost_here : in_range (length r.state.values) r.state.k (event_of (get_or es i d)) ≡ false → (version rings : ℕ) →
       (after_all (known_at start version rings line []) (map EventLine (take (i + 1) es))).lost ≡ true
   unfolding here
@@ -240,7 +240,7 @@ module _ (line : ℕ) (start : Ring) (es : List SavedEvent) (old : List BadLine)
       ∙ ap (λ (x : Known). x.lost) (all_append k (map EventLine (take (i + 1) es)) (map EventLine (drop (i + 1) es)))
       ∙ lost_all _ (map EventLine (drop (i + 1) es)) (none_map EventLine (drop (i + 1) es) (λ x. refl)) (lost_here call version rings)
 
--- all events are told
+-- all events are reported
 pub told_all : (line : ℕ) (start : Ring) (es : List SavedEvent) (old : List BadLine) (first i : ℕ) (r : Replay) (out : List BadLine) → length es ≤ i → AreTold line start es old first i r out →
     ((version rings : ℕ) → out ≡ old ++ bad_among (known_at start version rings line []) (map EventLine es))
     × AreCallable (length start.values) (first_state start) (map event_of es)

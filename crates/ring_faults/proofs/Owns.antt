@@ -1,4 +1,4 @@
--- A history with the ring's own replies has the calls of the other: what goes by calls alone is the same.
+-- A history with the ring's own replies has the calls of the other: what depends only on calls is the same.
 use Rattle.std.proofs.Common.{◌≡◌, ℕ, zero, suc, ◌+◌, ◌-◌, List, [], ◌∷◌, ◌++◌, length, take, map, Bool, true, cond, refl, sym, ◌∙◌, ap, eqb}
 use Rattle.std.specs.Prelude.{nat_lt, ◌&&◌, ◌||◌, Option, None, Some}
 use Rattle.std.proofs.lemmas.List.{length-map, map-append}

@@ -144,7 +144,7 @@ module _ (start : Ring) (es : List SavedEvent) (n : ℕ) (long : n ≡ length es
       ∙ ap (λ (z : Bool). h (nat_lt s.seat seat_limit) (is_onward seat position s) z) (sym p.2)
       ∙ sym bad_is
 
--- the bad lines among the first i surveys are told, and the mark is at the last one that stood in its place
+-- the bad lines among the first i surveys are reported, and the mark is at the last one that was in its place
 pub record AreSurveyed (line : ℕ) (start : Ring) (es : List SavedEvent) (ss : List SavedSurvey) (old : List BadLine) (i : ℕ) (m : Mark) (out : List BadLine) : Type 0 where
   pub mark : IsMark start es m
   pub told : (version rings : ℕ) → out ≡ old ++ bad_among (known (marked version line rings start es 0 0)) (map SurveyLine (take i ss))

@@ -42,7 +42,7 @@ begins (RingLine index n k) = true
 begins (DoneLine said) = true
 begins _ = false
 
--- The facts with one line more, as in the table, but that the ring goes on with its own reply, and
+-- The facts with one line more, as in the table, except that the ring continues with its own reply, and
 -- that a survey that is not in its place changes nothing for the next.
 abbrev pub mended : Before → Line → Before
 mended b (EventLine e) =

@@ -37,7 +37,7 @@ AreCallable n a [] = Unit {0}
 AreCallable n a (e ∷ es) =
     (in_range n a.ring.k e ≡ true) × AreCallable n (next till a e.op) es
 
--- the ring is at the place of the last survey that stood in its place
+-- the ring is at the place of the last survey that was in its place
 pub record IsMark (start : Ring) (es : List SavedEvent) (m : Mark) : Type 0 where
   pub within : m.position ≤ length es
   pub stands : Stands start (map event_of (take m.position es)) m.replay

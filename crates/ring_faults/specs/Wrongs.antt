@@ -54,7 +54,7 @@ event_wrong n run last a e =
 abbrev pub end_wrong : ℕ → List Event → Wrong
 end_wrong said h = cond (said == length h) (Unfinished (left_after h - 1)) (Number said (length h))
 
--- a survey stands in order: it is of a seat, not earlier than the one before, and in the history
+-- a survey is in order: it is of a seat, not earlier than the one before, and in the history
 abbrev pub is_in_place : Before → SavedSurvey → Bool
 is_in_place b s =
     nat_lt s.seat seat_limit

@@ -75,7 +75,7 @@ fn start_of(alloc: Global, n: u32, k: u32, values: &[u32]) -> Result<RingState, 
     }
 }
 
-/// The fault of the line that ends the events, and says that they are so many.
+/// The fault of the line that ends the events, and says how many there are.
 fn end_fault(said: u64, events: &[SavedEvent]) -> Option<Bad>
     ensures { result
         ≡ bad_of (end_fault said (map event_of events.now))
@@ -100,7 +100,7 @@ fn end_fault(said: u64, events: &[SavedEvent]) -> Option<Bad>
     })
 }
 
-/// Adds the bad lines of a ring behind its start, before which are `line` lines.
+/// Adds the bad lines of a ring after its start, before which are `line` lines.
 fn add_tail(
     alloc: Global,
     start: &RingState,

@@ -15,7 +15,7 @@ use ring_state::RingState;
 use std::alloc::{AllocError, Global};
 
 /// Adds the bad lines among the events of a ring, before which are `line` lines. Answers whether each is a call of that ring:
-/// behind one that is not, none is judged.
+/// after one that is not, none is judged.
 pub(crate) fn add_events(
     alloc: Global,
     start: &RingState,

@@ -1,6 +1,6 @@
 //! All bad lines of a saved text, each with what is there and what should be: the one-thread ring's own answer.
 //!
-//! The table of `ring_check` judges each line. After a bad one the ring goes on with its own reply, so that one mistake is told
+//! The table of `ring_check` judges each line. After a bad one the ring continues with its own reply, so that one mistake is reported
 //! once.
 #![tactic(auto)]
 

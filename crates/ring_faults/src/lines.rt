@@ -36,7 +36,7 @@ fn add_blocks(
     Ok(line)
 }
 
-/// The fault of the last line, which says that there are so many blocks.
+/// The fault of the last line, which says how many blocks there are.
 fn done_fault(said: u32, rings: usize) -> Option<Bad>
     ensures { result
         ≡ bad_of (cond (said == rings) None (Some (kind.Count))) (Wrong.Number said rings) }
@@ -56,11 +56,11 @@ fn done_fault(said: u32, rings: usize) -> Option<Bad>
 /// Returns all bad lines of a saved text, in their order: none if the text is legal ([`none_is_legal`](crate::none_is_legal)), and
 /// else as the first one the line and the kind that `check_saved` answers ([`first_is_first`](crate::first_is_first)).
 ///
-/// Each line is judged by the table of `ring_check`, after the lines before it, where the ring has gone on with its own reply. Behind
-/// a ring that cannot be, or a call that none of its machines can make, nothing is judged up to the next block. A survey is compared
+/// Each line is judged by the table of `ring_check`, after the lines before it, where the ring has continued with its own reply. After
+/// a bad ring line, or a call that none of its machines can make, nothing is judged up to the next block. A survey is compared
 /// in its order with the last one that was in its place.
 ///
-/// It takes time in proportion to the length of the text, but for the surveys: each ring is replayed for them at most ten times more,
+/// It takes time in proportion to the length of the text, except for the surveys: each ring is replayed for them at most ten times more,
 /// and each survey costs a few passes over the machines.
 ///
 /// # Errors

@@ -110,7 +110,7 @@ fn put_size<W: Write>(
     )
 }
 
-/// Writes where a survey stands, and from where on it may stand.
+/// Writes where a survey is, and from where on it may be.
 fn put_early<W: Write>(
     out: &mut W,
     seat: u32,

@@ -35,7 +35,7 @@ pub(crate) struct Replay {
     pub(crate) calm: u64,
 }
 
-/// The reply that an event line tells.
+/// The reply that an event line records.
 fn reply_told(event: &SavedEvent) -> Reply
     ensures { result ≡ (event_of event.now).reply }
 {

@@ -19,7 +19,7 @@ use ring_saved::{SavedEvent, SavedSurvey};
 use ring_state::RingState;
 use std::alloc::{AllocError, Global};
 
-/// The last survey that stood in its place, if any did, and the ring there.
+/// The last survey that was in its place, if any was, and the ring there.
 #[derive(Drop)]
 pub(crate) struct Mark {
     pub(crate) seat: u32,
@@ -67,7 +67,7 @@ fn go_to(
     Ok(())
 }
 
-/// The fault of a survey's place, where the one in its place before it had this seat and position, and there are so many events.
+/// The fault of a survey's place, if the one in its place before it had this seat and position, and there are this many events.
 fn place_fault(seat: u32, position: u64, events: u64, survey: &SavedSurvey) -> Option<Bad>
     requires { events + 1 < 2 ^ 64 }
     ensures { result
@@ -113,7 +113,7 @@ fn place_fault(seat: u32, position: u64, events: u64, survey: &SavedSurvey) -> O
     None
 }
 
-/// The fault of a survey in its place, where this is the ring's own, and so many members of a group are left.
+/// The fault of a survey in its place, if this is the ring's own, and this many members of a group are left.
 fn answer_fault(survey: &SavedSurvey, should: Survey, left: u32) -> Option<Bad>
     ensures { result
         ≡ cond (same_survey survey.now should && (left == 0)) None

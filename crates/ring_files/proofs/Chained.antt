@@ -33,7 +33,7 @@ use Rattle.ring_endless.proofs.Segments.{few}
 use Rattle.ring_files.specs.Files.{FilesView, PlaceView, IsFiled, IsFileText, head_at, file_with}
 use Rattle.ring_files.specs.Laws.{FilesAreWhole, FilesFollow}
 
--- ---- lines tell their events
+-- ---- lines record their events
 
 line_tells : (a b : State ℕ) (seat : ℕ) (o : Op) (r : Reply) → StepOf till a o r b → event_of (saved_for seat o r) ≡ record { seat = seat; op = o; reply = r }
 line_tells a b seat (Pass i order) (Granted number result) h = refl
@@ -116,15 +116,15 @@ files_are_whole d bytes i t = whole d bytes i t
 
 -- ---- the next file
 
--- where the ring begins in its segment, and where it goes on behind it
+-- where the ring begins in its segment, and where it continues after it
 start_same : (d : RingView ℕ) → ring_with d.book.start.k d.book.start.values ≡ d.book.start
 start_same d = refl
 
--- the segment that the file tells is that of the ring
+-- the segment that the file records is that of the ring
 segment_same : (d : FilesView) → IsFiled d → history (saved_block 0 d.ring.ring) ≡ d.ring.ring.book.history
 segment_same d i = lines_tell (opening d.ring.ring.book.start 0) d.ring.ring.book.history i.ring.ring.book.legal
 
--- and so is where it goes on
+-- and so is where it continues
 place_same : (d : FilesView) (bytes : List ℕ) → IsFiled d
     → map place_after (segments (file_with d bytes))
     ≡ record { base = base_after d.ring.base d.ring.ring.book.start d.ring.ring.book.history; ring = d.ring.ring.book.now.ring } ∷ []

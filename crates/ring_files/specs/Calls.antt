@@ -15,7 +15,7 @@ use Rattle.ring_chains.specs.Bases.{shifted_event}
 use Rattle.ring_endless.specs.Endless.{IsCalled, IsTried, IsGrouped, IsSurveyed, local_survey}
 use Rattle.ring_files.specs.Files.{FilesView, Notes, IsFiled}
 
--- after a call that is no survey: the ring is right, its file and its journal are as they were, and
+-- after a call that is not a survey: the ring is right, its file and its journal are as they were, and
 -- after a refusal the ring is, too
 pub record IsAfterCall {A : Type 0} (old new : FilesView) (answer : Result A CallError) : Type 0
   where

@@ -90,7 +90,7 @@ kept_now d = record d {
 
 -- ---- the next file
 
--- The ring goes on in its next segment, whose file comes after one of these bytes. No journal of it
+-- The ring continues in its next segment, whose file comes after one of these bytes. No journal of it
 -- is kept.
 pub record IsNextFile (old : FilesView) (bytes : List ℕ) (new : FilesView) : Type 0 where
   pub ring : IsNext old.ring new.ring

@@ -49,8 +49,8 @@ pub struct Looked {
 
 /// A ring over a till without end, with the file of a chain that its segment is, and with a journal of it, if one is kept.
 ///
-/// Contracts see the ring, the place of the file, and what the journal has: so many events of the segment, and all its
-/// surveys but those that are listed.
+/// Contracts see the ring, the place of the file, and what the journal has: how many events of the segment, and all its
+/// surveys except those that are listed.
 #[derive(Drop)]
 pub struct FileRing {
     ring: EndlessRing,
@@ -78,7 +78,7 @@ impl Model for FileRing {
     }) };
 }
 
-/// Puts a survey behind others, if a journal is kept.
+/// Appends a survey to others, if a journal is kept.
 fn note(looked: &mut Vec<Looked>, kept: bool, one: Looked)
     requires { vec_len looked.old < vec_capacity looked.old }
     ensures { looked.new.items ≡ cond kept (looked.old.items ++ one ∷ []) looked.old.items }
@@ -88,7 +88,7 @@ fn note(looked: &mut Vec<Looked>, kept: bool, one: Looked)
     }
 }
 
-/// A survey of a ring, for a seat. As the segment counts, it is put behind others, if a journal is kept.
+/// A survey of a ring, for a seat. As the segment counts, it is appended to others, if a journal is kept.
 fn survey_noted(
     ring: &mut EndlessRing,
     looked: &mut Vec<Looked>,

@@ -19,7 +19,7 @@ use ring_saved::{event_line, survey_line};
 use ring_state::RingState;
 use text_lines::Line;
 
-/// Puts the bytes at this place, if there is room for them; returns the place behind them.
+/// Puts the bytes at this place, if there is room for them; returns the place after them.
 pub(crate) fn put(out: &mut [u8], place: usize, bytes: &[u8]) -> usize
     ensures { Fills out.old out.new place result bytes.now }
 {
@@ -74,7 +74,7 @@ pub(crate) fn put_size(out: &mut [u8], place: usize, index: u32, start: &RingSta
     put(out, behind, size_line(index, size.n(), size.k()).as_bytes())
 }
 
-/// The byte behind a number that has this many behind it on its line.
+/// The byte after a number that has this many after it on its line.
 fn stop(left: u32) -> u8
     ensures { result ∷ [] ≡ stop_text (32 ∷ []) (10 ∷ []) left }
 {
@@ -84,7 +84,7 @@ fn stop(left: u32) -> u8
     }
 }
 
-/// Puts a number that has this many behind it on its line.
+/// Puts a number that has this many after it on its line.
 fn put_number(out: &mut [u8], place: usize, number: u32, left: u32) -> usize
     ensures { Fills out.old out.new place result
         (decimal number ++ stop_text (32 ∷ []) (10 ∷ []) left) }

@@ -26,7 +26,7 @@ fn put_block(out: &mut [u8], place: usize, ring: &OneThreadRing<Till>) -> usize
     put_clients(out, ended, ring.clients())
 }
 
-/// Puts the saved text of a ring at this place, if there is room for it; returns the place behind it.
+/// Puts the saved text of a ring at this place, if there is room for it; returns the place after it.
 pub(crate) fn put_text(out: &mut [u8], place: usize, ring: &OneThreadRing<Till>) -> usize
     ensures written { Fills out.old out.new place result (text (saved_alone ring.now)) }
     ensures fits { Fits (saved_alone ring.now) }

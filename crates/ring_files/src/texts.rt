@@ -118,7 +118,7 @@ fn put_looked(out: &mut [u8], place: usize, looked: &[Looked]) -> usize
     behind
 }
 
-/// The events of a history from a place on; none if it is behind the end.
+/// The events of a history from a place on; none if it is after the end.
 fn events_from(history: &[Event], from: usize) -> &[Event]
     ensures { result.now ≡ drop from history.now }
 {

@@ -16,7 +16,7 @@ use Rattle.ring_holds.specs.Chains.{Part, parts_of, parts_in, at_number, of_lock
 use Rattle.ring_holds.specs.Laws.{Rise, AreApart}
 use Rattle.ring_holds.proofs.Excluding.{holds_apart, rise_from, rise_signs}
 
--- ---- no sign comes behind a place
+-- ---- no sign comes after a place
 
 abbrev UpTo : ℕ → List (ℕ × Sign) → Type 0
 UpTo high [] = Unit {0}
@@ -46,7 +46,7 @@ rise_append : (low high : ℕ) (xs ys : List (ℕ × Sign)) → low ≤ high →
 rise_append low high [] ys l r u s = rise_from low high ys l s
 rise_append low high (x ∷ xs) ys l r u s = (r.0, rise_append x.0 high xs ys u.0 r.1 u.1 s)
 
--- ---- one segment and those behind it
+-- ---- one segment and those after it
 
 segment_rise : (low : ℕ) (p : Part) (ys : List (ℕ × Sign)) → low ≤ place p.base 0 → Rise (place p.base (length p.block.events)) ys → Rise low (signs_of p.base p.block ++ ys)
 segment_rise low p ys l r =
@@ -97,7 +97,7 @@ from_at (p ∷ ps) (b ∷ bs) (k ∷ ks) (suc i) low a n f = from_at ps bs ks i 
 no_rise : (low : ℕ) → Rise low []
 no_rise low = tt
 
--- the segment of a lock in one file, and those in the files behind it
+-- the segment of a lock in one file, and those in the files after it
 file_rise : (low : ℕ) (f : File) (i : ℕ) (ys : List Part) → IsAt low f.head.bases f.content.rings i → ((high : ℕ) → IsFrom high (link_after f).places i → Rise high (signs_in ys)) →
     Rise low (signs_in (at_number i (parts_in f) ++ ys))
 file_rise low f i ys (inl o) next =

@@ -1,4 +1,4 @@
--- Signs that tell of holds are read.
+-- Signs that record holds are read.
 use Rattle.std.proofs.Common.{◌≡◌, ℕ, Bool, true, false, cond, List, [], ◌∷◌, ◌++◌, append_assoc, refl, sym, ◌∙◌, ap, Option, Some, None, Result, Ok, Err, inl, inr}
 use Rattle.std.specs.Prelude.{◌⊎◌}
 use Rattle.ring_check.proofs.Booleans.{lt_true}
@@ -13,7 +13,7 @@ use Rattle.ring_holds.specs.Known.{Known, step, read, all_holds, nobody_holds, n
 use Rattle.ring_holds.proofs.Reading.{read_ok, read_one}
 use Rattle.ring_holds.proofs.Told.{at_known}
 
--- the signs are read, and these holds are known behind them
+-- the signs are read, and these holds are known after them
 pub record IsKnown (k : Known) (signs : List (ℕ × Sign)) (holds : List Hold) : Type 0 where
   pub behind : Known
   pub is : read k signs ≡ Ok behind

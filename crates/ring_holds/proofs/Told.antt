@@ -1,4 +1,4 @@
--- What is read of signs are the holds of which they tell.
+-- What is read of signs are the holds that they record.
 use Rattle.std.proofs.Common.{◌≡◌, ◌≢◌, ℕ, ◌<◌, Bool, true, false, cond, List, [], ◌∷◌, ◌++◌, append_assoc, refl, sym, ◌∙◌, ap, subst, Option, Some, None, Result, Ok, Err, inl, inr}
 use Rattle.std.specs.Prelude.{nat_lt, ◌==◌, ◌⊎◌}
 use Rattle.ring_check.proofs.Booleans.{below}
@@ -17,7 +17,7 @@ at_known token s ended = record { token = token; standing = s; ended = ended }
 
 -- ---- what was read
 
--- the other holds, from this standing on
+-- the other holds, from this state of the lock on
 abbrev Told : ℕ → Standing → List (ℕ × Sign) → List Hold → Type 0
 Told token Unknown signs hs = ⊥
 Told token Free signs hs = AreHolds token hs signs

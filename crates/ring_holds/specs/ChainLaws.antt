@@ -13,7 +13,7 @@ ChainHoldsExclude =
     → AreHoldsIn (of_lock lock fs) holds → AreApart holds
 
 -- Files that were read so, and after them one more, which may be the last: they are a chain, and
--- what is known of its locks is what they tell.
+-- what is known of its locks is what they record.
 pub record TellHolds (fs : List File) (bytes : List ℕ) (last : Bool) (new : HoldsSoFar) : Type 0
   where
     pub file : File

@@ -14,7 +14,7 @@ abbrev pub refused_at : ℕ → HoldError → ChainHoldError
 refused_at lock (hold.NoHold at) = NoHold lock at
 refused_at lock hold.OutOfMemory = OutOfMemory
 
--- what is known of the locks behind their next segments, or the first that is refused; memory aside
+-- what is known of the locks after their next segments, or the first that is refused; memory aside
 abbrev pub ArePartsRead : List Known → List Part → Result (Unit {0}) ChainHoldError → List Known
     → Type 0
 ArePartsRead ks ps (Ok u) ms = with_parts 0 ks ps ≡ Ok ms

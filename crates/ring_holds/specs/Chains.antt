@@ -40,8 +40,8 @@ of_lock lock fs = flat_map (λ (f : File). at_number lock (parts_in f)) fs
 abbrev pub signs_in : List Part → List (ℕ × Sign)
 signs_in ps = flat_map (λ (p : Part). signs_of p.base p.block) ps
 
--- Segments tell of these holds. If events came before the first of them, it may carry a hold of
--- whose beginning nothing is known; else nobody holds before it.
+-- Segments record these holds. If events came before the first of them, it may carry a hold of
+-- whose beginning nothing is known; else no client holds before it.
 abbrev pub AreHoldsBehind : Bool → List Hold → List (ℕ × Sign) → Type 0
 AreHoldsBehind true holds signs = AreHolds 0 holds signs
 AreHoldsBehind false holds signs = AreLaterHolds holds signs
@@ -56,7 +56,7 @@ AreHoldsIn (p ∷ ps) holds = AreHoldsBehind (p.base.events == 0) holds (signs_i
 abbrev pub started : Part → Known
 started p = if p.base.events == 0 then nobody_holds else nothing_known
 
--- what is known of each lock behind its next segment; or which lock is refused, and where
+-- what is known of each lock after its next segment; or which lock is refused, and where
 abbrev pub with_first : Result Known ℕ → ℕ → Result (List Known) (ℕ × ℕ) → Result (List Known) (ℕ × ℕ)
 with_first (Err at) lock others = Err (lock, at)
 with_first (Ok k) lock (Err e) = Err e
@@ -117,13 +117,13 @@ of_blocks ks = with_parts 0 (map unknown ks) (map part_of ks)
 
 -- ---- the laws
 
--- what is known of a lock behind files are its holds
+-- what is known of a lock after files are its holds
 abbrev pub FilesTellHolds : Type 0
 FilesTellHolds =
     (fs : List File) (ms : List Known) → LeadTo [] fs ms → (lock : ℕ) (m : Known)
     → slice_get ms lock ≡ Some m → AreHoldsIn (of_lock lock fs) (all_holds m)
 
--- and so behind the block of a saved text
+-- and so after the block of a saved text
 abbrev pub BlocksTellHolds : Type 0
 BlocksTellHolds =
     (ks : List Block) (ms : List Known) → of_blocks ks ≡ Ok ms → (lock : ℕ) (m : Known)

@@ -1,4 +1,4 @@
--- The holds of which a history tells (this project's own).
+-- The holds that a history records (this project's own).
 use Rattle.std.specs.Prelude.{◌≡◌, ℕ, ◌<◌, ◌==◌, Bool, true, false, List, [], ◌∷◌, ◌++◌, Some, None, ◌⊎◌}
 use Rattle.ring_holds.specs.declared.holds.Grant.{Grant}
 use Rattle.ring_holds.specs.declared.holds.End.{End}
@@ -6,12 +6,12 @@ use Rattle.ring_holds.specs.declared.holds.Hold.{Hold}
 use Rattle.ring_holds.specs.declared.signs.Sign.{Sign}
 use Rattle.ring_holds.specs.declared.signs.Sign.TheVariants.{Granted, Carried, Ended, Other}
 
--- an event that tells of no hold
+-- an event that records no hold
 abbrev pub is_other : Sign → Bool
 is_other Other = true
 is_other _ = false
 
--- an event that may come while a hold with this token is open: it tells of none, or carries that
+-- an event that may come while a hold with this token is open: it records none, or carries that
 abbrev pub is_within : ℕ → Sign → Bool
 is_within token Other = true
 is_within token (Carried t) = t == token
@@ -22,7 +22,7 @@ abbrev pub Each : (Sign → Bool) → List (ℕ × Sign) → Type 0
 Each test [] = Unit {0}
 Each test (s ∷ ss) = (test s.1 ≡ true) × Each test ss
 
--- What comes behind the beginning of a hold: no end, and it is the last; or its end, behind which
+-- What comes after the beginning of a hold: no end, and it is the last; or its end, after which
 -- the signs are those of the other holds.
 abbrev pub IsOpen : Hold → List Hold → List (ℕ × Sign) → Type 0
 IsOpen h others signs = (h.end ≡ None) × (others ≡ []) × Each (is_within h.token) signs
@@ -36,8 +36,8 @@ IsEnded h Others signs =
     × Each (is_within h.token) within
     × Others behind
 
--- Signs, from where nobody holds, are those of these holds, one after the other, with tokens that
--- rise from this number: each begins with its grant, and goes on to its end.
+-- Signs, from where no client holds, are those of these holds, one after the other, with tokens that
+-- rise from this number: each begins with its grant, and continues to its end.
 abbrev pub AreHolds : ℕ → List Hold → List (ℕ × Sign) → Type 0
 AreHolds low [] signs = Each is_other signs
 AreHolds low (h ∷ others) signs =

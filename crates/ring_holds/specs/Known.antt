@@ -10,7 +10,7 @@ use Rattle.ring_holds.specs.declared.reader.Standing.{Standing}
 use Rattle.ring_holds.specs.declared.reader.Standing.TheVariants.{Unknown, Free, Held}
 use Rattle.ring_holds.specs.declared.reader.HoldReader.{HoldReader}
 
--- the newest token, 0 before the first; how the lock stands; and the holds that have ended
+-- the newest token, 0 before the first; how the lock is; and the holds that have ended
 pub record Known : Type 0 where
   pub token : ℕ
   pub standing : Standing

@@ -10,7 +10,7 @@ use Rattle.ring_holds.specs.Signs.{signs_of}
 use Rattle.ring_holds.specs.Holds.{AreHolds, AreLaterHolds}
 use Rattle.ring_holds.specs.Known.{Known, nobody_holds, nothing_known, all_holds, read}
 
--- what a reader knows behind signs are their holds
+-- what a reader knows after signs are their holds
 abbrev pub ReadAreHolds : Type 0
 ReadAreHolds =
     (signs : List (ℕ × Sign)) (k : Known)

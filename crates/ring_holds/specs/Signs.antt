@@ -1,7 +1,7 @@
--- What the history of a lock's ring tells of holds (this project's own). Seat 0 passes for whom the
--- lock is granted; a survey by seat 1 ends a hold that was released, one by seat 2 a hold whose
--- client left; seat 3 says at the beginning of a segment which hold is open. Other seats make
--- faults and repairs.
+-- What the history of a lock's ring records of holds (this project's own). Seat 0 passes for the
+-- client that is granted the lock; a survey by seat 1 ends a hold that was released, one by seat 2 a
+-- hold whose client left; seat 3 says at the beginning of a segment which hold is open. Other seats
+-- make faults and repairs.
 use Rattle.std.specs.Prelude.{ℕ, ◌+◌, ◌==◌, ◌&&◌, ◌||◌, if◌then◌else◌, Bool, List, [], ◌∷◌, ◌++◌, map}
 use Rattle.std.specs.List.{filter}
 use Rattle.ring_saved.specs.declared.saved.SavedEvent.{SavedEvent}
@@ -41,7 +41,7 @@ place b at = capped (b.events + at)
 abbrev pub ended : ℕ → List Bool → List (ℕ × Sign)
 ended at lefts = map (λ (left : Bool). (at, Ended left)) lefts
 
--- The signs of a segment in their order, from this place of it on, behind which these events come,
+-- The signs of a segment in their order, from this place of it on, after which these events come,
 -- each with its place over all segments. The ends at a place come before its event.
 abbrev pub signs_from : Base → List SavedSurvey → ℕ → List SavedEvent → List (ℕ × Sign)
 signs_from b ss at [] = ended (place b at) (ends_at at ss)

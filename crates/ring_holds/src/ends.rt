@@ -35,7 +35,7 @@ fn put(table: &mut Vec<Ends>, survey: &SavedSurvey)
     };
 }
 
-/// The ends at each place of a ring's segment, from the one before its first event to the one behind its last.
+/// The ends at each place of a ring's segment, from the one before its first event to the one after its last.
 pub(crate) fn ends_of(alloc: Global, ring: &SavedRing) -> Result<Vec<Ends>, AllocError>
     ensures many { IfOk result
         (λ table. length table.items ≡ length ring.now.events.items + 1) }

@@ -10,7 +10,7 @@ use std::alloc::AllocError;
 /// Why the history of a ring gives no holds.
 #[derive(Clone, Copy, Debug, PartialEq, Eq)]
 pub enum HoldError {
-    /// What stands behind this many events fits no hold: a grant while a lock is held, an end while it is not, a token that is
+    /// What comes after this many events fits no hold: a grant while a lock is held, an end while it is not, a token that is
     /// not greater than the one before, or another call by seat 0 or 3.
     NoHold(u64),
     /// Out of memory.
@@ -30,7 +30,7 @@ impl From<AllocError> for HoldError {
 pub enum ChainHoldError {
     /// A file does not follow in the chain.
     Segment(SegmentError),
-    /// What stands in the history of the lock of this number behind this many events fits no hold, as [`HoldError::NoHold`] says.
+    /// What comes after this many events in the history of the lock of this number fits no hold, as [`HoldError::NoHold`] says.
     NoHold { lock: u64, at: u64 },
     /// Out of memory.
     OutOfMemory,

@@ -1,4 +1,4 @@
-//! A hold of a lock, as its history tells of it.
+//! A hold of a lock, as its history records it.
 
 /// The grant with which a hold begins.
 #[derive(Clone, Copy, Debug, PartialEq, Eq)]

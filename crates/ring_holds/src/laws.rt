@@ -4,7 +4,7 @@ ghost use Rattle.ring_holds.specs.ChainLaws.{ChainHoldsExclude, ReadFilesTell};
 ghost use Rattle.ring_holds.specs.Chains.{FilesTellHolds, BlocksTellHolds};
 ghost use Rattle.ring_holds.specs.Laws.{ReadAreHolds, RefusedAreNoHolds, HoldsAreOne, HoldsExclude, SignsRise};
 
-/// What a reader knows behind signs are the holds of which they tell, the only ones; and signs that it refuses tell of none.
+/// What a reader knows after signs are the holds that they record, the only ones; and signs that it refuses record none.
 pub fn holds_of_signs()
     ensures read { ReadAreHolds }
     ensures refused { RefusedAreNoHolds }
@@ -18,7 +18,7 @@ pub fn holds_exclude_each_other()
     ensures chains { ChainHoldsExclude }
 {}
 
-/// Files that [`HoldChain`](crate::HoldChain) has read are a chain. What is known of a lock behind them, or behind a saved
+/// Files that [`HoldChain`](crate::HoldChain) has read are a chain. What is known of a lock after them, or after a saved
 /// history, are its holds.
 pub fn holds_of_chains()
     ensures chain { ReadFilesTell }

@@ -1,6 +1,6 @@
 //! The holds of locks, read from the saved history of their rings.
 //!
-//! `specs/Signs.antt` says what an event or a survey tells of holds, `specs/Holds.antt` of which holds a history tells.
+//! `specs/Signs.antt` says what an event or a survey records of holds, `specs/Holds.antt` which holds a history records.
 #![tactic(auto)]
 
 mod chains;

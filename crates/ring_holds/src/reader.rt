@@ -15,7 +15,7 @@ use ring_chains::Base;
 use ring_saved::SavedRing;
 use std::alloc::{AllocError, Global};
 
-/// How a lock stands at a place of its history.
+/// How a lock is at a place of its history.
 #[derive(Clone, Copy)]
 pub enum Standing {
     /// Before the first event that is known, if others came before it.
@@ -113,7 +113,7 @@ impl HoldReader {
         }
     }
 
-    /// An event that tells of no hold.
+    /// An event that records no hold.
     fn go_on(&mut self)
         ensures { IsStep (known self.old) 0 Other (Ok tt) (known self.new) }
     {
@@ -122,7 +122,7 @@ impl HoldReader {
         }
     }
 
-    /// What an event tells.
+    /// What an event records.
     fn event(&mut self, at: u64, sign: Sign) -> Result<(), HoldError>
         ensures { IsStep (known self.old) at sign result (known self.new) }
     {

@@ -1,4 +1,4 @@
-//! What an event tells of holds.
+//! What an event records of holds.
 
 ghost use Rattle.std.specs.Prelude.{◌≡◌};
 ghost use Rattle.ring_holds.specs.Signs.{other, sign_of, place};
@@ -6,12 +6,12 @@ ghost use Rattle.ring_holds.specs.Signs.{other, sign_of, place};
 use ring_chains::Base;
 use ring_saved::SavedEvent;
 
-/// What stands at a place of a ring's history, as far as it tells of holds.
+/// What is at a place of a ring's history, as far as it records holds.
 #[derive(Clone, Copy)]
 pub enum Sign {
     /// A pass by seat 0 that was granted: a hold with this token begins.
     Granted { token: u64, label: u64 },
-    /// A pass by seat 3 that was refused: the hold with this token goes on.
+    /// A pass by seat 3 that was refused: the hold with this token continues.
     Carried { token: u64 },
     /// A survey by seat 1, or by seat 2 if the client left: the hold ends.
     Ended { left: bool },
@@ -32,7 +32,7 @@ fn other(seat: u32) -> Sign
     }
 }
 
-/// What an event of a segment with this base tells.
+/// What an event of a segment with this base records.
 pub(crate) fn sign_of(base: &Base, event: SavedEvent) -> Sign
     ensures { result ≡ sign_of base.now event }
 {

@@ -56,7 +56,7 @@ module _ (es : List SavedEvent) (i : ℕ) (quiet : Quiet es i) where
       let whole : corrupted_count (take (p + length (map event_of es)) (map event_of es)) ≡ corrupted_count (map event_of es) = ap corrupted_count (take_all (p + length (map event_of es)) (map event_of es) (omega arith)) in
       eq_true (corrupted_count (take p (map event_of es))) 0 (omega (arith, few, whole, all)) ∙ sym (le_true p (2 ^ 64 - 1) (omega (arith, lt)))
 
--- an event that is no corruption
+-- an event that is not a corruption
 pub no_corruption : (e : SavedEvent) → ((seat machine value old : ℕ) → e ≡ Corrupted seat machine value old → ⊥) → is_corrupted (event_of e).reply ≡ false
 no_corruption (Granted seat machine order number result) not = refl
 no_corruption (Refused seat machine order) not = refl

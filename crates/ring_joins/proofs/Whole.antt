@@ -44,7 +44,7 @@ start_of k = ring_with k.k k.start
 abbrev pub Right : Ring → List Event → SavedSurvey → Type 0
 Right r h s = (s.seat < seat_limit) × IsSurvey till (opening r 0) h (survey_of s)
 
--- a block that is right but for the order of its surveys, which is right for each seat
+-- a block that is right except for the order of its surveys, which is right for each seat
 pub record IsSound (place : ℕ) (k : Block) : Type 0 where
   pub index : k.index ≡ place
   pub long : length k.start ≡ k.n

@@ -24,7 +24,7 @@ pub(crate) fn overfull(rings: &[SavedRing]) -> Option<u64>
     None
 }
 
-/// So many lines, and those of the block of a ring; the greatest number if they are more.
+/// This many lines, and those of the block of a ring; the greatest number if they are more.
 fn count_more(lines: u64, ring: &SavedRing) -> u64
     ensures { result ≡ capped (lines + length (block_lines (block_of ring.now))) }
 {

@@ -70,7 +70,7 @@ grants_append : (xs ys : List Left) → grants_behind (xs ++ ys) ≡ grants_behi
 grants_append [] ys = refl
 grants_append (x ∷ xs) ys = ap (λ (z : List (ℕ × Answer)). other_grant x.granted ++ z) (grants_append xs ys) ∙ sym (append_assoc (other_grant x.granted) (grants_behind xs) (grants_behind ys))
 
--- who is granted behind the end of a hold
+-- the client that is granted after the end of a hold
 holder_by : (a : State ℕ) (line : List Waiter) (h : Option Holder) → other_grant h ≡ (advanced a line).answers → h ≡ (advanced a line).lock.holder
 holder_by a [] None e = refl
 holder_by a [] (Some h) e = absurd (one h e)
@@ -95,7 +95,7 @@ holder_by a (w ∷ line) (Some h) e =
     token_is : (c d s t : ℕ) → ◌≡◌ {A = List (ℕ × Answer)} ((c, answer.Granted s) ∷ []) ((d, answer.Granted t) ∷ []) → s ≡ t
     token_is c d s t e = let p : answer.Granted s ≡ answer.Granted t = ap (λ (x : ℕ × Answer). x.1) (pair_is c d s t e) in cc
 
--- what is told of one lock
+-- what is reported of one lock
 pub record IsTold (c i : ℕ) (v : LockView) (said : List Left) : Type 0 where
   pub told : said ≡ left_at c i (Some v)
   pub answers : grants_behind said ≡ (turn [] (lock_of v) c Leave).answers

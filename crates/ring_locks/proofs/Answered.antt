@@ -33,7 +33,7 @@ round_and_round : (ls : List Lock) (c : ℕ) → whom ls c ≡ Some c → (steps
 round_and_round ls c w zero e = some_none c e
 round_and_round ls c w (suc steps) e = round_and_round ls c w steps (ap (λ (x : Option ℕ). comes steps ls x) (sym w) ∙ e)
 
--- who holds a lock does not stand in its line
+-- the holder of a lock is not in its line
 pub not_in_own_line : (ls : List Lock) (i : ℕ) (l : Lock) (h : Holder) → AreRight ls → slice_get ls i ≡ Some l → l.holder ≡ Some h → stands h.client l.line ≡ false
 not_in_own_line ls i l h r e held = false_from_ne_true (stands h.client l.line) (λ s.
     let w : whom ls h.client ≡ Some h.client = ap holder_of (waits_there ls h.client i l r.once e s) ∙ ap client_of held in

@@ -107,7 +107,7 @@ want_is v b seat machine e why n s m d full memory = elim d [
   | inr p ↦ inr (memory p.1)
 ]
 
--- ---- what is made one behind the other
+-- ---- what is made one after the other
 
 pub same_kept : (old new : EndlessView) → IsKeptRing old → IsEndless new → IsSameEndless old new → IsKeptRing new
 same_kept old new k i s = record { endless = i; seats = ap (λ cs. length cs) s.ring.clients ∙ k.seats }
@@ -129,7 +129,7 @@ made_append old now new [] ys a b = made_of_same old now new ys a b
 made_append old now new (Call e ∷ xs) ys a b = (a.0, a.1, a.2, a.3, a.4, a.5, made_append a.1 now new xs ys a.6 b)
 made_append old now new (Survey seat ∷ xs) ys a b = made_append old now new xs ys a b
 
--- the state behind what is made
+-- the state after what is made
 pub made_state : (old new : EndlessView) (ms : List Mark) → AreMade old ms new → state_of new ≡ after till (state_of old) (events_of ms)
 made_state old new [] s = same_state old new s
 made_state old new (Call e ∷ ms) m =
@@ -155,7 +155,7 @@ made_is old new ms ns e m = subst (λ (x : List Mark). AreMade old x new) e m
 pub over : (old new : EndlessView) (ms all : List Mark) (es : List Event) → es ≡ [] → AreMade old ms new → ms ++ map Call es ≡ all → AreMade old all new
 over old new ms all es none m e = made_is old new ms all (sym (append-nil ms) ∙ ap (λ (x : List Event). ms ++ map Call x) (sym none) ∙ e) m
 
--- and one that goes on
+-- and one that continues
 pub record IsRepairing (old new : EndlessView) (more : ℕ) (whole : List Mark) : Type 0 where
   pub ms : List Mark
   pub made : AreMade old ms new

@@ -1,4 +1,4 @@
--- No client waits for itself, however far round: behind each change of a lock one still comes to an end.
+-- No client waits for itself, however far round: after each change of a lock one still comes to an end.
 use Rattle.std.proofs.Common.{◌≡◌, ◌≢◌, ℕ, zero, suc, true, false, List, refl, sym, ◌∙◌, ap, subst, inl, inr, Option, Some, None}
 use Rattle.std.specs.Prelude.{◌==◌, slice_get, slice_set, ◌⊎◌}
 use Rattle.std.proofs.lemmas.Bool.{cases_Bool, cases_eq, eqb-false, true≢false, or_parts, both_ways}
@@ -6,11 +6,11 @@ use Rattle.ring_locks.specs.Lines.{Lock, stands, waits_for, client_of, holder_of
 use Rattle.ring_locks.specs.Promises.{comes, ComesToAnEnd}
 use Rattle.ring_locks.proofs.Standing.{Once, get_set, get_set_same, get_set_other, waits_at, waits_nowhere, nowhere_waits, waits_there}
 
--- who holds what the client waits for
+-- the holder of what the client waits for
 abbrev pub whom : List Lock → ℕ → Option ℕ
 whom ls c = holder_of (waits_for ls c)
 
--- whom the client waits for behind a change: nobody, one who waits for nobody, or the same
+-- whom the client waits for after a change: nobody, one that waits for nobody, or the same
 pub data Next (ls ms : List Lock) (c : ℕ) : Type 0 where
   Nobody : whom ms c ≡ None → Next ls ms c
   Another : (d : ℕ) → whom ms c ≡ Some d → whom ms d ≡ None → Next ls ms c
@@ -31,7 +31,7 @@ ends_kept ls ms next (suc steps) (Some c) e = step_on ls ms c (next c) (ends_kep
 
 -- ---- a client that begins to wait
 
--- who asks does not come back to itself
+-- the client that asks does not come back to itself
 module _ (ls ms : List Lock) (asker : ℕ) (others : (c : ℕ) → c ≢ asker → whom ms c ≡ whom ls c) where
   pub no_way_back : (steps : ℕ) (at : Option ℕ) → comes_to steps ls asker at ≡ false → ComesToAnEnd ms at
   no_way_back steps None e = (0, refl)
@@ -53,7 +53,7 @@ module _ (ls ms : List Lock) (asker : ℕ) (others : (c : ℕ) → c ≢ asker �
 
 -- ---- one lock changes
 
--- nobody waits for two locks behind a change
+-- nobody waits for two locks after a change
 pub once_kept : (ls : List Lock) (i : ℕ) (l m : Lock) → Once ls → slice_get ls i ≡ Some l →
     ((c : ℕ) → stands c m.line ≡ true → (stands c l.line ≡ true) ⊎ (waits_for ls c ≡ None)) → Once (slice_set ls i m)
 once_kept ls i l m once at new c j k x y fx fy sx sy =
@@ -76,7 +76,7 @@ once_kept ls i l m once at new c j k x y fx fy sx sy =
       ]
     ]
 
--- what a client waits for behind it
+-- what a client waits for after it
 pub data WaitsBehind (ls ms : List Lock) (l m : Lock) (c : ℕ) : Type 0 where
   There : stands c m.line ≡ true → waits_for ms c ≡ Some m → WaitsBehind ls ms l m c
   Gone : stands c m.line ≡ false → stands c l.line ≡ true → waits_for ms c ≡ None → WaitsBehind ls ms l m c

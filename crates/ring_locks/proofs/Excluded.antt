@@ -1,4 +1,4 @@
--- Exclusion: a hold goes on until an input ends it.
+-- Exclusion: a hold continues until an input ends it.
 use Rattle.std.proofs.Common.{◌≡◌, ℕ, zero, suc, Bool, true, false, List, [], ◌∷◌, ◌++◌, refl, sym, ◌∙◌, ap, subst, inl, inr, Option, Some, None}
 use Rattle.std.specs.Prelude.{◌||◌, ◌&&◌, ◌==◌, if◌then◌else◌, slice_get, slice_set, option_map, ◌⊎◌}
 use Rattle.std.proofs.lemmas.Bool.{eq-eqb, true≢false, or_left, or_right, both_ways, and_from}
@@ -36,7 +36,7 @@ no_grant c (answer.Refused why) e = refl
 pub no_grants : (c : ℕ) (a : Answer) → is_grant a ≡ false → grants_in ((c, a) ∷ []) ≡ []
 no_grants c a e = let q : grant_of c a ≡ None = no_grant c a e in rw q refl
 
--- the answers before the grant of the head of a line are no grants
+-- the answers before the grant of the head of a line are not grants
 pub ended_grants : (l : Lock) (c : ℕ) (h : Holder) (ask : Ask) (seat : ℕ) (line : List Waiter) (answers : List (ℕ × Answer)) → IsEnd l c h ask seat line answers →
     (more : List (ℕ × Answer)) → grants_in (answers ++ more) ≡ grants_in more
 ended_grants l c h ask seat line answers (Released a b e f) more = ap (λ (x : List (ℕ × Answer)). grants_in (x ++ more)) f
@@ -130,7 +130,7 @@ set_same [] at l e = let p : ◌≡◌ {A = Option Lock} None (Some l) = e in ab
 set_same (x ∷ ls) zero l e = let p : ◌≡◌ {A = Option Lock} (Some x) (Some l) = e in cc
 set_same (x ∷ ls) (suc at) l e = ap (λ (y : List Lock). x ∷ y) (set_same ls at l e)
 
--- a turn of which only an answer is told
+-- a turn of which there is only an answer
 abbrev told_step : List Lock → ℕ → Turn → Step
 told_step ls at t = record { locks = slice_set ls at t.lock; marks = t.marks; answers = t.answers }
 

@@ -1,4 +1,4 @@
--- What the entries of who waits tell.
+-- What the entries of waiting clients say.
 use Rattle.std.proofs.Common.{◌≡◌, ℕ, zero, suc, ◌-◌, ◌<◌, ◌≤◌, Bool, true, false, List, length, get_or, refl, sym, ◌∙◌, ap, subst, inl, inr, arith, Option, Some, None, is_some}
 use Rattle.std.specs.Prelude.{◌||◌, ◌==◌, slice_get, option_map}
 use Rattle.std.proofs.lemmas.Bool.{cases_Bool, both_ways, eq-eqb, ne_eqb, false_from_ne_true}
@@ -72,7 +72,7 @@ entry_below ps es c i k e =
     let l : i < length (locks_of (views_of ps)) = slice_get_within (locks_of (views_of ps)) i t.0 t.1 in
     omega arith
 
--- who holds what a client waits for
+-- the holder of what a client waits for
 pub awaited_is : (ps : List LockParts) (es : List (ℕ × ℕ)) (c i : ℕ) (p : LockParts) → AreKept (views_of ps) es → lock_in es c ≡ Some i → slice_get ps i ≡ Some p → client_of p.holder ≡ whom (locks_of (views_of ps)) c
 awaited_is ps es c i p k e at =
     let h = entry_of (locks_of (views_of ps)) es c i k.right k.waits e in

@@ -1,4 +1,4 @@
--- The token of a client that waits, but for those before it who give up.
+-- The token of a client that waits, less those before it that give up.
 use Rattle.std.proofs.Common.{◌≡◌, ◌≢◌, ℕ, suc, ◌+◌, Bool, true, false, cond, not, List, [], ◌∷◌, ◌++◌, length, refl, sym, ◌∙◌, ap, subst, inl, inr, arith, Option, Some, None}
 use Rattle.std.specs.Prelude.{◌&&◌, ◌||◌, ◌==◌, if◌then◌else◌, slice_get}
 use Rattle.std.proofs.lemmas.Bool.{cases_eq, and_from, eq-eqb, eqb-true, eqb-false, ne_eqb, or_parts, both_ways, true≢false}
@@ -29,7 +29,7 @@ apart_front : (front back : List Waiter) → AreApart (front ++ back) → AreApa
 apart_front [] back a = tt
 apart_front (f ∷ front) back a = ((or_parts (stands f.client front) (stands f.client back) (sym (stands_append f.client front back) ∙ a.0)).0, apart_front front back a.1)
 
--- who stands before the client
+-- the clients before the client
 before_is : (front : List Waiter) (w : Waiter) (back : List Waiter) → AreApart (front ++ w ∷ back) → before w.client (front ++ w ∷ back) ≡ front
 before_is [] w back a = let own : (w.client == w.client) ≡ true = eq-eqb w.client w.client refl in rw own refl
 before_is (f ∷ front) w back a =
@@ -38,7 +38,7 @@ before_is (f ∷ front) w back a =
     let n : (f.client == w.client) ≡ false = ne_eqb f.client w.client (λ e. eqb-false w.client f.client other (sym e)) in
     rw n (ap (λ (x : List Waiter). f ∷ x) (before_is front w back a.1))
 
--- one fewer, if the client stood there
+-- one fewer, if the client was there
 fewer_more : (c : ℕ) (f : Waiter) (front : List Waiter) → stands f.client front ≡ false → length front ≡ length (without c front) + bit (stands c front) → (b : Bool) → (f.client == c) ≡ b →
     suc (length front) ≡ length (cond (not b) (f ∷ without c front) (without c front)) + bit (b || stands c front)
 fewer_more c f front a n true e =
@@ -217,7 +217,7 @@ same_rest (x ∷ xs) ys zs e = same_rest xs ys zs (rest x (xs ++ ys) (xs ++ zs) 
     rest : (x : Holder) (us vs : List Holder) → ◌≡◌ {A = List Holder} (x ∷ us) (x ∷ vs) → us ≡ vs
     rest x us vs e = cc
 
--- where the client stands then
+-- where the client is then
 pub record Ahead (ls : List Lock) (is : List Input) (at : ℕ) (l : Lock) (front : List Waiter) (w : Waiter) : Type 0 where
   pub lock : Lock
   pub there : slice_get (locks_after ls is) at ≡ Some lock
@@ -229,7 +229,7 @@ pub record Ahead (ls : List Lock) (is : List Input) (at : ℕ) (l : Lock) (front
 grants_now : (at : ℕ) (ls : List Lock) (i : Input) (is : List Input) → grants_of at ls (i ∷ is) ≡ grants_in (if names at i then (step ls i).answers else []) ++ grants_of at (step ls i).locks is
 grants_now at ls i is = ap (λ (x : List Holder). x ++ grants_of at (step ls i).locks is) (grants_if (names at i) (step ls i).answers)
 
--- behind one more input
+-- after one more input
 ahead_on : (ls : List Lock) (i : Input) (is : List Input) (at : ℕ) (l m : Lock) (front : List Waiter) (w : Waiter) (answers : List (ℕ × Answer)) → slice_get ls at ≡ Some l →
     ((others later : List Waiter) → m.line ≡ others ++ w ∷ later → NoneOf w.client (grants_of at (step ls i).locks is) → Ahead (step ls i).locks is at m others w) →
     NoneOf w.client (grants_in answers ++ grants_of at (step ls i).locks is) → Nears l m front w answers (gives_way at w.client (Some l) i) → Ahead ls (i ∷ is) at l front w

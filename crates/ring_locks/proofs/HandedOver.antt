@@ -21,7 +21,7 @@ use Rattle.ring_locks.proofs.Lifting.{waits_changed}
 pub some_is : {X : Type 0} (x y : X) → ◌≡◌ {A = Option X} (Some x) (Some y) → x ≡ y
 some_is x y e = cc
 
--- what a client waits for that stands neither here before nor here behind the write
+-- what a client waits for that is neither here before nor here after the write
 waits_set : (ls : List Lock) (i : ℕ) (l m : Lock) (c : ℕ) → slice_get ls i ≡ Some l → stands c l.line ≡ false → stands c m.line ≡ false → waits_for (slice_set ls i m) c ≡ waits_for ls c
 waits_set [] i l m c e s t = refl
 waits_set (x ∷ ls) zero l m c e s t =

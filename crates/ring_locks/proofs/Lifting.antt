@@ -21,7 +21,7 @@ use Rattle.ring_locks.proofs.Standing.{Once, get_set, get_set_same, get_set_othe
 use Rattle.ring_locks.proofs.Right.{right_asked}
 use Rattle.ring_locks.proofs.Answered.{not_in_own_line}
 
--- ---- who waits
+-- ---- the clients that wait
 
 some_nat : (i j : ℕ) → ◌≡◌ {A = Option ℕ} (Some i) (Some j) → i ≡ j
 some_nat i j e = cc
@@ -260,7 +260,7 @@ lifted_parts ps qs es fs c i ask p q u n r k at set e f d =
     let x = lifted (views_of ps) es c i ask (view_of p) (view_of q) k (view_there ps i p at) fs u n r e f d in
     (subst (λ (y : List LockView). IsAnswer (views_of ps) y c i ask r) (sym s) x.0, subst (λ (y : List LockView). AreKept y fs) (sym s) x.1)
 
--- and of an ask that is never refused for want
+-- and of an ask that is never refused for lack of room or memory
 pub lifted_done : (ps qs : List LockParts) (es fs : List (ℕ × ℕ)) (c i : ℕ) (ask : Ask) (p q : LockParts) (u : Turn) (r : Answers) → AreKept (views_of ps) es → slice_get ps i ≡ Some p → qs ≡ slice_set ps i q →
     u ≡ turn (locks_of (views_of ps)) (lock_of (view_of p)) c ask → IsTurnedIn i (view_of p) (view_of q) es fs c u r → IsDone (views_of ps) (views_of qs) c i ask r × AreKept (views_of qs) fs
 lifted_done ps qs es fs c i ask p q u r k at set e d =

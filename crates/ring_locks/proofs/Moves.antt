@@ -12,7 +12,7 @@ use Rattle.ring_locks.specs.declared.answers.Refusal.TheVariants as refusal
 use Rattle.ring_locks.specs.Lines.{Lock, stands, without, is_held_by, is_held_with, waits_for, client_of, comes_to}
 use Rattle.ring_locks.specs.Locks.{Ask, Acquire, Try, Release, Cancel, Leave, Corrupt, Stats, Call, Turn, told, granted, ended, fault, joined, acquired, tried, tried_of, turn}
 
--- the answer is no grant
+-- the answer is not a grant
 abbrev pub is_grant : Answer → Bool
 is_grant (answer.Granted token) = true
 is_grant _ = false

@@ -1,4 +1,4 @@
--- A lock goes on over the next segment of its ring.
+-- A lock continues over the next segment of its ring.
 use Rattle.std.proofs.Common.{◌≡◌, ℕ, zero, suc, ◌+◌, ◌<◌, ◌≤◌, Bool, true, false, List, [], ◌∷◌, ◌++◌, map, length, take, get_or, refl, sym, ◌∙◌, ap, subst, inl, arith, Option, Some, None}
 use Rattle.std.specs.Prelude.{◌==◌, if◌then◌else◌, slice_get, option_map}
 use Rattle.std.proofs.lemmas.List.{take_more, map-append}
@@ -81,7 +81,7 @@ next_of v empty reserved next k f n s m r room =
       room = room;
     }
 
--- ---- a lock goes on
+-- ---- a lock continues
 
 pub next_lock : (v : LockView) (next : EndlessView) (line : List Waiter) → IsKeptLock v → IsRightLock (lock_of v) → IsNextOf v next → line ≡ v.line → IsNextLock v (record { ring = next; line = line; holder = v.holder })
 next_lock v next line k r n e =

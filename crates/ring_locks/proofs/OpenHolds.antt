@@ -101,7 +101,7 @@ all_small e k =
     let bounded = k.endless.ring.book.bounded in
     small_from (opening e.ring.book.start 0) e.ring.book.history k.endless.ring.book.legal (omega arith)
 
--- ---- the hold behind the events
+-- ---- the hold after the events
 
 pub open_push : (b : Base) (token : Option ℕ) (es : List Event) (e : Event) → open_after token (map Call (shifted b (es ++ e ∷ []))) ≡ open_behind (open_after token (map Call (shifted b es))) (shifted_event b e)
 open_push b token [] e = refl

@@ -79,7 +79,7 @@ right_turn ls l c i ask t r at (Faults k v a lt lk e) =
     let b = (fault_is l.ring k v was.ring lt lk).good in
     subst (λ (x : Turn). IsRightLock x.lock) (sym e) (record { ring = b.ring; settled = b.settled; held = was.held; apart = was.apart })
 
--- ---- who is new in its line
+-- ---- the client that is new in its line
 
 advanced_fewer : (a : State ℕ) (line : List Waiter) (d : ℕ) → stands d (advanced a line).lock.line ≡ true → stands d line ≡ true
 advanced_fewer a [] d s = s
@@ -170,7 +170,7 @@ right_asked ls l c i ask r at =
       ends = ends_turn ls l c i ask t r at move once;
     }
 
--- locks of which nobody stands in line
+-- locks whose lines are empty
 pub right_empty : (ls : List Lock) → ((i : ℕ) (l : Lock) → slice_get ls i ≡ Some l → IsGood l.ring × (l.line ≡ [])) → AreRight ls
 right_empty ls h =
     let none : (c i : ℕ) (l : Lock) → slice_get ls i ≡ Some l → stands c l.line ≡ false = λ c i l e. ap (λ (x : List Waiter). stands c x) (h i l e).1 in record {

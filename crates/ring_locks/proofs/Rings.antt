@@ -134,7 +134,7 @@ pub repairs_few : (most : ℕ) (a : State ℕ) → length (repairs most a) ≤ m
 repairs_few zero a = omega arith
 repairs_few (suc most) a = few_more most a (repairs_few most (next till a (first_pass a 0))) (is_settled a.ring.values)
 
--- they are no grants of a lock, and end no hold
+-- they are not grants of a lock, and end no hold
 pub record AreNoHolds (token : Option ℕ) (ms : List Mark) : Type 0 where
   pub alternate : Alternate token ms
   pub same : open_after token ms ≡ token

@@ -12,7 +12,7 @@ use Rattle.ring_model.proofs.Settled.{only_one, first_is, rest_settled}
 use Rattle.ring_desk.specs.Rings.{RingView, IsOneThreadRing}
 use Rattle.ring_endless.specs.Endless.{local_survey}
 
--- who is privileged in a settled ring is the first
+-- the privileged machine of a settled ring is the first
 pub only_is_first : (s : List ℕ) (i : ℕ) → is_settled s ≡ true → i < length s → is_privileged s i ≡ true → i ≡ first_privileged s
 only_is_first s i u l e =
     let f = first_is s (omega arith) in

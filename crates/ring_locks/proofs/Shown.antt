@@ -20,7 +20,7 @@ use Rattle.ring_locks.proofs.Moves.{Move, Stays, Waits, Gets, Ends, Drops, Fault
 use Rattle.ring_locks.proofs.Changes.{Change, Moves, Stands, Restarts, one_step}
 use Rattle.ring_locks.proofs.Right.{right_step}
 
--- ---- one part of a history behind another
+-- ---- one part of a history after another
 
 pub events_append : (xs ys : List Mark) → events_of (xs ++ ys) ≡ events_of xs ++ events_of ys
 events_append [] ys = refl

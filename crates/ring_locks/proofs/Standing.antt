@@ -1,4 +1,4 @@
--- Who stands in a line that changes, and what a client waits for.
+-- The clients in a line that changes, and what a client waits for.
 use Rattle.std.proofs.Common.{◌≡◌, ◌≢◌, ℕ, zero, suc, Bool, true, false, cond, not, List, [], ◌∷◌, ◌++◌, refl, sym, ◌∙◌, ap, subst, inl, inr, Option, Some, None}
 use Rattle.std.specs.Prelude.{◌||◌, ◌==◌, if◌then◌else◌, slice_get, slice_set, ◌⊎◌}
 use Rattle.std.proofs.lemmas.Bool.{cases_Bool, cases_eq, eqb-true, eqb-false, ne_eqb, or_cases, or_left, or_right, or_from, or_parts, both_ways}
@@ -23,7 +23,7 @@ get_set_other (z ∷ xs) zero (suc j) x n = refl
 get_set_other (z ∷ xs) (suc i) zero x n = refl
 get_set_other (z ∷ xs) (suc i) (suc j) x n = get_set_other xs i j x (λ e. n (ap suc e))
 
--- what is at a place behind a write: what was written, or what was there
+-- what is at a place after a write: what was written, or what was there
 pub get_set : {X : Type 0} (xs : List X) (i j : ℕ) (x y z : X) → slice_get xs i ≡ Some y → slice_get (slice_set xs i x) j ≡ Some z →
     ((j ≡ i) × (z ≡ x)) ⊎ ((j ≢ i) × (slice_get xs j ≡ Some z))
 get_set {X = X} xs i j x y z e f = elim (cases_eq j i) [
@@ -48,7 +48,7 @@ gone_more : (c : ℕ) (w : Waiter) (line : List Waiter) → stands c line ≡ fa
 gone_more c w line e true q = e
 gone_more c w line e false q = or_from (w.client == c) (stands c line) q e
 
--- who goes does not stand there any more
+-- a client that goes is not there any more
 pub stands_without : (c : ℕ) (line : List Waiter) → stands c (without c line) ≡ false
 stands_without c [] = refl
 stands_without c (w ∷ line) = gone_more c w (without c line) (stands_without c line) (w.client == c) refl
@@ -105,7 +105,7 @@ some_is l m e = cc
 none_is : (l : Lock) → ◌≡◌ {A = Option Lock} None (Some l) → ⊥
 none_is l e = cc
 
--- where it stands
+-- where it is
 pub record StandsAt (ls : List Lock) (c : ℕ) (l : Lock) : Type 0 where
   pub at : ℕ
   pub lock : slice_get ls at ≡ Some l
@@ -127,12 +127,12 @@ missing x ls c i l h true q e f = absurd (none_is x (sym e))
 missing x ls c zero l h false q e f = subst (λ (y : Lock). stands c y.line ≡ false) (some_is x l f) q
 missing x ls c (suc i) l h false q e f = h i e f
 
--- who waits for nothing stands nowhere
+-- a client that waits for nothing is nowhere
 pub waits_nowhere : (ls : List Lock) (c i : ℕ) (l : Lock) → waits_for ls c ≡ None → slice_get ls i ≡ Some l → stands c l.line ≡ false
 waits_nowhere [] c i l e f = absurd (none_is l f)
 waits_nowhere (x ∷ ls) c i l e f = missing x ls c i l (λ j. waits_nowhere ls c j l) (stands c x.line) refl e f
 
--- and who stands nowhere waits for nothing
+-- and a client that is nowhere waits for nothing
 pub nowhere_waits : (ls : List Lock) (c : ℕ) → ((i : ℕ) (l : Lock) → slice_get ls i ≡ Some l → stands c l.line ≡ false) → waits_for ls c ≡ None
 nowhere_waits [] c h = refl
 nowhere_waits (x ∷ ls) c h =

@@ -128,7 +128,7 @@ pub tried_busy : (l : Lock) (w : Waiter) (h : Option Holder) → is_some h ≡ t
 tried_busy l w None e = absurd (false≢true e)
 tried_busy l w (Some h) e = refl
 
--- a line in which the client does not stand
+-- a line in which the client is not
 pub without_absent : (c : ℕ) (line : List Waiter) → stands c line ≡ false → without c line ≡ line
 without_absent c [] e = refl
 without_absent c (w ∷ line) e =

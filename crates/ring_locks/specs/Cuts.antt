@@ -1,4 +1,4 @@
--- Locks whose rings go on in their next segments (this project's own).
+-- Locks whose rings continue in their next segments (this project's own).
 use Rattle.std.specs.Prelude.{◌≡◌, ℕ, ◌+◌, ◌<◌, ◌≤◌, ◌⊎◌, List, [], ◌∷◌, length, slice_get, Some}
 use Rattle.ring_model.specs.Limits.{event_limit}
 use Rattle.ring_chains.specs.Bases.{IsBase, base_after}
@@ -8,8 +8,8 @@ use Rattle.ring_locks.specs.declared.answers.Refusal.TheVariants as refusal
 use Rattle.ring_locks.specs.Promises.{carries}
 use Rattle.ring_locks.specs.Kept.{LockView, lock_of, IsKeptRing, AreMade}
 
--- The ring of a lock's next segment goes on from the end of this segment, and its history has no
--- event but the one that carries the open hold. It has room for a grant to each client that waits.
+-- The ring of a lock's next segment continues from the end of this segment, and its history has no
+-- event except the one that carries the open hold. It has room for a grant to each client that waits.
 pub record IsNextOf (v : LockView) (next : EndlessView) : Type 0 where
   pub empty : EndlessView
   pub kept : IsKeptRing empty
@@ -27,7 +27,7 @@ IsNoNext v why =
     ⊎ (event_limit < length v.line + 1)))
     ⊎ (why ≡ refusal.Memory)
 
--- the lock goes on in its next segment, and nothing of it changes
+-- the lock continues in its next segment, and nothing of it changes
 pub record IsNextLock (old new : LockView) : Type 0 where
   pub ring : IsNextOf old new.ring
   pub same : lock_of new ≡ lock_of old

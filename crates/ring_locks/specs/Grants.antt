@@ -61,7 +61,7 @@ carried a (Some token) = called a 3 (op.Pass (other_machine a) token) ∷ []
 abbrev pub most_passes : ℕ → ℕ
 most_passes n = n - 1
 
--- passes by seat 9 until the ring is settled, at most so many
+-- passes by seat 9 until the ring is settled, at most this many
 abbrev pub repairs : ℕ → State ℕ → List Event
 repairs zero a = []
 repairs (suc most) a =

@@ -35,8 +35,8 @@ abbrev pub AreHanded : List LockView → List Handover → List LockView → Typ
 AreHanded old [] new = new ≡ old
 AreHanded old (h ∷ hs) new = (mid : List LockView) × IsHanded old mid h × AreHanded mid hs new
 
--- A hold that was open at a restart is open behind it, and handed back to who held it: the lock is
--- the one that was, but for who waited.
+-- A hold that was open at a restart is open after it, and handed back to its holder: the lock is
+-- the one that was, without its waiters.
 abbrev pub HoldsAreHandedBack : Type 0
 HoldsAreHandedBack =
     (l : Lock) (was : Holder) (v : LockView) (h : Handover) → l.holder ≡ Some was

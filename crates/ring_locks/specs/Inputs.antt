@@ -19,7 +19,7 @@ pub data Mark : Type 0 where
   Call : Event → Mark
   Survey : ℕ → Mark
 
--- what an input does: the lock behind it, the marks in its history, and who is answered what
+-- what an input does: the lock after it, the marks in its history, and the answers to clients
 pub record Turn : Type 0 where
   pub lock : Lock
   pub marks : List Mark
@@ -34,7 +34,7 @@ pub data Input : Type 0 where
   Asked : ℕ → ℕ → Ask → Input
   Restart : Input
 
--- all locks behind an input, the marks of the one that it names, and the answers about it
+-- all locks after an input, the marks of the one that it names, and the answers about it
 pub record Step : Type 0 where
   pub locks : List Lock
   pub marks : List Mark

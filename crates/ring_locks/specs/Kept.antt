@@ -88,7 +88,7 @@ abbrev pub ended_at : Option LockView → List Mark → Option HoldEnd
 ended_at None ms = None
 ended_at (Some v) ms = ended_in v.ring ms
 
--- the answers to who asks and to who is granted behind it
+-- the answers to the client that asks and to the one that is granted next
 abbrev pub own_answer : ℕ → Option Answer → List (ℕ × Answer)
 own_answer c None = []
 own_answer c (Some a) = (c, a) ∷ []
@@ -122,19 +122,19 @@ IsFull vs i ask =
     × (slice_get vs i ≡ Some v)
     × (event_limit < length v.ring.ring.book.history + need v ask)
 
--- The input is refused for want of room or of memory; nothing has changed.
+-- The input is refused for lack of room or memory; nothing has changed.
 pub record IsWant (old new : List LockView) (i : ℕ) (ask : Ask) (r : Answers) : Type 0 where
   pub why : ((r.own ≡ Some (answer.Refused refusal.Full)) × IsFull old i ask)
       ⊎ (r.own ≡ Some (answer.Refused refusal.Memory))
   pub none : (r.ended ≡ None) × (r.granted ≡ None)
   pub same : new ≡ old
 
--- an input is answered as the machine says, or refused for want
+-- an input is answered as the machine says, or refused for lack of room or memory
 abbrev pub IsAnswer : List LockView → List LockView → ℕ → ℕ → Ask → Answers → Type 0
 IsAnswer old new c i ask r = IsDone old new c i ask r ⊎ IsWant old new i ask r
 
--- what a leave tells of the first locks: of each that the client held, that its hold has ended, and
--- who is granted it
+-- what a leave reports of the first locks: of each that the client held, that its hold has ended, and
+-- the client that is granted it
 abbrev pub left_by : ℕ → Option HoldEnd → Option Holder → List Left
 left_by i None granted = []
 left_by i (Some e) granted = record { lock = i; ended = e; granted = granted } ∷ []
@@ -148,7 +148,7 @@ abbrev pub left_of : ℕ → List LockView → ℕ → List Left
 left_of c vs zero = []
 left_of c vs (suc n) = left_of c vs n ++ left_at c n (slice_get vs n)
 
--- who is granted, as answers
+-- the clients that are granted, as answers
 abbrev pub grants_behind : List Left → List (ℕ × Answer)
 grants_behind [] = []
 grants_behind (l ∷ ls) = other_grant l.granted ++ grants_behind ls

@@ -1,16 +1,16 @@
--- Who holds the locks and who waits for them (this project's own).
+-- The holders of locks and the clients that wait for them (this project's own).
 use Rattle.std.specs.Prelude.{ℕ, zero, suc, Bool, true, false, not, ◌&&◌, ◌||◌, ◌==◌, if◌then◌else◌, List, [], ◌∷◌, filter, Option, Some, None, option_map}
 use Rattle.ring_model.specs.History.{State}
 use Rattle.ring_locks.specs.declared.answers.Waiter.{Waiter}
 use Rattle.ring_locks.specs.declared.answers.Holder.{Holder}
 
--- a lock: the state of its ring, who waits for it, in order, and who holds it
+-- a lock: the state of its ring, the clients that wait for it, in order, and its holder
 pub record Lock : Type 0 where
   pub ring : State ℕ
   pub line : List Waiter
   pub holder : Option Holder
 
--- the client stands in the line
+-- the client is in the line
 abbrev pub stands : ℕ → List Waiter → Bool
 stands c [] = false
 stands c (w ∷ line) = (w.client == c) || stands c line
@@ -41,8 +41,8 @@ abbrev pub holder_of : Option Lock → Option ℕ
 holder_of None = None
 holder_of (Some l) = client_of l.holder
 
--- from this client to who holds what it waits for, from there on in the same way: one comes to the
--- asker, or to no end in so many steps
+-- from this client to the holder of what it waits for, from there on in the same way: one comes to the
+-- asker, or to no end in this many steps
 abbrev pub comes_to : ℕ → List Lock → ℕ → Option ℕ → Bool
 comes_to steps ls asker None = false
 comes_to zero ls asker (Some c) = true

@@ -1,5 +1,5 @@
--- The machine of locks as one function (this project's own). A lock is a ring, settled behind each
--- input; the first privileged machine passes for whom it is granted.
+-- The machine of locks as one function (this project's own). A lock is a ring, settled after each
+-- input; the first privileged machine passes for the client that is granted it.
 use Rattle.std.specs.Prelude.{ℕ, nat_le, if◌then◌else◌, List, [], ◌∷◌, ◌++◌, map, length, slice_get, slice_index, slice_set, Option, Some, None, is_some, option_map}
 use Rattle.ring_model.specs.History.{after}
 use Rattle.ring_model.specs.Resources.{till}

@@ -48,8 +48,8 @@ open_in e = open_after None (map Call (drop (ended_before e) (events_in e)))
 abbrev pub holder_behind : Option ℕ → Option Holder
 holder_behind token = option_map (λ (t : ℕ). record { client = 0; token = t }) token
 
--- A lock more, of this ring, repaired. Nobody waits for it; the hold that is open in the ring's
--- history goes on.
+-- A lock more, of this ring, repaired. No client waits for it; the hold that is open in the ring's
+-- history continues.
 pub record IsAdded (old new : List LockView) (e : EndlessView) : Type 0 where
   pub ring : EndlessView
   pub repaired : AreMade e

@@ -25,7 +25,7 @@ views_of ps = map view_of ps
 abbrev pub IsMade : EndlessView → EndlessView → ℕ → Op → Type 0
 IsMade old new seat o = AreMade old (Call (called (state_of old) seat o) ∷ []) new
 
--- why the ring refuses so many events
+-- why the ring refuses this many events
 abbrev pub IsWantOf : EndlessView → ℕ → Refusal → Type 0
 IsWantOf e need why =
     ((why ≡ refusal.Full) × (event_limit < length e.ring.book.history + need))
@@ -39,7 +39,7 @@ pub record IsTurned (old new : LockView) (c : ℕ) (t : Turn) (r : Answers) : Ty
   pub ended : r.ended ≡ ended_in old.ring t.marks
   pub kept : IsKeptLock new
 
--- or refused for want of so many events or of memory; nothing has changed
+-- or refused for lack of room for this many events, or of memory; nothing has changed
 pub record IsWanting (old new : LockView) (need : ℕ) (r : Answers) : Type 0 where
   pub why : Refusal
   pub want : IsWantOf old.ring need why
@@ -61,7 +61,7 @@ pub data WaitsChange (lock : ℕ) (before after : List Waiter) (old new : List (
     Dropped : (client : ℕ) → stands client before ≡ true → after ≡ without client before
         → IsEntryOf client None old new → WaitsChange lock before after old new
 
--- a turn of the lock of this number and of who waits; or a refusal for want
+-- a turn of the lock of this number and of the waiting clients; or a refusal for lack of room or memory
 pub record IsTurnedIn (lock : ℕ) (old new : LockView) (entries later : List (ℕ × ℕ)) (c : ℕ)
     (t : Turn) (r : Answers) : Type 0 where
   pub turned : IsTurned old new c t r

@@ -19,19 +19,19 @@ use Rattle.ring_locks.specs.Locks.{Ask, Release, Cancel, Leave, Corrupt, Mark, C
 
 -- ---- what is true at every moment
 
--- nobody stands in the line twice
+-- no client is in the line twice
 abbrev pub AreApart : List Waiter → Type 0
 AreApart [] = Unit {0}
 AreApart (w ∷ line) = (stands w.client line ≡ false) × AreApart line
 
--- the ring of the lock is settled, and nobody waits for a lock that nobody holds
+-- the ring of the lock is settled, and no client waits for a lock that is not held
 pub record IsRightLock (l : Lock) : Type 0 where
   pub ring : IsRing l.ring.ring
   pub settled : is_settled l.ring.ring.values ≡ true
   pub held : l.holder ≡ None → l.line ≡ []
   pub apart : AreApart l.line
 
--- From whoever waits to who holds what it waits for, so many times: where one comes to.
+-- From a client that waits to the holder of what it waits for, this many times: where one comes to.
 abbrev pub comes : ℕ → List Lock → Option ℕ → Option ℕ
 comes steps ls None = None
 comes zero ls (Some c) = Some c
@@ -41,7 +41,7 @@ comes (suc steps) ls (Some c) = comes steps ls (holder_of (waits_for ls c))
 abbrev pub ComesToAnEnd : List Lock → Option ℕ → Type 0
 ComesToAnEnd ls at = (steps : ℕ) × (comes steps ls at ≡ None)
 
--- each lock is right, a client waits for one lock at most, and nobody waits for itself, however far
+-- each lock is right, a client waits for one lock at most, and no client waits for itself, however far
 -- round
 pub record AreRight (ls : List Lock) : Type 0 where
   pub each : (i : ℕ) (l : Lock) → slice_get ls i ≡ Some l → IsRightLock l
@@ -51,7 +51,7 @@ pub record AreRight (ls : List Lock) : Type 0 where
 
 -- ---- lists of inputs
 
--- the locks behind them
+-- the locks after them
 abbrev pub locks_after : List Lock → List Input → List Lock
 locks_after ls [] = ls
 locks_after ls (i ∷ is) = locks_after (step ls i).locks is
@@ -61,7 +61,7 @@ abbrev pub answers_after : List Lock → List Input → List (ℕ × Answer)
 answers_after ls [] = []
 answers_after ls (i ∷ is) = (step ls i).answers ++ answers_after (step ls i).locks is
 
--- a client leaves so many locks, one after the other, from 0 on
+-- a client leaves this many locks, one after the other, from 0 on
 abbrev pub leaves : ℕ → ℕ → List Input
 leaves c zero = []
 leaves c (suc n) = leaves c n ++ Asked c n Leave ∷ []
@@ -90,8 +90,8 @@ grants_of at ls [] = []
 grants_of at ls (i ∷ is) =
     (if names at i then grants_in (step ls i).answers else []) ++ grants_of at (step ls i).locks is
 
--- an input that ends this hold of the lock: a release with its token, or a leave, by who holds it,
--- which is client 0 behind a restart
+-- an input that ends this hold of the lock: a release with its token, or a leave, by its holder,
+-- which is client 0 after a restart
 abbrev pub ends_hold : ℕ → Holder → Input → Bool
 ends_hold at h (Asked c i (Release token)) =
     (i == at) && ((token == h.token) && ((c == h.client) || (c == 0)))
@@ -117,7 +117,7 @@ NoneIs test (i ∷ is) = (test i ≡ false) × NoneIs test is
 
 -- ---- the promises
 
--- Locks of settled rings are right, held or not, while nobody waits; what is right stays right.
+-- Locks of settled rings are right, held or not, while no client waits; what is right stays right.
 abbrev pub EmptyLinesAreRight : Type 0
 EmptyLinesAreRight =
     (ls : List Lock)
@@ -127,13 +127,13 @@ EmptyLinesAreRight =
 abbrev pub RightStays : Type 0
 RightStays = (ls : List Lock) (is : List Input) → AreRight ls → AreRight (locks_after ls is)
 
--- somebody waits for a lock only while somebody holds it
+-- a client waits for a lock only while some client holds it
 abbrev pub NobodyWaitsForNothing : Type 0
 NobodyWaitsForNothing =
     (ls : List Lock) (is : List Input) → AreRight ls → (at : ℕ) (l : Lock)
     → slice_get (locks_after ls is) at ≡ Some l → l.holder ≡ None → l.line ≡ []
 
--- nobody waits for itself, however far round; and who is refused because of a circle would
+-- no client waits for itself, however far round; and one that is refused because of a circle would
 abbrev pub NoCircle : Type 0
 NoCircle =
     (ls : List Lock) (is : List Input) → AreRight ls → (c : ℕ)
@@ -145,7 +145,7 @@ CirclesAreReal =
     → comes_to (length ls) ls c (client_of l.holder) ≡ true
     → (steps : ℕ) × (comes steps ls (client_of l.holder) ≡ Some c)
 
--- this hold goes on: its token is the same, and its client or, behind a restart, client 0
+-- this hold continues: its token is the same, and its client or, after a restart, client 0
 pub record GoesOn (h : Holder) (l : Lock) : Type 0 where
   pub now : Holder
   pub held : l.holder ≡ Some now
@@ -159,7 +159,7 @@ LeaversAreGone =
     → slice_get (locks_after ls (leaves c (length ls))) i ≡ Some l
     → (is_held_by c l.holder ≡ false) × (stands c l.line ≡ false)
 
--- exclusion: a hold goes on until an input ends it, restarts or not, and until then nobody is
+-- exclusion: a hold continues until an input ends it, restarts or not, and until then no client is
 -- granted
 abbrev pub Exclusion : Type 0
 Exclusion =
@@ -168,8 +168,8 @@ Exclusion =
     → (grants_of at ls is ≡ [])
     × ((m : Lock) × (slice_get (locks_after ls is) at ≡ Some m) × GoesOn h m)
 
--- nobody else's release ends a hold: one by another client, or with another token, is refused, and
--- nothing changes
+-- a release by another client, or with another token, does not end a hold: it is refused, and nothing
+-- changes
 abbrev pub OthersReleaseNothing : Type 0
 OthersReleaseNothing =
     (ls : List Lock) (at : ℕ) (l : Lock) (c token : ℕ) → slice_get ls at ≡ Some l
@@ -177,7 +177,7 @@ OthersReleaseNothing =
     → step ls (Asked c at (Release token))
     ≡ record { locks = ls; marks = []; answers = (c, answer.Refused refusal.Holder) ∷ [] }
 
--- the tokens rise, from the passes before on, up to the passes behind
+-- the tokens rise, from the passes before on, up to the passes after
 abbrev pub Rise : ℕ → List Holder → ℕ → Type 0
 Rise low [] high = low ≤ high
 Rise low (h ∷ hs) high = (low < h.token) × Rise h.token hs high
@@ -200,7 +200,7 @@ TokensAreCounted =
     → slice_get ls at ≡ Some l → NoneIs (breaks at) is
     → AreCounted l.ring.grants (grants_of at ls is)
 
--- Grants, up to that of w: each is of one of those who stood before it, in their order.
+-- Grants, up to that of w: each is of one of those that waited before it, in their order.
 abbrev pub AreServed : List Waiter → Waiter → List Holder → Type 0
 AreServed front w [] = Unit {0}
 AreServed front w (h ∷ hs) =
@@ -211,14 +211,14 @@ AreServed front w (h ∷ hs) =
     × (h.client ≡ next.client)
     × AreServed others w hs)
 
--- first come, first served: while a client waits, only those are granted who stood before it
+-- first come, first served: while a client waits, only clients are granted that waited before it
 abbrev pub FirstComeFirstServed : Type 0
 FirstComeFirstServed =
     (ls : List Lock) (is : List Input) (at : ℕ) (l : Lock) (front : List Waiter) (w : Waiter)
     (back : List Waiter) → AreRight ls → slice_get ls at ≡ Some l → l.line ≡ front ++ w ∷ back
     → NoneIs (gives_up at w.client) is → AreServed front w (grants_of at ls is)
 
--- who stands before a client in the line
+-- the clients before a client in the line
 abbrev pub before : ℕ → List Waiter → List Waiter
 before c [] = []
 before c (w ∷ line) = if w.client == c then [] else (w ∷ before c line)
@@ -241,7 +241,7 @@ NoneOf c [] = Unit {0}
 NoneOf c (h ∷ hs) = (h.client ≢ c) × NoneOf c hs
 
 -- With no fault between, the token with which a client is granted that waits is known beforehand,
--- but for those before it who give up: it is one more than the passes so far and those before it.
+-- less those before it that give up: it is one more than the passes so far and those before it.
 abbrev pub TokensAreForeseen : Type 0
 TokensAreForeseen =
     (ls : List Lock) (is : List Input) (i : Input) (at : ℕ) (l : Lock) (front : List Waiter)
@@ -269,7 +269,7 @@ most_events ls _ = 1
 abbrev pub OneEventEach : Type 0
 OneEventEach = (ls : List Lock) (i : Input) → length (events_of (step ls i).marks) ≤ most_events ls i
 
--- the history alone: the number of a grant on seat 0, of which a survey is the end
+-- only the history: the number of a grant on seat 0, of which a survey is the end
 abbrev pub number_of : Reply → Option ℕ
 number_of (reply.Granted number result) = Some number
 number_of _ = None
@@ -278,7 +278,7 @@ abbrev pub order_of : Op → Option ℕ
 order_of (op.Pass machine order) = Some order
 order_of _ = None
 
--- the hold that is open behind an event: a grant on seat 0, or one that is carried on seat 3
+-- the hold that is open after an event: a grant on seat 0, or one that is carried on seat 3
 abbrev pub open_behind : Option ℕ → Event → Option ℕ
 open_behind token e =
     if e.seat == 0 then number_of e.reply else if e.seat == 3 then order_of e.op else token
@@ -331,7 +331,7 @@ RestartsRecover =
     ≡ Some (recovered l.ring (token_of l.holder) (marks_of at ls is))
 
 -- The next segment of a lock's ring begins with its open hold. So each segment's history shows its
--- holds by itself, whatever came before, and a restart that knows the last segment alone makes of
+-- holds by itself, whatever came before, and a restart that knows only the last segment makes of
 -- it the lock that was.
 abbrev pub carries : Lock → List Mark
 carries l = map Call (carried l.ring (token_of l.holder))
@@ -362,7 +362,7 @@ IsGrantOfAnother c answers =
     (answers ≡ [])
     ⊎ ((d token : ℕ) × (answers ≡ (d, answer.Granted token) ∷ []) × (d ≢ c))
 
--- each ask is answered once, and a leave not at all; behind the answer another may be granted
+-- each ask is answered once, and a leave not at all; after the answer another may be granted
 abbrev pub IsAnswered : ℕ → Ask → List (ℕ × Answer) → Type 0
 IsAnswered c Leave answers = IsGrantOfAnother c answers
 IsAnswered c _ answers =

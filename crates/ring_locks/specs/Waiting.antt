@@ -7,7 +7,7 @@ use Rattle.ring_locks.specs.Lines.{Lock, stands}
 abbrev pub lock_in : List (ℕ × ℕ) → ℕ → Option ℕ
 lock_in entries c = lookup (nat_eq c) entries
 
--- the entries say where the clients stand
+-- the entries say where the clients are
 pub record AreWaits (ls : List Lock) (entries : List (ℕ × ℕ)) : Type 0 where
   pub there : (c i : ℕ) → lock_in entries c ≡ Some i
       → (l : Lock) × (slice_get ls i ≡ Some l) × (stands c l.line ≡ true)

@@ -1,4 +1,4 @@
-//! Locks go on in the next segments of their rings.
+//! Locks continue in the next segments of their rings.
 
 ghost use Rattle.std.specs.Prelude.{◌≡◌, ℕ, List, slice_get, Some, IfOk, IfErr};
 ghost use Rattle.ring_locks.specs.declared.parts.LockParts.{LockParts};
@@ -31,7 +31,7 @@ fn next_ring(lock: &LockParts, alloc: Global) -> Result<EndlessRing, Refusal>
     Ok(ring)
 }
 
-/// The lock in its next segment: who waits and who holds stay the same.
+/// The lock in its next segment: its line and its holder stay the same.
 fn next_lock(lock: &LockParts, alloc: Global) -> Result<LockParts, Refusal>
     requires kept { IsKeptLock (view_of lock.now) }
     requires right { IsRightLock (lock_of (view_of lock.now)) }

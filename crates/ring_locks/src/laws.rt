@@ -12,33 +12,33 @@ pub fn locks_stay_right()
     ensures stay { RightStays }
 {}
 
-/// From a grant until an input ends the hold, nobody else is granted: a release with the hold's token, or a leave, by its
-/// client, which is client 0 behind a restart. Nobody else's release ends it: that is refused, and changes nothing.
+/// From a grant until an input ends the hold, no other client is granted: a release with the hold's token, or a leave, by its
+/// client, which is client 0 after a restart. A release by another client does not end it: it is refused, and changes nothing.
 pub fn exclusion()
     ensures excluded { Exclusion }
     ensures others { OthersReleaseNothing }
 {}
 
 /// The tokens of a lock rise with each grant, restarts or not. With no fault between, each is one more than the one before; and
-/// a client that waits gets the passes so far, those before it and one more, less those before it who give up.
+/// a client that waits gets the passes so far, those before it and one more, less those before it that give up.
 pub fn tokens_rise()
     ensures rise { TokensRise }
     ensures counted { TokensAreCounted }
     ensures foreseen { TokensAreForeseen }
 {}
 
-/// Somebody waits for a lock only while somebody holds it.
+/// A client waits for a lock only while some client holds it.
 pub fn nobody_waits_for_nothing()
     ensures { NobodyWaitsForNothing }
 {}
 
-/// While a client waits for a lock, only those are granted who stood before it, in their order.
+/// While a client waits for a lock, only clients are granted that waited before it, in their order.
 pub fn first_come_first_served()
     ensures { FirstComeFirstServed }
 {}
 
-/// From whoever waits to who holds what it waits for, and so on, one comes to a client that waits for nothing. A client that is
-/// refused because of a circle would wait for itself.
+/// From a client that waits to the holder of what it waits for, and so on, one comes to a client that waits for nothing. A client
+/// that is refused because of a circle would wait for itself.
 pub fn no_circle()
     ensures none { NoCircle }
     ensures real { CirclesAreReal }
@@ -50,14 +50,15 @@ pub fn one_event_each()
 {}
 
 /// The history of a lock is legal and leads to its ring; its grants on seat 0 and its surveys by the seats 1 and 2 alternate,
-/// and the last of them says who holds. So a restart makes of the history the lock that was, with an open hold as client 0's.
+/// and the last of them says which client holds. So a restart makes of the history the lock that was, with an open hold as
+/// client 0's.
 pub fn history_shows_holds()
     ensures shows { HistoryShowsHolds }
     ensures restarts { RestartsRecover }
 {}
 
-/// The locks go on over the segments of their rings: a segment begins with the hold that is open, which changes nothing of the
-/// lock. So its history by itself shows its holds, and a restart that knows the last segment alone makes of it the lock that
+/// The locks continue over the segments of their rings: a segment begins with the hold that is open, which changes nothing of
+/// the lock. So its history by itself shows its holds, and a restart that knows only the last segment makes of it the lock that
 /// was, with an open hold as client 0's.
 pub fn segments_show_holds()
     ensures nothing { CarriedChangesNothing }
@@ -72,7 +73,7 @@ pub fn restarts_are_right()
     ensures right { RestartsAreRight }
 {}
 
-/// A hold that was open at a restart can be handed back to who held it: the lock is then the one that was, but for who waited.
+/// A hold that was open at a restart can be handed back to its holder: the lock is then the one that was, without its waiters.
 pub fn holds_are_handed_back()
     ensures { HoldsAreHandedBack }
 {}
@@ -82,7 +83,7 @@ pub fn leavers_are_gone()
     ensures { LeaversAreGone }
 {}
 
-/// Each input is answered once, but a leave not at all; behind the answer one other client may be granted.
+/// Each input is answered once, but a leave not at all; after the answer one other client may be granted.
 pub fn one_answer_each()
     ensures { OneAnswerEach }
 {}

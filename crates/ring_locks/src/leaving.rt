@@ -26,7 +26,7 @@ fn leave_among(locks: &mut Vec<LockParts>, waits: &mut Waits, client: u64, lock:
     asks::leave(&mut locks[lock as usize], waits, lock, client, waiting)
 }
 
-/// Tells that a hold of this lock has ended, if one has.
+/// Reports that a hold of this lock has ended, if one has.
 fn tell(left: &mut Vec<Left>, lock: u32, ended: Option<HoldEnd>, granted: Option<Holder>)
     requires { vec_len left.old < vec_capacity left.old }
     ensures told { left.new.items ≡ left.old.items ++ left_by lock ended granted }
@@ -42,7 +42,7 @@ fn tell(left: &mut Vec<Left>, lock: u32, ended: Option<HoldEnd>, granted: Option
     }
 }
 
-/// A client leaves all locks, one after the other. What it held is told behind what is there.
+/// A client leaves all locks, one after the other. What it held is appended to what is there.
 pub(crate) fn leave_all(
     locks: &mut Vec<LockParts>,
     waits: &mut Waits,

@@ -1,5 +1,5 @@
-//! Locks that programs hold, over rings: who waits for a lock stands in a line, and the first privileged machine of its ring
-//! passes for whom it is granted.
+//! Locks that programs hold, over rings: the clients that wait for a lock are its line, and the first privileged machine of its
+//! ring passes for the client that is granted it.
 #![tactic(auto)]
 
 mod answers;

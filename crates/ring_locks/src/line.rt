@@ -1,4 +1,4 @@
-//! Who stands in the line of a lock.
+//! The line of a lock: the clients that wait for it.
 
 ghost use Rattle.std.specs.Prelude.{◌≡◌, ◌∷◌, [], List, MatchOption};
 ghost use Rattle.ring_locks.specs.declared.answers.Waiter.{Waiter};
@@ -7,7 +7,7 @@ ghost use Rattle.ring_locks.specs.Lines.{without};
 use crate::answers::Waiter;
 use std::collections::VecDeque;
 
-/// The head of the line, if somebody stands in it.
+/// The head of the line, if a client is in it.
 pub(crate) fn head(line: &VecDeque<Waiter>) -> Option<Waiter>
     ensures { MatchOption result (line.now.items ≡ [])
         (λ w. (others : List Waiter) × (line.now.items ≡ w ∷ others)) }

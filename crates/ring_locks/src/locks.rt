@@ -58,7 +58,7 @@ fn client_of(holder: Option<Holder>) -> Option<u64>
     }
 }
 
-/// Who holds what a client waits for.
+/// The holder of what a client waits for.
 fn awaited(locks: &[LockParts], waits: &Waits, client: u64) -> Option<u64>
     requires { AreKept (views_of locks.now) waits.now }
     ensures { result ≡ holder_of (waits_for (locks_of (views_of locks.now)) client) }
@@ -266,7 +266,7 @@ fn add_to(
     Ok(())
 }
 
-/// Who holds a lock whose hold with this token was open at a restart.
+/// The holder of a lock whose hold with this token was open at a restart.
 fn zeroth(held: Option<u64>) -> Option<Holder>
     ensures { result ≡ holder_behind held }
 {
@@ -288,7 +288,7 @@ impl Locks {
     }
 
     /// Adds a lock, whose number is how many there were: its ring of 10 seats is repaired first, and if a hold is open in the
-    /// history of its segment, it goes on as client 0's.
+    /// history of its segment, it continues as client 0's.
     ///
     /// # Errors
     ///
@@ -309,8 +309,8 @@ impl Locks {
         add_to(&mut self.locks, alloc, ring, zeroth(held))
     }
 
-    /// Hands an open hold of client 0 to another client, with the same token. It is no input: a start does it, before any. False if
-    /// client 0 does not hold the lock with this token, or somebody waits for it; nothing has changed then.
+    /// Hands an open hold of client 0 to another client, with the same token. It is not an input: a start does it, before any. False if
+    /// client 0 does not hold the lock with this token, or a client waits for it; nothing has changed then.
     pub fn hand(&mut self, handover: Handover) -> bool
         ensures yes { result ≡ true → IsHanded self.old self.new handover }
         ensures no { result ≡ false → CannotBeHanded self.old handover × (self.new ≡ self.old) }
@@ -341,7 +341,7 @@ impl Locks {
         self.locks[lock as usize].line.len()
     }
 
-    /// Who holds a lock, if anybody does.
+    /// The holder of a lock, if there is one.
     pub fn holder(&self, lock: u32) -> Option<Holder>
         requires { lock < length self.now }
         ensures { (v : LockView) → slice_get self.now lock ≡ Some v → result ≡ v.holder }
@@ -349,7 +349,7 @@ impl Locks {
         self.locks[lock as usize].holder
     }
 
-    /// The client that stands at this place of a lock's line, which begins with place 0.
+    /// The client at this place of a lock's line, which begins with place 0.
     pub fn waiter(&self, lock: u32, place: usize) -> Waiter
         requires { (v : LockView) × (slice_get self.now lock ≡ Some v) × (place < length v.line) }
         ensures { (v : LockView) → slice_get self.now lock ≡ Some v
@@ -358,8 +358,8 @@ impl Locks {
         self.locks[lock as usize].line[place]
     }
 
-    /// The locks as they go on in the next segments of their rings: nothing of them changes. The history of such a segment has no
-    /// event but the one that carries a hold that is open: a pass by seat 3 of a machine that is not privileged, whose order is the
+    /// The locks as they continue in the next segments of their rings: nothing of them changes. The history of such a segment has no
+    /// event except the one that carries a hold that is open: a pass by seat 3 of a machine that is not privileged, whose order is the
     /// hold's token. It has room for a grant to each client that waits. These locks stay as they are.
     ///
     /// # Errors
@@ -419,8 +419,8 @@ impl Locks {
     }
 
     /// A client leaves all locks, one after the other: it goes out of the line, or its hold ends and the head of the line is
-    /// granted. There is no answer to the client. Of each lock that it held it is told in `left`, behind what is there, that its
-    /// hold has ended and who is granted it. This wants neither room nor memory.
+    /// granted. There is no answer to the client. For each lock that it held, `left` gets one more entry: that its
+    /// hold has ended, and the client that is granted it next. This needs neither room nor memory.
     pub fn leave(&mut self, client: u64, left: &mut Vec<Left>)
         requires room { vec_len left.old + length self.old ≤ vec_capacity left.old }
         ensures left { (said : List Left)

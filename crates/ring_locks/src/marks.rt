@@ -70,7 +70,7 @@ fn machine_of(op: Op) -> u32
     }
 }
 
-/// The machine behind the one that was called last, which is mostly privileged in a settled ring; machine 0 if there is none.
+/// The machine after the one that was called last, which is mostly privileged in a settled ring; machine 0 if there is none.
 #[inline(always)]
 fn likely(ring: &EndlessRing) -> u32
     requires { IsKeptRing ring.now }
@@ -98,7 +98,7 @@ fn privileged(ring: &EndlessRing) -> u32
     first(ring)
 }
 
-/// Takes memory for so many events, and for one for each client that waits.
+/// Takes memory for this many events, and for one for each client that waits.
 ///
 /// # Errors
 ///

@@ -47,7 +47,7 @@ fn order_of(op: Op) -> Option<u64>
     }
 }
 
-/// The hold that is open behind an event of a segment.
+/// The hold that is open after an event of a segment.
 fn open_behind(base: &Base, held: Option<u64>, event: Event) -> Option<u64>
     requires base { IsBase base.now }
     requires within { IsInSegment event.reply }
@@ -62,7 +62,7 @@ fn open_behind(base: &Base, held: Option<u64>, event: Event) -> Option<u64>
     held
 }
 
-/// The hold that is open behind these events of a segment.
+/// The hold that is open after these events of a segment.
 fn open_after(base: &Base, events: &[Event]) -> Option<u64>
     requires base { IsBase base.now }
     requires within { All (λ (e : Event). IsInSegment e.reply) events.now }
@@ -75,7 +75,7 @@ fn open_after(base: &Base, events: &[Event]) -> Option<u64>
     held
 }
 
-/// The later of two places of a history of so many events.
+/// The later of two places of a history of this many events.
 fn later(first: u64, second: u64, events: usize) -> usize
     ensures most { result ≤ events }
     ensures rest { (h : List Event) → length h ≡ events

@@ -1,4 +1,4 @@
-//! One lock: its ring, who stands in its line, who holds it.
+//! One lock: its ring, its line, its holder.
 
 ghost use Rattle.std.specs.Prelude.{◌≡◌, ◌+◌, ◌<◌, ◌⊎◌, List, ◌∷◌, length, Some, None, IsSome, true};
 ghost use Rattle.ring_model.specs.Ring.{first_privileged, is_settled};
@@ -66,7 +66,7 @@ pub(crate) fn grant(lock: &mut LockParts, waiter: Waiter) -> Answers
     }
 }
 
-/// Lets a client that does not wait stand in the line of a lock that somebody holds, once there is room for its grant. The ring
+/// Puts a client that does not wait into the line of a lock that is held, once there is room for its grant. The ring
 /// takes memory last, so that of a refusal nothing is seen.
 pub(crate) fn wait(lock: &mut LockParts, waits: &mut Waits, number: u32, waiter: Waiter) -> Answers
     requires kept { IsKeptLock (view_of lock.old) }
@@ -126,7 +126,7 @@ pub(crate) fn end_hold(
     }
 }
 
-/// Grants this client, which is the head of the line, behind this end of the hold of another.
+/// Grants this client, which is the head of the line, after this end of the hold of another.
 fn pass_hold(
     lock: &mut LockParts,
     waits: &mut Waits,

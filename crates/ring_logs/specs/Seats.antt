@@ -1,4 +1,4 @@
--- The events of a history by their seats, and what a seat is told of some of them (this project's
+-- The events of a history by their seats, and what a seat is answered of some of them (this project's
 -- own).
 use Rattle.std.specs.Prelude.{ℕ, ◌+◌, ◌<◌, List, [], ◌∷◌, All}
 use Rattle.ring_model.specs.declared.events.Event.{Event}

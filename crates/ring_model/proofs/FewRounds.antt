@@ -72,7 +72,7 @@ module _ (m : ℕ) (value : ℕ → ℕ) where
       let high = p.risen in
       record { label = new.new; labelled = new.labelled; place = l; risen = omega arith }
 
-  -- labels at least as high as a machine's stand to its left
+  -- labels at least as high as a machine's are to its left
   falls_by : (r : Ring) (label : ℕ → ℕ) → IsLabelled m value r label → (d i : ℕ) → i + d ≤ m → label (i + d) ≤ label i
   falls_by r label g zero i l = let q : label (i + 0) ≡ label i = (let e : i + 0 ≡ i = omega arith in ap label e) in omega arith
   falls_by r label g (suc d) i l =

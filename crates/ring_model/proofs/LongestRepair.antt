@@ -15,7 +15,7 @@ use Rattle.ring_model.proofs.Labels.{pass_other}
 use Rattle.ring_model.proofs.Orders.{down_length, down_at}
 use Rattle.ring_model.proofs.PassedValues.{below_append, IsOn, on_pass, copied, zero_on, other_on, stepped}
 
--- a run of so many granted passes from the ring r that does not settle it
+-- a run of this many granted passes from the ring r that does not settle it
 record Lasts (n passes : ℕ) (r : Ring) : Type 0 where
   choices : List ℕ
   below : AreBelow n choices

@@ -1,4 +1,4 @@
--- Whether a machine of a ring of n machines with K = k is privileged, and its value after a pass, from the values alone.
+-- Whether a machine of a ring of n machines with K = k is privileged, and its value after a pass, from nothing but the values.
 use Rattle.std.proofs.Common.{◌≡◌, ℕ, zero, suc, ◌+◌, ◌-◌, ◌%◌, ◌<◌, ◌≤◌, ◌≢◌, true, false, List, [], ◌∷◌, ◌++◌, length, get_or, sym, ◌∙◌, ap, arith, eqb}
 use Rattle.std.proofs.lemmas.Bool.{eq-eqb, ne_eqb, not_from_true, not_from_false}
 use Rattle.std.proofs.Math.Nat.{mod-eq_of_lt}

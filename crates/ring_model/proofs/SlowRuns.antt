@@ -51,7 +51,7 @@ idle_has s (suc m) i l off = elim (cases_Bool (is_privileged s m)) [
   ]
 ]
 
--- a run of so many rounds from the ring r that does not settle it
+-- a run of this many rounds from the ring r that does not settle it
 record Stays (n rounds : ℕ) (r : Ring) : Type 0 where
   choices : List ℕ
   below : AreBelow n choices

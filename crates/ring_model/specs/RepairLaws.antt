@@ -104,7 +104,7 @@ LongRunsAreSharp =
     × (length (granted_passes r choices) + 1 ≡ longest_repair n)
     × (is_settled (after_passes r choices).values ≡ false)
 
--- a calm of so many has the ring settled, at every place of a legal history
+-- a calm of this many has the ring settled, at every place of a legal history
 abbrev pub LongCalmSettles : Type 0 → Type 0
 LongCalmSettles C =
     (w : Works C) (a : State C) (h : List Event) → IsRing a.ring → IsLegal w a h → (q : ℕ)

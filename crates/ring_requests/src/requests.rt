@@ -96,7 +96,7 @@ pub struct NewWords {
 /// The words of `serve`.
 #[derive(Clone, Copy)]
 pub struct ServeWords<'a> {
-    /// The name of the file with the saved text from which the rings resume, where no journal tells where they stand.
+    /// The name of the file with the saved text from which the rings resume, if no journal says how they are.
     pub history: Option<&'a str>,
     /// The name of the journal's file, or of the folder of its segments, if one is kept.
     pub journal: Option<&'a str>,
@@ -108,7 +108,7 @@ pub struct ServeWords<'a> {
     pub faults: bool,
     /// The name of the folder that a line may save the rings in, if there is one.
     pub saves: Option<&'a str>,
-    /// Whether want of memory ends the program, instead of being told.
+    /// Whether the program ends if memory is short, instead of answering that.
     pub strict: bool,
 }
 
@@ -127,7 +127,7 @@ pub struct LocksWords<'a> {
     pub synced: bool,
     /// Whether a line may be a fault.
     pub faults: bool,
-    /// Whether want of memory ends the program, instead of being told.
+    /// Whether the program ends if memory is short, instead of answering that.
     pub strict: bool,
 }
 

@@ -35,7 +35,7 @@ abbrev pub AreLeftOut : List ℕ → ℕ → Option RecoverError → Type 0
 AreLeftOut bytes place None = place ≡ length bytes
 AreLeftOut bytes place (Some e) = IsBadFrom bytes place e
 
--- The history is that of the bytes in front of a bad line, or of all of them if no line is bad; it
+-- The history is that of the bytes before a bad line, or of all of them if no line is bad; it
 -- is legal.
 pub record IsSalvaged (bytes : List ℕ) (kept : ℕ) (bad : Option RecoverError) (c : Content) : Type 0
   where
@@ -43,7 +43,7 @@ pub record IsSalvaged (bytes : List ℕ) (kept : ℕ) (bad : Option RecoverError
     pub left_out : AreLeftOut bytes kept bad
 
 -- Nothing is saved: the bytes are refused so, and their bad line is in the start of the journal,
--- which the bytes in front of it do not hold.
+-- which the bytes before it do not hold.
 pub record IsLost (bytes : List ℕ) (e : RecoverError) : Type 0 where
   pub refused : IsRightRecovery bytes (Err e)
   pub kept : ℕ

@@ -1,4 +1,4 @@
-//! What can be saved of a journal that has a bad line: the history in front of it.
+//! What can be saved of a journal that has a bad line: the history before it.
 #![tactic(auto)]
 
 mod salvage;

@@ -12,7 +12,7 @@ use text_lines::line_at;
 /// What is saved of a journal.
 #[derive(Drop)]
 pub struct Salvaged {
-    /// The history in front of the bad line, or all of it.
+    /// The history before the bad line, or all of it.
     pub saved: Saved,
     /// How many bytes it is recovered of; those after them are left out.
     pub kept: usize,
@@ -56,7 +56,7 @@ fn is_line_start(bytes: &[u8], place: usize) -> bool
     place == 0 || bytes[place - 1] == b'\n'
 }
 
-/// The place where a bad line begins, in front of this one.
+/// The place where a bad line begins, before this one.
 fn bad_start(bytes: &[u8], line: u64, before: usize) -> Option<usize>
     requires { before ≤ length bytes.now }
     ensures { IfSome result (λ start. (start < before)
@@ -91,7 +91,7 @@ fn first_of(first: Option<RecoverError>, error: RecoverError) -> RecoverError
     }
 }
 
-/// Returns the history of the bytes of a journal in front of its bad line, if it has one; a journal without one is recovered as
+/// Returns the history of the bytes of a journal before its bad line, if it has one; a journal without one is recovered as
 /// [`recover_journal`] does.
 ///
 /// It takes time as that does, a few times if a line is bad.

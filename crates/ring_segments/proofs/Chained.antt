@@ -1,4 +1,4 @@
--- The files of a chain tell chains, ring by ring.
+-- The files of a chain record chains, ring by ring.
 use Rattle.std.proofs.Common.{◌≡◌, ℕ, zero, suc, ◌+◌, Bool, true, false, cond, eqb, List, [], ◌∷◌, ◌++◌, length, map, refl, subst, arith}
 use Rattle.std.specs.List.{AllByRecursion}
 use Rattle.ring_model.specs.Ring.{Ring, ring_with}

@@ -104,14 +104,14 @@ no_hash_head c f = word (codes "ringjournal 1\n") (text c) refl (no_hash_text c 
 pub no_hash_journal : (j : Journal) → JournalFits j → HasNoHash (journal_text j)
 no_hash_journal j f = no_hash_append (head_text j.began) (flat_map journal_line j.calls) (no_hash_head j.began f.began) (each (JournalLineFits j.began.version (length j.began.rings)) journal_line (no_hash_call j.began.version (length j.began.rings)) j.calls f.calls)
 
--- it is all kept, and what follows it is as if it were alone
+-- it is all kept, and what follows it is as if it were by itself
 pub journal_without : (j : Journal) → JournalFits j → without_remarks (journal_text j) ≡ journal_text j
 journal_without j f = no_hash_without (journal_text j) (no_hash_journal j f)
 
 pub journal_then : (j : Journal) (rest : List ℕ) → JournalFits j → without_remarks (journal_text j ++ rest) ≡ journal_text j ++ without_remarks rest
 journal_then j rest f = plain_then (journal_text j) rest (inr (journal_ended j f)) (no_hash_journal j f)
 
--- the lines of calls alone
+-- only the lines of calls
 pub no_hash_calls : (version rings : ℕ) (rs : List JournalLine) → AllByRecursion (JournalLineFits version rings) rs → HasNoHash (flat_map journal_line rs)
 no_hash_calls version rings rs f = each (JournalLineFits version rings) journal_line (no_hash_call version rings) rs f
 

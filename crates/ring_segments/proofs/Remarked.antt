@@ -199,7 +199,7 @@ remarks_then_remarks (line ∷ lines) rest all =
     ∙ remark_then_remarks line (flat_map remark_of lines ++ rest) all.0
     ∙ ap (λ (u : List (List ℕ)). remark_of line ∷ u) (remarks_then_remarks lines rest all.1)
 
--- remarks alone
+-- only remarks
 pub nothing_kept : without_remarks [] ≡ []
 unfolding without_remarks lines_in
 nothing_kept = refl

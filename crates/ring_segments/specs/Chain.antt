@@ -75,7 +75,7 @@ state_after s f = record { link = link_after f; sums = sums_after (sums_at s) f 
 abbrev pub head_lines : Head → ℕ
 head_lines h = 2 + length h.bases
 
--- the number of a line of a file, remarks counted: the m-th one after the head that is no remark
+-- the number of a line of a file, remarks counted: the m-th one after the head that is not a remark
 abbrev pub file_line : Head → List ℕ → ℕ → ℕ
 file_line h rest m = line_among (lines_in rest) m + head_lines h
 

@@ -1,4 +1,4 @@
--- A chain of segments, as its files tell it (this project's own).
+-- A chain of segments, as its files record it (this project's own).
 use Rattle.std.specs.Prelude.{◌≡◌, ℕ, zero, suc, ◌+◌, ◌≤◌, ◌==◌, cond, List, [], ◌∷◌, ◌++◌, length, map}
 use Rattle.std.specs.List.{flat_map, AllByRecursion}
 use Rattle.ring_model.specs.Limits.{event_limit}
@@ -165,7 +165,7 @@ at_number (suc i) (s ∷ ss) = at_number i ss
 abbrev pub of_ring : ℕ → List File → List Segment
 of_ring i fs = flat_map (λ (f : File). at_number i (segments f)) fs
 
--- From the first file of all on, the files tell of each ring one history of the one-thread ring
+-- From the first file of all on, the files record of each ring one history of the one-thread ring
 -- over the till, from its start on.
 abbrev pub FilesTellHistories : Type 0
 FilesTellHistories =
@@ -174,7 +174,7 @@ FilesTellHistories =
     × IsChainFrom no_base r (of_ring i fs)
     × IsHistory till (opening r 0) (chain_history (of_ring i fs))
 
--- From a later one on, they tell of each ring one such history after some base.
+-- From a later one on, they record of each ring one such history after some base.
 abbrev pub LaterFilesTellHistories : Type 0
 LaterFilesTellHistories =
     (fs : List File) → AreChained fs → (i : ℕ)

@@ -1,4 +1,4 @@
--- The file that a chain ends with, as it is opened to go on from (this project's own).
+-- The file that a chain ends with, as it is opened to resume from it (this project's own).
 use Rattle.std.specs.Prelude.{ℕ, true, List, None, Result, Ok, Err}
 use Rattle.ring_saved.specs.Content.{content}
 use Rattle.ring_segments.specs.declared.last.LastSegment.{LastSegment}

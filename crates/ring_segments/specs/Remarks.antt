@@ -1,4 +1,4 @@
--- The remarks of a file, which are no part of what is recovered of it (this project's own).
+-- The remarks of a file, which are not part of what is recovered of it (this project's own).
 use Rattle.std.specs.Prelude.{◌≡◌, ℕ, zero, suc, ◌+◌, ◌==◌, cond, not, Bool, false, List, [], ◌∷◌, ◌++◌, codes}
 use Rattle.std.specs.List.{filter, flat_map}
 
@@ -6,7 +6,7 @@ use Rattle.std.specs.List.{filter, flat_map}
 abbrev pub IsEnded : List ℕ → Type 0
 IsEnded text = (front : List ℕ) × (text ≡ front ++ 10 ∷ [])
 
--- these lines with a byte more in front of the first of them
+-- these lines with one more byte before the first of them
 abbrev pub with_byte : ℕ → List (List ℕ) → List (List ℕ)
 with_byte b [] = (b ∷ []) ∷ []
 with_byte b (line ∷ lines) = (b ∷ line) ∷ lines
@@ -21,7 +21,7 @@ abbrev pub is_remark : List ℕ → Bool
 is_remark [] = false
 is_remark (b ∷ bs) = b == 35
 
--- the lines of a text that are no remarks, one after the other
+-- the lines of a text that are not remarks, one after the other
 unfoldable pub without_remarks : List ℕ → List ℕ
 without_remarks text =
     flat_map (λ (line : List ℕ). line)
@@ -35,7 +35,7 @@ remarks_in text = filter is_remark (lines_in text)
 abbrev pub remark_of : List ℕ → List ℕ
 remark_of line = codes "# " ++ line
 
--- the number, from 1, among all of these lines, of the n-th one that is no remark
+-- the number, from 1, among all of these lines, of the n-th one that is not a remark
 unfoldable pub line_among : List (List ℕ) → ℕ → ℕ
 line_among [] n = n
 line_among (line ∷ lines) zero = zero

@@ -1,4 +1,4 @@
-//! The last file of a chain, which is opened to go on from.
+//! The last file of a chain, which is opened to resume from it.
 
 ghost use Rattle.std.specs.Prelude.{◌≡◌, IfOk, length};
 ghost use Rattle.std.specs.List.{All};
@@ -20,7 +20,7 @@ pub struct LastSegment {
     pub saved: Saved,
 }
 
-/// Reads the last file of a chain, alone: what it says of those before it is taken on trust. A cut end of its journal is left
+/// Reads only the last file of a chain: what it says of those before it is taken on trust. A cut end of its journal is left
 /// out.
 ///
 /// # Errors

@@ -4,7 +4,7 @@ ghost use Rattle.ring_segments.specs.Chain.{AddedAreChained, OneFile};
 ghost use Rattle.ring_segments.specs.RemarkLaws.{JournalsAreKept, RemarksAreLeftOut};
 ghost use Rattle.ring_segments.specs.Files.{FilesTellHistories, LaterFilesTellHistories};
 
-/// The files of a chain tell of each ring one history of the one-thread ring.
+/// The files of a chain record of each ring one history of the one-thread ring.
 pub fn files_tell_histories()
     ensures first { FilesTellHistories }
     ensures later { LaterFilesTellHistories }
@@ -22,7 +22,7 @@ pub fn one_file()
     ensures { OneFile }
 {}
 
-/// A remark behind whole lines changes nothing of what is recovered, and a journal has none.
+/// A remark after whole lines changes nothing of what is recovered, and a journal has none.
 pub fn remarks_are_left_out()
     ensures left_out { RemarksAreLeftOut }
     ensures kept { JournalsAreKept }

@@ -72,7 +72,7 @@ pub fn without_remarks(alloc: Global, text: &[u8]) -> Result<Vec<u8>, AllocError
     Ok(kept)
 }
 
-/// The number, from 1, among all lines of a text, of the n-th one that is no remark.
+/// The number, from 1, among all lines of a text, of the n-th one that is not a remark.
 pub fn line_among(text: &[u8], n: u64) -> u64
     requires { line_among (lines_in text.now) n < 2 ^ 64 }
     ensures { result ≡ line_among (lines_in text.now) n }

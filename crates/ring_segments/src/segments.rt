@@ -105,7 +105,7 @@ fn read_journal(alloc: Global, journal: &[u8]) -> Result<(Saved, bool), RecoverE
     }
 }
 
-/// Recovers the journal behind a head: the bytes without their remarks. If there is none, they are not copied.
+/// Recovers the journal after a head: the bytes without their remarks. If there is none, they are not copied.
 fn read_rest(alloc: Global, rest: &[u8]) -> Result<(Saved, bool), RecoverError>
     ensures { IsReadJournal (without_remarks rest.now) result }
 {

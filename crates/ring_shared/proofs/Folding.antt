@@ -150,7 +150,7 @@ within_goes_on start h ring new position behind c d machine value w effect one n
     let p = w.of_past.position_is in
     summary_goes_on start w.past h ring new position behind c d machine value w.of_past effect w.begins (one ∙ ap suc p) new_is behind_is
 
--- a summary within is no further on than the list
+-- a summary within is not further on than the list
 pub within_position : (start : Ring) (h : List Event) (ring : Ring) (position c : ℕ) → IsSummaryWithin start h ring position c → position ≤ length h
 within_position start h ring position c w =
     let p = w.of_past.position_is in let le = prefix_length w.past h w.begins in omega (arith, p, le)

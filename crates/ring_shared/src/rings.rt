@@ -197,7 +197,7 @@ fn seats_of<N: Name>(
     Ok(seats)
 }
 
-/// Appends so many operations that the list of those that are pending gets eight places. A call needs two beside them: its
+/// Appends enough operations that the list of those that are pending gets eight places. A call needs two more than them: its
 /// own, and that of the last call, which one copy lacks.
 const FIRST_OPERATIONS: u32 = 5;
 
@@ -316,7 +316,7 @@ impl<N: Name, R: Resource + Drop> Ring<N, R> {
         }
     }
 
-    /// The events of all calls so far, as a front: who has the ring to itself need not wait for its lock.
+    /// The events of all calls so far, as a front: a caller that has the ring to itself need not wait for its lock.
     pub fn seen(&mut self) -> Front<N>
         ensures legal { N.legal result }
     {

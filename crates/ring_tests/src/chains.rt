@@ -1,4 +1,4 @@
-//! Replies and receipts behind a base: of the chain that is worked by hand in `ring_chains` (`specs/Worked.antt`), and of a full till.
+//! Replies and receipts after a base: of the chain that is worked by hand in `ring_chains` (`specs/Worked.antt`), and of a full till.
 //! The bases themselves are rows of `tests/rows` (`bases`).
 
 use crate::events::granted;

@@ -66,7 +66,7 @@ fn a_group_of_four_machines_moves_at_once(rt: HostRuntime) {
     assert!(rt; has_values(&state, &[1, 0, 1, 1]) && rest(&state) == 9);
 }
 
-/// 1,024 machines that are all privileged: their values fall by 1 from 65,535 on, but for the last, which holds that of
+/// 1,024 machines that are all privileged: their values fall by 1 from 65,535 on, except for the last, which holds that of
 /// machine 0.
 pub fn widest_values() -> [u32; 1024] {
     let mut values = [0u32; 1024];

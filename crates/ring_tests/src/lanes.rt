@@ -7,7 +7,7 @@ use ring_lanes::{
     privileged_mask, weight,
 };
 
-/// A ring that holds 0 but for a 1 at one machine, and what the kernels find of it.
+/// A ring that holds 0 except for a 1 at one machine, and what the kernels find of it.
 #[derive(Clone, Copy)]
 struct Lone {
     n: usize,

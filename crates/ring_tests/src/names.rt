@@ -1,5 +1,5 @@
 //! The names by which these crates' callers know their calls and types. Nothing here is run: a name that is gone, or that
-//! stands elsewhere, is not compiled.
+//! is elsewhere, is not compiled.
 
 use ring_book::{
     Book, BookError, Entry, Event, GrantBook, GroupError, GroupReceipt, Idle, NotMade, Op, Receipt,

@@ -7,7 +7,7 @@ use ring_lanes::{
     wide_mask, wide_weight,
 };
 
-/// A ring that holds 0 but for 256, whose low byte is 0, at one machine, and what the kernels find of it: the first three
+/// A ring that holds 0 except for 256, whose low byte is 0, at one machine, and what the kernels find of it: the first three
 /// words of the mask, and the rest.
 #[derive(Clone, Copy)]
 struct Lone {

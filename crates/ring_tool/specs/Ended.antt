@@ -46,7 +46,7 @@ IsRefused request e told was is =
     × ((IsOfLines request → ⊥) → e ≢ tool.Write → is.files ≡ was.files)
 
 -- Status 0: it was answered, with every byte. Status 1: with a byte missing, or it was refused for
--- a cause that is no unread list. Status 2: a list cannot be read, and every file is as it was.
+-- a cause that is not an unread list. Status 2: a list cannot be read, and every file is as it was.
 -- If the request names no file that is made, every file is as it was anyhow.
 pub record HasEnded (request : Request) (status : ℕ) (told : Bool) (was is : World) : Type 0 where
   pub most : status ≤ 2

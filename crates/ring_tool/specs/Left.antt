@@ -1,4 +1,4 @@
--- What has left the buffer of standard output, and what standard error was told, at the end of a
+-- What has left the buffer of standard output, and what is on standard error, at the end of a
 -- run.
 use Rattle.std.specs.Prelude.{◌≡◌, ◌<◌, ℕ, List, ◌++◌, length, Bool, true, false, ⊤, codes, Option, IfSome}
 use Rattle.std.specs.Io.KnownBytes.{Keeps, Appends, append_known}
@@ -6,7 +6,7 @@ use Rattle.tool_parts.specs.FaultLines.{fixed_line}
 use Rattle.tool_parts.specs.declared.faults.ToolError.{ToolError}
 use Rattle.tool_parts.specs.declared.faults.ToolError.TheVariants as tool
 
--- what was printed is in the output below the buffer, but for the rest
+-- what was printed is in the output below the buffer, except for the rest
 abbrev pub LacksRest : Option (List ℕ) → Option (List ℕ) → List ℕ → Type 0
 LacksRest printed out rest = Keeps printed (append_known out rest)
 

@@ -15,7 +15,7 @@ pub enum Asked<'a> {
     Command(Request<'a>),
     /// The help or the version: this text.
     Text(String),
-    /// They cannot be read, as this text tells.
+    /// They cannot be read, as this text says.
     Unread(String),
     /// There is no memory to read them.
     OutOfMemory,

@@ -1,4 +1,4 @@
-//! How a run ends: its status, what has left of its output, and what standard error was told.
+//! How a run ends: its status, what has left of its output, and what is on standard error.
 
 ghost use Rattle.std.specs.Prelude.{◌≡◌, ◌≤◌, IfSome};
 ghost use Rattle.std.specs.Io.Buffered.{writer_contents};
@@ -60,7 +60,7 @@ fn tell<E: Write>(alloc: Global, fault: &ToolError<'_>, err: &mut E) -> bool
     }
 }
 
-/// Ends a run that was refused: what was printed leaves, and standard error is told why. Its status is that of the refusal.
+/// Ends a run that was refused: what was printed leaves, and standard error says why. Its status is that of the refusal.
 pub fn fail<O: Write + Drop, E: Write>(
     alloc: Global,
     fault: &ToolError<'_>,
@@ -80,8 +80,8 @@ pub fn fail<O: Write + Drop, E: Write>(
     }
 }
 
-/// Ends a run that was answered: what was printed leaves. Its status is 0, or 1 if a byte could not leave, which standard
-/// error is told.
+/// Ends a run that was answered: what was printed leaves. Its status is 0, or 1 if a byte could not leave, as standard
+/// error says.
 pub fn done<O: Write + Drop, E: Write>(alloc: Global, out: BufWriter<O>, err: &mut E) -> Ending<O>
     ensures status { result.status ≤ 1 }
     ensures ended { HasEndedAnswered result.status result.told
@@ -101,8 +101,8 @@ pub fn done<O: Write + Drop, E: Write>(alloc: Global, out: BufWriter<O>, err: &m
     }
 }
 
-/// Prints a text that was asked for, and ends the run: its status is 0, or 1 if a byte could not leave, which standard
-/// error is told.
+/// Prints a text that was asked for, and ends the run: its status is 0, or 1 if a byte could not leave, as standard
+/// error says.
 pub fn show<O: Write + Drop, E: Write>(
     alloc: Global,
     text: &str,
@@ -120,7 +120,7 @@ pub fn show<O: Write + Drop, E: Write>(
     }
 }
 
-/// Ends a run whose words cannot be read: standard error is told so by a text. Its status is 2.
+/// Ends a run whose words cannot be read: a text on standard error says so. Its status is 2.
 pub fn refuse<O: Write + Drop, E: Write>(text: &str, out: BufWriter<O>, err: &mut E) -> Ending<O>
     ensures status { result.status ≡ 2 }
     ensures told { HasText text.now result.told (E.contents err.old) (E.contents err.new) }

@@ -16,10 +16,10 @@ use tool_parts::faults::ToolError;
 
 /// Does what words ask for, and ends the run. The files that it reads and makes by name are those of `disk`. What the command prints
 /// goes to `out`, and so do the help and the version that were asked for: at the end all of it is in the writer below, which is
-/// returned, or the status tells that it is not. The text of a refusal goes to `err`. A word `-` names `input`, which is read only
+/// returned, or the status says that it is not. The text of a refusal goes to `err`. A word `-` names `input`, which is read only
 /// then.
 ///
-/// The status is 0 where it was done and every byte has left, 2 where the words or a list cannot be read, and 1 after each
+/// The status is 0 if it was done and every byte has left, 2 if the words or a list cannot be read, and 1 after each
 /// other refusal. A fault of `err` does not change it.
 pub fn run_asked<
     R: AllocGlobal + Threads + Wait + Sync,

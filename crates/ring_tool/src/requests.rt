@@ -24,7 +24,7 @@ use tool_parts::faults::ToolError;
 ///
 /// # Errors
 ///
-/// The refusals of the command. But for the fault of `out`, every file is as it was then, unless lines were served. If no file is
+/// The refusals of the command. Except for the fault of `out`, every file is as it was then, unless lines were served. If no file is
 /// named that is made, every file is as it was anyhow.
 pub fn answer<'a, R: AllocGlobal + Threads + Wait + Sync, D: Disk, I: Read, O: Write, E: Write>(
     rt: &R,

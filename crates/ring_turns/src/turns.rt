@@ -125,7 +125,7 @@ impl<N: Name, R: Resource + Drop> Turns<N, R> {
         })
     }
 
-    /// Leaves the desk after a change, of which it tells all that wait.
+    /// Leaves the desk after a change, which it signals to all that wait.
     fn leave(&self, desk: MutexGuard<'_, Desk<N>>) {
         self.moved.notify_all();
         MutexGuard::unlock(desk);
@@ -151,7 +151,7 @@ impl<N: Name, R: Resource + Drop> Turns<N, R> {
     /// Takes a turn: asks, waits until the client's machine comes up, and passes it on this order. Meanwhile the client passes
     /// on each machine whose client does not wait.
     ///
-    /// - A client that is alone pays an event for each machine of the others, up to n for a turn.
+    /// - A client without rivals pays an event for each machine of the others, up to n for a turn.
     /// - A client that does not ask before its machine comes up loses that round.
     /// - A corruption voids the bound on what others are granted, for the clients that wait meanwhile.
     /// - A turn on the order `PASS_ON` does no work.

@@ -9,7 +9,7 @@ use ring_faults::{BadLine, bad_lines};
 use ring_saved::Saved;
 use std::alloc::{AllocError, Global};
 
-/// All bad lines are told: only the first one is.
+/// All bad lines are reported: only the first one is.
 pub fn tells_only_the_first_bad_line(
     alloc: Global,
     saved: &Saved,

@@ -1,4 +1,4 @@
--- A line is no fault where none is permitted.
+-- A line is not a fault where none is permitted.
 use Rattle.std.proofs.Common.{◌≡◌, ℕ, List, Bool, true, false, cond, if◌then◌else◌, Option, None, Some, inl, inr, refl, sym, subst}
 use Rattle.ring_model.specs.Ring.{is_privileged}
 use Rattle.ring_model.specs.declared.events.Reply.TheVariants as reply_is

@@ -28,7 +28,7 @@ pub struct Told<W> {
     pub out: Vec<u8>,
 }
 
-/// No line is answered in a segment that is due: here lines are, and it goes on. It gives up unless the first is granted.
+/// No line is answered in a segment that is due: here lines are, and serving continues. It gives up unless the first is granted.
 pub fn answers_in_a_segment_that_is_due<D: Disk, I: Read>(
     alloc: Global,
     served: &mut Served,
@@ -119,7 +119,7 @@ fn cut<D: Disk>(
     }
 }
 
-/// The digest in the next file is that of the whole file before: here of other bytes, such as its head alone.
+/// The digest in the next file is that of the whole file before: here of other bytes, such as only its head.
 pub fn names_the_digest_of_the_head_alone<D: Disk>(
     alloc: Global,
     served: &mut Served,

@@ -13,7 +13,7 @@ use ring_model::{Event, Receipt, Reply, Survey};
 use ring_serve::Served;
 use std::alloc::Global;
 
-/// A grant is told with its number among all grants: here the numbers begin at 1 again.
+/// A grant is answered with its number among all grants: here the numbers begin at 1 again.
 pub fn pass_that_counts_from_one(
     ring: &mut EndlessRing,
     seat: u32,
@@ -75,7 +75,7 @@ pub fn survey_that_no_log_has(ring: &mut EndlessRing, seat: u32) -> Survey
     ring.glance()
 }
 
-/// The next segment has no events: here it is told to be the one that ends.
+/// The next segment has no events: here the one that ends is said to be next.
 pub fn next_that_has_the_old_events(ring: EndlessRing) -> EndlessRing
     requires { 1 ≤ length ring.ring.book.history }
     ensures wrong { IsNext ring result → ⊥ }
@@ -122,7 +122,7 @@ pub fn next_that_forgets_the_grants(alloc: Global, ring: &EndlessRing) -> Option
     Some(EndlessRing::after(base, segment))
 }
 
-/// No next segment is refused for want of room if there is room: here it is.
+/// No next segment is refused for lack of room if there is room: here it is.
 pub fn next_that_is_full_too_early(alloc: Global, served: &Served) -> Option<NextError>
     ensures wrong { IfSome result (λ e. (e ≡ error.Full → IsFull served.now) → ⊥) }
 {

@@ -50,7 +50,7 @@ pub fn serves_a_new_name_as_a_folder<D: Disk>(
     }
 }
 
-/// A journal is kept in a file only if its name is no folder's: here it is put into one beside an empty folder.
+/// A journal is kept in a file only if its name is not a folder's: here it is put into one beside an empty folder.
 pub fn serves_an_empty_folder_as_a_file<D: Disk, C: Contents>(
     alloc: Global,
     disk: &mut D,
@@ -114,7 +114,7 @@ pub fn empties_the_journal_when_it_refuses<'a, D: Disk>(
     }
 }
 
-/// A journal keeps what was told when serving ends in a fault: here it is emptied then.
+/// A journal keeps what was answered when serving ends in a fault: here it is emptied then.
 pub fn empties_the_journal_after_a_fault<'a, I: Read, W: Write, E: Write>(
     alloc: Global,
     disk: &mut MemoryDisk,

@@ -63,7 +63,7 @@ pub fn begins_at_one(
     }
 }
 
-/// A try of a machine that is not privileged is no event: here the ring's events from a place on are its record. It gives up at
+/// A try of a machine that is not privileged is not an event: here the ring's events from a place on are its record. It gives up at
 /// any other line.
 pub fn records_a_try_that_waits(
     alloc: Global,

@@ -117,7 +117,7 @@ pub fn refuses_what_follows(
     }
 }
 
-/// The digest of a file is that of all its bytes: here of its head alone, if that has another one.
+/// The digest of a file is that of all its bytes: here only of its head, if that has another one.
 pub fn digest_of_the_head_alone(bytes: &[u8], head: usize) -> [u8; DIGEST_DIGITS]
     requires within { head ≤ length bytes.now }
     requires apart { digest_of (take head bytes.now) ≢ digest_of bytes.now }

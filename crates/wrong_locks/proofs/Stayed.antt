@@ -16,7 +16,7 @@ some_same a b e = cc
 split : true ≡ false → ⊥
 split e = cc
 
--- behind a cancel a client that stood in the line stands there no more
+-- after a cancel a client that was in the line is not in it any more
 pub stands_on : (vs : List LockView) (v : LockView) (c i : ℕ) (r : Answers) → slice_get vs i ≡ Some v → stands c v.line ≡ true → IsDone vs vs c i Cancel r → ⊥
 stands_on vs v c i r at there d =
     let ls : List Lock = locks_of vs in

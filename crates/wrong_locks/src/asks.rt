@@ -6,7 +6,7 @@ ghost use Rattle.ring_locks.specs.Kept.{IsAnswer};
 
 use ring_locks::{Answer, Answers, HoldEnd, Locks, Refusal};
 
-/// Who asks while somebody holds the lock waits: here it is granted the lock. It gives up unless the client waits.
+/// A client that asks while another holds the lock waits: here it is granted the lock. It gives up unless the client waits.
 pub fn grants_while_somebody_holds(
     locks: &mut Locks,
     client: u64,
@@ -51,7 +51,7 @@ pub fn grants_with_another_token(
     }
 }
 
-/// Who would wait for itself is refused: here it waits. It gives up unless there is a circle.
+/// A client that would wait for itself is refused: here it waits. It gives up unless there is a circle.
 pub fn lets_a_circle_in(
     locks: &mut Locks,
     client: u64,
@@ -73,7 +73,7 @@ pub fn lets_a_circle_in(
     }
 }
 
-/// A fault ends no hold: here one is told to have ended. It gives up unless the fault was made.
+/// A fault ends no hold: here one is said to have ended. It gives up unless the fault was made.
 pub fn ends_a_hold_by_a_fault(
     locks: &mut Locks,
     client: u64,

@@ -7,7 +7,8 @@ ghost use Rattle.ring_locks.specs.Kept.{LockView, IsDone, IsLeft};
 
 use ring_locks::{Answer, Answers, Holder, Left, Locks, Refusal};
 
-/// Only the token of a hold ends it: here who has another one is told that it has. It gives up unless the release is refused.
+/// Only the token of a hold ends it: here a client with another one is answered that it has ended. It gives up unless the release is
+/// refused.
 pub fn releases_with_an_old_token(
     locks: &mut Locks,
     client: u64,
@@ -28,7 +29,7 @@ pub fn releases_with_an_old_token(
     }
 }
 
-/// Behind the end of a hold the head of the line is granted: here nobody is. It gives up if nobody waits.
+/// After the end of a hold the head of the line is granted: here nobody is. It gives up if nobody waits.
 pub fn forgets_a_waiter(locks: &mut Locks, client: u64, lock: u32, token: u64) -> Option<Answers>
     ensures wrong { IfSome result
         (λ r. IsDone locks.old locks.new client lock (Release token) r → ⊥) }
@@ -44,7 +45,7 @@ pub fn forgets_a_waiter(locks: &mut Locks, client: u64, lock: u32, token: u64) -
     }
 }
 
-/// The head of the line is granted: here another client is, such as the one behind it. It gives up if nobody waits, or this client
+/// The head of the line is granted: here another client is, such as the one after it. It gives up if nobody waits, or this client
 /// is the head.
 pub fn skips_the_head_of_the_line(
     locks: &mut Locks,
@@ -70,7 +71,7 @@ pub fn skips_the_head_of_the_line(
     }
 }
 
-/// The end of a hold is told to who keeps the journal: here it is not. It gives up unless a hold has ended.
+/// The end of a hold is reported to the keeper of the journal: here it is not. It gives up unless a hold has ended.
 pub fn records_no_end(locks: &mut Locks, client: u64, lock: u32, token: u64) -> Option<Answers>
     ensures wrong { IfSome result
         (λ r. IsDone locks.old locks.new client lock (Release token) r → ⊥) }
@@ -86,7 +87,7 @@ pub fn records_no_end(locks: &mut Locks, client: u64, lock: u32, token: u64) -> 
     }
 }
 
-/// A client that leaves is told of each lock that it held: here one of them is left out. It gives up if the client held none.
+/// A leave reports each lock that the client held: here one of them is left out. It gives up if the client held none.
 pub fn leaves_out_a_lock(locks: &mut Locks, client: u64, left: &mut Vec<Left>) -> Option<Left>
     requires room { vec_len left.old + length locks.old ≤ vec_capacity left.old }
     requires none { left.old.items ≡ [] }
@@ -96,7 +97,7 @@ pub fn leaves_out_a_lock(locks: &mut Locks, client: u64, left: &mut Vec<Left>) -
     left.pop()
 }
 
-/// Who cancels stands in the line no more: here it is told so, and stands there.
+/// A client that cancels leaves the line: here it is answered so, and stays there.
 pub fn cancels_nobody(locks: &Locks, client: u64, lock: u32) -> Answers
     requires there { (v : LockView)
         × (slice_get locks.now lock ≡ Some v)

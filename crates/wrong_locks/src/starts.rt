@@ -9,7 +9,7 @@ use ring_locks::laws::leavers_are_gone;
 use ring_locks::{Left, Locks, Refusal};
 use std::alloc::Global;
 
-/// A hold that is open in the history of a lock goes on as client 0's: here it is dropped. It gives up if there is no memory.
+/// A hold that is open in the history of a lock continues as client 0's: here it is dropped. It gives up if there is no memory.
 pub fn drops_a_hold_at_a_start(
     alloc: Global,
     locks: &mut Locks,
@@ -30,7 +30,7 @@ pub fn drops_a_hold_at_a_start(
     Some(locks.count())
 }
 
-/// A lock is refused for want of room or memory: here it is refused as one that there is not. It gives up if the lock is added.
+/// A lock is refused for lack of room or memory: here it is refused as one that does not exist. It gives up if the lock is added.
 pub fn refuses_a_lock_for_another_reason(
     alloc: Global,
     locks: &mut Locks,

@@ -7,7 +7,7 @@ use std::thread;
 /// How many turns a gate waits at most: for many seconds, whatever else runs.
 const MOST_TURNS: u64 = 30_000_000;
 
-/// Waits until the word has this bit, or so long as a gate waits.
+/// Waits until the word has this bit, or as long as a gate waits.
 fn waits_for(word: &AtomicU64, bit: u64) -> bool {
     for _ in 0..MOST_TURNS {
         if word.load(Ordering::SeqCst) & bit != 0 {

@@ -102,7 +102,7 @@ const EIGHT: &str = r#"{"n":8,"k":16,"start":[0,0,0,0,0,0,0,0]}"#;
 const SEATS: &str =
     r#""workers":[{"seed":1,"actions":2000},{"seed":2,"actions":2000},{"seed":3,"actions":2000},{"seed":4,"actions":2000},{"seed":5,"actions":2000},{"seed":6,"actions":2000},{"seed":7,"actions":2000},{"seed":8,"actions":2000},{"seed":9,"actions":2000}],"injector":{"seed":10,"actions":2000}"#;
 
-/// A script that passes once at each of so many rings: the order is one more than the ring's number.
+/// A script that passes once at each of this many rings: the order is one more than the ring's number.
 fn one_pass_each(alloc: Global, rings: u32) -> Result<String, AllocError> {
     let mut text = String::new(alloc);
     for ring in 0..rings {

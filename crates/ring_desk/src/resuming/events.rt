@@ -64,7 +64,7 @@ fn event_told(saved: SavedEvent) -> Event
     }
 }
 
-/// The events that event lines tell of.
+/// The events that event lines record.
 pub(crate) fn events_of(alloc: Global, lines: &[SavedEvent]) -> Result<Vec<Event>, AllocError>
     ensures { IfOk result (λ v. v.items ≡ map event_of lines.now) }
 {

@@ -12,7 +12,7 @@ use ring_model::Survey;
 use ring_saved::SavedSurvey;
 use std::alloc::{AllocError, Global};
 
-/// The survey that a survey line tells of.
+/// The survey that a survey line records.
 fn survey_told(saved: SavedSurvey) -> Survey
     ensures { result ≡ survey_of saved }
 {
@@ -25,7 +25,7 @@ fn survey_told(saved: SavedSurvey) -> Survey
     }
 }
 
-/// The surveys that survey lines tell of.
+/// The surveys that survey lines record.
 pub(crate) fn surveys_of(alloc: Global, lines: &[SavedSurvey]) -> Result<Vec<Survey>, AllocError>
     ensures { IfOk result (λ v. v.items ≡ map survey_of lines.now) }
 {
@@ -59,7 +59,7 @@ fn client_of(alloc: Global, number: u32, lines: &[SavedSurvey]) -> Result<Client
     Ok(client)
 }
 
-/// Why survey lines are left over: one is of a seat that there is not, or they don't stand seat by seat.
+/// Why survey lines are left over: one is of a seat that does not exist, or they don't follow seat by seat.
 fn left_over(line: SavedSurvey, seats: u32) -> ResumeError {
     if line.seat >= seats {
         ResumeError::Call(CallError::NoSeat)
