@@ -20,3 +20,4 @@ pub mod OpenHolds
 pub mod NextSegments
 pub mod Foreseen
 pub mod HandedOver
+pub mod TheirHolds

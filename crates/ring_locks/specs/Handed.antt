@@ -1,10 +1,13 @@
 -- Open holds that are handed to other clients, after a start (this project's own).
-use Rattle.std.specs.Prelude.{◌≡◌, List, [], ◌∷◌, slice_get, slice_set, Some, ℕ}
+use Rattle.std.specs.Prelude.{◌≡◌, ◌≢◌, ◌⊎◌, List, [], ◌∷◌, slice_get, slice_set, Some, ℕ}
 use Rattle.ring_locks.specs.declared.handing.Handover.{Handover}
 use Rattle.ring_locks.specs.declared.answers.Holder.{Holder}
+use Rattle.ring_locks.specs.declared.answers.Answer.TheVariants as answer
+use Rattle.ring_locks.specs.declared.answers.Refusal.TheVariants as refusal
 use Rattle.ring_locks.specs.Lines.{Lock}
-use Rattle.ring_locks.specs.Locks.{restarted}
-use Rattle.ring_locks.specs.Kept.{LockView, lock_of}
+use Rattle.ring_locks.specs.Locks.{Release, Input, Asked, step, restarted}
+use Rattle.ring_locks.specs.Promises.{locks_after, grants_of, ends_hold, NoneIs, GoesOn}
+use Rattle.ring_locks.specs.Kept.{LockView, lock_of, locks_of}
 
 -- client 0 holds the lock with this token, and nobody waits for it
 pub record IsOpen (v : LockView) (token : ℕ) : Type 0 where
@@ -42,3 +45,22 @@ HoldsAreHandedBack =
     (l : Lock) (was : Holder) (v : LockView) (h : Handover) → l.holder ≡ Some was
     → lock_of v ≡ restarted l → h.token ≡ was.token → h.client ≡ was.client
     → IsOpen v h.token × (lock_of (handed v h) ≡ record l { line = [] })
+
+-- This hold of the lock is its client's. With its token the client may release the lock, for which
+-- nobody waits; a release by another client, client 0 too, or with another token is refused, and
+-- nothing changes. Until an input ends the hold it goes on, over restarts too, and nobody is granted.
+pub record IsTheirs (locks : List Lock) (at : ℕ) (h : Holder) : Type 0 where
+  pub released : (step locks (Asked h.client at (Release h.token))).answers
+      ≡ (h.client, answer.Released) ∷ []
+  pub others : (c token : ℕ) → (c ≢ h.client) ⊎ (token ≢ h.token)
+      → step locks (Asked c at (Release token))
+      ≡ record { locks = locks; marks = []; answers = (c, answer.Refused refusal.Holder) ∷ [] }
+  pub excluded : (is : List Input) → NoneIs (ends_hold at h) is
+      → (grants_of at locks is ≡ [])
+      × ((m : Lock) × (slice_get (locks_after locks is) at ≡ Some m) × GoesOn h m)
+
+-- a law: a hold that was handed over is the client's to which it was handed
+abbrev pub HandedHoldsAreTheirs : Type 0
+HandedHoldsAreTheirs =
+    (old new : List LockView) (h : Handover) → IsHanded old new h
+    → IsTheirs (locks_of new) h.lock (record { client = h.client; token = h.token })

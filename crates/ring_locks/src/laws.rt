@@ -1,7 +1,7 @@
 //! What locks promise, over every list of inputs. Each law is the contract of a function that does nothing; the statements are
 //! in `specs/Promises.antt`, of the machine in `specs/Locks.antt`.
 
-ghost use Rattle.ring_locks.specs.Handed.{HoldsAreHandedBack};
+ghost use Rattle.ring_locks.specs.Handed.{HoldsAreHandedBack, HandedHoldsAreTheirs};
 ghost use Rattle.ring_locks.specs.Opened.{HoldsAreFound, RestartsAreRight};
 ghost use Rattle.ring_locks.specs.Worked.{WorkedAnswers, WorkedMarks};
 ghost use Rattle.ring_locks.specs.Promises.{EmptyLinesAreRight, RightStays, Exclusion, OthersReleaseNothing, LeaversAreGone, TokensRise, TokensAreCounted, TokensAreForeseen, NobodyWaitsForNothing, FirstComeFirstServed, NoCircle, CirclesAreReal, OneEventEach, HistoryShowsHolds, RestartsRecover, SegmentsShowHolds, SegmentsRecover, CarriedChangesNothing, OneAnswerEach};
@@ -76,6 +76,12 @@ pub fn restarts_are_right()
 /// A hold that was open at a restart can be handed back to its holder: the lock is then the one that was, without its waiters.
 pub fn holds_are_handed_back()
     ensures { HoldsAreHandedBack }
+{}
+
+/// A hold that was handed over is its client's as if it had been granted: it alone may release the lock, and with the hold's token
+/// alone; client 0, whose it was, may not. Until an input ends the hold, nobody is granted.
+pub fn handed_holds_are_theirs()
+    ensures { HandedHoldsAreTheirs }
 {}
 
 /// A client that leaves all locks, one after the other, holds none of them any more and waits for none.

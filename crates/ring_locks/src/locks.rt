@@ -318,6 +318,13 @@ impl Locks {
         hand_among(&mut self.locks, handover)
     }
 
+    /// The locks are right, and each has room for those who wait, at each moment: this does nothing, and says so.
+    pub fn are_kept(&self)
+        ensures { (entries : List (ℕ × ℕ)) × AreKept self.now entries }
+    {
+        self.locks.len();
+    }
+
     /// How many locks there are.
     pub fn count(&self) -> u32
         ensures { result ≡ length self.now }
