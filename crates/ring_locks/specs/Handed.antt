@@ -48,7 +48,7 @@ HoldsAreHandedBack =
 
 -- This hold of the lock is its client's. With its token the client may release the lock, for which
 -- nobody waits; a release by another client, client 0 too, or with another token is refused, and
--- nothing changes. Until an input ends the hold it goes on, over restarts too, and nobody is granted.
+-- nothing changes. Until an input ends the hold it lasts, over restarts too, and nobody is granted.
 pub record IsTheirs (locks : List Lock) (at : ℕ) (h : Holder) : Type 0 where
   pub released : (step locks (Asked h.client at (Release h.token))).answers
       ≡ (h.client, answer.Released) ∷ []

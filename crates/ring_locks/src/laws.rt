@@ -78,8 +78,8 @@ pub fn holds_are_handed_back()
     ensures { HoldsAreHandedBack }
 {}
 
-/// A hold that was handed over is its client's as if it had been granted: it alone may release the lock, and with the hold's token
-/// alone; client 0, whose it was, may not. Until an input ends the hold, nobody is granted.
+/// A hold that was handed over is its client's as if it had been granted: only this client may release the lock, and only with the
+/// hold's token; client 0, whose it was, may not. Until an input ends the hold, nobody is granted.
 pub fn handed_holds_are_theirs()
     ensures { HandedHoldsAreTheirs }
 {}
