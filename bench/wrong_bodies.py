@@ -11,10 +11,10 @@ in a temporary clone of what is committed. Words: the crates to try, all of them
   --most N       joins at most so many edits into one check (10)
   --seconds N    how many processor seconds a check of one edit may take (300); each further edit gives it a fifth of that
 
-Edits of the bodies of different functions are joined into one check, over a copy of what the crate's own check kept, and
+Edits of the bodies of different functions are joined into one check, of these functions and those that they call, and
 the lines of the check tell each function's verdict. Edits of anything else, as of specs/, of a constant or of several
-functions, are tried alone; so is again, alone, an edit whose function came out proved, or with no reason of its own. A
-row for each edit says what refuses it:
+functions, are tried alone, over a copy of what a check of the crate itself kept; so is again, alone, an edit whose
+function came out proved, or with no reason of its own. A row for each edit says what refuses it:
 
   clause, invariant, condition   a goal of a clause, of an invariant or of what a called function asks for: it tells
   law                            a lemma below a law, where specs/ was edited: it tells
@@ -24,7 +24,8 @@ row for each edit says what refuses it:
 
 The rows stand in bench/out/wrong-bodies.txt too, and all that the checks said in bench/out/wrong-bodies-CRATE.log. The
 status is 1 where an edit is not refused or cannot be tried. What it costs: the proof of each crate below those that are
-tried, unless --over has it, and then 5 to 20 processor seconds for each edit, where `rt must-fail` takes 14 to 54.
+tried, unless --over has it; that of a crate itself, where an edit is tried alone over it; and some 5 to 20 processor
+seconds for each edit, where `rt must-fail` takes 14 to 54.
 """
 import argparse
 import functools
@@ -160,17 +161,27 @@ def put(groups, edit, place, most):
     groups.append(([edit], {place}, texts))
 
 
-def checked(rt, crate, texts, seconds):
-    """Checks a copy of the crate with these texts, over a copy of what its own check kept. Returns the status, none after the time, and the lines."""
+def path_of(place):
+    """A function as a check prints it, by which `--only` takes it."""
+    file, function, owner = place
+    module = file.removeprefix("src/").removesuffix(".rt").replace("/", "::")
+    return "::".join(it for it in ("" if module in ("lib", "main") else module, owner, function) if it)
+
+
+def checked(rt, crate, texts, seconds, only):
+    """Checks a copy of the crate with these texts: only these functions and those that they call; or all, over a copy of what the crate's own
+    check kept. Returns the status, none after the time, and the lines."""
     with tempfile.TemporaryDirectory(prefix="wrong-bodies-") as room:
         for part in rt.rtlib.PARTS:
             if os.path.isdir(f"{crate.folder}/{part}"):
                 shutil.copytree(f"{crate.folder}/{part}", f"{room}/{part}")
-        shutil.copytree(f"{crate.folder}/{KEPT}", f"{room}/kept")
+        if not only:
+            shutil.copytree(f"{crate.folder}/{KEPT}", f"{room}/kept")
         for path, text in texts.items():
             with open(f"{room}/{path}", "w", encoding="utf-8") as it:
                 it.write(text)
-        words = [rt.rtlib.RATTLE, "check", *crate.words(["--jobs", "1"], keeps=False), "--incremental", f"{room}/kept"]
+        part = [word for it in only for word in ("--only", it)] or ["--incremental", f"{room}/kept"]
+        words = [rt.rtlib.RATTLE, "check", *crate.words(["--jobs", "1"], keeps=False), *part]
         how = {"cwd": room, "stdin": subprocess.DEVNULL, "stdout": subprocess.PIPE, "stderr": subprocess.STDOUT, "errors": "replace"}
         how["preexec_fn"] = lambda: resource.setrlimit(resource.RLIMIT_CPU, (seconds, seconds))
         try:
@@ -267,19 +278,39 @@ def stopped_at(lines, texts):
     return found
 
 
-def try_group(rt, edits, seconds, log):
-    """Tries edits that go together, and again in smaller groups or alone what has no verdict then."""
+class Bases:
+    """The checks of the crates themselves, each made when an edit first needs it."""
+
+    def __init__(self, rtlib, jobs):
+        self.rtlib, self.jobs, self.proved, self.lock = rtlib, jobs, {}, threading.Lock()
+
+    def is_proved(self, crate):
+        with self.lock:
+            if crate not in self.proved:
+                with open(f"{crate.folder}/out/built.log", "w", errors="replace") as crate.out:
+                    self.proved[crate] = prove(self.rtlib, crate, self.jobs)
+            return self.proved[crate]
+
+
+def try_group(rt, edits, seconds, log, bases, whole=False):
+    """Tries edits that go together, by the functions that they change; and again in smaller groups, alone, or alone with the whole crate
+    what has no verdict then."""
     crate, texts, places = edits[0].crate, {}, {}
     for edit in edits:
         _, places[edit] = apply(edit, texts)
-    status, lines = checked(rt, crate, texts, seconds * (4 + len(edits)) // 5)
+    only = [] if whole or None in places.values() else [path_of(it) for it in places.values()]
+    if not only and not bases.is_proved(crate):
+        for edit in edits:
+            edit.verdict, edit.why = "NO VERDICT", "the crate itself is not proved"
+        return
+    status, lines = checked(rt, crate, texts, seconds * (4 + len(edits)) // 5, only)
     log(crate, edits, lines)
-    reached = status is not None and lines[-1].startswith("logic=") and not unread(rt, lines, texts)
+    reached = status is not None and lines[-1].startswith(("logic=", "only=")) and not unread(rt, lines, texts)
     if len(edits) > 1 and not reached:
         bad = [it for it in edits if places[it] in stopped_at(lines, texts)]
         parts = (bad, [it for it in edits if it not in bad]) if 0 < len(bad) < len(edits) else (edits[::2], edits[1::2])
         for part in parts:
-            try_group(rt, part, seconds, log)
+            try_group(rt, part, seconds, log, bases)
         return
     found = reasons_in(lines) if reached else {}
     for edit in edits:
@@ -287,7 +318,9 @@ def try_group(rt, edits, seconds, log):
         if judge(edit, reasons) and (edit.verdict in TELLS or len(edits) == 1):
             continue
         if len(edits) > 1:
-            try_group(rt, [edit], seconds, log)
+            try_group(rt, [edit], seconds, log, bases)
+        elif only:
+            try_group(rt, [edit], seconds, log, bases, whole=True)
         else:
             judge_alone(rt, edit, status, lines, texts, found)
 
@@ -330,18 +363,17 @@ def prove(rtlib, crate, jobs):
 
 
 def build(rt, crates, tried, jobs):
-    """Proves these crates, each behind those below it: statements for the crates above, and what is kept for the edits of those that are
-    tried. Returns those that are not proved."""
+    """Proves the crates below those that are tried, each behind those below it: as statements. Returns the crates that are not well."""
     failed, form = set(), kit.Statements(rt, os.getcwd())
-    for crate in sorted(crates, key=lambda it: len(it.below())):
+    in_order = sorted(crates, key=lambda it: len(it.below()))
+    for crate in in_order:
         form.placed(crate)
         os.makedirs(f"{crate.folder}/out", exist_ok=True)
     below = {it for crate in tried for it in crate.below()}
-    stale = form.unbuilt([it for it in sorted(crates, key=lambda it: len(it.below())) if it in below])
-    for crate in sorted(crates, key=lambda it: len(it.below())):
+    stale = form.unbuilt([it for it in in_order if it in below])
+    for crate in in_order:
         with open(f"{crate.folder}/out/built.log", "w", errors="replace") as crate.out:
-            is_well = not failed & {*crate.below()} and (crate not in stale or form.build(crate, jobs) == 0)
-            if not is_well or crate in tried and not prove(rt.rtlib, crate, jobs):
+            if failed & {*crate.below()} or crate in stale and form.build(crate, jobs) != 0:
                 failed.add(crate)
                 print(f"{crate.name}: it is not proved itself, so nothing shows", flush=True)
     return failed
@@ -411,11 +443,11 @@ def try_all(rt, given, over, top):
     if given.over:
         take_over(over, needed, tried)
     failed, records = build(rt, needed, tried, given.jobs), Records(tried)
-    groups = planned(edits, failed, given.most)
+    groups, bases = planned(edits, failed, given.most), Bases(rt.rtlib, given.jobs)
     records.tell([it for it in edits if it.verdict])
 
     def run(group):
-        try_group(rt, group, given.seconds, records.log)
+        try_group(rt, group, given.seconds, records.log, bases)
         records.tell(group)
 
     with ThreadPoolExecutor(given.jobs) as pool:
