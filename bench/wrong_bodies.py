@@ -319,7 +319,7 @@ def try_group(rt, edits, seconds, log, bases, whole=False):
             continue
         if len(edits) > 1:
             try_group(rt, [edit], seconds, log, bases)
-        elif only and not unread(rt, lines, texts):
+        elif only and not stopped_at(lines, texts):
             try_group(rt, [edit], seconds, log, bases, whole=True)
         else:
             judge_alone(rt, edit, status, lines, texts, found)
