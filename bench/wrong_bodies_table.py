@@ -25,9 +25,11 @@ it took away, or only an overflow, an index or a call of std is in the way.
 
 
 def crates_in_order():
+    """The crates of crates.txt, and then those that stand as text in bench/."""
     with open(f"{TOP}/crates.txt", encoding="utf-8") as file:
-        lines = (line.partition("#")[0].partition(":") for line in file)
-        return [head.split()[0] for head, colon, _ in lines if colon]
+        lines = [line.partition("#")[0].partition(":") for line in file]
+    names = [head.split()[0] for head, colon, _ in lines if colon]
+    return names + sorted(it for it in os.listdir(f"{TOP}/bench/wrong_bodies") if os.path.isdir(f"{TOP}/bench/{it}"))
 
 
 def edits_of(crate):
