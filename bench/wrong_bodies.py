@@ -162,10 +162,10 @@ def put(groups, edit, place, most):
 
 
 def path_of(place):
-    """A function as a check prints it, by which `--only` takes it."""
+    """A function as a check prints it, or the end of that, by which `--only` takes it: a method is named by the place of its type."""
     file, function, owner = place
     module = file.removeprefix("src/").removesuffix(".rt").replace("/", "::")
-    return "::".join(it for it in ("" if module in ("lib", "main") else module, owner, function) if it)
+    return "::".join(it for it in (owner or ("" if module in ("lib", "main") else module), function) if it)
 
 
 def checked(rt, crate, texts, seconds, only):
