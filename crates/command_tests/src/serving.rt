@@ -112,6 +112,13 @@ impl<'a> Disk for Watched<'a> {
         self.files.discard(name)
     }
 
+    fn lock(&mut self, name: &str) -> io::Result<()> {
+        if self.used {
+            return Err(io::Error::from(ErrorKind::WouldBlock));
+        }
+        self.files.lock(name)
+    }
+
     fn grow(&mut self, name: &str, synced: bool) -> io::Result<Opened<'a>> {
         if self.used {
             return Err(io::Error::from(ErrorKind::WouldBlock));

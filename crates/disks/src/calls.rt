@@ -1,7 +1,7 @@
 //! The calls of a system on its files, one thing each.
 
 ghost use Rattle.std.specs.Prelude.{◌≡◌, ℕ, List, [], Option, None, Some, IfOk, IfSome, OnOk, OnErr, true, false, string_bytes};
-ghost use Rattle.disks.specs.Held.{Held, is_folder, IsOneFile, Opens, Starts, Creates, Discards, Grows, Replaces};
+ghost use Rattle.disks.specs.Held.{Held, is_folder, IsOneFile, Opens, Starts, Creates, Discards, Grows, Locks, Replaces};
 ghost use Rattle.disks.specs.Folders.{Lists, names_of};
 ghost use Rattle.disks.specs.Lasting.{Leaves, MayLeave, MayRemove, LeavesFront};
 
@@ -91,6 +91,12 @@ pub trait FileCalls {
             (λ end. Grows (holds self.old) name.now (Self.End.written end)) }
         ensures sound { IfOk result (λ end. Self.End.is_sound end ≡ true) }
         ensures kept { holds self.new ≡ holds self.old }
+        ensures left { leaves self.new ≡ leaves self.old };
+
+    /// Opens the regular file of this name and locks it, for as long as the system is there.
+    fn lock(&mut self, name: &str) -> io::Result<()>
+        ensures locked { OnOk result (Locks (holds self.old) (holds self.new) name.now) }
+        ensures kept { OnErr result (holds self.new ≡ holds self.old) }
         ensures left { leaves self.new ≡ leaves self.old };
 
     /// Puts the name of this open file on the disk, so that a loss of power leaves by it what is on the disk of the file.

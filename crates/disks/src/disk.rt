@@ -2,7 +2,7 @@
 
 ghost use Rattle.std.specs.Prelude.{◌≡◌, ℕ, List, [], Option, None, Some, IfOk, IfErr, IfSome, OnOk, OnErr, true, false, string_bytes};
 ghost use Rattle.std.specs.Io.KnownBytes.{Keeps};
-ghost use Rattle.disks.specs.Held.{Held, is_folder, IsOneFile, Opens, Starts, Creates, Discards, Grows, Replaces};
+ghost use Rattle.disks.specs.Held.{Held, is_folder, IsOneFile, Opens, Starts, Creates, Discards, Grows, Locks, Replaces};
 ghost use Rattle.disks.specs.Folders.{Lists, names_of};
 ghost use Rattle.disks.specs.Lasting.{bytes_in, Leaves, MayLeave, MayRemove, LeavesFront};
 
@@ -105,6 +105,17 @@ pub trait Disk {
         ensures discarded { IfOk result (Discards (holds self.old) (holds self.new) name.now) }
         ensures kept { OnErr result (holds self.new ≡ holds self.old) }
         ensures left { MayRemove (leaves self.old) (leaves self.new) name.now };
+
+    /// Locks the file of this name, which is there, for as long as this disk is: nobody else can lock it then, or open it to be
+    /// written at its end. No call lets a lock go.
+    ///
+    /// # Errors
+    ///
+    /// `WouldBlock` if somebody has it locked, or open so; or it cannot be opened.
+    fn lock(&mut self, name: &str) -> io::Result<()>
+        ensures locked { OnOk result (Locks (holds self.old) (holds self.new) name.now) }
+        ensures kept { OnErr result (holds self.new ≡ holds self.old) }
+        ensures left { leaves self.new ≡ leaves self.old };
 
     /// Opens a file that is there to be written at its end. Its writer has the content of the file. With `synced` that content,
     /// under its name, and all that is added are put on the disk.

@@ -237,6 +237,10 @@ impl FileCalls for LosingCalls {
         })
     }
 
+    fn lock(&mut self, name: &str) -> io::Result<()> {
+        self.memory.lock(name)
+    }
+
     fn sync_name(&mut self, end: &LosingEnd, name: &str) -> io::Result<()> {
         take_sync(&mut self.folder_syncs)?;
         let alloc = self.memory.alloc;

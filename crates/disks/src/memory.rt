@@ -227,6 +227,13 @@ impl Disk for MemoryDisk {
         Ok(true)
     }
 
+    fn lock(&mut self, name: &str) -> io::Result<()> {
+        match last(&self.entries, name) {
+            Some(Stored::File(_)) => Ok(()),
+            _ => Err(io::Error::from(ErrorKind::NotFound)),
+        }
+    }
+
     fn grow(&mut self, name: &str, _synced: bool) -> io::Result<Vec<u8>> {
         copied(self.alloc, &self.entries, name)
     }

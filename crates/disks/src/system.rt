@@ -109,6 +109,10 @@ impl<C: FileCalls> Disk for SystemDisk<C> {
         self.calls.remove_empty(name)
     }
 
+    fn lock(&mut self, name: &str) -> io::Result<()> {
+        self.calls.lock(name)
+    }
+
     fn grow(&mut self, name: &str, synced: bool) -> io::Result<GrownFile<C::End>> {
         let end = self.calls.open_end(name)?;
         let grown = GrownFile::begin(end, synced)?;

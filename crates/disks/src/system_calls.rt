@@ -22,11 +22,17 @@ pub struct SystemCalls<'a, R> {
     files: &'a R,
     /// The file that was opened last to be written at its end.
     own: Option<FileId>,
+    /// The file that is locked, which stays open.
+    lock: Option<File>,
 }
 
 impl<'a, R> SystemCalls<'a, R> {
     pub(crate) fn new(files: &'a R) -> SystemCalls<'a, R> {
-        SystemCalls { files, own: None }
+        SystemCalls {
+            files,
+            own: None,
+            lock: None,
+        }
     }
 }
 
@@ -119,6 +125,15 @@ impl<'a, R: Files<File = File> + AllocGlobal> FileCalls for SystemCalls<'a, R> {
         let file = opened_end(self.files, name)?;
         self.own = Some(file_id(&file.metadata()?));
         Ok(file)
+    }
+
+    fn lock(&mut self, name: &str) -> io::Result<()> {
+        if self.lock.is_some() {
+            // one that is locked is not let go for another
+            return Err(io::Error::from(ErrorKind::WouldBlock));
+        }
+        self.lock = Some(opened_end(self.files, name)?);
+        Ok(())
     }
 
     fn sync_name(&mut self, end: &File, name: &str) -> io::Result<()> {

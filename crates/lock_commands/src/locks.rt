@@ -101,7 +101,7 @@ fn serve_from<'a, D: Disk, I: Read, W: Write>(
     }
 }
 
-/// The locks of a folder, when all lines have been served. The folder is locked from before it is listed.
+/// The locks of a folder, when all lines have been served. The folder is locked from before it is listed, and stays so.
 fn run_in_folder<'a, D: Disk, I: Read, W: Write>(
     alloc: Global,
     disk: &mut D,
@@ -122,19 +122,20 @@ fn run_in_folder<'a, D: Disk, I: Read, W: Write>(
         → FolderLasts words.now holders.now (D.holds disk.old) (I.remaining input.old)
         (I.remaining input.new) (W.contents out.old) (W.contents out.new) (D.leaves disk.new) }
 {
-    let lock = match lock_folder(alloc, disk, words.journal) {
-        Ok(lock) => lock,
+    match lock_folder(alloc, disk, words.journal) {
+        Ok(()) => {}
         Err(fault) => return Err(fault),
-    };
+    }
     let start = match start_locks(alloc, disk, words.journal, words.locks, holders) {
         Ok(start) => start,
         Err(fault) => {
             return Err(start_refusal(fault, words.journal, name_of(words.holders)));
         }
     };
-    let end = serve_from(alloc, disk, start, words, input, out);
-    drop(lock);
-    end
+    match serve_from(alloc, disk, start, words, input, out) {
+        Ok(end) => Ok(end),
+        Err(fault) => Err(fault),
+    }
 }
 
 /// Checks the list that is named, before any file is made.

@@ -37,6 +37,7 @@ put_before : (was there begun : Held) (name bytes : List ℕ) → IsReplaced was
 put_before was there begun name bytes made put = record {
   places = λ other. put.places other ∙ made.places other;
   folders = λ other. put.folders other ∙ made.folders other;
+  locks = λ place. put.locks place ∙ made.locks place;
   here = λ other same. put.here other (made.places name ∙ same ∙ sym (made.places other));
   others = λ other differs. put.others other (λ same. differs (sym (made.places name) ∙ same ∙ made.places other)) ∙ made.others other differs;
 }

@@ -1,5 +1,6 @@
 -- `serve` with a journal that is a folder of segments.
-use Rattle.std.specs.Prelude.{◌≡◌, ◌≢◌, ℕ, ◌⊎◌, max, List, Bool, true, false, Option, None, Some, IfSome, Ok, Err, codes}
+use Rattle.std.specs.Prelude.{◌≡◌, ◌≢◌, ℕ, ◌⊎◌, max, List, Bool, true, false, Option, None, Some, IfSome, IsSome, Ok, Err, codes}
+use Rattle.std.specs.List.{AllByRecursion}
 use Rattle.disks.specs.Held.{Held, IsOneFile, Creates}
 use Rattle.disks.specs.Folders.{Lists, is_among, names_of, path_in}
 use Rattle.disks.specs.declared.disk.FolderEntry.{FolderEntry}
@@ -18,7 +19,7 @@ use Rattle.ring_serve.specs.Starting.{AreResumed, AreResumedAfter}
 use Rattle.chain_serve.specs.declared.segments.SegmentRules.{SegmentRules}
 use Rattle.chain_serve.specs.Segments.{Moment}
 use Rattle.chain_serve.specs.Beginning.{HasBegun, IsLeftUnbegun, IsSettled}
-use Rattle.chain_serve.specs.Service.{ServesSegments, ServesSomeSegments}
+use Rattle.chain_serve.specs.Service.{Part, ServesSegments, ServesSomeSegments}
 use Rattle.chain_serve.specs.Recovered.{AnsweredCallsAreRecovered}
 use Rattle.ring_requests.specs.declared.requests.ServeWords.{ServeWords}
 use Rattle.serve_commands.specs.declared.serve_folder.Start.{Start}
@@ -27,7 +28,7 @@ use Rattle.tool_parts.specs.declared.faults.ToolError.TheVariants as tool
 use Rattle.tool_parts.specs.Named.{IsHeld}
 use Rattle.tool_parts.specs.Chained.{IsUnreadSegment, IsFolderFault}
 use Rattle.serve_commands.specs.Served.{IsFirstRefusal, IsServingFault, permits_of}
-use Rattle.tool_parts.specs.Locking.{IsLocked, IsLockLeft, IsUnkeptFolder}
+use Rattle.tool_parts.specs.Locking.{IsLocked, StandsLocked, IsLockLeft, IsUnkeptFolder}
 use Rattle.tool_parts.specs.Worlds.{IsUnserved}
 
 -- ---- where the rings stand
@@ -105,7 +106,14 @@ SavesApart words folder files =
     IfSome words.saves
     (λ saves. IfSome files (λ held. IsOneFile held folder saves.now → ⊥))
 
--- The lines were served from where the rings stand, behind the lock.
+-- The folder is locked when the first line of each part is read, and when its last one is answered; a
+-- file that a line saves changes no lock.
+abbrev pub AreUnderLock : List ℕ → List Part → Type 0
+AreUnderLock folder parts =
+    AllByRecursion (λ p. StandsLocked p.from.files folder × StandsLocked p.to.files folder) parts
+
+-- The folder was locked, and the lines were served from where the rings stand. Where the content of
+-- files is known, it is locked as long as lines are served.
 pub record IsServedIn (words : ServeWords) (folder : List ℕ) (saved : Option Saved)
     (end : List Standing) (before after : Option Held) (was is old new : Option (List ℕ)) : Type 0
   where
@@ -119,6 +127,7 @@ pub record IsServedIn (words : ServeWords) (folder : List ℕ) (saved : Option S
     pub first : Moment
     pub last : Moment
     pub run : IsRun rules start first last end there after was is old new
+    pub held : IsSome before → AreUnderLock folder run.served.parts
 
 -- ---- refusals
 

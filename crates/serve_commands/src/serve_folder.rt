@@ -308,7 +308,7 @@ fn serve_from<'a, D: Disk, I: Read, W: Write>(
 }
 
 /// The rings that are served with a journal in the segments of a folder, when all lines have been. The folder is locked from before
-/// it is listed.
+/// it is listed, and stays so.
 pub(crate) fn run_in_folder<'a, D: Disk, I: Read, W: Write>(
     alloc: Global,
     disk: &mut D,
@@ -333,10 +333,10 @@ pub(crate) fn run_in_folder<'a, D: Disk, I: Read, W: Write>(
         Ok(()) => {}
         Err(fault) => return Err(fault),
     }
-    let lock = match lock_folder(alloc, disk, folder) {
-        Ok(lock) => lock,
+    match lock_folder(alloc, disk, folder) {
+        Ok(()) => {}
         Err(fault) => return Err(fault),
-    };
+    }
     let place = match place_in(alloc, disk, folder, saved) {
         Ok(place) => place,
         Err(fault) => return Err(fault),
@@ -347,7 +347,8 @@ pub(crate) fn run_in_folder<'a, D: Disk, I: Read, W: Write>(
         synced: words.synced,
         permits: permits_of(words),
     };
-    let end = serve_from(alloc, disk, place, rules, input, out);
-    drop(lock);
-    end
+    match serve_from(alloc, disk, place, rules, input, out) {
+        Ok(end) => Ok(end),
+        Err(fault) => Err(fault),
+    }
 }

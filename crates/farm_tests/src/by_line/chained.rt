@@ -98,6 +98,10 @@ impl Disk for Full {
         self.files.discard(name)
     }
 
+    fn lock(&mut self, name: &str) -> io::Result<()> {
+        self.files.lock(name)
+    }
+
     fn grow(&mut self, name: &str, synced: bool) -> io::Result<Vec<u8>> {
         let grown = self.files.grow(name, synced)?;
         self.opened = self.opened.saturating_add(1);

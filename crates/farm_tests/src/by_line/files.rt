@@ -47,6 +47,10 @@ impl Disk for Stuck {
         Err(io::Error::from(ErrorKind::PermissionDenied))
     }
 
+    fn lock(&mut self, _name: &str) -> io::Result<()> {
+        Err(io::Error::from(ErrorKind::PermissionDenied))
+    }
+
     fn grow(&mut self, _name: &str, _synced: bool) -> io::Result<Vec<u8>> {
         Err(io::Error::from(ErrorKind::PermissionDenied))
     }
