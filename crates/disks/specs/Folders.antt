@@ -3,12 +3,18 @@ use Rattle.std.specs.Prelude.{◌≡◌, ℕ, List, ◌∷◌, ◌++◌, ◌==�
 use Rattle.std.specs.Borrow.{Bor}
 use Rattle.std.specs.List.{list_any, AllByRecursion}
 use Rattle.std.specs.Str.{bytes_eq}
-use Rattle.disks.specs.Held.{Held, is_folder, is_there}
+use Rattle.disks.specs.Held.{Held, is_folder, is_there, IsOneFile}
 use Rattle.disks.specs.declared.disk.FolderEntry.{FolderEntry}
 
 -- the name of what has this name in the folder: a slash stands between the two
 abbrev pub path_in : List ℕ → List ℕ → List ℕ
 path_in folder name = folder ++ 47 ∷ name
+
+-- what has this name, or would have it, has a name in the folder too, where it is known where names
+-- lead
+abbrev pub LeadsInto : Option Held → List ℕ → List ℕ → Type 0
+LeadsInto None folder name = ⊤
+LeadsInto (Some held) folder name = (other : List ℕ) × IsOneFile held (path_in folder other) name
 
 -- whether a name has a slash
 abbrev pub has_slash : List ℕ → Bool

@@ -2,7 +2,7 @@
 
 ghost use Rattle.std.specs.Prelude.{◌≡◌, ℕ, List, [], Option, None, Some, IfOk, IfSome, OnOk, OnErr, true, false, string_bytes};
 ghost use Rattle.disks.specs.Held.{Held, is_folder, IsOneFile, Opens, Starts, Creates, Discards, Grows, Locks, Replaces};
-ghost use Rattle.disks.specs.Folders.{Lists, names_of};
+ghost use Rattle.disks.specs.Folders.{LeadsInto, Lists, names_of};
 ghost use Rattle.disks.specs.Lasting.{Leaves, MayLeave, MayRemove, LeavesFront};
 
 use crate::disk::FolderEntry;
@@ -44,6 +44,15 @@ pub trait FileCalls {
         ensures yes { IfOk result (λ same. IfSome (holds self.now)
             (λ held. same ≡ true → is_folder held one.now ≡ true
             → IsOneFile held one.now other.now)) };
+
+    /// Whether links lead from this name to one in this folder.
+    ///
+    /// # Errors
+    ///
+    /// The folder or the name cannot be looked at, or there is no folder for its file.
+    fn leads_into(&self, folder: &str, name: &str) -> io::Result<bool>
+        ensures { IfOk result
+            (λ into. into ≡ true → LeadsInto (holds self.now) folder.now name.now) };
 
     /// Whether the process reads or writes the file of this name by a standard descriptor.
     ///

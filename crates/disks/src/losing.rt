@@ -195,6 +195,10 @@ impl FileCalls for LosingCalls {
         self.memory.is_one_file(one, other)
     }
 
+    fn leads_into(&self, folder: &str, name: &str) -> io::Result<bool> {
+        self.memory.leads_into(folder, name)
+    }
+
     fn is_standard(&self, name: &str) -> io::Result<bool> {
         self.memory.is_standard(name)
     }

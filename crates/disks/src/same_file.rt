@@ -46,6 +46,18 @@ pub(crate) fn folder_of(name: &str) -> &str {
     }
 }
 
+/// Whether the links that begin with this name end in this folder.
+pub(crate) fn ends_in<R: Files + AllocGlobal>(
+    files: &R,
+    folder: &str,
+    name: &str,
+) -> io::Result<bool> {
+    let end = end_of_links(files, name)?;
+    let one = fs::metadata(files, folder)?;
+    let other = fs::metadata(files, folder_of(end.as_str()))?;
+    Ok(file_id(&one) == file_id(&other))
+}
+
 /// The name to which the link of this name leads.
 fn next_name<R: Files + AllocGlobal>(files: &R, link: &str) -> io::Result<String> {
     let next = fs::read_link(files, link)?.into_string();

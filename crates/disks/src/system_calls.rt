@@ -8,7 +8,7 @@ use crate::disk::FolderEntry;
 use crate::grown::{opened_end, removed_empty};
 use crate::moment::entries;
 use crate::part::{NewFile, made_for, sync_folder};
-use crate::same_file::{FileId, are_one, end_of_links, file_id, folder_of, leads_to};
+use crate::same_file::{FileId, are_one, end_of_links, ends_in, file_id, folder_of, leads_to};
 use std::fs::{self, File};
 use std::io::{self, ErrorKind};
 use std::rt::Files;
@@ -68,6 +68,10 @@ impl<'a, R: Files<File = File> + AllocGlobal> FileCalls for SystemCalls<'a, R> {
 
     fn is_one_file(&self, one: &str, other: &str) -> io::Result<bool> {
         are_one(self.files, one, other)
+    }
+
+    fn leads_into(&self, folder: &str, name: &str) -> io::Result<bool> {
+        ends_in(self.files, folder, name)
     }
 
     fn is_standard(&self, name: &str) -> io::Result<bool> {

@@ -1,9 +1,9 @@
 -- A file that is to be made lies outside of a folder.
-use Rattle.std.specs.Prelude.{◌≡◌, ◌==◌, if◌then◌else◌, ℕ, List, length, codes, Option, None, Some, string_bytes, ⊤}
+use Rattle.std.specs.Prelude.{◌≡◌, ◌==◌, if◌then◌else◌, ℕ, List, length, codes, Option, None, Some, string_bytes, ◌⊎◌, ⊤}
 use Rattle.std.specs.List.{All}
 use Rattle.std.specs.Path.{rsplit_once}
 use Rattle.disks.specs.Held.{Held, IsOneFile}
-use Rattle.disks.specs.Folders.{path_in}
+use Rattle.disks.specs.Folders.{path_in, LeadsInto}
 use Rattle.disks.specs.declared.disk.FolderEntry.{FolderEntry}
 use Rattle.tool_parts.specs.Named.{IsApart}
 use Rattle.tool_parts.specs.declared.faults.ToolError.{ToolError}
@@ -43,12 +43,12 @@ abbrev pub IsOutside : Option Held → List ℕ → List FolderEntry → Option 
 IsOutside files folder entries made =
     LiesElsewhere files folder made × IsNoneOf files folder entries made
 
--- By its name it lies in the folder; or it is one of the files there by another name, or that of a
--- standard descriptor; or it cannot be looked at or made; or a file there cannot be looked at; or
--- there is no memory.
+-- By its name it lies in the folder, or links lead into it from there; or it is one of the files there
+-- by another name, or that of a standard descriptor; or it cannot be looked at or made; or a file
+-- there cannot be looked at; or there is no memory.
 abbrev pub IsOutsideRefusal : Option Held → List ℕ → Option (List ℕ) → ToolError → Type 0
 IsOutsideRefusal files folder made (tool.InFolder named) =
-    (Some named.now ≡ made) × LiesIn files folder named.now
+    (Some named.now ≡ made) × (LiesIn files folder named.now ⊎ LeadsInto files folder named.now)
 IsOutsideRefusal files folder made (tool.SameFile named) = Some named.now ≡ made
 IsOutsideRefusal files folder made (tool.Stream named) = Some named.now ≡ made
 IsOutsideRefusal files folder made (tool.Save named) = Some named.now ≡ made

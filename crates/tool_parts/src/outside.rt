@@ -73,6 +73,22 @@ fn keep_stream_apart<'a, D: Disk>(
     }
 }
 
+/// Checks that no links lead from the name of a file that is to be made into a folder.
+fn keep_links_apart<'a, D: Disk>(
+    disk: &D,
+    folder: &str,
+    made: &'a str,
+) -> Result<(), ToolError<'a>>
+    ensures err { IfErr result
+        (λ e. IsOutsideRefusal (D.holds disk.now) folder.now (Some made.now) e) }
+{
+    match disk.leads_into(folder, made) {
+        Ok(false) => Ok(()),
+        Ok(true) => Err(ToolError::InFolder(made)),
+        Err(_) => Err(ToolError::Save(made)),
+    }
+}
+
 /// Checks that a file that is to be made is not the one that has this name in a folder. A name that has gone meanwhile is none.
 fn keep_entry_apart<'a, D: Disk>(
     alloc: Global,
@@ -123,9 +139,9 @@ fn keep_entries_apart<'a, D: Disk>(
 ///
 /// # Errors
 ///
-/// `InFolder` with the name if it lies there by its own name, `Stream` with it if it is the file of a standard descriptor, `SameFile`
-/// with it if it is one of the files there by another name, and `Save` with it if it cannot be looked at or made; `Read` with the folder
-/// if a file there cannot be looked at, and `OutOfMemory`.
+/// `InFolder` with the name if it lies there by its own name or links lead from it to a new name there, `Stream` with it if it is the
+/// file of a standard descriptor, `SameFile` with it if it is one of the files there by another name, and `Save` with it if it cannot
+/// be looked at or made; `Read` with the folder if a file there cannot be looked at, and `OutOfMemory`.
 pub fn keep_outside<'a, D: Disk>(
     alloc: Global,
     disk: &D,
@@ -151,6 +167,10 @@ pub fn keep_outside<'a, D: Disk>(
         Err(fault) => return Err(fault),
     }
     match keep_entries_apart(alloc, disk, folder, entries, word) {
+        Ok(()) => {}
+        Err(fault) => return Err(fault),
+    }
+    match keep_links_apart(disk, folder, word) {
         Ok(()) => Ok(()),
         Err(fault) => Err(fault),
     }

@@ -7,6 +7,7 @@ ghost use Rattle.ring_segments.specs.Files.{File};
 ghost use Rattle.segment_folder.specs.Numbers.{IsRightNumbers};
 ghost use Rattle.tool_parts.specs.Chained.{IsChainIn, sums_of, last_digest};
 ghost use Rattle.folder_commands.specs.JoinedFolder.{IsJoinRefusal};
+ghost use Rattle.disks.specs.Folders.{LeadsInto};
 ghost use Rattle.tool_parts.specs.Outside.{LiesElsewhere};
 ghost use Rattle.disks.specs.Held.{is_locked};
 ghost use Rattle.tool_parts.specs.Locking.{lock_of, IsLocked};
@@ -80,6 +81,7 @@ pub fn refuses_a_file_elsewhere<'a, D: Disk>(
     requires known { IsSome (D.holds _disk.now) }
     requires elsewhere { LiesElsewhere (D.holds _disk.now) words.now.folder.now
         (Some words.now.new.now) }
+    requires apart { LeadsInto (D.holds _disk.now) words.now.folder.now words.now.new.now → ⊥ }
     ensures wrong { IfErr result (λ e. (input out err : Option (List ℕ))
         → IsJoinRefusal words.now (world (D.holds _disk.now) input out err)
         (world (D.holds _disk.now) input out err) e → ⊥) }
