@@ -51,11 +51,14 @@ impl Segmented for Count {
     ghost use Rattle.std.specs.Prelude.{◌≡◌, refl, nat_lt, [], ◌∷◌, Option, IsSome};
     ghost use Rattle.std.proofs.Common.{subst, sym};
     ghost use Rattle.disks.specs.Held.{Held};
+    ghost use Rattle.segment_loop.specs.declared.segmented.EndFault.TheVariants as end;
 
     ghost segmenting = { record {
       text = λ s number behind. 116 ∷ 10 ∷ [];
       is_due = λ s. nat_lt 99 s.lines;
       IsNext = λ old new. new.lines ≡ old.lines;
+      HasNoNext = λ s why. ⊥;
+      HasNoText = λ s why. why ≡ end.OutOfMemory;
       IsKept = λ old why new. new.lines ≡ old.lines;
     } };
 

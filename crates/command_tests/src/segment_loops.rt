@@ -59,14 +59,17 @@ impl AnswersLines for Tally {
 }
 
 impl Segmented for Tally {
-    ghost use Rattle.std.specs.Prelude.{◌≡◌, ◌∷◌, ◌++◌, ◌&&◌, Bool, [], Option, Some, IsSome, is_none, nat_lt};
+    ghost use Rattle.std.specs.Prelude.{◌≡◌, ◌<◌, ◌∷◌, ◌++◌, ◌&&◌, Bool, [], Option, Some, IsSome, is_none, nat_lt};
     ghost use Rattle.std.proofs.Common.{ap, subst, sym};
+    ghost use Rattle.segment_loop.specs.declared.segmented.EndFault.TheVariants as end;
     ghost use Rattle.disks.specs.Held.{Held};
 
     ghost segmenting = { record {
       text = λ s number behind. s.letter ∷ 10 ∷ behind ++ 10 ∷ [];
       is_due = λ s. nat_lt 1 s.told;
       IsNext = λ old new. new.told ≡ 0;
+      HasNoNext = λ s why. (why ≡ end.OutOfMemory) × (s.told < s.poor);
+      HasNoText = λ s why. why ≡ end.OutOfMemory;
       IsKept = λ old why new. (new.told ≡ old.told) × (new.kept ≡ Some why);
     } };
 

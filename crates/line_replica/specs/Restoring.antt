@@ -32,6 +32,8 @@ segmenting G = record {
   text = λ r number behind. G.text r.inner number behind;
   is_due = λ r. G.is_due r.inner;
   IsNext = λ old new. G.IsNext old.inner new.inner;
+  HasNoNext = λ r why. G.HasNoNext r.inner why;
+  HasNoText = λ r why. G.HasNoText r.inner why;
   IsKept = λ old why new. G.IsKept old.inner why new.inner;
 }
 

@@ -41,6 +41,7 @@ pub(crate) fn answer_plain<S: AnswersLines, D: Disk>(
         × IsAnsweredOrNot S.is_answered replica.old.numbered.inner (D.holds disk.old) line.now
         noted replica.new.numbered.inner (D.holds disk.new)) }
     ensures lost { replica.new.lost ≡ replica.old.lost }
+    ensures unchanged { S.changes_files ≡ false → D.leaves disk.new ≡ D.leaves disk.old }
 {
     let place = pending.answers.len();
     match answer_inside(&mut replica.numbered, disk, line, pending) {
@@ -67,6 +68,7 @@ pub(crate) fn answer_numbered<S: AnswersLines, D: Disk>(
         × IsAnsweredOrNot S.is_answered replica.old.numbered.inner (D.holds disk.old) rest.now
         noted replica.new.numbered.inner (D.holds disk.new)) }
     ensures lost { replica.new.lost ≡ replica.old.lost }
+    ensures unchanged { S.changes_files ≡ false → D.leaves disk.new ≡ D.leaves disk.old }
 {
     let place = pending.answers.len();
     match answer_tagged(&mut replica.numbered, disk, tag, rest, pending) {

@@ -66,6 +66,8 @@ impl<S: HasState> AnswersLines for Restorable<S> {
 
     ghost is_over = { λ r. S.is_over r.inner };
 
+    ghost changes_files = { S.changes_files };
+
     ghost by_start = { by_start S.is_answered S.state_lines S.by_start };
 
     fn answer<D: Disk>(

@@ -4,7 +4,7 @@ use Rattle.disks.specs.Held.{Held}
 use Rattle.ring_locks.specs.declared.handing.Handover.{Handover}
 use Rattle.lock_folder.specs.Folders.{Place, AreStarted}
 use Rattle.segment_loop.specs.Segments.{Moment}
-use Rattle.segment_loop.specs.Lasting.{ToldLinesLast}
+use Rattle.segment_loop.specs.Lasting.{EachSegmentLasts}
 use Rattle.ring_requests.specs.declared.requests.LocksWords.{LocksWords}
 use Rattle.tool_parts.specs.Locking.{IsLocked}
 use Rattle.tool_parts.specs.Worlds.{World, IsUnserved}
@@ -12,7 +12,8 @@ use Rattle.lock_commands.specs.HoldersFile.{holders_word, AreHoldersOf}
 use Rattle.lock_commands.specs.Locks.{folder_of, list_of, Service, answering, by_segments, HasStarted}
 
 -- From where the locks start: nothing was told; or their first segment has begun, and this is left of
--- the folder, with the notes of all lines that were told.
+-- the folder, with the notes of all lines that were told: in each segment that has ended since, which
+-- is left whole, and in the last one.
 abbrev pub RunLasts : LocksWords → Place → Option Held → Option (List ℕ) → Option (List ℕ)
     → Option (List ℕ) → Option (List ℕ) → Option Held → Type 0
 RunLasts words start files was is old new left =
@@ -20,7 +21,7 @@ RunLasts words start files was is old new left =
     ⊎ ((first : Moment Service)
     × (end : Service)
     × HasStarted words start files first
-    × ToldLinesLast answering by_segments (folder_of words) first end was is old new left)
+    × EachSegmentLasts answering by_segments (folder_of words) first end was is old new left)
 
 -- In a folder, with these holders: nothing was told; or the folder was locked, the locks started, and
 -- what was told lasts.

@@ -10,6 +10,7 @@ use lock_lines::read_input;
 use std::alloc::AllocError;
 
 impl AnswersLines for LockService {
+    ghost use Rattle.std.specs.Prelude.{false};
     ghost use Rattle.lock_serve.specs.Segmented.{is_over};
     ghost use Rattle.lock_serve.specs.Serving.{IsServed};
     ghost use Rattle.lock_serve.specs.Starts.{by_start};
@@ -17,6 +18,8 @@ impl AnswersLines for LockService {
     ghost is_answered = { IsServed };
 
     ghost is_over = { λ s. is_over s.stage };
+
+    ghost changes_files = { false };
 
     ghost by_start = { by_start };
 
@@ -38,6 +41,7 @@ impl AnswersLines for LockService {
             × (noted : List ℕ)
             × IsServed self.old (D.holds disk.old) line.now said noted self.new
             (D.holds disk.new))) }
+        ensures unchanged { D.leaves disk.new ≡ D.leaves disk.old }
     {
         let input = read_input(line);
         answer(self, input, pending)

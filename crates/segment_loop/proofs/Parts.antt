@@ -73,7 +73,7 @@ more_some A over end old new once low (inr is) ends p =
     let some : 1 ≤ length p.read = subst (λ (e : Ending). HasRead e p.read) is p.reads in
     omega (arith, some)
 
-pub none_served : {S : Type 0} (A : AnsweringWith S) (G : Segmenting S) (folder : List ℕ) (a : Moment S) (unread line : List ℕ) (input out : Option (List ℕ)) → unread ≡ [] → line ≡ [] → Served A G folder a a unread line input input out out
+unfoldable pub none_served : {S : Type 0} (A : AnsweringWith S) (G : Segmenting S) (folder : List ℕ) (a : Moment S) (unread line : List ℕ) (input out : Option (List ℕ)) → unread ≡ [] → line ≡ [] → Served A G folder a a unread line input input out out
 none_served A G folder a unread line input out none empty = record {
   parts = [];
   read = [];
@@ -86,7 +86,7 @@ none_served A G folder a unread line input out none empty = record {
 }
 
 module _ {S : Type 0} (A : AnsweringWith S) (G : Segmenting S) (folder : List ℕ) (a b from : Moment S) (kept : Option EndFault) (unread line : List ℕ) (input middle out before : Option (List ℕ)) (d : Served A G folder a b unread line input middle out before) (ready : IsReady G folder kept b from) where
-  pub one_served : (end : Ending) (new : S) (files : Option Held) (journal : Option (List ℕ)) (number : ℕ) (left line' : List ℕ) (rest after : Option (List ℕ)) → number ≡ from.number →
+  unfoldable pub one_served : (end : Ending) (new : S) (files : Option Held) (journal : Option (List ℕ)) (number : ℕ) (left line' : List ℕ) (rest after : Option (List ℕ)) → number ≡ from.number →
       ServesPart end (by_stand A) (stand_of from) (stand new files) d.begun unread left line' middle rest (record { journal = from.journal; out = before }) (record { journal = journal; out = after }) →
       Served A G folder a (moment_of new files number journal) left line' input rest out after
   one_served end new files journal number left line' rest after same p =

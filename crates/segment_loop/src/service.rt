@@ -1,8 +1,8 @@
 //! Lines that are served in segments.
 
-ghost use Rattle.std.specs.Prelude.{◌≡◌, ℕ, List, Option, true, false, IfOk, IfErr, IfSome, IsSome, OnErr, MatchResult, is_some, string_bytes};
+ghost use Rattle.std.specs.Prelude.{◌≡◌, ℕ, List, Option, true, false, IfOk, IfErr, IfSome, IsSome, OnOk, OnErr, MatchResult, is_some, string_bytes, ⊤};
 ghost use Rattle.disks.specs.Held.{Held};
-ghost use Rattle.disks.specs.Lasting.{HasFront};
+ghost use Rattle.disks.specs.Lasting.{Changes, HasFront, LeavesFront};
 ghost use Rattle.line_loop.specs.Answering.{HasBegun};
 ghost use Rattle.line_loop.specs.Stands.{by_stand, stand};
 ghost use Rattle.line_loop.specs.declared.faults.LoopFault.{LoopFault};
@@ -11,7 +11,7 @@ ghost use Rattle.segment_loop.specs.Digested.{hashed};
 ghost use Rattle.segment_loop.specs.Segments.{IsNamed, moment_of};
 ghost use Rattle.segment_loop.specs.Service.{told_of, ServesSegments, ServesSomeSegments, IsFaultOf};
 ghost use Rattle.segment_loop.specs.Notes.{ToldLinesAreNoted};
-ghost use Rattle.segment_loop.specs.Lasting.{ToldLinesLast};
+ghost use Rattle.segment_loop.specs.Lasting.{ToldLinesLast, EachSegmentLasts};
 
 use crate::digested::Digested;
 use crate::ending::{Ready, abandon_segment, make_ready};
@@ -98,6 +98,10 @@ fn serve_in<S: AnswersLines, D: Disk, I: Read, W: Write>(
         (record { journal = journal; out = W.contents out.new })
         × IfSome (D.leaves disk.new)
         (λ held. HasFront held (string_bytes ready.segment.name) journal)) }
+    ensures unchanged { OnOk result
+        (S.changes_files ≡ false → D.leaves disk.new ≡ D.leaves disk.old) }
+    ensures others { OnErr result (S.changes_files ≡ false → Changes (D.leaves disk.old)
+        (D.leaves disk.new) (string_bytes ready.segment.name) (λ _. ⊤)) }
 {
     let Ready { segment, kept } = ready;
     let OpenSegment {
@@ -215,6 +219,24 @@ pub fn serve_segments<S: Segmented, D: Disk, I: Read, W: Write>(
         (D.Grown.lasting first.writer.inner)
         → AllLasts (hashed (D.Grown.contents end.writer.inner) end.writer.hasher)
         (D.Grown.lasting end.writer.inner)) }
+
+    // Where answers change no file, the segments before the last are there too, whole.
+    ensures earlier { S.changes_files ≡ false → rules.entry.synced ≡ true → IsSome (D.holds disk.old)
+        → AllLasts (hashed (D.Grown.contents first.writer.inner) first.writer.hasher)
+        (D.Grown.lasting first.writer.inner)
+        → MatchResult result
+        (λ end. (left : Option Held) → LeavesFront (D.leaves disk.new) left (string_bytes end.name)
+        (D.Grown.lasting end.writer.inner)
+        → EachSegmentLasts S.is_answered S.segmenting rules.entry.folder.now
+        (moment_of service.old (D.holds disk.old) first.number
+        (hashed (D.Grown.contents first.writer.inner) first.writer.hasher)) service.new
+        (I.remaining input.old) (I.remaining input.new) (W.contents out.old) (W.contents out.new)
+        left)
+        (λ _. EachSegmentLasts S.is_answered S.segmenting rules.entry.folder.now
+        (moment_of service.old (D.holds disk.old) first.number
+        (hashed (D.Grown.contents first.writer.inner) first.writer.hasher)) service.new
+        (I.remaining input.old) (I.remaining input.new) (W.contents out.old) (W.contents out.new)
+        (D.leaves disk.new)) }
 {
     let mut segment = first;
     let mut line = Vec::new(alloc);

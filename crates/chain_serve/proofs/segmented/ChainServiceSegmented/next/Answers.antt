@@ -5,4 +5,4 @@ use Rattle.chain_serve.proofs.segmented.ChainServiceSegmented.next.Goals as goal
 pub returns-clause-open : goal.returns-clause-open
 returns-clause-open c =
     let s = c.self.inside in
-    next_open s.rules s.served c.in-Ok.served (s.number + 1) c.new.result c.new.ensures c.self.invariant.limit c.in-Ok.ensures.0
+    next_open s.rules s.served c.in-Ok.served (s.number + 1) c.new.result c.new.ensures c.self.invariant.limit c.in-Ok.ensures.next.0
