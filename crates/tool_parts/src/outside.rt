@@ -74,11 +74,7 @@ fn keep_stream_apart<'a, D: Disk>(
 }
 
 /// Checks that no links lead from the name of a file that is to be made into a folder.
-fn keep_links_apart<'a, D: Disk>(
-    disk: &D,
-    folder: &str,
-    made: &'a str,
-) -> Result<(), ToolError<'a>>
+fn keep_links_apart<'a, D: Disk>(disk: &D, folder: &str, made: &'a str) -> Result<(), ToolError<'a>>
     ensures err { IfErr result
         (λ e. IsOutsideRefusal (D.holds disk.now) folder.now (Some made.now) e) }
 {
