@@ -75,7 +75,7 @@ fn a_folder_has_one_server_at_a_time(rt: HostRuntime) -> Result<(), Fail> {
     };
     let mut out = Vec::new(alloc);
     assert!(rt; lend(alloc, &mut disk, folder.as_str(), &mut input, &mut out).is_ok());
-    assert!(rt; out.as_slice() == b"1 granted 0 1\n");
+    assert!(rt; out.as_slice() == b"1 granted 0 1\n".as_slice());
     // One began before the line was read, and one before the end was.
     assert!(rt; input.refused == 2);
     expect(&rt, &folder, "0000000001.ring", Some(LENT))?;
@@ -86,7 +86,7 @@ fn a_folder_has_one_server_at_a_time(rt: HostRuntime) -> Result<(), Fail> {
     let mut input: &[u8] = b"1 acquire 0 79\n";
     let mut out = Vec::new(alloc);
     assert!(rt; lend(alloc, &mut disk, folder.as_str(), &mut input, &mut out).is_ok());
-    assert!(rt; out.as_slice() == b"1 waiting 0 0\n");
+    assert!(rt; out.as_slice() == b"1 waiting 0 0\n".as_slice());
     // The list of locks, the lock of the folder, and two segments.
     expect_count(&rt, &folder, 4)?;
     Ok(())
