@@ -1,0 +1,9 @@
+//! Laws of torn ends: functions with an empty body, whose contract is the law.
+
+ghost use Rattle.torn_ends.specs.Torn.{ToldLinesStay};
+
+/// Of a file that begins with a head and with a right journal, remarks in it or not, the front of a torn end has all of that,
+/// whatever comes after it: no line that was told is left out.
+pub fn told_lines_stay()
+    ensures { ToldLinesStay }
+{}
