@@ -49,6 +49,10 @@ first_within (b ∷ body) behind (c ∷ z) tail none e =
     let h = first_within body behind z tail (neither (eqb b 10) (has_line_end body) none).1 rest in
     (h.0, ap (λ (u : List ℕ). c ∷ u) h.1 ∙ ap (λ (x : ℕ). x ∷ ((body ++ 10 ∷ []) ++ h.0)) (sym same))
 
+pub not_none : (front : List ℕ) (b : ℕ) (m : List ℕ) → front ++ b ∷ m ≡ [] → ⊥
+not_none [] b m e = cc
+not_none (c ∷ front) b m e = cc
+
 -- the rest of a text that ends with a line does so too
 pub rest_ends : (z front : List ℕ) (b : ℕ) (m : List ℕ) → z ++ 10 ∷ [] ≡ front ++ b ∷ m → (y : List ℕ) × (b ∷ m ≡ y ++ 10 ∷ [])
 rest_ends z [] b m e = (z, sym e)

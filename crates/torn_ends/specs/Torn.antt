@@ -62,7 +62,7 @@ IsNoTear front left_out =
     ((e : SegmentError) × IsRightLast front (Err e) × (names_line e ≡ false))
     ⊎ ((s : LastSegment) × IsRightLast front (Ok s) × (has_later s left_out ≡ true))
 
--- A line begins at this place, which a refusal names: of all bytes, or of as many as end behind it.
+-- A line begins at this place, which a refusal names: of all bytes, or of the first of them.
 pub record IsBadFrom (bytes : List ℕ) (place : ℕ) : Type 0 where
   pub most : ℕ
   pub longer : place < most

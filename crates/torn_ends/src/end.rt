@@ -48,7 +48,7 @@ fn are_lines(text: &[u8]) -> bool
     text.is_empty() || text[text.len() - 1] == b'\n'
 }
 
-/// The place in front of `kept` where the line begins that a refusal names.
+/// The place before `kept` where the line begins that a refusal names.
 fn bad_start(bytes: &[u8], error: &SegmentError, kept: usize) -> Option<usize>
     requires { kept ≤ length bytes.now }
     ensures { IfSome result (λ start. (start < kept) × AreLines (take start bytes.now)
@@ -86,7 +86,7 @@ struct Front {
     found: Result<LastSegment, SegmentError>,
 }
 
-/// Cuts the bytes of a file in front of the line that a refusal of them names, until no line of them is refused.
+/// Cuts the bytes of a file before the line that a refusal of them names, until no line of them is refused.
 #[tactic(auto, using(crate::proofs::Fronts::bad_from))]
 fn front_of(alloc: Global, bytes: &[u8], error: SegmentError) -> Result<Front, NoRoom>
     requires { IsRightLast bytes.now (Err error) }
@@ -190,14 +190,13 @@ fn read_torn(alloc: Global, bytes: &[u8], error: SegmentError) -> Result<LastSeg
     Ok(last)
 }
 
-/// Reads the last file of a chain, alone, as [`read_last`] does, but without a torn end: if a line of it is bad, and neither that one
-/// nor one after it can follow where the lines before it end, the file is what comes before it.
+/// Reads only the last file of a chain, as [`read_last`] does, but without a torn end: if a line is bad, and neither that
+/// line nor one after it can follow where the lines before it end, the file is what comes before it.
 ///
-/// So zeros and the bytes of other files, which a loss of power may leave after what was put on the disk, change nothing. No line
-/// of a right journal is left out. A line that is damaged is refused if a later one can be read: that is of a
-/// call which the rings can have then.
+/// So zeros and the bytes of other files, which a loss of power may leave after what was put on the disk, change nothing.
+/// No line of a right journal is left out. A damaged line is refused if one after it is a later call's.
 ///
-/// It takes time as [`read_last`] does, and a few times that if a line is bad.
+/// It takes as much time as [`read_last`], and a few times that if a line is bad.
 ///
 /// # Errors
 ///

@@ -2,8 +2,8 @@
 
 ghost use Rattle.torn_ends.specs.Torn.{ToldLinesStay};
 
-/// Of a file that begins with a head and with a right journal, remarks in it or not, the front of a torn end has all of that,
-/// whatever comes after it: no line that was told is left out.
+/// Of a file that begins with a head and with a right journal, remarks in it or not, the front of a torn end has all of
+/// that, whatever comes after it: no line that was reported is left out.
 pub fn told_lines_stay()
     ensures { ToldLinesStay }
 {}

@@ -1,4 +1,4 @@
-//! The last file of a chain, as a loss of power may leave it: with an end that nobody was told of.
+//! The last file of a chain, as a loss of power may leave it: with an end that no program wrote.
 //!
 //! `specs/Torn.antt` says which end is torn and which one is damaged, `specs/Signs.antt` which line can follow.
 #![tactic(auto)]

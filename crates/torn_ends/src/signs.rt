@@ -1,146 +1,103 @@
 //! The lines that can follow in a journal.
 
-ghost use Rattle.std.specs.Prelude.{◌≡◌, ◌^◌, ℕ, List, Result, IfOk};
+ghost use Rattle.std.specs.Prelude.{◌≡◌, ◌^◌, IfOk};
 ghost use Rattle.std.specs.List.{list_any};
-ghost use Rattle.text_lines.specs.declared.fault.Fault.{Fault};
-ghost use Rattle.text_lines.specs.Reading.{Gives, number_at};
+ghost use Rattle.text_lines.specs.Reading.{number_at};
+ghost use Rattle.ring_saved.specs.Versions.{latest_version};
+ghost use Rattle.ring_saved.specs.Lines.{event_or_end_at, survey_or_next_at};
 ghost use Rattle.ring_segments.specs.Remarks.{lines_in};
-ghost use Rattle.torn_ends.specs.Signs.{grant_at, member_at, survey_at, refusal_at, corruption_at, said, is_above, is_from, can_be, can_be_read, can_follow};
+ghost use Rattle.torn_ends.specs.Signs.{is_above, is_from, can_have_event, can_have_survey, is_later_event, is_later_survey, is_later_call, is_later, can_follow};
 
 use crate::reached::Reached;
+use ring_saved::{
+    EventOrEnd, LATEST_VERSION, SavedEvent, SavedSurvey, SurveyOrNext, event_or_end, survey_or_next,
+};
 use ring_segments::{is_remark, split_line};
-use text_lines::{Stop, number32, number64, word};
+use text_lines::{Stop, number32};
 
 /// There was no room.
 #[derive(Clone, Copy)]
 pub(crate) struct NoRoom;
 
-/// Reads the number of a granted pass, after its ring's.
-#[tactic(auto, unfolding(crate::specs::Signs::grant_at))]
-fn grant(bytes: &[u8]) -> Result<(u64, &[u8]), Stop>
-    ensures { Gives (λ x. (x.0, x.1.now)) result (grant_at bytes.now) }
+/// Whether a number is above what was reached, by no more than this.
+fn is_above(reached: u64, most: u64, number: u64) -> bool
+    ensures { result ≡ is_above reached most number }
 {
-    let rest = word(bytes, b"p ")?;
-    let (_, rest) = number32(rest, b' ')?;
-    let (_, rest) = number32(rest, b' ')?;
-    let (_, rest) = number64(rest, b' ')?;
-    let rest = word(rest, b"g ")?;
-    number64(rest, b' ')
+    reached < number && number - reached <= most
 }
 
-/// Reads the number of a member of a group.
-#[tactic(auto, unfolding(crate::specs::Signs::member_at))]
-fn member(bytes: &[u8]) -> Result<(u64, &[u8]), Stop>
-    ensures { Gives (λ x. (x.0, x.1.now)) result (member_at bytes.now) }
+/// Whether a number is at least what was reached, and above it by no more than this.
+fn is_from(reached: u64, most: u64, number: u64) -> bool
+    ensures { result ≡ is_from reached most number }
 {
-    let rest = word(bytes, b"m ")?;
-    let (_, rest) = number32(rest, b' ')?;
-    let (_, rest) = number32(rest, b' ')?;
-    let (_, rest) = number64(rest, b' ')?;
-    let (_, rest) = number32(rest, b' ')?;
-    number64(rest, b' ')
+    reached <= number && number - reached <= most
 }
 
-/// Reads the position of a survey.
-#[tactic(auto, unfolding(crate::specs::Signs::survey_at))]
-fn survey(bytes: &[u8]) -> Result<(u64, &[u8]), Stop>
-    ensures { Gives (λ x. (x.0, x.1.now)) result (survey_at bytes.now) }
+/// Whether a ring that was reached so can have this event, after at most this many others.
+fn can_have_event(reached: &Reached, most: u64, event: SavedEvent) -> bool
+    ensures { result ≡ can_have_event reached.now most event }
 {
-    let rest = word(bytes, b"s ")?;
-    let (_, rest) = number32(rest, b' ')?;
-    number64(rest, b' ')
+    match event {
+        SavedEvent::Granted { number, .. } => is_above(reached.grants, most, number),
+        SavedEvent::Refused { .. } => true,
+        SavedEvent::Member { number, .. } => is_above(reached.grants, most, number),
+        SavedEvent::Corrupted { .. } => true,
+    }
 }
 
-/// Reads a pass that was not granted. It says no place.
-#[tactic(auto, unfolding(crate::specs::Signs::refusal_at))]
-fn refusal(bytes: &[u8]) -> Result<(u64, &[u8]), Stop>
-    ensures { Gives (λ x. (x.0, x.1.now)) result (refusal_at bytes.now) }
+/// Whether a ring that was reached so can have this survey, after at most this many others.
+fn can_have_survey(reached: &Reached, most: u64, survey: SavedSurvey) -> bool
+    ensures { result ≡ can_have_survey reached.now most survey }
 {
-    let rest = word(bytes, b"p ")?;
-    let (_, rest) = number32(rest, b' ')?;
-    let (_, rest) = number32(rest, b' ')?;
-    let (_, rest) = number64(rest, b' ')?;
-    let rest = word(rest, b"n\n")?;
-    Ok((0, rest))
+    is_from(reached.events, most, survey.position)
 }
 
-/// Reads the beginning of a corruption. It says no place.
-#[tactic(auto, unfolding(crate::specs::Signs::corruption_at))]
-fn corruption(bytes: &[u8]) -> Result<(u64, &[u8]), Stop>
-    ensures { Gives (λ x. (x.0, x.1.now)) result (corruption_at bytes.now) }
+/// Whether these bytes begin with the line of an event that the ring can have.
+fn is_later_event(reached: &Reached, most: u64, bytes: &[u8]) -> Result<bool, NoRoom>
+    ensures { IfOk result (λ later. later
+        ≡ is_later_event reached.now most (event_or_end_at latest_version bytes.now)) }
 {
-    let rest = word(bytes, b"c ")?;
-    Ok((0, rest))
-}
-
-/// The number that was read, if one was.
-fn said(read: Result<(u64, &[u8]), Stop>) -> Result<Option<u64>, NoRoom>
-    ensures { (at : Result (ℕ × List ℕ) Fault) → Gives (λ x. (x.0, x.1.now)) read.entry at
-        → IfOk result (λ number. number ≡ said at) }
-{
-    match read {
-        Ok((number, _)) => Ok(Some(number)),
-        Err(Stop::Fault(_)) => Ok(None),
+    match event_or_end(LATEST_VERSION, bytes) {
+        Ok((EventOrEnd::Event(event), _)) => Ok(can_have_event(reached, most, event)),
+        Ok((EventOrEnd::End(_), _)) => Ok(false),
+        Err(Stop::Fault(_)) => Ok(false),
         Err(Stop::Memory) => Err(NoRoom),
     }
 }
 
-/// Whether a number is above what was reached, by no more than this.
-fn is_above(reached: u64, most: u64, said: Option<u64>) -> bool
-    ensures { result ≡ is_above reached most said }
+/// Whether these bytes begin with the line of a survey that the ring can have.
+fn is_later_survey(reached: &Reached, most: u64, bytes: &[u8]) -> Result<bool, NoRoom>
+    ensures { IfOk result (λ later. later
+        ≡ is_later_survey reached.now most (survey_or_next_at bytes.now)) }
 {
-    match said {
-        None => false,
-        Some(number) => reached < number && number - reached <= most,
+    match survey_or_next(bytes) {
+        Ok((SurveyOrNext::Survey(survey), _)) => Ok(can_have_survey(reached, most, survey)),
+        Ok((SurveyOrNext::Next(_), _)) => Ok(false),
+        Err(Stop::Fault(_)) => Ok(false),
+        Err(Stop::Memory) => Err(NoRoom),
     }
 }
 
-/// Whether a number is at least what was reached, and above it by no more than this.
-fn is_from(reached: u64, most: u64, said: Option<u64>) -> bool
-    ensures { result ≡ is_from reached most said }
+/// Whether these bytes begin with the line of a call that the ring can have.
+fn is_later_call(reached: &Reached, most: u64, bytes: &[u8]) -> Result<bool, NoRoom>
+    ensures { IfOk result (λ later. later ≡ is_later_call reached.now most bytes.now) }
 {
-    match said {
-        None => false,
-        Some(number) => reached <= number && number - reached <= most,
-    }
+    let Ok(event) = is_later_event(reached, most, bytes) else {
+        return Err(NoRoom);
+    };
+    let Ok(survey) = is_later_survey(reached, most, bytes) else {
+        return Err(NoRoom);
+    };
+    Ok(event || survey)
 }
 
-/// Whether a ring that was reached so can have the call of these bytes, after so many others at most.
-fn can_be(reached: &Reached, most: u64, bytes: &[u8]) -> Result<bool, NoRoom>
-    ensures { IfOk result (λ can. can ≡ can_be reached.now most bytes.now) }
-{
-    let Ok(granted) = said(grant(bytes)) else {
-        return Err(NoRoom);
-    };
-    let Ok(member) = said(member(bytes)) else {
-        return Err(NoRoom);
-    };
-    let Ok(surveyed) = said(survey(bytes)) else {
-        return Err(NoRoom);
-    };
-    let Ok(refused) = said(refusal(bytes)) else {
-        return Err(NoRoom);
-    };
-    let Ok(corrupted) = said(corruption(bytes)) else {
-        return Err(NoRoom);
-    };
-    Ok(
-        is_above(reached.grants, most, granted)
-            || is_above(reached.grants, most, member)
-            || is_from(reached.events, most, surveyed)
-            || refused.is_some()
-            || corrupted.is_some(),
-    )
-}
-
-/// Whether a line that is no remark can follow.
-fn can_be_read(reached: &[Reached], most: u64, line: &[u8]) -> Result<bool, NoRoom>
-    ensures { IfOk result
-        (λ can. can ≡ can_be_read reached.now most (number_at (2 ^ 32) 32 line.now)) }
+/// Whether the line of a call can follow.
+fn is_later(reached: &[Reached], most: u64, line: &[u8]) -> Result<bool, NoRoom>
+    ensures { IfOk result (λ later. later ≡ is_later reached.now most (number_at (2 ^ 32) 32 line.now)) }
 {
     match number32(line, b' ') {
         Ok((ring, after)) => match reached.get(ring as usize) {
-            Some(ring) => can_be(ring, most, after),
+            Some(ring) => is_later_call(ring, most, after),
             None => Ok(false),
         },
         Err(Stop::Fault(_)) => Ok(false),
@@ -156,7 +113,7 @@ fn can_follow(reached: &[Reached], most: u64, line: &[u8]) -> Result<bool, NoRoo
     if is_remark(line) {
         return Ok(true);
     }
-    can_be_read(reached, most, line)
+    is_later(reached, most, line)
 }
 
 /// Whether one of these lines can follow.
