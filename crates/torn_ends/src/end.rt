@@ -177,7 +177,8 @@ fn read_torn(alloc: Global, bytes: &[u8], error: SegmentError) -> Result<LastSeg
     let Ok(last) = found else {
         return Err(error);
     };
-    let Ok(later) = later_in(alloc, &last, &bytes[kept..]) else {
+    let (_, left_out) = bytes.split_at(kept);
+    let Ok(later) = later_in(alloc, &last, left_out) else {
         return Err(SegmentError::OutOfMemory);
     };
     if later {

@@ -1,4 +1,5 @@
-use Rattle.std.proofs.Common.{◌≡◌, ◌++◌, ◌∙◌, List, ℕ, Err, take, drop, length, sym, subst}
+use Rattle.std.proofs.Common.{◌≡◌, ◌++◌, ◌∙◌, List, ℕ, Err, take, drop, length, sym, ap, subst}
+use Rattle.std.specs.Prelude.{is_some}
 use Rattle.std.proofs.lemmas.List.{take-append-drop}
 use Rattle.ring_segments.specs.RemarkLaws.{AreLines}
 use Rattle.ring_segments.specs.Last.{IsRightLast}
@@ -19,6 +20,6 @@ returns c =
       first = parts;
       whole = c.is_one_line.ensures c.if-not-is_one_line.false;
       why = c.in-Err.error;
-      named = sym c.named_line.ensures ∙ (sym c.is_some.ensures ∙ t);
+      named = ap is_some (sym c.named_line.ensures) ∙ (sym c.is_some.ensures ∙ t);
       refused = subst (λ (u : List ℕ). IsRightLast u (Err c.in-Err.error)) (take_both bytes c.args.kept line behind c.requires parts) c.in-Err.ensures.right;
     }
