@@ -1,11 +1,10 @@
 -- Lines at the front of a text.
-use Rattle.std.proofs.Common.{◌≡◌, ℕ, ◌+◌, ◌<◌, ◌≤◌, ◌⊎◌, inl, inr, Bool, true, false, eqb, List, [], ◌∷◌, ◌++◌, length, take, drop, get_or, refl, sym, ap, subst, ◌∙◌, append_assoc, arith}
+use Rattle.std.proofs.Common.{◌≡◌, ℕ, ◌+◌, ◌≤◌, ◌⊎◌, inl, inr, Bool, true, false, eqb, List, [], ◌∷◌, ◌++◌, length, take, drop, refl, sym, ap, ◌∙◌, append_assoc, arith}
 use Rattle.std.specs.Prelude.{◌||◌}
 use Rattle.std.specs.List.{list_any}
-use Rattle.std.proofs.lemmas.List.{take_all, take_more, take-append-drop, length-append, length-take}
+use Rattle.std.proofs.lemmas.List.{take-append-drop, length-append, length-take}
 use Rattle.ring_journal.specs.Recovery.{has_line_end}
-use Rattle.ring_segments.specs.Remarks.{lines_in, IsEnded}
-use Rattle.ring_segments.specs.RemarkLaws.{AreLines, IsOneLine}
+use Rattle.ring_segments.specs.Remarks.{lines_in}
 
 -- an empty text has no line
 pub none_of_none : (f : List ℕ → Bool) (rest : List ℕ) → length rest ≡ 0 → list_any f (lines_in rest) ≡ false

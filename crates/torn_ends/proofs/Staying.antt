@@ -1,6 +1,7 @@
 -- What was recorded is in the front of a torn end.
-use Rattle.std.proofs.Common.{◌≡◌, ℕ, ◌⊎◌, inl, inr, true, false, List, [], ◌∷◌, ◌++◌, Err, sym, ap, subst, ◌∙◌, append_assoc}
+use Rattle.std.proofs.Common.{◌≡◌, ℕ, ◌⊎◌, inl, inr, true, List, [], ◌∷◌, ◌++◌, ◌+◌, length, Err, arith, sym, ap, subst, ◌∙◌, append_assoc}
 use Rattle.std.proofs.lemmas.Bool.{false≢true}
+use Rattle.std.proofs.lemmas.List.{append-nil, length-append}
 use Rattle.text_lines.proofs.Basics.{ok_is}
 use Rattle.ring_check.specs.declared.answers.Kind.{Kind}
 use Rattle.ring_journal.specs.Spelling.{Journal, journal_text}
@@ -18,7 +19,7 @@ use Rattle.ring_segments.specs.Reading.{head_at}
 use Rattle.ring_segments.specs.Last.{IsRightLast}
 use Rattle.ring_segments.proofs.HeadLaws.{head_reads}
 use Rattle.ring_segments.proofs.Remarked.{without_append}
-use Rattle.torn_ends.specs.Torn.{names_line, IsTorn, ToldLinesStay}
+use Rattle.torn_ends.specs.Torn.{names_line, IsTorn, ToldLinesStay, WholeFilesStay}
 use Rattle.torn_ends.proofs.Lines.{split_by, first_within, rest_ends, not_none}
 
 -- bytes have one head
@@ -75,9 +76,9 @@ module _ (h : Head) (j : Journal) (told tail : List ℕ) (s : LastSegment) (fits
     within ended =
         let y = rest_ends ended.0 torn.right.file.rest b m (sym ended.1 ∙ sym told_parts) in
         let both : torn.bad.whole.0 ++ 10 ∷ torn.bad.behind ≡ (y.0 ++ 10 ∷ []) ++ tail =
-          sym (append_assoc torn.bad.whole.0 (10 ∷ []) torn.bad.behind)
-          ∙ (ap (λ (u : List ℕ). u ++ torn.bad.behind) (sym torn.bad.whole.1)
-          ∙ (sym torn.bad.first ∙ (sym behind ∙ ap (λ (u : List ℕ). u ++ tail) y.1)))
+        sym (append_assoc torn.bad.whole.0 (10 ∷ []) torn.bad.behind)
+        ∙ (ap (λ (u : List ℕ). u ++ torn.bad.behind) (sym torn.bad.whole.1)
+        ∙ (sym torn.bad.first ∙ (sym behind ∙ ap (λ (u : List ℕ). u ++ tail) y.1)))
         in
         let x = first_within torn.bad.whole.0 torn.bad.behind y.0 tail torn.bad.whole.2 both in
         (x.0, y.1 ∙ (x.1 ∙ ap (λ (u : List ℕ). u ++ x.0) (sym torn.bad.whole.1)))
@@ -101,8 +102,24 @@ module _ (h : Head) (j : Journal) (told tail : List ℕ) (s : LastSegment) (fits
   in_front (inl k) lines = k
   in_front (inr k) lines = absurd (not_within k.0 k.1 k.2 k.3 lines)
 
+-- no front of all bytes has them all, and a line is left out
+not_shorter : (all front left_out more line behind body : List ℕ) → all ≡ front ++ left_out → front ≡ all ++ more → left_out ≡ line ++ behind → line ≡ body ++ 10 ∷ [] → ⊥
+not_shorter all front left_out more line behind body parts longer first whole =
+    let a : length all ≡ length front + length left_out = ap length parts ∙ length-append front left_out in
+    let b : length front ≡ length all + length more = ap length longer ∙ length-append all more in
+    let c : length left_out ≡ length line + length behind = ap length first ∙ length-append line behind in
+    let d : length line ≡ length body + 1 = ap length whole ∙ length-append body (10 ∷ []) in
+    omega (arith, a, b, c, d)
+
 pub told_stay : ToldLinesStay
 told_stay h j told tail s fits right lines is torn =
     in_front h j told tail s fits right is torn
     (split_by torn.front torn.left_out (head_text h ++ told) tail (sym torn.bad.spelled ∙ sym (append_assoc (head_text h) told tail)))
     lines
+
+pub whole_stay : WholeFilesStay
+whole_stay h j told s fits right lines is torn =
+    let same : head_text h ++ (told ++ []) ≡ head_text h ++ told = ap (λ (u : List ℕ). head_text h ++ u) (append-nil told) in
+    let t : IsTorn (head_text h ++ (told ++ [])) s = subst (λ (u : List ℕ). IsTorn u s) (sym same) torn in
+    let k = told_stay h j told [] s fits right lines is t in
+    not_shorter (head_text h ++ told) t.front t.left_out k.0 t.bad.line t.bad.behind t.bad.whole.0 (sym same ∙ t.bad.spelled) k.1 t.bad.first t.bad.whole.1

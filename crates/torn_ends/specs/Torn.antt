@@ -93,3 +93,9 @@ ToldLinesStay =
     → IsRightJournal j → AreLines told → without_remarks told ≡ journal_text j
     → (torn : IsTorn (head_text h ++ (told ++ tail)) s)
     → (more : List ℕ) × (torn.front ≡ (head_text h ++ told) ++ more)
+
+-- A law: such a file with nothing after the journal has no torn end.
+abbrev pub WholeFilesStay : Type 0
+WholeFilesStay =
+    (h : Head) (j : Journal) (told : List ℕ) (s : LastSegment) → HeadFits h → IsRightJournal j
+    → AreLines told → without_remarks told ≡ journal_text j → IsTorn (head_text h ++ told) s → ⊥
