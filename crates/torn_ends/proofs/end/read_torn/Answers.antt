@@ -1,4 +1,4 @@
-use Rattle.std.proofs.Common.{◌≡◌, ◌∙◌, ℕ, List, true, false, Ok, take, drop, inr, refl, sym, subst}
+use Rattle.std.proofs.Common.{◌≡◌, ◌∙◌, ℕ, List, true, false, take, drop, inr, refl, sym, subst}
 use Rattle.ring_segments.specs.Last.{IsRightLast}
 use Rattle.torn_ends.specs.Torn.{has_later}
 use Rattle.torn_ends.proofs.end.read_torn.Goals as goal
