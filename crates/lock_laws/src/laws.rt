@@ -128,9 +128,10 @@ pub fn parts_are_stages()
     ensures runs { RunsFollow }
 {}
 
-/// The locks that start of a folder's last segment, none of them new, are those that are found in its journal: the head of the file
-/// is read as it was written, whatever is kept behind it. So a run of the program that begins of what another one left follows it
-/// in a life; and locks that are found begin a segment again.
+/// The locks that start of a folder's last segment, none of them new, are those that are found in its journal: the head of
+/// the file is read as it was written, whatever is kept after it; a torn end is left out, and comes after each right journal
+/// that is kept. So a run of the program that begins with what another one left follows it in a life; and locks that are
+/// found begin a segment again.
 pub fn started_locks_are_found()
     ensures found { StartedLocksAreFound }
     ensures kept { KeptSegmentsStart }

@@ -11,9 +11,9 @@ use Rattle.segment_folder.specs.declared.errors.FolderError.TheVariants as names
 use Rattle.segment_folder.specs.declared.numbers.SegmentNumbers.{SegmentNumbers}
 use Rattle.ring_saved.specs.declared.saved.Saved.{Saved}
 use Rattle.ring_segments.specs.Spelling.{no_digest}
-use Rattle.ring_segments.specs.Last.{IsRightLast}
 use Rattle.ring_segments.specs.declared.last.LastSegment.{LastSegment}
 use Rattle.ring_segments.specs.declared.errors.SegmentError.TheVariants as segment
+use Rattle.torn_ends.specs.Torn.{IsRightEnd}
 use Rattle.ring_serve.specs.Standings.{Standing}
 use Rattle.ring_serve.specs.Starting.{AreResumed, AreResumedAfter}
 use Rattle.chain_serve.specs.declared.segments.SegmentRules.{SegmentRules}
@@ -52,12 +52,12 @@ pub record IsFirst (saved : Option Saved) (p : Place) : Type 0 where
   pub number : p.number ≡ 1
   pub behind : p.behind ≡ no_digest
 
--- where the segment of this number ends, whose file says that number
+-- where the segment of this number ends, whose file says that number; its end may be torn
 pub record IsLast (files : Option Held) (folder : List ℕ) (last : ℕ) (p : Place) : Type 0 where
   pub bytes : List ℕ
   pub held : IsHeld files (segment_file folder last) bytes
   pub segment : LastSegment
-  pub right : IsRightLast bytes (Ok segment)
+  pub right : IsRightEnd bytes (Ok segment)
   pub named : segment.head.number ≡ last
   pub resumed : AreResumedAfter segment.head.bases.items p.rings segment.saved.rings.items
   pub number : p.number ≡ last
@@ -136,9 +136,9 @@ abbrev pub IsLastFault : List ℕ → ℕ → List ℕ → ToolError → Type 0
 IsLastFault folder last bytes (tool.Segment named number error) =
     (named.now ≡ folder)
     × (number ≡ last)
-    × (IsRightLast bytes (Err error)
+    × (IsRightEnd bytes (Err error)
     ⊎ ((error ≡ segment.Number)
-    × ((s : LastSegment) × IsRightLast bytes (Ok s) × (s.head.number ≢ last))))
+    × ((s : LastSegment) × IsRightEnd bytes (Ok s) × (s.head.number ≢ last))))
 IsLastFault folder last bytes tool.OutOfMemory = Unit {0}
 IsLastFault folder last bytes _ = ⊥
 

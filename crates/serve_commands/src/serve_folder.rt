@@ -6,7 +6,7 @@ ghost use Rattle.disks.specs.Folders.{path_in};
 ghost use Rattle.segment_folder.specs.declared.errors.FolderError.{FolderError};
 ghost use Rattle.segment_folder.specs.Numbers.{IsRightNumbers};
 ghost use Rattle.ring_segments.specs.Spelling.{DigestFits};
-ghost use Rattle.ring_segments.specs.Last.{IsRightLast};
+ghost use Rattle.torn_ends.specs.Torn.{IsRightEnd};
 ghost use Rattle.ring_chains.specs.Bases.{IsBase};
 ghost use Rattle.ring_serve.specs.Starting.{AreResumedAfter};
 ghost use Rattle.chain_serve.specs.Segments.{Moment};
@@ -23,7 +23,7 @@ use disks::{Disk, FolderEntry};
 use lock_folder::has_list;
 use ring_requests::ServeWords;
 use ring_saved::Saved;
-use ring_segments::{DIGEST_DIGITS, LastSegment, SegmentError, read_last};
+use ring_segments::{DIGEST_DIGITS, LastSegment, SegmentError};
 use ring_serve::{Refusal, Served};
 use segment_folder::{SegmentNumbers, list_name};
 use segment_loop::close_segment;
@@ -32,6 +32,7 @@ use std::io::{Read, Write};
 use tool_parts::chain::{folder_numbers, segment_bytes};
 use tool_parts::faults::ToolError;
 use tool_parts::locking::lock_folder;
+use torn_ends::read_end;
 
 /// Where served rings are when they begin.
 #[derive(Drop)]
@@ -68,7 +69,7 @@ fn first_place(alloc: Global, saved: Option<Saved>) -> Result<Start, ToolError<'
     }
 }
 
-/// The last segment, if a chain can end with it, and its file says the number of its name.
+/// The last segment, without a torn end, if a chain can end with it, and its file says the number of its name.
 ///
 /// # Errors
 ///
@@ -79,14 +80,14 @@ fn last_segment<'a>(
     number: u64,
     bytes: &[u8],
 ) -> Result<LastSegment, ToolError<'a>>
-    ensures ok { IfOk result (λ last. IsRightLast bytes.now (Ok last)) }
+    ensures ok { IfOk result (λ last. IsRightEnd bytes.now (Ok last)) }
     ensures named { IfOk result (λ last. last.head.number ≡ number) }
     ensures many { IfOk result
         (λ last. length last.head.bases.items ≡ length last.saved.rings.items) }
     ensures bases { IfOk result (λ last. All IsBase last.head.bases.items) }
     ensures err { IfErr result (λ e. IsLastFault folder.now number bytes.now e) }
 {
-    match read_last(alloc, bytes) {
+    match read_end(alloc, bytes) {
         Ok(last) => {
             if last.head.number == number {
                 Ok(last)
