@@ -34,7 +34,7 @@ lines_same old new [] said noted a = ap (λ (s : Stand Service). s.files) a.2
 lines_same old new (line ∷ lines) said noted a =
     lines_same a.0 new lines a.2 a.4 a.8 ∙ line_same old.service a.0.service old.files a.0.files line a.1 a.3 a.5
 
--- ---- before a part a segment ends, or goes on
+-- ---- before a part a segment ends, or continues
 
 module _ (folder : List ℕ) where
   ready_stands : (kept : Option EndFault) (a b : Moment Service) → IsReady by_segments folder kept a b → Stands a.files a.journal folder → Stands b.files b.journal folder
