@@ -115,7 +115,7 @@ put_in s a next is h = record {
   put = h.put;
 }
 
--- why it goes on
+-- why it continues
 for_reason : (m : Moment) (why e : EndFault) → why ≡ e → IsCause m (refusal_of e) → IsCause m (refusal_of why)
 for_reason m why e is cause = subst (λ (w : EndFault). IsCause m (refusal_of w)) (sym is) cause
 

@@ -9,7 +9,7 @@ use Rattle.chain_serve.specs.Texts.{segment_text}
 use Rattle.chain_serve.specs.Segments.{Moment, file_of}
 use Rattle.chain_serve.specs.declared.segments.SegmentRules.{SegmentRules}
 
--- The file of the segment of this number was put into the folder, with the rings as they stand and
+-- The file of the segment of this number was put into the folder, with the rings as they are and
 -- after a file of this digest, and it is being written from there on.
 pub record HasBegun (s : SegmentRules) (rings : List Standing) (number : ℕ) (behind : List ℕ)
     (was : Option Held) (m : Moment) : Type 0 where

@@ -51,8 +51,8 @@ pub record HasEnded (s : SegmentRules) (a b : Moment) : Type 0 where
   pub journal : IfSome file.between
       (λ _. b.journal ≡ Some (segment_text b.number file.behind b.rings))
 
--- It could not be ended, and goes on: the rings are as they were, and its file holds what it held,
--- settled or not.
+-- It could not be ended, and continues: the rings are as they were, and its file holds what it
+-- held, settled or not.
 pub record IsKept (s : SegmentRules) (a b : Moment) : Type 0 where
   pub rings : b.rings ≡ a.rings
   pub number : b.number ≡ a.number
@@ -68,7 +68,7 @@ IsCause a refusal.OutOfMemory = Unit {0}
 IsCause a refusal.HistoryFull = IsFull a.rings ⊎ (2 ^ 64 ≤ a.number + 1)
 IsCause a _ = ⊥
 
--- Before lines are answered: a segment that is due has ended, or it goes on and every line is
+-- Before lines are answered: a segment that is due has ended, or it continues and every line is
 -- refused for that reason. One that is not due stays.
 abbrev pub IsReady : SegmentRules → Option Refusal → Moment → Moment → Type 0
 IsReady s None a b =
@@ -76,8 +76,8 @@ IsReady s None a b =
     ⊎ ((is_due (Some s.limit) a.rings ≡ true) × HasEnded s a b)
 IsReady s (Some why) a b = (is_due (Some s.limit) a.rings ≡ true) × IsCause a why × IsKept s a b
 
--- What the disk has where it could be neither ended nor go on: the files as they were; or the file
--- of the segment is settled; and then perhaps that of the next one was put there.
+-- What the disk has where it could neither be ended nor continue: the files as they were; or the
+-- file of the segment is settled; and then perhaps that of the next one was put there.
 abbrev pub IsLeft : SegmentRules → Moment → Option Held → Type 0
 IsLeft s a is =
     (is ≡ a.files)

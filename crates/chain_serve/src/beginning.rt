@@ -16,7 +16,7 @@ use ring_serve::{Refusal, Served};
 use segment_loop::{OpenSegment, SegmentRules as FolderRules, begin_file};
 use std::alloc::Global;
 
-/// Puts the file of the segment of this number into the folder, with the rings as they stand and after a file of this digest, and
+/// Puts the file of the segment of this number into the folder, with the rings as they are and after a file of this digest, and
 /// opens it.
 ///
 /// # Errors

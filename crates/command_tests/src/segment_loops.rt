@@ -14,7 +14,7 @@ use std::alloc::{AllocError, Global};
 use std::io::{self, Cursor, ErrorKind, Read};
 use std::process::Abort;
 
-/// A segment is due once more lines are told in it than this.
+/// A segment is due once more lines are answered in it than this.
 const MOST: u64 = 1;
 
 const RULES: SegmentRules<'static> = SegmentRules {
@@ -22,12 +22,12 @@ const RULES: SegmentRules<'static> = SegmentRules {
     synced: false,
 };
 
-/// Lines that were told in a segment, which has a letter.
+/// Lines that were answered in a segment, which has a letter.
 #[derive(Drop)]
 struct Tally {
     letter: u8,
     told: u64,
-    /// There is memory for the next segment once so many lines are told.
+    /// There is memory for the next segment once this number of lines is answered.
     poor: u64,
     kept: Option<EndFault>,
 }
@@ -182,7 +182,7 @@ impl Disk for Full {
     }
 }
 
-/// A reader of which each block has so many bytes.
+/// A reader of which each block has `size` bytes.
 #[derive(Drop)]
 struct Blocks {
     left: &'static [u8],
@@ -198,7 +198,7 @@ impl Read for Blocks {
     }
 }
 
-/// What is served, in blocks of this size, and how: so many files cannot be made, and there is memory after so many lines.
+/// What is served, in blocks of `size` bytes, and how: `fails` files cannot be made, and there is memory after `poor` lines.
 struct Row {
     input: &'static [u8],
     size: usize,
@@ -211,7 +211,7 @@ struct Row {
     kept: Option<EndFault>,
 }
 
-/// The file of the first segment, with the notes of so many lines.
+/// The file of the first segment, with the notes of two lines, of three or of four.
 const FIRST_OF_TWO: &[u8] =
     b"a\n0000000000000000000000000000000000000000000000000000000000000000\n!\n!\n";
 
@@ -252,7 +252,7 @@ const ROWS: [Row; 5] = [
         second: SECOND_AFTER_TWO,
         kept: None,
     },
-    // No file can be made: the segment goes on.
+    // No file can be made: the segment continues.
     Row {
         input: b"1\n2\n3\n4\n",
         size: ONE_BLOCK,

@@ -11,7 +11,7 @@ use std::process::Abort;
 use std::test::Fail;
 use tool_parts::faults::ToolError;
 
-/// A journal that tells no call.
+/// A journal that records no call.
 const BEGUN: &str = "ringjournal 1\nringfarm 2\nring 0 3 3\nstart 0 0 0\nend 0\ndone 1\n";
 
 /// The same with a call.

@@ -29,6 +29,6 @@ found before (e ∷ es) name =
 abbrev pub held_of : List StoredEntry → Held
 held_of entries = record { place = λ name. name; at = found Nothing entries; locked = λ place. true }
 
--- these entries but for those with this name
+-- these entries except those with this name
 abbrev pub without : List ℕ → List StoredEntry → List StoredEntry
 without name entries = filter (λ e. not (bytes_eq (string_bytes e.name) name)) entries

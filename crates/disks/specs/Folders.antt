@@ -6,7 +6,7 @@ use Rattle.std.specs.Str.{bytes_eq}
 use Rattle.disks.specs.Held.{Held, is_folder, is_there, IsOneFile}
 use Rattle.disks.specs.declared.disk.FolderEntry.{FolderEntry}
 
--- the name of what has this name in the folder: a slash stands between the two
+-- the name of what has this name in the folder: a slash is between the two
 abbrev pub path_in : List ℕ → List ℕ → List ℕ
 path_in folder name = folder ++ 47 ∷ name
 

@@ -32,7 +32,7 @@ pub trait FileCalls {
     /// The bytes of a new file, where they are known to be on the disk.
     ghost settled: { Self.Part → Option (List ℕ) };
 
-    /// Opens the file of this name, which is no folder.
+    /// Opens the file of this name, which is not a folder.
     fn open(&self, name: &str) -> io::Result<Self::Reader>
         ensures { IfOk result
             (λ reader. Opens (holds self.now) name.now (Self.Reader.remaining reader)) };

@@ -39,7 +39,7 @@ pub trait Disk {
     /// file that is being grown is so once its writer is let go; until then the writer says what lasts.
     ghost leaves: { Self → Option Held } = { λ _. None };
 
-    /// Opens the file of this name, which is no folder. The reader has the bytes that the file holds now.
+    /// Opens the file of this name, which is not a folder. The reader has the bytes that the file holds now.
     fn open(&self, name: &str) -> io::Result<Self::Reader>
         ensures { IfOk result
             (λ reader. Opens (holds self.now) name.now (Self.Reader.remaining reader)) };

@@ -146,7 +146,7 @@ impl LosingCalls {
         }
     }
 
-    /// The same, of which only so many syncs of each open file succeed, and so many of folders.
+    /// The same, of which only `file_syncs` syncs of each open file succeed, and only `folder_syncs` of folders.
     pub fn failing(mut self, file_syncs: u32, folder_syncs: u32) -> LosingCalls {
         self.file_syncs = file_syncs;
         self.folder_syncs = folder_syncs;

@@ -146,7 +146,7 @@ fn copied(alloc: Global, entries: &[StoredEntry], name: &str) -> io::Result<Vec<
     }
 }
 
-/// The place of a file of this name, which is no folder's: the name, and room for an entry.
+/// The place of a file of this name, which is not a folder's: the name, and room for an entry.
 fn place_for(disk: &mut MemoryDisk, name: &str) -> io::Result<String>
     ensures named { IfOk result (λ place. string_bytes place ≡ name.now) }
     ensures free { OnOk result

@@ -8,14 +8,14 @@ use std::rt::Files;
 /// How many links are followed one after the other, as the system does.
 const MOST_LINKS: u32 = 40;
 
-/// What tells a file from each other one of the machine.
+/// What distinguishes a file from each other one of the machine.
 #[derive(Clone, Copy, Debug, PartialEq, Eq)]
 pub(crate) struct FileId {
     device: u64,
     inode: u64,
 }
 
-/// What tells the file of this description from others.
+/// What distinguishes the file of this description from others.
 pub(crate) fn file_id(there: &Metadata) -> FileId {
     FileId {
         device: there.dev(),

@@ -111,8 +111,8 @@ fn serve_block<S: AnswersLines, D: Disk, J: Grow, W: Write>(
 /// # Errors
 ///
 /// The first error of the reader, of the journal or of the writer; `OutOfMemory` where there was none for what a block is
-/// answered; `TooLong` where no more blocks are counted. The lines before were answered; the writer holds a prefix of their
-/// answers, and the journal the notes of each that was told.
+/// answered; `TooLong` where no more blocks are counted. The lines before were answered. The writer holds a prefix of their
+/// answers, and the journal the notes of each delivered line.
 pub fn serve_part<S: AnswersLines, D: Disk, I: Read, J: Grow, W: Write>(
     alloc: Global,
     service: &mut S,
@@ -143,7 +143,7 @@ pub fn serve_part<S: AnswersLines, D: Disk, I: Read, J: Grow, W: Write>(
         IsFaultOf e (I.remaining input.old) (I.remaining input.new)) }
     ensures kept { is_some journal.new ≡ is_some journal.old }
 
-    // The same of the bytes that last: whenever the power fails, the journal has the notes of each line that was told.
+    // The same of the bytes that last: whenever the power fails, the journal has the notes of each delivered line.
     ensures lasts { (begun : List ℕ) → HasBegun begun line.old.items
         → MatchResult result
         (λ ending. ServesPart ending (by_stand S.is_answered) (stand service.old (D.holds disk.old))

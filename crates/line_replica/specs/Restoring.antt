@@ -1,5 +1,5 @@
--- How what tells its state lives in segments; and a line that is too long asks no state (this
--- project's own).
+-- How a service that answers with its state lives in segments; and a line that is too long asks for
+-- no state (this project's own).
 use Rattle.std.proofs.Common.{◌≡◌, ℕ, ◌<◌, Bool, true, false, cond, List, Option, length, subst, sym, ap}
 use Rattle.std.proofs.lemmas.Bool.{lt-ltb}
 use Rattle.std.specs.Prelude.{codes}

@@ -13,15 +13,15 @@ use line_parts::put_word;
 use std::alloc::AllocError;
 use text_lines::Line;
 
-/// A service that answers lines, with the last number of each key and the first line of its answer that is told again.
+/// A service that answers lines, with the last number of each key and the first line of its answer, which is sent again.
 #[derive(Drop)]
 pub struct Numbered<S> {
     pub(crate) inner: S,
     pub(crate) keys: Keys,
 }
 
-/// The first line of the answer to an input, if it is for the client that asked, and else none: what others were told may be over when
-/// it is told again.
+/// The first line of the answer to an input, if it is for the client that asked, and else none: an answer to another client may be out
+/// of date when it is sent again.
 fn line_to_asker<'a>(input: &[u8], said: &'a [u8]) -> &'a [u8]
     ensures { result.now ≡ line_to_asker input.now said.now }
 {
@@ -119,7 +119,7 @@ fn answer_once<S: AnswersLines, D: Disk>(
     }
 }
 
-/// Answers a line by what is behind its key and its number.
+/// Answers a line by what follows its key and its number.
 pub(crate) fn answer_tagged<S: AnswersLines, D: Disk>(
     numbered: &mut Numbered<S>,
     disk: &mut D,

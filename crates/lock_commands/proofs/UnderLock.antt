@@ -34,7 +34,7 @@ lines_same old new [] said noted a = ap (λ (s : Stand Service). s.files) a.2
 lines_same old new (line ∷ lines) said noted a =
     lines_same a.0 new lines a.2 a.4 a.8 ∙ line_same old.service a.0.service old.files a.0.files line a.1 a.3 a.5
 
--- ---- before a part a segment ends, or goes on
+-- ---- before a part a segment ends, or continues
 
 without_causes : (U F P Q : Type 0) → (U × P) ⊎ (F × Q) → P ⊎ Q
 without_causes U F P Q (inl k) = inl k.1

@@ -60,8 +60,8 @@ terms_of words = record {
   strict = words.strict;
 }
 
--- the service that answers: a replica of the locks' service, whose state is told where it is asked;
--- how it answers a line, and how it lives in segments
+-- the service that answers: a replica of the locks' service, whose state is answered where it is
+-- asked for; how it answers a line, and how it lives in segments
 abbrev pub Service : Type 0
 Service = Restorable (Replica LockService)
 
@@ -141,7 +141,7 @@ IsUnbegun words start before after e =
     (by_segments.text service start.number start.behind) before after
     × ((why : EndFault) × IsBeginName (folder_of words) why e))
 
--- Some lines were answered, and then there was this fault. Whatever was told is noted.
+-- Some lines were answered, and then there was this fault. Whatever was delivered is noted.
 pub record IsBroken (words : LocksWords) (first : Moment Service) (after : Option Held)
     (was is old new : Option (List ℕ)) (e : ToolError) : Type 0 where
   pub why : LoopFault
@@ -198,8 +198,8 @@ IsRefusedIn words holders before after was is old new e =
     × AreStarted (folder_of words) (list_of words) holders there listed start
     × IsRunRefused words start listed after was is old new e)))
 
--- with these holders: those of the folder, and those while lines are served, where nothing is told
--- on standard error; and, when all lines have been served, those of the sums
+-- with these holders: those of the folder, and those while lines are served, where nothing is
+-- written to standard error; and, when all lines have been served, those of the sums
 abbrev pub IsRefusedWith : LocksWords → List Handover → World → World → ToolError → Type 0
 IsRefusedWith words holders was is e =
     ((is.err ≡ was.err)

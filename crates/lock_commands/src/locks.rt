@@ -37,7 +37,7 @@ fn terms_of(words: &LocksWords<'_>) -> Terms
     }
 }
 
-/// The service as it begins with these locks: a replica without a key, whose state is told where it is asked.
+/// The service as it begins with these locks: a replica without a key, whose state is answered where it is asked for.
 fn service_of(
     alloc: Global,
     locks: Locks,
@@ -172,7 +172,7 @@ pub fn run<'a, D: Disk, I: Read, W: Write, E: Write>(
         (world (D.holds disk.new) (I.remaining input.new) (W.contents out.new)
         (E.contents err.new)) e) }
 
-    // Where each note is put on the disk, and the content of files is known: what was told is there whenever the power fails.
+    // Where each note is put on the disk, and the content of files is known: what was delivered is there whenever the power fails.
     ensures lasts { words.now.synced ≡ true → IsSome (D.holds disk.old) → ToldLocksLast words.now
         (world (D.holds disk.old) (I.remaining input.old) (W.contents out.old) (E.contents err.old))
         (world (D.holds disk.new) (I.remaining input.new) (W.contents out.new)

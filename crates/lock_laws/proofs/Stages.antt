@@ -1,4 +1,4 @@
--- Lines that are told in parts are a run in stages, segment by segment.
+-- Lines that are delivered in parts are a run in stages, segment by segment.
 use Rattle.std.proofs.Common.{◌≡◌, ℕ, ◌+◌, Bool, true, false, List, [], ◌∷◌, ◌++◌, Option, None, Some, refl, ap, sym, subst, ◌∙◌, append_assoc, append-nil, inl, inr, ◌⊎◌}
 use Rattle.std.specs.Prelude.{IfSome, IsSome, not}
 use Rattle.std.specs.Io.KnownBytes.{Appends}
@@ -220,7 +220,7 @@ module _ (first : Moment Service) (before : List ℕ) where
 
     -- ---- before a part
 
-    -- the segment in which the part is, and how a run from there goes on from what was before
+    -- the segment in which the part is, and how a run from there continues what was before
     record Readied (start : Service) (lines : List (List ℕ)) (replied : List ℕ) (f : Moment Service) : Type 0 where
       pub began : Service
       pub digest : List ℕ

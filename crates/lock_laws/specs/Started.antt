@@ -44,7 +44,7 @@ head_with number behind locks = record {
 }
 
 -- The last segment of the folder is the one of this number, which began with these locks. The head
--- with which it began has a text, and behind it these bytes are kept of the file.
+-- with which it began has a text, and after it these bytes are kept of the file.
 pub record IsKeptLast (held : Held) (folder : List ℕ) (number : ℕ) (behind : List ℕ)
     (start : List LockView) (kept : List ℕ) : Type 0 where
   pub fits : HeadFits (head_with number behind start)

@@ -23,8 +23,8 @@ impl AnswersLines for LockService {
 
     ghost by_start = { by_start };
 
-    /// The line is answered, and memory may be wanted to tell of it; or on strict terms nothing has changed. The disk is not
-    /// used.
+    /// The line is answered, even if memory is short for the text of its answer; or on strict terms nothing has changed. The disk
+    /// is not used.
     fn answer<D: Disk>(
         &mut self,
         disk: &mut D,

@@ -32,7 +32,7 @@ kept_known (Some was) is name None s w r f k = tt
 kept_known (Some was) None name (Some bytes) s w r f k = absurd r
 kept_known (Some was) (Some is) name (Some bytes) s w r f k = k bytes (r.here name refl) (f bytes refl)
 
--- what holds of the file of a segment that goes on, whatever the reason
+-- what holds of the file of a segment that continues, whatever the reason
 abbrev pub HoldsSame : {S : Type 0} → List ℕ → Moment S → Moment S → Type 0
 HoldsSame folder a b =
     ((b.files ≡ a.files) × (b.journal ≡ a.journal))
@@ -53,7 +53,7 @@ kept_cause G folder why a b h = by h.file
     by (inl k) = inl k.0
     by (inr k) = inr k.0
 
--- ---- the next file is put there, the segment has ended, or it goes on
+-- ---- the next file is put there, the segment has ended, or it continues
 
 module _ {S : Type 0} (G : Segmenting S) (folder : List ℕ) (service : S) (was mid : Option Held) (number : ℕ) (journal : Option (List ℕ)) (old_name : List ℕ) (settled : Replaces was mid old_name journal) (old : old_name ≡ segment_file folder number) where
   pub settled_here : Replaces was mid (segment_file folder number) journal

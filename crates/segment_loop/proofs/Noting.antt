@@ -100,7 +100,7 @@ keeps_last A law G folder a mid parts more journal served got earlier first othe
 
 -- ---- wherever serving ends
 
--- all that was answered was told
+-- all that was answered was delivered
 module _ {S : Type 0} (A : AnsweringWith S) (law : KeepsKnown A) (G : Segmenting S) (folder : List ℕ) (a b : Moment S) (unread line : List ℕ) (input rest out after : Option (List ℕ)) (new : S) (d : Served A G folder a b unread line input rest out after) (same : new ≡ b.service) where
   -- with the journal, or another value that it is
   told_with : (journal : Option (List ℕ)) → b.journal ≡ journal → ToldLinesAreNoted A G folder a new input rest out after journal

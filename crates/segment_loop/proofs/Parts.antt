@@ -46,7 +46,7 @@ pub record Served {S : Type 0} (A : AnsweringWith S) (G : Segmenting S) (folder 
   pub keeps : HasBegun begun line
   pub wrote : Appends out after (all_said parts)
 
--- so many parts were served: for a byte that was read, and for one that was taken, one at most
+-- n parts were served: at most one for each byte that was read, and one for each that was taken
 abbrev pub IsCounted : {S : Type 0} {A : AnsweringWith S} {G : Segmenting S} {folder : List ℕ} {a b : Moment S} {unread line : List ℕ} {input rest out after : Option (List ℕ)} → ℕ → Served A G folder a b unread line input rest out after → Type 0
 IsCounted n d = n ≤ length d.read + length (all_lines d.parts)
 

@@ -20,7 +20,7 @@ HasNext {S} G folder a bytes held =
     ≡ Some (G.text next (a.number + 1) (digest_of bytes)))
 
 -- Where it is known what a loss of power leaves: the segment's file begins with these bytes, or the
--- next segment is there, behind just them.
+-- next segment is there, after just them.
 abbrev pub LeavesSegment : {S : Type 0} → Segmenting S → List ℕ → Moment S → List ℕ → Option Held
     → Type 0
 LeavesSegment G folder a bytes left =
@@ -29,8 +29,8 @@ LeavesSegment G folder a bytes left =
     ⊎ HasNext G folder a bytes held)
 
 -- Wherever serving ended, and whenever the power fails then: the file of the last segment begins
--- with these bytes, which have the notes of all lines that were told in it; or that of the next one
--- is there, which the service begins after them.
+-- with these bytes, which have the notes of all lines that were delivered in it; or that of the
+-- next one is there, which the service begins after them.
 pub record ToldLinesLast {S : Type 0} (A : AnsweringWith S) (G : Segmenting S) (folder : List ℕ)
     (a : Moment S) (new : S) (input rest out after : Option (List ℕ)) (left : Option Held) : Type 0
   where
@@ -53,8 +53,8 @@ AreWhole folder a (p ∷ ps) held =
     (p.from.number ≡ a.number + 1 → bytes_of held (segment_file folder a.number) ≡ a.journal)
     × AreWhole folder p.to ps held
 
--- What was told in the last segment lasts; and if each segment has a file of its own, those that have
--- ended are left whole, and that of the last one begins with these bytes.
+-- What was delivered in the last segment lasts; and if each segment has a file of its own, those
+-- that have ended are left whole, and that of the last one begins with these bytes.
 pub record EachSegmentLasts {S : Type 0} (A : AnsweringWith S) (G : Segmenting S) (folder : List ℕ)
     (a : Moment S) (new : S) (input rest out after : Option (List ℕ)) (left : Option Held) : Type 0
   where

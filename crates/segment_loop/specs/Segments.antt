@@ -84,8 +84,8 @@ IsUnprepared {S} G service number why =
 abbrev pub IsFileCause : EndFault → Type 0
 IsFileCause why = (why ≡ end.File) ⊎ (why ≡ end.OutOfMemory)
 
--- It goes on, for this reason, and its file holds what it held: no file was touched, since there is
--- nothing to begin the next one with; or it was settled, and that of the next one was not made.
+-- It continues, for this reason, and its file holds what it held: no file was touched, since there
+-- is nothing to begin the next one with; or it was settled, and that of the next one was not made.
 pub record IsKept {S : Type 0} (G : Segmenting S) (folder : List ℕ) (why : EndFault)
     (a b : Moment S) : Type 0 where
   pub kept : G.IsKept a.service why b.service
@@ -97,8 +97,8 @@ pub record IsKept {S : Type 0} (G : Segmenting S) (folder : List ℕ) (why : End
       × Replaces a.files b.files (segment_file folder a.number) a.journal
       × IfSome a.files (λ _. IfSome a.journal (λ bytes. b.journal ≡ Some bytes)))
 
--- Before lines are answered: a segment that is due has ended, or it goes on for a reason. One that
--- is not due stays.
+-- Before lines are answered: a segment that is due has ended, or it continues for a reason. One
+-- that is not due stays.
 abbrev pub IsReady : {S : Type 0} → Segmenting S → List ℕ → Option EndFault → Moment S → Moment S
     → Type 0
 IsReady G folder None a b =
@@ -106,8 +106,8 @@ IsReady G folder None a b =
     ⊎ ((G.is_due a.service ≡ true) × HasEnded G folder a b)
 IsReady G folder (Some why) a b = (G.is_due a.service ≡ true) × IsKept G folder why a b
 
--- What the disk has where it could be neither ended nor go on: the files as they were; or the file
--- of the segment is settled; and then perhaps that of the next one was put there.
+-- What the disk has where it could neither be ended nor continue: the files as they were; or the
+-- file of the segment is settled; and then perhaps that of the next one was put there.
 abbrev pub IsLeft : {S : Type 0} → Segmenting S → List ℕ → Moment S → Option Held → Type 0
 IsLeft {S} G folder a is =
     (is ≡ a.files)

@@ -53,7 +53,7 @@ pub fn begin_file<D: Disk>(
     }
 }
 
-/// Begins the segment of this number with the text of the service as it stands, after a file of this digest, as [`begin_file`] does.
+/// Begins the segment of this number with the text of the service as it is, after a file of this digest, as [`begin_file`] does.
 ///
 /// # Errors
 ///

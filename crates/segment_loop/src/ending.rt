@@ -31,7 +31,7 @@ pub struct NextSegment<S> {
     hasher: Sha256,
 }
 
-/// Where lines are served next: the segment, and why it goes on, if it is due and could not be ended.
+/// Where lines are served next: the segment, and why it continues, if it is due and could not be ended.
 #[derive(Drop)]
 pub struct Ready<W> {
     pub(crate) segment: OpenSegment<W>,
@@ -121,7 +121,7 @@ fn settle<D: Disk>(disk: &mut D, writer: Digested<D::Grown>, name: &str) -> Resu
     }
 }
 
-/// Why a segment goes on, where the next file was not made.
+/// Why a segment continues, where the next file was not made.
 pub(crate) fn cause_of(fault: ReplaceFault) -> EndFault
     ensures { IsFileCause result }
 {
@@ -294,7 +294,7 @@ fn change<S: Segmented, D: Disk>(
     }
 }
 
-/// Before lines are answered: ends the segment if it is due, and begins the next one. If it cannot be ended, it goes on.
+/// Before lines are answered: ends the segment if it is due, and begins the next one. If it cannot be ended, it continues.
 ///
 /// # Errors
 ///

@@ -20,7 +20,7 @@ pub enum EndFault {
 
 /// What answers lines, segment by segment: the journal of each is a file of its own, which begins with a text of the service.
 ///
-/// It is over ([`AnswersLines::is_over`]) once its segment is due, unless it was told to keep on.
+/// It is over ([`AnswersLines::is_over`]) once its segment is due, unless it was asked to keep on.
 pub trait Segmented: AnswersLines + Drop {
     /// The text of a segment, when it is due, what is next, why there is no next one or no text, and what is kept.
     ghost segmenting: { Segmenting Self };
@@ -55,7 +55,7 @@ pub trait Segmented: AnswersLines + Drop {
         ensures text { IfOk result (λ text. text.items ≡ segmenting.text self.now number behind) }
         ensures why { IfErr result (λ e. segmenting.HasNoText self.now e) };
 
-    /// The segment goes on although it is due, for this reason: lines are answered again.
+    /// The segment continues although it is due, for this reason: lines are answered again.
     fn keep_on(&mut self, why: EndFault)
         requires { segmenting.is_due self.old ≡ true }
         ensures kept { segmenting.IsKept self.old why self.new }

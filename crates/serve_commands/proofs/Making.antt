@@ -22,7 +22,7 @@ unrecovered bytes c none r =
     let first : 0 ≡ 114 = ap (λ (x : List ℕ). get_or x 0 0) (sym none ∙ r.lines.spelled) in
     omega (arith, first)
 
--- where the rings begin is told by the files before, too
+-- where the rings begin follows from the files before, too
 pub noted_before : (before there : Option Held) (name : List ℕ) (made : Bool) (given : Option Saved) (from : Saved) → Creates before there name made → IsNoted there name given from → IsNoted before name given from
 noted_before None there name made given from c h = subst (λ (x : Option Held). IsNoted x name given from) c h
 noted_before (Some was) there name false given from c h = subst (λ (x : Option Held). IsNoted x name given from) c.0 h

@@ -36,7 +36,7 @@ module _ (folder : List ℕ) where
       answers_locked terms h.0 new h.1 is lines h.3 h.5 h.9
       (given_locked terms.journal terms.history terms.saves was h.1 (name_in line) h.0 h.6.turn.answer h.6.given h.6.gives l)
 
-  -- ---- before a part a segment ends, or goes on
+  -- ---- before a part a segment ends, or continues
 
   ready_stands : (s : SegmentRules) (refusing : Option Refusal) (a b : Moment) → IsReady s refusing a b → Stands a.files a.journal folder → Stands b.files b.journal folder
   ready_stands s None a b (inl h) k = subst (λ (x : Moment). Stands x.files x.journal folder) (sym h.1) k

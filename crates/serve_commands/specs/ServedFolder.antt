@@ -31,7 +31,7 @@ use Rattle.serve_commands.specs.Served.{IsFirstRefusal, IsServingFault, permits_
 use Rattle.tool_parts.specs.Locking.{IsLocked, StandsLocked, IsLockLeft, IsUnkeptFolder}
 use Rattle.tool_parts.specs.Worlds.{IsUnserved}
 
--- ---- where the rings stand
+-- ---- where the rings are
 
 -- where served rings are when they begin: the rings, the number of the segment that they are in, and
 -- the digest of the file before it
@@ -112,7 +112,7 @@ abbrev pub AreUnderLock : List ℕ → List Part → Type 0
 AreUnderLock folder parts =
     AllByRecursion (λ p. StandsLocked p.from.files folder × StandsLocked p.to.files folder) parts
 
--- The folder was locked, and the lines were served from where the rings stand. Where the content of
+-- The folder was locked, and the lines were served from where the rings were. Where the content of
 -- files is known, it is locked as long as lines are served.
 pub record IsServedIn (words : ServeWords) (folder : List ℕ) (saved : Option Saved)
     (end : List Standing) (before after : Option Held) (was is old new : Option (List ℕ)) : Type 0
@@ -131,7 +131,7 @@ pub record IsServedIn (words : ServeWords) (folder : List ℕ) (saved : Option S
 
 -- ---- refusals
 
--- these bytes are no segment to go on from, or not the one of this number
+-- these bytes are not a segment that can be resumed, or not the one of this number
 abbrev pub IsLastFault : List ℕ → ℕ → List ℕ → ToolError → Type 0
 IsLastFault folder last bytes (tool.Segment named number error) =
     (named.now ≡ folder)
@@ -150,7 +150,7 @@ IsLastRefusal files folder last e =
     × IsHeld files (segment_file folder last) bytes
     × IsLastFault folder last bytes e)
 
--- it is not known where the rings stand: a name among these in the folder is refused, the last
+-- it is not known where the rings are: a name among these in the folder is refused, the last
 -- segment is, or, where there is none, the history
 abbrev pub IsUnknownAmong : Option Held → List ℕ → List FolderEntry → Option Saved → ToolError
     → Type 0
@@ -186,9 +186,9 @@ IsUnlocked words folder before after e =
     ((after ≡ before) × IsSavesRefusal words e)
     ⊎ (IsLockLeft before after folder × IsUnkeptFolder folder e)
 
--- From a place on some lines were told, or all of them. The file of the segment that was being
--- written has the notes of each told line in it, and the rings that are recovered of it have its
--- call.
+-- From a place on some lines were delivered, or all of them. The file of the segment that was being
+-- written has the notes of each delivered line in it, and the rings that are recovered of it have
+-- its call.
 pub record IsRunPart (s : SegmentRules) (start : Place) (before after : Option Held)
     (was is old new : Option (List ℕ)) : Type 0 where
   pub first : Moment
@@ -210,7 +210,7 @@ IsRunRefused s start before after was is old new e =
     ⊎ (IsServingFault (Some s.folder.now) e × IsRunPart s start before after was is old new)
 
 -- The folder is not locked, and no line is read. Or it is, no line is read, and no other file has
--- changed, since it is not known where the rings stand. Or the rings began where they stand, and
+-- changed, since it is not known where the rings are. Or the rings began at their place in it, and
 -- that was broken off.
 abbrev pub IsRefusedIn : ServeWords → List ℕ → Option Saved → Option Held → Option Held
     → Option (List ℕ) → Option (List ℕ) → Option (List ℕ) → Option (List ℕ) → ToolError → Type 0

@@ -104,7 +104,7 @@ fn last_segment<'a>(
 ///
 /// # Errors
 ///
-/// `OutOfMemory` alone: no ring of such a segment has too many events.
+/// Only `OutOfMemory`: no ring of such a segment has too many events.
 fn resume_last(alloc: Global, last: &LastSegment) -> Result<Served, ToolError<'static>>
     requires many { length last.now.head.bases.items ≡ length last.now.saved.rings.items }
     requires bases { All IsBase last.now.head.bases.items }
@@ -175,7 +175,7 @@ fn range_among<'a>(
     }
 }
 
-/// Where the rings stand, by these entries of the folder.
+/// Where the rings are, by these entries of the folder.
 fn place_among<'a, D: Disk>(
     alloc: Global,
     disk: &D,
@@ -203,7 +203,7 @@ fn place_among<'a, D: Disk>(
     }
 }
 
-/// Where the rings stand: at the end of the last segment in the folder, or, if there is none, as the history has them.
+/// Where the rings are: at the end of the last segment in the folder, or, if there is none, as the history has them.
 ///
 /// # Errors
 ///
@@ -225,7 +225,7 @@ fn place_in<'a, D: Disk>(
         return Err(ToolError::Read(folder));
     };
     if has_list(entries.as_slice()) {
-        // the calls of `serve` are no holds
+        // the calls of `serve` are not holds
         return Err(ToolError::Foreign(folder, list_name()));
     }
     match place_among(alloc, disk, folder, entries.as_slice(), saved) {

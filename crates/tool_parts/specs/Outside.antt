@@ -9,7 +9,7 @@ use Rattle.tool_parts.specs.Named.{IsApart}
 use Rattle.tool_parts.specs.declared.faults.ToolError.{ToolError}
 use Rattle.tool_parts.specs.declared.faults.ToolError.TheVariants as tool
 
--- what stands before a slash, as the name of a folder
+-- what is before a slash, as the name of a folder
 abbrev pub before_slash : List ℕ → List ℕ
 before_slash front = if length front == 0 then codes "/" else front
 

@@ -12,7 +12,7 @@ use crate::reading::names_stream;
 use disks::{Disk, FolderEntry};
 use std::alloc::{AllocError, Global};
 
-/// The name of a file in a folder: a slash stands between the two.
+/// The name of a file in a folder: a slash is between the two.
 fn path_of(alloc: Global, folder: &str, name: &str) -> Result<String, AllocError>
     ensures { IfOk result (λ path. string_bytes path ≡ path_in folder.now name.now) }
 {
@@ -22,7 +22,7 @@ fn path_of(alloc: Global, folder: &str, name: &str) -> Result<String, AllocError
     Ok(path)
 }
 
-/// What stands before a slash, as the name of a folder.
+/// What is before a slash, as the name of a folder.
 fn before_slash(front: &str) -> &str
     ensures { result.now ≡ before_slash front.now }
 {

@@ -27,7 +27,7 @@ returns-in-Err-clause-spared g c = λ begun h.
     let stops = subst (λ (f : Option Held). Stops (by_stand g.S.AnswersLines.is_answered) old (record { journal = before; out = out }) (record { journal = journal; out = after }) bytes (stand c.serve_part-served.new.service f)) (sym c.abandon.ensures.kept) told in
     (journal, (p.0, p.1, stops), front_has (g.D.Disk.leaves c.serve_part-served.new.disk) (g.D.Disk.leaves c.abandon.new.self) (string_bytes c.args.ready.segment.name) journal c.abandon.ensures.left)
 
--- only an input that is too long is told to be so
+-- `TooLong` is only reported of an input that is too long
 told_long : (e : LoopFault) (kept : Option EndFault) (input rest : Option (List ℕ)) → IsPartFault e input rest → IsPartFault (told_of e kept) input rest
 told_long fault.Read kept input rest h = h
 told_long fault.Journal kept input rest h = h
