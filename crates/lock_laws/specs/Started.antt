@@ -59,7 +59,7 @@ IsTornAfter number behind start kept front =
     × (torn : IsTorn (head_text (head_with number behind start) ++ kept) s)
     × (torn.front ≡ head_text (head_with number behind start) ++ front)
 
--- Locks start in that segment, as they are found in what is kept of it, or in front of a torn end.
+-- Locks start in that segment, as they are found in what is kept of it, or before a torn end.
 -- That front has each right journal which is kept, whatever comes after it.
 pub record StartThere (number : ℕ) (behind : List ℕ) (start : List LockView) (kept : List ℕ)
     (p : Place) : Type 0 where
