@@ -16,7 +16,7 @@ returns-in-Err-clause-why c =
     let s = c.self.inside in
     no_next s.rules s.served s.number s.refusing c.args.self.now c.in-Err.why c.self.view_is c.in-Err.ensures.why
 
-pub returns-then-self-number-clause-why : goal.returns-then-self-number-clause-why
-returns-then-self-number-clause-why c =
+pub returns-then-self-clause-why : goal.returns-then-self-clause-why
+returns-then-self-clause-why c =
     let s = c.self.inside in
-    no_number s.rules s.served s.number s.refusing c.args.self.now c.self.view_is (omega (arith, c.if-self-number.true))
+    no_number s.rules s.served s.number s.refusing c.args.self.now c.self.view_is (omega (arith, c.if-self.true))
