@@ -33,7 +33,7 @@ const SERVED: [(&str, &str); 3] = [
 const SEGMENT: &str =
     "ringsegment 1 1 1\nbehind 0000000000000000000000000000000000000000000000000000000000000000\nbase 0 0 0 0\nringjournal 1\nringfarm 2\nring 0 3 3\nstart 0 0 0\nend 0\ndone 1\n";
 
-const LENT: &str =
+pub const LENT: &str =
     "ringsegment 1 1 1\nbehind 0000000000000000000000000000000000000000000000000000000000000000\nbase 0 0 0 0\nringjournal 1\nringfarm 2\nring 0 3 3\nstart 0 0 0\nend 0\ndone 1\n0 p 0 0 77 g 1 77\n";
 
 /// A journal in memory, all of which is on the disk, and a folder. Of each file that is opened only so many syncs succeed.

@@ -92,6 +92,10 @@ impl<'a> Disk for Watched<'a> {
         self.files.is_one_file(one, other)
     }
 
+    fn leads_into(&self, folder: &str, name: &str) -> io::Result<bool> {
+        self.files.leads_into(folder, name)
+    }
+
     fn list(&self, folder: &str) -> io::Result<Vec<FolderEntry>> {
         self.files.list(folder)
     }

@@ -20,6 +20,13 @@ LeadsInto (Some held) folder name = (other : List ℕ) × IsOneFile held (path_i
 abbrev pub has_slash : List ℕ → Bool
 has_slash name = list_any (λ b. b == 47) name
 
+-- what would have this name has no name in the folder that nothing has yet, where it is known where
+-- names lead
+abbrev pub LeadsToNoNew : Option Held → List ℕ → List ℕ → Type 0
+LeadsToNoNew None folder name = ⊤
+LeadsToNoNew (Some held) folder name = (other : List ℕ) → has_slash other ≡ false
+    → is_there held (path_in folder other) ≡ false → IsOneFile held (path_in folder other) name → ⊥
+
 -- whether a name is among these
 abbrev pub is_among : List (List ℕ) → List ℕ → Bool
 is_among names name = list_any (λ n. bytes_eq n name) names

@@ -2,7 +2,7 @@
 
 ghost use Rattle.std.specs.Prelude.{◌≡◌, ℕ, List, [], Option, None, Some, IfOk, IfSome, OnOk, OnErr, true, false, string_bytes};
 ghost use Rattle.disks.specs.Held.{Held, is_folder, IsOneFile, Opens, Starts, Creates, Discards, Grows, Locks, Replaces};
-ghost use Rattle.disks.specs.Folders.{LeadsInto, Lists, names_of};
+ghost use Rattle.disks.specs.Folders.{LeadsInto, LeadsToNoNew, Lists, names_of};
 ghost use Rattle.disks.specs.Lasting.{Leaves, MayLeave, MayRemove, LeavesFront};
 
 use crate::disk::FolderEntry;
@@ -51,8 +51,10 @@ pub trait FileCalls {
     ///
     /// The folder or the name cannot be looked at, or there is no folder for its file.
     fn leads_into(&self, folder: &str, name: &str) -> io::Result<bool>
-        ensures { IfOk result
-            (λ into. into ≡ true → LeadsInto (holds self.now) folder.now name.now) };
+        ensures yes { IfOk result
+            (λ into. into ≡ true → LeadsInto (holds self.now) folder.now name.now) }
+        ensures no { IfOk result
+            (λ into. into ≡ false → LeadsToNoNew (holds self.now) folder.now name.now) };
 
     /// Whether the process reads or writes the file of this name by a standard descriptor.
     ///

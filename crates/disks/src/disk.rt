@@ -3,7 +3,7 @@
 ghost use Rattle.std.specs.Prelude.{◌≡◌, ℕ, List, [], Option, None, Some, IfOk, IfErr, IfSome, OnOk, OnErr, true, false, string_bytes};
 ghost use Rattle.std.specs.Io.KnownBytes.{Keeps};
 ghost use Rattle.disks.specs.Held.{Held, is_folder, IsOneFile, Opens, Starts, Creates, Discards, Grows, Locks, Replaces};
-ghost use Rattle.disks.specs.Folders.{LeadsInto, Lists, names_of};
+ghost use Rattle.disks.specs.Folders.{LeadsInto, LeadsToNoNew, Lists, names_of};
 ghost use Rattle.disks.specs.Lasting.{bytes_in, Leaves, MayLeave, MayRemove, LeavesFront};
 
 use crate::grow::Grow;
@@ -53,17 +53,16 @@ pub trait Disk {
             → IsOneFile held one.now other.now)) };
 
     /// Whether links lead from this name to one in this folder: of a file there, or of one that would be made there. If it answers
-    /// no, they may.
+    /// no, none would be made there.
     ///
     /// # Errors
     ///
     /// The folder or the name cannot be looked at, or there is no folder for its file.
-    fn leads_into(&self, _folder: &str, _name: &str) -> io::Result<bool>
-        ensures { IfOk result
-            (λ into. into ≡ true → LeadsInto (holds self.now) _folder.now _name.now) }
-    {
-        Ok(false)
-    }
+    fn leads_into(&self, folder: &str, name: &str) -> io::Result<bool>
+        ensures yes { IfOk result
+            (λ into. into ≡ true → LeadsInto (holds self.now) folder.now name.now) }
+        ensures no { IfOk result
+            (λ into. into ≡ false → LeadsToNoNew (holds self.now) folder.now name.now) };
 
     /// Whether the process reads or writes the file of this name by a standard descriptor; if not, whether a file of this name
     /// can be made is looked at too. It is asked before long work that ends with such a file.

@@ -192,6 +192,10 @@ impl Disk for MemoryDisk {
         Ok(one == other)
     }
 
+    fn leads_into(&self, folder: &str, name: &str) -> io::Result<bool> {
+        Ok(is_in(name.as_bytes(), folder.as_bytes()))
+    }
+
     fn list(&self, folder: &str) -> io::Result<Vec<FolderEntry>> {
         if !is_folder(&self.entries, folder) {
             return Err(io::Error::from(ErrorKind::NotFound));

@@ -280,7 +280,7 @@ fn hand_out_segment<'a, D: Disk, W: Write, E: Write>(
 ///
 /// # Errors
 ///
-/// Those of [`last_file`]; `InFolder` if the other name lies in the folder, `SameFile` if it is another
+/// Those of [`last_file`]; `InFolder` if the other name lies in the folder or leads to a new one there, `SameFile` if it is another
 /// one of a file there; `Segment` if nothing is recovered: no file is made then. Those of handing out, as for a journal.
 pub(crate) fn recover_folder<'a, D: Disk, W: Write, E: Write>(
     alloc: Global,

@@ -1,5 +1,5 @@
 -- The folder is locked as long as lines are served.
-use Rattle.std.proofs.Common.{◌≡◌, ◌∙◌, ℕ, List, [], ◌∷◌, Option, None, Some, sym, ap, subst, inl, inr}
+use Rattle.std.proofs.Common.{◌≡◌, ◌∙◌, ℕ, List, [], ◌∷◌, Option, None, Some, sym, ap, subst, ◌⊎◌, inl, inr}
 use Rattle.std.specs.Prelude.{IsSome}
 use Rattle.disks.specs.Held.{Held}
 use Rattle.segment_folder.specs.Names.{segment_file}
@@ -36,13 +36,17 @@ lines_same old new (line ∷ lines) said noted a =
 
 -- ---- before a part a segment ends, or goes on
 
+without_causes : (U F P Q : Type 0) → (U × P) ⊎ (F × Q) → P ⊎ Q
+without_causes U F P Q (inl k) = inl k.1
+without_causes U F P Q (inr k) = inr k.1
+
 module _ (folder : List ℕ) where
   ready_stands : (kept : Option EndFault) (a b : Moment Service) → IsReady by_segments folder kept a b → Stands a.files a.journal folder → Stands b.files b.journal folder
   ready_stands None a b (inl h) s = subst (λ (x : Moment Service). Stands x.files x.journal folder) (sym h.1) s
   ready_stands None a b (inr h) s =
       let f = h.1.file in
       ended_stand a.files f.between b.files a.journal b.journal folder _ _ _ _ f.settled f.put h.1.journal s
-  ready_stands (Some why) a b h s = kept_stand a.files b.files a.journal b.journal folder _ h.1.file s
+  ready_stands (Some why) a b h s = kept_stand a.files b.files a.journal b.journal folder (segment_file folder a.number) (without_causes _ _ _ _ h.1.file) s
 
   -- a part after the other
   parts_locked : (a b : Moment Service) (ps : List (Part Service)) → AreParts answering by_segments folder a ps b → Stands a.files a.journal folder → AreUnderLock folder ps

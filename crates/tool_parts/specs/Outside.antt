@@ -3,7 +3,7 @@ use Rattle.std.specs.Prelude.{◌≡◌, ◌==◌, if◌then◌else◌, ℕ, Lis
 use Rattle.std.specs.List.{All}
 use Rattle.std.specs.Path.{rsplit_once}
 use Rattle.disks.specs.Held.{Held, IsOneFile}
-use Rattle.disks.specs.Folders.{path_in, LeadsInto}
+use Rattle.disks.specs.Folders.{path_in, LeadsInto, LeadsToNoNew}
 use Rattle.disks.specs.declared.disk.FolderEntry.{FolderEntry}
 use Rattle.tool_parts.specs.Named.{IsApart}
 use Rattle.tool_parts.specs.declared.faults.ToolError.{ToolError}
@@ -38,10 +38,18 @@ abbrev pub IsNoneOf : Option Held → List ℕ → List FolderEntry → Option (
 IsNoneOf files folder entries made =
     All (λ (e : FolderEntry). IsApart files (path_in folder (string_bytes e.name)) made) entries
 
--- it does not lie in the folder, by its name or by those of the files there, if one is named
+-- no links lead from its name to a new one in the folder, if one is named
+abbrev pub IsNotNewIn : Option Held → List ℕ → Option (List ℕ) → Type 0
+IsNotNewIn files folder None = ⊤
+IsNotNewIn files folder (Some made) = LeadsToNoNew files folder made
+
+-- It does not lie in the folder, by its name or by those of the files there, and it would not be a new
+-- file there, if one is named.
 abbrev pub IsOutside : Option Held → List ℕ → List FolderEntry → Option (List ℕ) → Type 0
 IsOutside files folder entries made =
-    LiesElsewhere files folder made × IsNoneOf files folder entries made
+    LiesElsewhere files folder made
+    × IsNoneOf files folder entries made
+    × IsNotNewIn files folder made
 
 -- By its name it lies in the folder, or links lead into it from there; or it is one of the files there
 -- by another name, or that of a standard descriptor; or it cannot be looked at or made; or a file

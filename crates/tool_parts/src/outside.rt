@@ -4,7 +4,7 @@ ghost use Rattle.std.specs.Prelude.{◌≡◌, Some, OnOk, IfOk, IfErr, string_b
 ghost use Rattle.disks.specs.Held.{LeadsToFolder};
 ghost use Rattle.disks.specs.Folders.{path_in};
 ghost use Rattle.tool_parts.specs.Named.{IsApart};
-ghost use Rattle.tool_parts.specs.Outside.{before_slash, parent_of, LiesElsewhere, IsNoneOf, IsOutside, IsOutsideRefusal};
+ghost use Rattle.tool_parts.specs.Outside.{before_slash, parent_of, LiesElsewhere, IsNoneOf, IsNotNewIn, IsOutside, IsOutsideRefusal};
 ghost use Rattle.tool_parts.specs.Handed.{file_of};
 
 use crate::faults::ToolError;
@@ -75,6 +75,7 @@ fn keep_stream_apart<'a, D: Disk>(
 
 /// Checks that no links lead from the name of a file that is to be made into a folder.
 fn keep_links_apart<'a, D: Disk>(disk: &D, folder: &str, made: &'a str) -> Result<(), ToolError<'a>>
+    ensures ok { OnOk result (IsNotNewIn (D.holds disk.now) folder.now (Some made.now)) }
     ensures err { IfErr result
         (λ e. IsOutsideRefusal (D.holds disk.now) folder.now (Some made.now) e) }
 {

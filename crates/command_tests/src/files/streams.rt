@@ -30,6 +30,10 @@ impl Disk for Streams {
         Ok(self.is_one_file && one == "/dev/stdin")
     }
 
+    fn leads_into(&self, folder: &str, name: &str) -> io::Result<bool> {
+        self.files.leads_into(folder, name)
+    }
+
     fn is_standard(&self, _name: &str) -> io::Result<bool> {
         match self.is_standard {
             Some(is_standard) => Ok(is_standard),
