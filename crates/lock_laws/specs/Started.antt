@@ -10,6 +10,7 @@ use Rattle.ring_segments.specs.Spelling.{Head, head_text, HeadFits}
 use Rattle.ring_segments.specs.Remarks.{without_remarks}
 use Rattle.ring_serve.specs.Segments.{bases_of}
 use Rattle.ring_locks.specs.Kept.{LockView, AreKept}
+use Rattle.ring_locks.specs.declared.handing.Handover.{Handover}
 use Rattle.lock_lists.specs.Lists.{Listed}
 use Rattle.lock_folder.specs.Rings.{AreBegun}
 use Rattle.lock_folder.specs.Folders.{Place, AreStarted}
@@ -69,3 +70,12 @@ FoundLocksBegin =
     (start found : List LockView) (journal : List ℕ) (entries : List (ℕ × ℕ))
     → AreFound start journal found → AreKept found entries → Fits (content_of found)
     → HaveBegun found
+
+-- A law: locks that start in a folder begin a segment, if they are kept and have a text: new ones
+-- among them, and with holds that are handed over.
+abbrev pub StartedLocksBegin : Type 0
+StartedLocksBegin =
+    (folder : List ℕ) (word : Option (List ℕ)) (holders : List Handover)
+    (before after : Option Held) (p : Place) (entries : List (ℕ × ℕ))
+    → AreStarted folder word holders before after p → AreKept p.locks entries
+    → Fits (content_of p.locks) → HaveBegun p.locks

@@ -2,6 +2,7 @@ use Rattle.std.proofs.Common.{inr}
 use Rattle.lock_folder.specs.Folders.{place_of}
 use Rattle.tool_parts.proofs.LockedFolders.{locked_known}
 use Rattle.lock_commands.specs.Locks.{folder_of, list_of}
+use Rattle.lock_laws.proofs.StartedBegin.{started_locks_begin}
 use Rattle.lock_commands.proofs.StartedLocks.{started_known}
 use Rattle.lock_commands.proofs.UnderLock.{under_lock}
 use Rattle.lock_commands.proofs.locks.run_in_folder.Goals as goal
@@ -48,3 +49,18 @@ returns-clause-lasts g c = λ synced some.
     let started = c.in-Ok-start_locks.ensures.ok in
     let known = started_known (folder_of words) (list_of words) c.args.holders.now there listed start started (locked_known (g.D.Disk.holds c.args.disk.now) there (folder_of words) locked some) in
     inr (there, listed, start, locked, started, c.serve_from.ensures.lasts synced known)
+
+pub serve_from-requires-begin : goal.serve_from-requires-begin
+serve_from-requires-begin g c = λ entries kept fits.
+    let words = c.args.words.now in
+    started_locks_begin (folder_of words) (list_of words) c.args.holders.now (g.D.Disk.holds c.lock_folder.new.disk) (g.D.Disk.holds c.start_locks.new.disk) (place_of c.in-Ok-start_locks.start) entries c.in-Ok-start_locks.ensures.ok kept fits
+
+-- ---- part of a life
+
+pub returns-in-Ok-serve_from-clause-life : goal.returns-in-Ok-serve_from-clause-life
+returns-in-Ok-serve_from-clause-life g c = λ off.
+    inr (g.D.Disk.holds c.lock_folder.new.disk, g.D.Disk.holds c.start_locks.new.disk, place_of c.in-Ok-start_locks.start, c.in-Ok.ensures.locked, c.in-Ok-start_locks.ensures.ok, c.serve_from.ensures.life off)
+
+pub returns-clause-life : goal.returns-clause-life
+returns-clause-life g c = λ off.
+    inr (g.D.Disk.holds c.lock_folder.new.disk, g.D.Disk.holds c.start_locks.new.disk, place_of c.in-Ok-start_locks.start, c.in-Ok.ensures.locked, c.in-Ok-start_locks.ensures.ok, c.serve_from.ensures.life off)
