@@ -22,7 +22,7 @@ use Rattle.lock_commands.specs.Life.{IsLived}
 abbrev pub BeginIfTheyFit : List LockView → Type 0
 BeginIfTheyFit locks = (entries : List (ℕ × ℕ)) → AreKept locks entries → Fits (content_of locks) → HaveBegun locks
 
-pub has_started : (words : LocksWords) (start : Place) (files : Option Held) (first : Moment Service) (service : Service) → BeginsWith words start.locks service → HasBegun by_segments (folder_of words) service start.number start.behind files first → (entries : List (ℕ × ℕ)) × AreKept start.locks entries → BeginIfTheyFit start.locks →
+pub has_started : (words : LocksWords) (start : Place) (files : Option Held) (first : Moment Service) (service : Service) → BeginsWith words start.locks service → HasBegun by_segments (folder_of words) service start.number start.behind files first → ((entries : List (ℕ × ℕ)) × AreKept start.locks entries) → BeginIfTheyFit start.locks →
     HasStarted words start files first
 has_started words start files first service begins begun kept begin = record {
   service = service;

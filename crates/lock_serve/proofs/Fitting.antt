@@ -1,5 +1,5 @@
 -- The text of a segment of locks: where its head fits, there is a ring, and they are few.
-use Rattle.std.proofs.Common.{◌≡◌, ℕ, suc, List, [], ◌∷◌, length, refl, ap, subst, arith}
+use Rattle.std.proofs.Common.{◌≡◌, ◌<◌, ◌^◌, ℕ, suc, List, [], ◌∷◌, length, refl, ap, subst, arith}
 use Rattle.ring_chains.specs.declared.bases.Base.{Base}
 use Rattle.ring_segments.specs.Spelling.{HeadFits}
 use Rattle.ring_serve.specs.Segments.{bases_of}
@@ -16,6 +16,6 @@ pub has_text : (number : ℕ) (behind : List ℕ) (locks : List LockView) (bases
 has_text number behind locks bases e head blocks =
     let h : HeadFits (record { number = number; behind = behind; bases = bases_of (rings_of locks) }) = subst (λ (bs : List Base). HeadFits (record { number = number; behind = behind; bases = bs })) e head in
     let many = bases_many (rings_of locks) in
-    let some = h.some in
-    let few = h.rings in
+    let some : 0 < length (bases_of (rings_of locks)) = h.some in
+    let few : length (bases_of (rings_of locks)) < 2 ^ 32 = h.rings in
     record { head = h; rings = text_fits (rings_of locks) (omega (arith, many, some)) (omega (arith, many, few)) blocks }

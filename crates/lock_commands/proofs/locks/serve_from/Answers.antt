@@ -1,6 +1,8 @@
-use Rattle.std.proofs.Common.{Some, refl, inl, inr}
+use Rattle.std.proofs.Common.{ℕ, List, Some, refl, subst, inl, inr}
 use Rattle.std.specs.Prelude.{string_bytes}
+use Rattle.disks.specs.Held.{Replaces}
 use Rattle.segment_folder.specs.Names.{segment_file}
+use Rattle.segment_loop.specs.Digested.{hashed}
 use Rattle.segment_loop.proofs.Lasting.{begun_lasts, replaced_known, whole_leaves}
 use Rattle.lock_folder.specs.Folders.{place_of}
 use Rattle.lock_commands.specs.Locks.{folder_of, by_segments}
@@ -73,7 +75,7 @@ returns-in-Ok-close_segment-clause-ok g c = record {
   started = has_started c.args.words.now (place_of c.args.start) (g.D.Disk.holds c.args.disk.now) _ c.in-Ok.service c.in-Ok.ensures.ok c.in-Ok-begin_segment.ensures.ok c.are_kept.ensures c.requires.begin;
   served = c.in-Ok-serve_segments.ensures.ok;
   end_is = refl;
-  settled = c.in-Ok-close_segment.ensures.ok;
+  settled = subst (λ (n : List ℕ). Replaces (g.D.Disk.holds c.serve_segments.new.disk) (g.D.Disk.holds c.close_segment.new.disk) n (hashed (g.D.Grown.Grow.contents c.in-Ok-serve_segments.last.writer.inner) c.in-Ok-serve_segments.last.writer.hasher)) c.in-Ok-serve_segments.ensures.named c.in-Ok-close_segment.ensures.ok;
 }
 
 -- ---- part of a life
