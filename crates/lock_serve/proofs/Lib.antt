@@ -7,3 +7,4 @@ pub mod Places
 pub mod Counts
 pub mod StateLines
 pub mod Fitting
+pub mod Answered

@@ -50,8 +50,8 @@ returns-clause-lasts g c = λ synced some.
     let known = started_known (folder_of words) (list_of words) c.args.holders.now there listed start started (locked_known (g.D.Disk.holds c.args.disk.now) there (folder_of words) locked some) in
     inr (there, listed, start, locked, started, c.serve_from.ensures.lasts synced known)
 
-pub serve_from-requires-begin : goal.serve_from-requires-begin
-serve_from-requires-begin g c = λ entries kept fits.
+pub serve_from-requires-clause-begin : goal.serve_from-requires-clause-begin
+serve_from-requires-clause-begin g c = λ entries kept fits.
     let words = c.args.words.now in
     started_locks_begin (folder_of words) (list_of words) c.args.holders.now (g.D.Disk.holds c.lock_folder.new.disk) (g.D.Disk.holds c.start_locks.new.disk) (place_of c.in-Ok-start_locks.start) entries c.in-Ok-start_locks.ensures.ok kept fits
 
