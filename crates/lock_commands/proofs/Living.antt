@@ -44,10 +44,17 @@ module _ (words : LocksWords) (start : Place) (files : Option Held) (first : Mom
   sound : IsSound first.service.inner
   sound = subst (λ (s : Service). IsSound s.inner) (sym h.begun.service_is) (fresh_is_sound IsServed h.service.inner (record { keys = h.begins.keys; running = h.begins.running }))
 
+  fits : by_segments.HasText first.service first.number start.behind
+  fits =
+      subst (λ (n : ℕ). by_segments.HasText first.service n start.behind) (sym h.begun.number_is)
+      (subst (λ (s : Service). by_segments.HasText s start.number start.behind) (sym h.begun.service_is) h.begun.fits)
+
   pub lived : (end : Service) (was is old new journal : Option (List ℕ)) → words.faults ≡ false → ToldLinesAreNoted answering by_segments (folder_of words) first end was is old new journal → IsLived words start files was is old new
   lived end was is old new journal off n = record {
     first = first;
     started = h;
+    locks = locks_are;
+    fits = fits;
     end = end;
     journal = journal;
     noted = n;

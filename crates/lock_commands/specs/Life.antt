@@ -6,7 +6,7 @@ use Rattle.lock_folder.specs.Folders.{Place, AreStarted}
 use Rattle.segment_loop.specs.Segments.{Moment}
 use Rattle.segment_loop.specs.Service.{all_said}
 use Rattle.segment_loop.specs.Notes.{ToldLinesAreNoted}
-use Rattle.lock_laws.specs.Runs.{lines_in, IsInStages}
+use Rattle.lock_laws.specs.Runs.{inside, lines_in, IsInStages}
 use Rattle.ring_requests.specs.declared.requests.LocksWords.{LocksWords}
 use Rattle.tool_parts.specs.Locking.{IsLocked}
 use Rattle.tool_parts.specs.Worlds.{World, IsUnserved}
@@ -15,11 +15,14 @@ use Rattle.lock_commands.specs.Locks.{folder_of, list_of, Service, answering, by
 
 -- A run from where the locks start, wherever it ended: of the lines that were told, in parts, the
 -- output has a prefix of what was said, and nothing else. If no answer was lost up to the last of
--- them, they are stages of a life of locks, which begins with the locks that start.
+-- them, they are stages of a life of locks, which begins with the locks that start; so they are a run
+-- of those that are one life (`Run` in `specs/OneLife.antt` of `lock_laws`).
 pub record IsLived (words : LocksWords) (start : Place) (files : Option Held)
     (was is old new : Option (List ℕ)) : Type 0 where
   pub first : Moment Service
   pub started : HasStarted words start files first
+  pub locks : (inside first.service).segment.locks ≡ start.locks
+  pub fits : by_segments.HasText first.service first.number start.behind
   pub end : Service
   pub journal : Option (List ℕ)
   pub noted : ToldLinesAreNoted answering by_segments (folder_of words) first end was is old new

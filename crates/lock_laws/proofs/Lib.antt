@@ -45,3 +45,4 @@ pub mod Untold
 pub mod Stages
 pub mod PutSegments
 pub mod RunsGoOn
+pub mod OneLife

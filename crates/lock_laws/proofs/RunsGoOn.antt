@@ -21,7 +21,7 @@ text_is s number digest kept =
     let remarks : List ℕ = remarks_of (own_lines s.inner) in
     append_assoc (head ++ begun) remarks kept ∙ (append_assoc head begun (remarks ++ kept) ∙ ap (λ (u : List ℕ). head ++ u) (sym (append_assoc begun remarks kept)))
 
-behind_both : (front a b : List ℕ) → IsPrefix a b → IsPrefix (front ++ a) (front ++ b)
+pub behind_both : (front a b : List ℕ) → IsPrefix a b → IsPrefix (front ++ a) (front ++ b)
 behind_both front a b p = (p.0, ap (λ (u : List ℕ). front ++ u) p.1 ∙ sym (append_assoc front a p.0))
 
 pub runs_go_on : RunsGoOn

@@ -7,6 +7,7 @@ ghost use Rattle.lock_laws.specs.Around.{ReplicaRunsAreStages, OtherLinesAreRepl
 ghost use Rattle.lock_laws.specs.Begun.{ServedLinesAreAnswered, AnsweredLinesFollow};
 ghost use Rattle.lock_laws.specs.Equal.{EqualLinesGiveEqualAnswers, EqualSegmentsEndEqually};
 ghost use Rattle.lock_laws.specs.KeysBack.{FreshIsSound, OwnLinesAreLines, SoundStays, KeysComeBack, PlacesAreLast};
+ghost use Rattle.lock_laws.specs.OneLife.{RunsAreOneLife};
 ghost use Rattle.lock_laws.specs.Runs.{PartsAreStages, PutSegmentsAreStages, RunsFollow, RunsGoOn};
 ghost use Rattle.lock_laws.specs.Started.{StartedLocksAreFound, KeptSegmentsStart, FoundLocksBegin, StartedLocksBegin};
 ghost use Rattle.lock_laws.specs.StateBack.{HoldsAreFirst, StateComesBack};
@@ -129,6 +130,13 @@ pub fn parts_are_stages()
     ensures runs { RunsFollow }
     ensures put { PutSegmentsAreStages }
     ensures go_on { RunsGoOn }
+{}
+
+/// So runs over one folder, each ended at any moment, and each next one started of what was left of the one before it, are one
+/// list of inputs of the machine of locks, with a restart between two runs: what each run told is what the machine answers to its
+/// part of the list, and each run begins with the locks behind all inputs before it.
+pub fn runs_are_one_life()
+    ensures { RunsAreOneLife }
 {}
 
 /// The locks that start of a folder's last segment, none of them new, are those that are found in its journal: the head of the file
