@@ -15,8 +15,8 @@ use Rattle.lock_commands.specs.Locks.{folder_of, list_of, Service, answering, by
 
 -- A run from where the locks start, wherever it ended: of the lines that were told, in parts, the
 -- output has a prefix of what was said, and nothing else. If no answer was lost up to the last of
--- them, they are stages of a life of locks, which begins with the locks that start; so they are a run
--- of those that are one life (`Run` in `specs/OneLife.antt` of `lock_laws`).
+-- them, they are stages of a life of locks, which begins with the locks that start: a `Run` of
+-- `specs/OneLife.antt` of `lock_laws`, once it is known what was left of it.
 pub record IsLived (words : LocksWords) (start : Place) (files : Option Held)
     (was is old new : Option (List ℕ)) : Type 0 where
   pub first : Moment Service

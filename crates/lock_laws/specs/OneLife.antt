@@ -11,8 +11,8 @@ use Rattle.lock_laws.specs.Life.{Stage, IsLockLife}
 use Rattle.lock_laws.specs.Remarked.{begun_with_remarks}
 use Rattle.lock_laws.specs.Runs.{Service, by_segments, inside, IsRun, IsInStages, IsLeftIn}
 
--- A run over the folder, ended at any moment: what was told of it and said, and what was left of its
--- last segment when the next run started.
+-- A run over the folder, ended at any moment: what was told of it and said, and what was left of
+-- its last segment when the next run started.
 pub record Run (folder : List ℕ) : Type 0 where
   pub from : Moment Service
   pub to : Moment Service
@@ -65,7 +65,7 @@ AreOneLife ls r (next ∷ more) is =
     × (is ≡ now ++ Restart ∷ later)
     × AreOneLife (locks_after ls (now ++ Restart ∷ [])) next more later
 
--- A law: runs over one folder are one list of inputs of the machine of locks, from the locks on with
+-- A law: runs over one folder are one list of inputs of the machine of locks, from the locks with
 -- which the first of them began, and these are right.
 abbrev pub RunsAreOneLife : Type 0
 RunsAreOneLife =
