@@ -1,4 +1,4 @@
--- What a run told is part of a life of locks.
+-- What a run reported is part of a life of locks.
 use Rattle.std.proofs.Common.{◌≡◌, ℕ, false, List, ◌++◌, Option, sym, ap, subst, ◌∙◌}
 use Rattle.disks.specs.Held.{Held}
 use Rattle.ring_saved.specs.Spelling.{Fits}

@@ -1,4 +1,4 @@
--- What a run of `locks` told, as part of a life of locks (this project's own).
+-- What a run of `locks` reported, as part of a life of locks (this project's own).
 use Rattle.std.specs.Prelude.{◌≡◌, false, ◌⊎◌, List, ◌++◌, ℕ, Option}
 use Rattle.disks.specs.Held.{Held}
 use Rattle.ring_locks.specs.declared.handing.Handover.{Handover}
@@ -13,9 +13,9 @@ use Rattle.tool_parts.specs.Worlds.{World, IsUnserved}
 use Rattle.lock_commands.specs.HoldersFile.{holders_word, AreHoldersOf}
 use Rattle.lock_commands.specs.Locks.{folder_of, list_of, Service, answering, by_segments, HasStarted}
 
--- A run from where the locks start, wherever it ended: of the lines that were told, in parts, the
--- output has a prefix of what was said, and nothing else. If no answer was lost up to the last of
--- them, they are stages of a life of locks, which begins with the locks that start: a `Run` of
+-- A run from where the locks start, wherever it ended: of the lines that were reported, in parts,
+-- the output has a prefix of what was said, and nothing else. If no answer was lost up to the last
+-- of them, they are stages of a life of locks, which begins with the locks that start: a `Run` of
 -- `specs/OneLife.antt` of `lock_laws`, once it is known what was left of it.
 pub record IsLived (words : LocksWords) (start : Place) (files : Option Held)
     (was is old new : Option (List ℕ)) : Type 0 where
@@ -31,14 +31,14 @@ pub record IsLived (words : LocksWords) (start : Place) (files : Option Held)
       → IsInStages first noted.mid start.behind (lines_in noted.parts) (all_said noted.parts)
       (noted.more ++ noted.back)
 
--- no line was read and nothing was told; or so it was
+-- no line was read and nothing was reported; or so it was
 abbrev pub RunLives : LocksWords → Place → Option Held → Option (List ℕ) → Option (List ℕ)
     → Option (List ℕ) → Option (List ℕ) → Type 0
 RunLives words start files was is old new =
     IsUnserved was is old new ⊎ IsLived words start files was is old new
 
--- In a folder, with these holders: nothing was told; or the folder was locked, the locks started, and
--- from there it was so.
+-- In a folder, with these holders: nothing was reported; or the folder was locked, the locks
+-- started, and from there it was so.
 abbrev pub FolderLives : LocksWords → List Handover → Option Held → Option (List ℕ)
     → Option (List ℕ) → Option (List ℕ) → Option (List ℕ) → Type 0
 FolderLives words holders before was is old new =
@@ -50,8 +50,8 @@ FolderLives words holders before was is old new =
     × AreStarted (folder_of words) (list_of words) holders there listed start
     × RunLives words start listed was is old new)
 
--- Wherever the call ended: nothing was told; or what was told is part of a life of locks, from where
--- the locks started with the holders of the file.
+-- Wherever the call ended: nothing was reported; or what was reported is part of a life of locks,
+-- from where the locks started with the holders of the file.
 abbrev pub ToldLocksLive : LocksWords → World → World → Type 0
 ToldLocksLive words was is =
     IsUnserved was.input is.input was.out is.out

@@ -193,7 +193,7 @@ pub fn run<'a, D: Disk, I: Read, W: Write, E: Write>(
         (E.contents err.new))
         (D.leaves disk.new) }
 
-    // Where no fault is permitted: what was told is part of a life of locks.
+    // Where no fault is permitted: what was reported is part of a life of locks.
     ensures life { words.now.faults ≡ false → ToldLocksLive words.now
         (world (D.holds disk.old) (I.remaining input.old) (W.contents out.old) (E.contents err.old))
         (world (D.holds disk.new) (I.remaining input.new) (W.contents out.new)

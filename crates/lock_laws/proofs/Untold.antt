@@ -1,4 +1,4 @@
--- What the locks inside were asked of lines that were answered and perhaps not told, the last of which may have been lost.
+-- What the locks inside were asked of lines that were answered and perhaps not reported, of which the last may have been lost.
 use Rattle.std.proofs.Common.{◌≡◌, ℕ, Bool, true, false, List, [], ◌∷◌, ◌++◌, Option, refl, ap, sym, subst, ◌∙◌, append_assoc, append-nil, inl, inr, ◌⊎◌}
 use Rattle.std.specs.List.{AllByRecursion}
 use Rattle.std.proofs.lemmas.Bool.{false≢true}
@@ -77,7 +77,7 @@ lost_end old new (line ∷ next ∷ lines) said noted all a whole lost =
 
 -- ---- what the locks inside were asked
 
--- Behind lines of a segment others were answered, with these notes: what the locks inside were asked and said, and what is
+-- After lines of a segment others were answered, with these notes: what the locks inside were asked and said, and what is
 -- left of the notes without the remarks.
 pub record AreAsked (start old new : Service) (notes : List ℕ) : Type 0 where
   pub asked : List (List ℕ)

@@ -11,7 +11,7 @@ use Rattle.lock_laws.specs.Life.{Stage, IsLockLife}
 use Rattle.lock_laws.specs.Remarked.{begun_with_remarks}
 use Rattle.lock_laws.specs.Runs.{Service, by_segments, inside, IsRun, IsInStages, IsLeftIn}
 
--- A run over the folder, ended at any moment: what was told of it and said, and what was left of
+-- A run over the folder, ended at any moment: what was reported of it, and what was left of
 -- its last segment when the next run started.
 pub record Run (folder : List ℕ) : Type 0 where
   pub from : Moment Service
@@ -55,7 +55,7 @@ pub record IsLifeOf {folder : List ℕ} (ls : List Lock) (r : Run folder) (is : 
     pub life : IsLockLife ls first more is
 
 -- One list of inputs, with a restart between two runs: each run is a life of its part of the list,
--- and begins with the locks behind all inputs before it.
+-- and begins with the locks after all inputs before it.
 abbrev pub AreOneLife : {folder : List ℕ} → List Lock → Run folder → List (Run folder)
     → List Input → Type 0
 AreOneLife ls r [] is = IsLifeOf ls r is

@@ -94,7 +94,7 @@ pub record IsRun (start last : Service) (lines : List (List ℕ)) (said kept : L
 
 -- Of a run from this moment to that one, behind which other lines had these notes: the service with
 -- which its last segment began, and the notes since. The segment's file holds that, and its head has a
--- text. Whatever is kept of it behind its head, with these notes and no more than those others, the
+-- text. Whatever is kept of it after its head, with these notes and no more than those others, the
 -- run is some stages.
 pub record IsInStages (a b : Moment Service) (before : List ℕ) (lines : List (List ℕ))
     (said notes : List ℕ) : Type 0 where
@@ -111,7 +111,7 @@ pub record IsInStages (a b : Moment Service) (before : List ℕ) (lines : List (
       → (first : Stage) × (more : List Stage) × IsRun a.service last lines said kept first more
 
 -- A law: lines that are told in parts, and lines behind them that are answered, are a run in stages.
--- No answer was lost up to the last told line.
+-- No answer was lost up to the last reported line.
 abbrev pub PartsAreStages : Type 0
 PartsAreStages =
     (folder : List ℕ) (a b : Moment Service) (before : List ℕ) (parts : List (Part Service))
@@ -144,7 +144,7 @@ RunsFollow =
     → AreFound last.locks journal next.start.locks → AreStages next others
     → AreStages one (more ++ next ∷ others)
 
--- what is kept of the last segment of such a run, its head and the bytes behind it, is in the folder,
+-- what is kept of the last segment of such a run, its head and the bytes after it, is in the folder,
 -- and no later segment
 pub record IsLeftIn {a b : Moment Service} {before : List ℕ} {lines : List (List ℕ)}
     {said notes : List ℕ} (r : IsInStages a b before lines said notes) (held : Held)

@@ -133,8 +133,8 @@ pub fn parts_are_stages()
 {}
 
 /// So runs over one folder, each ended at any moment, and each next one started of what was left of the one before it, are one
-/// list of inputs of the machine of locks, with a restart between two runs: what each run told is what the machine answers to its
-/// part of the list, and each run begins with the locks behind all inputs before it.
+/// list of inputs of the machine of locks, with a restart between two runs: what each run said is what the machine answers to its
+/// part of the list, and each run begins with the locks after all inputs before it.
 pub fn runs_are_one_life()
     ensures { RunsAreOneLife }
 {}
