@@ -5,7 +5,7 @@ use Rattle.std.specs.List.{AllByRecursion}
 use Rattle.std.specs.Fmt.{decimal}
 use Rattle.std.proofs.lemmas.Bool.{ne_eqb}
 use Rattle.std.proofs.lemmas.Fmt.{decimal_by_steps}
-use Rattle.std.proofs.lemmas.List.{length-map}
+use Rattle.std.proofs.lemmas.List.{length-map, length-set}
 use Rattle.std.proofs.lemmas.List.Folds.{list_any-append}
 use Rattle.text_lines.proofs.Basics.{ok_is}
 use Rattle.disks.specs.Held.{Held, Thing, Nothing, Folder, File, file_bytes, is_a_thing, bytes_of, is_there}
@@ -24,14 +24,16 @@ use Rattle.ring_segments.specs.Reading.{head_at}
 use Rattle.ring_segments.proofs.HeadLaws.{head_reads}
 use Rattle.ring_endless.specs.Endless.{EndlessView}
 use Rattle.ring_serve.specs.Segments.{bases_of}
+use Rattle.ring_locks.specs.declared.handing.Handover.{Handover}
 use Rattle.ring_locks.specs.Kept.{LockView, IsKeptRing}
+use Rattle.ring_locks.specs.Handed.{AreHanded, handed}
 use Rattle.lock_lists.specs.Lists.{Listed}
 use Rattle.lock_folder.specs.Rings.{AreBegun}
 use Rattle.lock_folder.specs.Folders.{Place, StandsAt}
 use Rattle.lock_serve.specs.Segments.{rings_of}
 use Rattle.lock_laws.specs.Recovered.{AreMadeOf}
 use Rattle.lock_laws.specs.Life.{AreFound}
-use Rattle.lock_laws.specs.Started.{head_with, IsKeptLast, StartThere, KeptSegmentsStart, FoundLocksBegin}
+use Rattle.lock_laws.specs.Started.{head_with, IsKeptLast, KeptSegmentsStart, FoundLocksBegin}
 use Rattle.lock_laws.proofs.Following.{some_is}
 use Rattle.lock_laws.proofs.Segments.{added_locks_begin}
 use Rattle.lock_laws.proofs.Started.{bases_many, started_locks_are_found}
@@ -65,6 +67,12 @@ a_thing Nothing bytes e = absurd cc
 a_thing Folder bytes e = absurd cc
 a_thing (File b) bytes e = refl
 
+-- locks start there, before a hold is handed over
+record IsThere (number : ℕ) (behind : List ℕ) (start : List LockView) (kept : List ℕ) (p : Place) : Type 0 where
+  pub number_is : p.number ≡ number
+  pub behind_is : p.behind ≡ behind
+  pub found : AreFound start (without_remarks kept) p.locks
+
 module _ (held : Held) (folder : List ℕ) (number : ℕ) (behind : List ℕ) (start : List LockView) (kept : List ℕ) (k : IsKeptLast held folder number behind start kept) where
   is_number : IsNumber number
   is_number = (k.fits.first, k.fits.number)
@@ -76,7 +84,7 @@ module _ (held : Held) (folder : List ℕ) (number : ℕ) (behind : List ℕ) (s
   has_it names l = seen names l number is_number ∙ a_thing (held.at (held.place (segment_file folder number))) (head_text (head_with number behind start) ++ kept) k.file
 
   starts_there : (entries : List FolderEntry) → ListsNames held folder (names_of entries) → (range : Option SegmentNumbers) → IsRightNumbers entries (Ok range) → (locks : List Listed) (p : Place) → StandsAt (Some held) folder range locks p → length p.locks ≡ length start →
-      StartThere number behind start kept p
+      IsThere number behind start kept p
   starts_there entries l None right locks p s many = absurd (none (sym (has_it (names_of entries) l) ∙ right.1 number is_number))
     where
       none : true ≡ false → ⊥
@@ -112,14 +120,22 @@ module _ (held : Held) (folder : List ℕ) (number : ℕ) (behind : List ℕ) (s
             (omega (arith, listed, many));
       }
 
+-- a hand-over makes no lock
+handed_many : (old : List LockView) (hs : List Handover) (new : List LockView) → AreHanded old hs new → length new ≡ length old
+handed_many old [] new same = ap (λ (vs : List LockView). length vs) same
+handed_many old (h ∷ hs) new (mid, is, are) =
+    handed_many mid hs new are ∙ (ap (λ (vs : List LockView). length vs) is.new_is ∙ length-set old h.lock (handed is.lock h))
+
 pub kept_segments_start : KeptSegmentsStart
-kept_segments_start held folder number behind start kept word after p k started many =
+kept_segments_start held folder number behind start kept word holders after p k started many =
     let stands = started.started.stands in
-    let same : p.locks ≡ stands.found.locks = stands.handed in
-    let t = starts_there held folder number behind start kept k started.entries started.listed.1 started.range started.right started.started.locks stands.found stands.stands (sym (ap (λ (vs : List LockView). length vs) same) ∙ many) in record {
+    let as_many = sym (handed_many stands.found.locks holders p.locks stands.handed) ∙ many in
+    let t = starts_there held folder number behind start kept k started.entries started.listed.1 started.range started.right started.started.locks stands.found stands.stands as_many in record {
       number_is = stands.number ∙ t.number_is;
       behind_is = stands.behind ∙ t.behind_is;
-      found = subst (λ (vs : List LockView). AreFound start (without_remarks kept) vs) (sym same) t.found;
+      locks = stands.found.locks;
+      found = t.found;
+      handed = stands.handed;
     }
 
 -- ---- locks that are found

@@ -3,14 +3,18 @@ use Rattle.std.proofs.Common.{◌≡◌, ℕ, List, [], ◌∷◌, ◌++◌, ref
 use Rattle.ring_locks.specs.Lines.{Lock}
 use Rattle.ring_locks.specs.Locks.{Input, Restart}
 use Rattle.ring_locks.specs.Promises.{AreRight, locks_after}
-use Rattle.ring_locks.specs.Kept.{LockView, locks_of}
+use Rattle.ring_locks.specs.declared.handing.Handover.{Handover}
+use Rattle.ring_locks.specs.Kept.{LockView, lock_of, locks_of}
+use Rattle.ring_locks.specs.Handed.{handed, IsHanded, AreHanded}
 use Rattle.ring_locks.proofs.Shown.{locks_append}
+use Rattle.std.proofs.lemmas.List.{map-set}
 use Rattle.ring_segments.specs.Remarks.{without_remarks}
 use Rattle.lock_serve.specs.Counting.{SegmentView}
 use Rattle.lock_laws.specs.Life.{Stage, IsLockRun, behind, IsLockLife, AreFound, AreStages}
 use Rattle.lock_laws.specs.Remarked.{begun_with_remarks}
 use Rattle.lock_laws.specs.Runs.{inside, EndWith}
-use Rattle.lock_laws.specs.OneLife.{Run, locks_at_start, AreRuns, AreOneLife, RunsAreOneLife}
+use Rattle.lock_laws.specs.OneLife.{Run, locks_at_start, IsHandedOver, AreHandedOver, AreRuns, AreOneLife, RunsAreOneLife}
+use Rattle.lock_laws.proofs.Following.{lock_there}
 use Rattle.lock_laws.proofs.Life.{run_so, passed_on, runs_are_a_life}
 use Rattle.lock_laws.proofs.RunsGoOn.{behind_both, runs_go_on}
 
@@ -43,6 +47,21 @@ life_so s (next ∷ more) ls last journal e k ends =
       found = λ n f. m.found n f ∙ (sym (locks_append ls now (m.inputs ++ Restart ∷ [])) ∙ ap (λ (u : List Input). locks_after ls u) joined);
     }
 
+-- ---- holds that are handed over
+
+one_over : (old new : List LockView) (h : Handover) → IsHanded old new h → IsHandedOver (locks_of old) (locks_of new) h
+one_over old new h is = record {
+  lock = lock_of is.lock;
+  there = lock_there old h.lock is.lock is.there;
+  held = is.held.held;
+  free = is.held.free;
+  new_is = ap (λ (vs : List LockView). locks_of vs) is.new_is ∙ map-set lock_of old h.lock (handed is.lock h);
+}
+
+all_over : (old : List LockView) (hs : List Handover) (new : List LockView) → AreHanded old hs new → AreHandedOver (locks_of old) hs (locks_of new)
+all_over old [] new same = ap (λ (vs : List LockView). locks_of vs) same
+all_over old (h ∷ hs) new (mid, is, are) = (locks_of mid, one_over old mid h is, all_over mid hs new are)
+
 -- ---- one run after the other
 
 go : (folder : List ℕ) (r : Run folder) (more : List (Run folder)) (ls : List Lock) → locks_of (locks_at_start r) ≡ ls → AreRuns r more → (is : List Input) × AreOneLife ls r more is
@@ -54,11 +73,14 @@ go folder r [] ls e runs =
 go folder r (next ∷ more) ls e runs =
     let s = runs.0 in
     let begun : List ℕ = begun_with_remarks r.in_stages.last.inner in
-    let x = runs_go_on r.from r.to r.before r.lines r.said r.notes r.in_stages r.held folder r.kept s.word s.after s.place r.fits r.left s.started s.many in
+    let x = runs_go_on r.from r.to r.before r.lines r.said r.notes r.in_stages r.held folder r.kept s.word next.holders s.after s.place r.fits r.left s.started s.many in
     let l = life_so x.0 x.1 ls (inside r.in_stages.last).segment (without_remarks (begun ++ r.kept)) (ap (λ (v : SegmentView). locks_of v.locks) x.2.begins ∙ e) x.2.stages x.2.ends in
-    let there : locks_of (locks_at_start next) ≡ locks_after ls (l.inputs ++ Restart ∷ []) = ap locks_of s.begins ∙ l.found s.place.locks x.3 in
-    let m = go folder next more (locks_after ls (l.inputs ++ Restart ∷ [])) there runs.1 in
-    (l.inputs ++ Restart ∷ m.0, (l.inputs, m.0, record { first = x.0; more = x.1; run = x.2; life = l.life }, refl, m.1))
+    let given : List Lock = locks_of (locks_at_start next) in
+    let over : AreHandedOver (locks_after ls (l.inputs ++ Restart ∷ [])) next.holders given =
+    subst (λ (u : List Lock). AreHandedOver u next.holders given) (l.found x.3 x.4)
+    (subst (λ (vs : List LockView). AreHandedOver (locks_of x.3) next.holders (locks_of vs)) (sym s.begins) (all_over x.3 next.holders s.place.locks x.5)) in
+    let m = go folder next more given refl runs.1 in
+    (l.inputs ++ Restart ∷ m.0, (l.inputs, m.0, given, record { first = x.0; more = x.1; run = x.2; life = l.life }, refl, over, m.1))
 
 -- the first one begins with locks that are right
 first_right : (folder : List ℕ) (r : Run folder) → AreRight (locks_of (locks_at_start r))

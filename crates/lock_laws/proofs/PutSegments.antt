@@ -1,13 +1,11 @@
 -- A run that ended when the file of the next segment had been put there.
-use Rattle.std.proofs.Common.{◌≡◌, ℕ, ◌+◌, true, false, List, [], ◌∷◌, ◌++◌, Option, None, Some, refl, ap, sym, subst, ◌∙◌, append_assoc, append-nil, inr}
+use Rattle.std.proofs.Common.{◌≡◌, ℕ, ◌+◌, false, List, [], ◌∷◌, ◌++◌, Option, None, Some, refl, ap, sym, subst, ◌∙◌, append_assoc, append-nil, inr}
 use Rattle.std.specs.Prelude.{IfSome}
 use Rattle.disks.specs.Held.{Held}
-use Rattle.segment_loop.specs.Segments.{Moment, moment_of, IsPut, HasEnded}
-use Rattle.segment_loop.specs.Service.{Part, IsPart, AreParts, all_said}
+use Rattle.segment_loop.specs.Segments.{Moment, moment_of, HasEnded}
+use Rattle.segment_loop.specs.Service.{Part, IsPart, all_said}
 use Rattle.segment_loop.proofs.Parts.{parts_more, said_more}
-use Rattle.lock_laws.specs.Begun.{HaveBegun}
-use Rattle.lock_laws.specs.KeysBack.{IsSound}
-use Rattle.lock_laws.specs.Runs.{Service, answering, by_segments, inside, IsPlain, lines_in, IsInStages, PutSegmentsAreStages}
+use Rattle.lock_laws.specs.Runs.{Service, answering, by_segments, lines_in, IsInStages, PutSegmentsAreStages}
 use Rattle.lock_laws.proofs.Stages.{parts_are_stages}
 
 -- a part with no lines

@@ -1,11 +1,8 @@
 -- What is left of a run starts the next one.
-use Rattle.std.proofs.Common.{◌≡◌, ℕ, List, [], ◌++◌, length, Option, Some, ap, sym, ◌∙◌, append_assoc}
-use Rattle.disks.specs.Held.{Held}
-use Rattle.ring_journal.specs.Spelling.{head_text as journal_text}
+use Rattle.std.proofs.Common.{◌≡◌, ℕ, List, ◌++◌, Some, ap, sym, ◌∙◌, append_assoc}
 use Rattle.ring_segments.specs.Spelling.{head_text}
 use Rattle.ring_serve.specs.Recovered.{IsPrefix}
 use Rattle.line_replica.specs.State.{own_lines, remarks_of}
-use Rattle.lock_serve.specs.Segments.{content_of}
 use Rattle.lock_laws.specs.Begun.{begun_text}
 use Rattle.lock_laws.specs.Remarked.{begun_with_remarks}
 use Rattle.lock_laws.specs.Started.{head_with, IsKeptLast}
@@ -25,7 +22,7 @@ pub behind_both : (front a b : List ℕ) → IsPrefix a b → IsPrefix (front ++
 behind_both front a b p = (p.0, ap (λ (u : List ℕ). front ++ u) p.1 ∙ sym (append_assoc front a p.0))
 
 pub runs_go_on : RunsGoOn
-runs_go_on a b before lines said notes r held folder kept word after p fits left started many =
+runs_go_on a b before lines said notes r held folder kept word holders after p fits left started many =
     let begun : List ℕ = begun_with_remarks r.last.inner in
     let s = r.stages (begun ++ kept) (behind_both begun r.noted kept left.told) (behind_both begun kept (r.noted ++ notes) left.no_more) in
     let k : IsKeptLast held folder b.number r.digest (inside r.last).segment.locks (begun ++ kept) = record {
@@ -33,5 +30,5 @@ runs_go_on a b before lines said notes r held folder kept word after p fits left
       file = left.file ∙ ap (λ (u : List ℕ). Some u) (text_is r.last b.number r.digest kept);
       last = left.last;
     } in
-    let t = kept_segments_start held folder b.number r.digest (inside r.last).segment.locks (begun ++ kept) word after p k started many in
-    (s.0, s.1, s.2, t.found)
+    let t = kept_segments_start held folder b.number r.digest (inside r.last).segment.locks (begun ++ kept) word holders after p k started many in
+    (s.0, s.1, s.2, t.locks, t.found, t.handed)

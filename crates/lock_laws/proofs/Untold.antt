@@ -8,7 +8,7 @@ use Rattle.line_loop.specs.Stands.{Stand, by_stand, stand}
 use Rattle.line_loop.proofs.Standing.{same_stand}
 use Rattle.ring_segments.specs.Remarks.{without_remarks}
 use Rattle.ring_segments.specs.RemarkLaws.{AreLines}
-use Rattle.ring_segments.proofs.Remarked.{HasNoHash, plain_then}
+use Rattle.ring_segments.proofs.Remarked.{plain_then}
 use Rattle.line_replica.specs.declared.replica.Replica.{Replica}
 use Rattle.line_replica.specs.Log.{Numbers, numbers_of, given}
 use Rattle.line_replica.specs.Reading.{heard}
@@ -16,7 +16,6 @@ use Rattle.line_replica.specs.Replies.{IsReplied, IsWhole, IsLost, IsAnsweredOrN
 use Rattle.line_replica.proofs.Given.{answers_then}
 use Rattle.lock_serve.specs.declared.service.LockService.{LockService}
 use Rattle.lock_serve.specs.declared.service.Terms.{Terms}
-use Rattle.lock_serve.specs.Counting.{SegmentView}
 use Rattle.lock_serve.specs.Serving.{IsKept, IsServed}
 use Rattle.lock_laws.specs.Begun.{HaveBegun, AreAnswered}
 use Rattle.lock_laws.specs.Runs.{Service, answering, inside, others_of}

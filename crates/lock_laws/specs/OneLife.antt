@@ -1,7 +1,8 @@
 -- Runs of a program of locks over one folder are one life of locks (this project's own).
-use Rattle.std.specs.Prelude.{◌≡◌, ℕ, List, [], ◌∷◌, ◌++◌, length, Option, Some}
+use Rattle.std.specs.Prelude.{◌≡◌, ℕ, List, [], ◌∷◌, ◌++◌, length, slice_get, slice_set, Option, Some}
 use Rattle.disks.specs.Held.{Held}
 use Rattle.segment_loop.specs.Segments.{Moment}
+use Rattle.ring_locks.specs.declared.handing.Handover.{Handover}
 use Rattle.ring_locks.specs.Lines.{Lock}
 use Rattle.ring_locks.specs.Locks.{Input, Restart}
 use Rattle.ring_locks.specs.Promises.{AreRight, locks_after}
@@ -11,9 +12,10 @@ use Rattle.lock_laws.specs.Life.{Stage, IsLockLife}
 use Rattle.lock_laws.specs.Remarked.{begun_with_remarks}
 use Rattle.lock_laws.specs.Runs.{Service, by_segments, inside, IsRun, IsInStages, IsLeftIn}
 
--- A run over the folder, ended at any moment: what was reported of it, and what was left of
--- its last segment when the next run started.
+-- A run over the folder, ended at any moment: the holds that were handed over at its start, what
+-- was reported of it, and what was left of its last segment when the next run started.
 pub record Run (folder : List ℕ) : Type 0 where
+  pub holders : List Handover
   pub from : Moment Service
   pub to : Moment Service
   pub before : List ℕ
@@ -30,12 +32,12 @@ pub record Run (folder : List ℕ) : Type 0 where
 abbrev pub locks_at_start : {folder : List ℕ} → Run folder → List LockView
 locks_at_start r = (inside r.from.service).segment.locks
 
--- The next run starts of what this one left: no lock is new, and no hold is handed over.
+-- The next run starts of what this one left, with its own holders: no lock is new.
 pub record StartsBehind {folder : List ℕ} (r next : Run folder) : Type 0 where
   pub word : Option (List ℕ)
   pub after : Option Held
   pub place : Place
-  pub started : AreStarted folder word [] (Some r.held) after place
+  pub started : AreStarted folder word next.holders (Some r.held) after place
   pub many : length place.locks ≡ length (inside r.in_stages.last).segment.locks
   pub begins : locks_at_start next ≡ place.locks
 
@@ -54,16 +56,34 @@ pub record IsLifeOf {folder : List ℕ} (ls : List Lock) (r : Run folder) (is : 
         (begun_with_remarks r.in_stages.last.inner ++ r.kept) first more
     pub life : IsLockLife ls first more is
 
+-- This open hold of the machine is the client's now, with the same token, and nothing else has
+-- changed.
+pub record IsHandedOver (old new : List Lock) (h : Handover) : Type 0 where
+  pub lock : Lock
+  pub there : slice_get old h.lock ≡ Some lock
+  pub held : lock.holder ≡ Some (record { client = 0; token = h.token })
+  pub free : lock.line ≡ []
+  pub new_is : new ≡ slice_set old h.lock
+      (record lock { holder = Some (record { client = h.client; token = h.token }) })
+
+-- each of these holds is
+abbrev pub AreHandedOver : List Lock → List Handover → List Lock → Type 0
+AreHandedOver old [] new = new ≡ old
+AreHandedOver old (h ∷ hs) new =
+    (mid : List Lock) × IsHandedOver old mid h × AreHandedOver mid hs new
+
 -- One list of inputs, with a restart between two runs: each run is a life of its part of the list,
--- and begins with the locks after all inputs before it.
+-- and begins with the locks after all inputs before it, when its holds were handed over.
 abbrev pub AreOneLife : {folder : List ℕ} → List Lock → Run folder → List (Run folder)
     → List Input → Type 0
 AreOneLife ls r [] is = IsLifeOf ls r is
 AreOneLife ls r (next ∷ more) is =
     (now later : List Input)
+    × (handed : List Lock)
     × IsLifeOf ls r now
     × (is ≡ now ++ Restart ∷ later)
-    × AreOneLife (locks_after ls (now ++ Restart ∷ [])) next more later
+    × AreHandedOver (locks_after ls (now ++ Restart ∷ [])) next.holders handed
+    × AreOneLife handed next more later
 
 -- A law: runs over one folder are one list of inputs of the machine of locks, from the locks with
 -- which the first of them began, and these are right.

@@ -17,6 +17,9 @@ use Rattle.line_replica.specs.Replies.{IsReplied}
 use Rattle.line_replica.specs.Segmented as around
 use Rattle.line_replica.specs.Restoring as behind
 use Rattle.line_replica.specs.State.{lines_of, is_state, IsRestorable}
+use Rattle.ring_locks.specs.declared.handing.Handover.{Handover}
+use Rattle.ring_locks.specs.Kept.{LockView}
+use Rattle.ring_locks.specs.Handed.{AreHanded}
 use Rattle.lock_folder.specs.Folders.{Place, AreStarted}
 use Rattle.lock_serve.specs.declared.service.LockService.{LockService}
 use Rattle.lock_serve.specs.Counting.{SegmentView}
@@ -155,17 +158,20 @@ pub record IsLeftIn {a b : Moment Service} {before : List ℕ} {lines : List (Li
   pub told : IsPrefix r.noted kept
   pub no_more : IsPrefix kept (r.noted ++ notes)
 
--- A law: where that is left, and locks start there, none of them new and no hold handed over, the run
--- is some stages, and these locks are found in its journal. So the next run follows it.
+-- A law: where that is left, and locks start there, none of them new, the run is some stages, and
+-- locks are found in its journal, which start when each of these holds was handed to its client. So
+-- the next run follows it, if none was.
 abbrev pub RunsGoOn : Type 0
 RunsGoOn =
     (a b : Moment Service) (before : List ℕ) (lines : List (List ℕ)) (said notes : List ℕ)
     (r : IsInStages a b before lines said notes) (held : Held) (folder kept : List ℕ)
-    (word : Option (List ℕ)) (after : Option Held) (p : Place)
+    (word : Option (List ℕ)) (holders : List Handover) (after : Option Held) (p : Place)
     → by_segments.HasText a.service a.number before → IsLeftIn r held folder kept
-    → AreStarted folder word [] (Some held) after p
+    → AreStarted folder word holders (Some held) after p
     → length p.locks ≡ length (inside r.last).segment.locks
     → (first : Stage) × (more : List Stage)
     × IsRun a.service r.last lines said (begun_with_remarks r.last.inner ++ kept) first more
+    × (locks : List LockView)
     × AreFound (inside r.last).segment.locks
-    (without_remarks (begun_with_remarks r.last.inner ++ kept)) p.locks
+    (without_remarks (begun_with_remarks r.last.inner ++ kept)) locks
+    × AreHanded locks holders p.locks

@@ -1,5 +1,5 @@
 -- Locks that a folder's last segment starts are those that are found in it (this project's own).
-use Rattle.std.specs.Prelude.{◌≡◌, ℕ, ◌≤◌, true, List, [], ◌++◌, length, Option, Some}
+use Rattle.std.specs.Prelude.{◌≡◌, ℕ, ◌≤◌, true, List, ◌++◌, length, Option, Some}
 use Rattle.disks.specs.Held.{Held, bytes_of, is_there}
 use Rattle.segment_folder.specs.Names.{segment_file, IsNumber}
 use Rattle.ring_saved.specs.declared.saved.Saved.{Saved}
@@ -11,6 +11,7 @@ use Rattle.ring_segments.specs.Remarks.{without_remarks}
 use Rattle.ring_serve.specs.Segments.{bases_of}
 use Rattle.ring_locks.specs.Kept.{LockView, AreKept}
 use Rattle.ring_locks.specs.declared.handing.Handover.{Handover}
+use Rattle.ring_locks.specs.Handed.{AreHanded}
 use Rattle.lock_lists.specs.Lists.{Listed}
 use Rattle.lock_folder.specs.Rings.{AreBegun}
 use Rattle.lock_folder.specs.Folders.{Place, AreStarted}
@@ -47,22 +48,24 @@ pub record IsKeptLast (held : Held) (folder : List ℕ) (number : ℕ) (behind :
       ≡ Some (head_text (head_with number behind start) ++ kept)
   pub last : (n : ℕ) → IsNumber n → is_there held (segment_file folder n) ≡ true → n ≤ number
 
--- locks start in that segment, as they are found in what is kept of it
+-- locks start in that segment, as they are found in what is kept of it, and then each of these open
+-- holds was handed to its client
 pub record StartThere (number : ℕ) (behind : List ℕ) (start : List LockView) (kept : List ℕ)
-    (p : Place) : Type 0 where
+    (holders : List Handover) (p : Place) : Type 0 where
   pub number_is : p.number ≡ number
   pub behind_is : p.behind ≡ behind
-  pub found : AreFound start (without_remarks kept) p.locks
+  pub locks : List LockView
+  pub found : AreFound start (without_remarks kept) locks
+  pub handed : AreHanded locks holders p.locks
 
--- A law: what is kept of a folder's last segment starts the next run, if no lock is new and no hold
--- is handed over.
+-- A law: what is kept of a folder's last segment starts the next run, if no lock is new.
 abbrev pub KeptSegmentsStart : Type 0
 KeptSegmentsStart =
     (held : Held) (folder : List ℕ) (number : ℕ) (behind : List ℕ) (start : List LockView)
-    (kept : List ℕ) (word : Option (List ℕ)) (after : Option Held) (p : Place)
-    → IsKeptLast held folder number behind start kept
-    → AreStarted folder word [] (Some held) after p → length p.locks ≡ length start
-    → StartThere number behind start kept p
+    (kept : List ℕ) (word : Option (List ℕ)) (holders : List Handover) (after : Option Held)
+    (p : Place) → IsKeptLast held folder number behind start kept
+    → AreStarted folder word holders (Some held) after p → length p.locks ≡ length start
+    → StartThere number behind start kept holders p
 
 -- A law: locks that are found begin a segment, if they are kept and have a text.
 abbrev pub FoundLocksBegin : Type 0
