@@ -51,7 +51,7 @@ fn put_block<W: Write>(out: &mut W, lock: u32, ring: &EndlessRing) -> Result<(),
 fn put_blocks<W: Write>(out: &mut W, locks: &Locks) -> Result<(), WriteFault>
     ensures written { Writes (W.contents out.old) (W.contents out.new) result
         (flat_map block_text (blocks_from 0 (rings_of locks.now))) }
-    ensures fits { OnOk result (BlocksFit locks.now) }
+    ensures fits { IfOk result (λ _. BlocksFit locks.now) }
 {
     let count = locks.count();
     for lock in 0..count {
@@ -67,7 +67,7 @@ fn put_blocks<W: Write>(out: &mut W, locks: &Locks) -> Result<(), WriteFault>
 fn put_rings<W: Write>(out: &mut W, locks: &Locks) -> Result<(), WriteFault>
     ensures written { Writes (W.contents out.old) (W.contents out.new) result
         (text (content_of locks.now)) }
-    ensures fits { OnOk result (BlocksFit locks.now) }
+    ensures fits { IfOk result (λ _. BlocksFit locks.now) }
 {
     put_lines::put_first_line(out, LATEST_VERSION)?;
     put_blocks(out, locks)?;
@@ -79,7 +79,7 @@ fn put_rings<W: Write>(out: &mut W, locks: &Locks) -> Result<(), WriteFault>
 pub(crate) fn put_beginning<W: Write>(out: &mut W, locks: &Locks) -> Result<(), WriteFault>
     ensures written { Writes (W.contents out.old) (W.contents out.new) result
         (journal_text (content_of locks.now)) }
-    ensures fits { OnOk result (BlocksFit locks.now) }
+    ensures fits { IfOk result (λ _. BlocksFit locks.now) }
 {
     match put_first_line(out) {
         Ok(()) => put_rings(out, locks),
@@ -96,7 +96,7 @@ fn put_segment<W: Write>(out: &mut W, head: &SegmentHead, locks: &Locks) -> Resu
     requires most { length head.now.bases.items < 2 ^ 32 }
     ensures written { Writes (W.contents out.old) (W.contents out.new) result
         (head_text (head_of head.now) ++ journal_text (content_of locks.now)) }
-    ensures fits { OnOk result (HeadFits (head_of head.now) × BlocksFit locks.now) }
+    ensures fits { IfOk result (λ _. HeadFits (head_of head.now) × BlocksFit locks.now) }
 {
     match put_head(out, head) {
         Ok(()) => put_beginning(out, locks),
