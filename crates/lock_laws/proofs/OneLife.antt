@@ -7,13 +7,15 @@ use Rattle.ring_locks.specs.declared.handing.Handover.{Handover}
 use Rattle.ring_locks.specs.Kept.{LockView, lock_of, locks_of}
 use Rattle.ring_locks.specs.Handed.{handed, IsHanded, AreHanded}
 use Rattle.ring_locks.proofs.Shown.{locks_append}
-use Rattle.std.proofs.lemmas.List.{map-set}
+use Rattle.std.specs.List.{AllByRecursion}
+use Rattle.std.proofs.lemmas.List.{map-set, map-append}
 use Rattle.ring_segments.specs.Remarks.{without_remarks}
 use Rattle.lock_serve.specs.Counting.{SegmentView}
 use Rattle.lock_laws.specs.Life.{Stage, IsLockRun, behind, IsLockLife, AreFound, AreStages}
 use Rattle.lock_laws.specs.Remarked.{begun_with_remarks}
 use Rattle.lock_laws.specs.Runs.{inside, EndWith}
-use Rattle.lock_laws.specs.OneLife.{Run, locks_at_start, IsHandedOver, AreHandedOver, AreRuns, AreOneLife, RunsAreOneLife}
+use Rattle.lock_laws.specs.Started.{IsNew}
+use Rattle.lock_laws.specs.OneLife.{Run, locks_at_start, IsHandedOver, AreHandedOver, AreNew, AreRuns, AreOneLife, RunsAreOneLife}
 use Rattle.lock_laws.proofs.Following.{lock_there}
 use Rattle.lock_laws.proofs.Life.{run_so, passed_on, runs_are_a_life}
 use Rattle.lock_laws.proofs.RunsGoOn.{behind_both, runs_go_on}
@@ -47,7 +49,7 @@ life_so s (next ∷ more) ls last journal e k ends =
       found = λ n f. m.found n f ∙ (sym (locks_append ls now (m.inputs ++ Restart ∷ [])) ∙ ap (λ (u : List Input). locks_after ls u) joined);
     }
 
--- ---- holds that are handed over
+-- ---- holds that are handed over, and new locks
 
 one_over : (old new : List LockView) (h : Handover) → IsHanded old new h → IsHandedOver (locks_of old) (locks_of new) h
 one_over old new h is = record {
@@ -62,6 +64,10 @@ all_over : (old : List LockView) (hs : List Handover) (new : List LockView) → 
 all_over old [] new same = ap (λ (vs : List LockView). locks_of vs) same
 all_over old (h ∷ hs) new (mid, is, are) = (locks_of mid, one_over old mid h is, all_over mid hs new are)
 
+all_new : (vs : List LockView) → AllByRecursion IsNew vs → AreNew (locks_of vs)
+all_new [] all = tt
+all_new (v ∷ vs) all = (all.0, all_new vs all.1)
+
 -- ---- one run after the other
 
 go : (folder : List ℕ) (r : Run folder) (more : List (Run folder)) (ls : List Lock) → locks_of (locks_at_start r) ≡ ls → AreRuns r more → (is : List Input) × AreOneLife ls r more is
@@ -73,14 +79,17 @@ go folder r [] ls e runs =
 go folder r (next ∷ more) ls e runs =
     let s = runs.0 in
     let begun : List ℕ = begun_with_remarks r.in_stages.last.inner in
-    let x = runs_go_on r.from r.to r.before r.lines r.said r.notes r.in_stages r.held folder r.kept s.word next.holders s.after s.place r.fits r.left s.started s.many in
+    let x = runs_go_on r.from r.to r.before r.lines r.said r.notes r.in_stages r.held folder r.kept s.word next.holders s.after s.place r.fits r.left s.started in
     let l = life_so x.0 x.1 ls (inside r.in_stages.last).segment (without_remarks (begun ++ r.kept)) (ap (λ (v : SegmentView). locks_of v.locks) x.2.begins ∙ e) x.2.stages x.2.ends in
     let given : List Lock = locks_of (locks_at_start next) in
-    let over : AreHandedOver (locks_after ls (l.inputs ++ Restart ∷ [])) next.holders given =
-    subst (λ (u : List Lock). AreHandedOver u next.holders given) (l.found x.3 x.4)
-    (subst (λ (vs : List LockView). AreHandedOver (locks_of x.3) next.holders (locks_of vs)) (sym s.begins) (all_over x.3 next.holders s.place.locks x.5)) in
+    let added : List Lock = locks_of x.4 in
+    let both : locks_of (x.3 ++ x.4) ≡ locks_after ls (l.inputs ++ Restart ∷ []) ++ added =
+    map-append lock_of x.3 x.4 ∙ ap (λ (u : List Lock). u ++ added) (l.found x.3 x.5) in
+    let over : AreHandedOver (locks_after ls (l.inputs ++ Restart ∷ []) ++ added) next.holders given =
+    subst (λ (u : List Lock). AreHandedOver u next.holders given) both
+    (subst (λ (vs : List LockView). AreHandedOver (locks_of (x.3 ++ x.4)) next.holders (locks_of vs)) (sym s.begins) (all_over (x.3 ++ x.4) next.holders s.place.locks x.7)) in
     let m = go folder next more given refl runs.1 in
-    (l.inputs ++ Restart ∷ m.0, (l.inputs, m.0, given, record { first = x.0; more = x.1; run = x.2; life = l.life }, refl, over, m.1))
+    (l.inputs ++ Restart ∷ m.0, (l.inputs, m.0, added, given, record { first = x.0; more = x.1; run = x.2; life = l.life }, refl, all_new x.4 x.6, over, m.1))
 
 -- the first one begins with locks that are right
 first_right : (folder : List ℕ) (r : Run folder) → AreRight (locks_of (locks_at_start r))

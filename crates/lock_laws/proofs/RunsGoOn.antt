@@ -22,7 +22,7 @@ pub behind_both : (front a b : List ℕ) → IsPrefix a b → IsPrefix (front ++
 behind_both front a b p = (p.0, ap (λ (u : List ℕ). front ++ u) p.1 ∙ sym (append_assoc front a p.0))
 
 pub runs_go_on : RunsGoOn
-runs_go_on a b before lines said notes r held folder kept word holders after p fits left started many =
+runs_go_on a b before lines said notes r held folder kept word holders after p fits left started =
     let begun : List ℕ = begun_with_remarks r.last.inner in
     let s = r.stages (begun ++ kept) (behind_both begun r.noted kept left.told) (behind_both begun kept (r.noted ++ notes) left.no_more) in
     let k : IsKeptLast held folder b.number r.digest (inside r.last).segment.locks (begun ++ kept) = record {
@@ -30,5 +30,5 @@ runs_go_on a b before lines said notes r held folder kept word holders after p f
       file = left.file ∙ ap (λ (u : List ℕ). Some u) (text_is r.last b.number r.digest kept);
       last = left.last;
     } in
-    let t = kept_segments_start held folder b.number r.digest (inside r.last).segment.locks (begun ++ kept) word holders after p k started many in
-    (s.0, s.1, s.2, t.locks, t.found, t.handed)
+    let t = kept_segments_start held folder b.number r.digest (inside r.last).segment.locks (begun ++ kept) word holders after p k started in
+    (s.0, s.1, s.2, t.locks, t.added, t.found, t.new, t.handed)

@@ -1,5 +1,6 @@
 -- Runs of a program of locks over one folder are one life of locks (this project's own).
-use Rattle.std.specs.Prelude.{◌≡◌, ℕ, List, [], ◌∷◌, ◌++◌, length, slice_get, slice_set, Option, Some}
+use Rattle.std.specs.Prelude.{◌≡◌, ℕ, List, [], ◌∷◌, ◌++◌, slice_get, slice_set, Option, Some, None}
+use Rattle.std.specs.List.{AllByRecursion}
 use Rattle.disks.specs.Held.{Held}
 use Rattle.segment_loop.specs.Segments.{Moment}
 use Rattle.ring_locks.specs.declared.handing.Handover.{Handover}
@@ -32,13 +33,12 @@ pub record Run (folder : List ℕ) : Type 0 where
 abbrev pub locks_at_start : {folder : List ℕ} → Run folder → List LockView
 locks_at_start r = (inside r.from.service).segment.locks
 
--- The next run starts of what this one left, with its own holders: no lock is new.
+-- the next run starts of what this one left, with its own holders
 pub record StartsBehind {folder : List ℕ} (r next : Run folder) : Type 0 where
   pub word : Option (List ℕ)
   pub after : Option Held
   pub place : Place
   pub started : AreStarted folder word next.holders (Some r.held) after place
-  pub many : length place.locks ≡ length (inside r.in_stages.last).segment.locks
   pub begins : locks_at_start next ≡ place.locks
 
 -- runs, each of which starts of what the one before it left
@@ -72,17 +72,23 @@ AreHandedOver old [] new = new ≡ old
 AreHandedOver old (h ∷ hs) new =
     (mid : List Lock) × IsHandedOver old mid h × AreHandedOver mid hs new
 
+-- locks that are new: no client waits for one, and none holds it
+abbrev pub AreNew : List Lock → Type 0
+AreNew added = AllByRecursion (λ (l : Lock). (l.line ≡ []) × (l.holder ≡ None)) added
+
 -- One list of inputs, with a restart between two runs: each run is a life of its part of the list,
--- and begins with the locks after all inputs before it, when its holds were handed over.
+-- and begins with the locks after all inputs before it, with new ones after them, when its holds
+-- were handed over.
 abbrev pub AreOneLife : {folder : List ℕ} → List Lock → Run folder → List (Run folder)
     → List Input → Type 0
 AreOneLife ls r [] is = IsLifeOf ls r is
 AreOneLife ls r (next ∷ more) is =
     (now later : List Input)
-    × (handed : List Lock)
+    × (added handed : List Lock)
     × IsLifeOf ls r now
     × (is ≡ now ++ Restart ∷ later)
-    × AreHandedOver (locks_after ls (now ++ Restart ∷ [])) next.holders handed
+    × AreNew added
+    × AreHandedOver (locks_after ls (now ++ Restart ∷ []) ++ added) next.holders handed
     × AreOneLife handed next more later
 
 -- A law: runs over one folder are one list of inputs of the machine of locks, from the locks with

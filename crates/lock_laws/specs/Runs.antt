@@ -1,5 +1,5 @@
 -- A run of a program of locks, in segments, as stages of a life (this project's own).
-use Rattle.std.specs.Prelude.{◌≡◌, ℕ, ◌+◌, ◌≤◌, true, false, not, List, [], ◌∷◌, ◌++◌, length, Option, Some, IsSome}
+use Rattle.std.specs.Prelude.{◌≡◌, ℕ, ◌+◌, ◌≤◌, true, false, not, List, [], ◌∷◌, ◌++◌, Option, Some, IsSome}
 use Rattle.std.specs.List.{AllByRecursion, filter, flat_map}
 use Rattle.disks.specs.Held.{Held, bytes_of, is_there}
 use Rattle.segment_folder.specs.Names.{segment_file, IsNumber}
@@ -29,6 +29,7 @@ use Rattle.lock_serve.specs.State.{state_lines}
 use Rattle.lock_laws.specs.Begun.{HaveBegun}
 use Rattle.lock_laws.specs.KeysBack.{IsSound}
 use Rattle.lock_laws.specs.Remarked.{begun_with_remarks}
+use Rattle.lock_laws.specs.Started.{IsNew}
 use Rattle.lock_laws.specs.Life.{Stage, AreFound, AreStages}
 use Rattle.lock_laws.specs.Around.{AreToldAround, AreToldBehind}
 
@@ -158,9 +159,9 @@ pub record IsLeftIn {a b : Moment Service} {before : List ℕ} {lines : List (Li
   pub told : IsPrefix r.noted kept
   pub no_more : IsPrefix kept (r.noted ++ notes)
 
--- A law: where that is left, and locks start there, none of them new, the run is some stages, and
--- locks are found in its journal, which start when each of these holds was handed to its client. So
--- the next run follows it, if none was.
+-- A law: where that is left, and locks start there, the run is some stages, and these locks are
+-- found in its journal, with new ones after them, when each of these holds was handed to its client.
+-- So the next run follows it, if no lock is new and no hold was handed over.
 abbrev pub RunsGoOn : Type 0
 RunsGoOn =
     (a b : Moment Service) (before : List ℕ) (lines : List (List ℕ)) (said notes : List ℕ)
@@ -168,10 +169,10 @@ RunsGoOn =
     (word : Option (List ℕ)) (holders : List Handover) (after : Option Held) (p : Place)
     → by_segments.HasText a.service a.number before → IsLeftIn r held folder kept
     → AreStarted folder word holders (Some held) after p
-    → length p.locks ≡ length (inside r.last).segment.locks
     → (first : Stage) × (more : List Stage)
     × IsRun a.service r.last lines said (begun_with_remarks r.last.inner ++ kept) first more
-    × (locks : List LockView)
+    × (locks added : List LockView)
     × AreFound (inside r.last).segment.locks
     (without_remarks (begun_with_remarks r.last.inner ++ kept)) locks
-    × AreHanded locks holders p.locks
+    × AllByRecursion IsNew added
+    × AreHanded (locks ++ added) holders p.locks

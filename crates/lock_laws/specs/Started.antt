@@ -1,5 +1,6 @@
 -- Locks that a folder's last segment starts are those that are found in it (this project's own).
-use Rattle.std.specs.Prelude.{◌≡◌, ℕ, ◌≤◌, true, List, ◌++◌, length, Option, Some}
+use Rattle.std.specs.Prelude.{◌≡◌, ℕ, ◌≤◌, true, List, [], ◌++◌, length, Option, Some, None}
+use Rattle.std.specs.List.{AllByRecursion}
 use Rattle.disks.specs.Held.{Held, bytes_of, is_there}
 use Rattle.segment_folder.specs.Names.{segment_file, IsNumber}
 use Rattle.ring_saved.specs.declared.saved.Saved.{Saved}
@@ -48,23 +49,29 @@ pub record IsKeptLast (held : Held) (folder : List ℕ) (number : ℕ) (behind :
       ≡ Some (head_text (head_with number behind start) ++ kept)
   pub last : (n : ℕ) → IsNumber n → is_there held (segment_file folder n) ≡ true → n ≤ number
 
--- locks start in that segment, as they are found in what is kept of it, and then each of these open
--- holds was handed to its client
+-- a lock that is new: no client waits for it, and none holds it
+abbrev pub IsNew : LockView → Type 0
+IsNew v = (v.line ≡ []) × (v.holder ≡ None)
+
+-- Locks start in that segment: those that are found in what is kept of it, and new ones after them.
+-- Then each of these open holds was handed to its client.
 pub record StartThere (number : ℕ) (behind : List ℕ) (start : List LockView) (kept : List ℕ)
     (holders : List Handover) (p : Place) : Type 0 where
   pub number_is : p.number ≡ number
   pub behind_is : p.behind ≡ behind
   pub locks : List LockView
+  pub added : List LockView
   pub found : AreFound start (without_remarks kept) locks
-  pub handed : AreHanded locks holders p.locks
+  pub new : AllByRecursion IsNew added
+  pub handed : AreHanded (locks ++ added) holders p.locks
 
--- A law: what is kept of a folder's last segment starts the next run, if no lock is new.
+-- A law: what is kept of a folder's last segment starts the next run.
 abbrev pub KeptSegmentsStart : Type 0
 KeptSegmentsStart =
     (held : Held) (folder : List ℕ) (number : ℕ) (behind : List ℕ) (start : List LockView)
     (kept : List ℕ) (word : Option (List ℕ)) (holders : List Handover) (after : Option Held)
     (p : Place) → IsKeptLast held folder number behind start kept
-    → AreStarted folder word holders (Some held) after p → length p.locks ≡ length start
+    → AreStarted folder word holders (Some held) after p
     → StartThere number behind start kept holders p
 
 -- A law: locks that are found begin a segment, if they are kept and have a text.

@@ -134,14 +134,16 @@ pub fn parts_are_stages()
 
 /// So runs over one folder, each ended at any moment, and each next one started of what was left of the one before it, are one
 /// list of inputs of the machine of locks, with a restart between two runs: what each run said is what the machine answers to its
-/// part of the list, and each run begins with the locks after all inputs before it.
+/// part of the list, and each run begins with the locks after all inputs before it, with new ones after them, when its holds were
+/// handed over.
 pub fn runs_are_one_life()
     ensures { RunsAreOneLife }
 {}
 
-/// The locks that start of a folder's last segment, none of them new, are those that are found in its journal: the head of the file
-/// is read as it was written, whatever is kept behind it. So a run of the program that begins of what another one left follows it
-/// in a life; and locks that are found begin a segment again. So do all locks that start, new ones and handed holds among them.
+/// The locks that start of a folder's last segment are those that are found in its journal, with new ones after them, when holds were
+/// handed over: the head of the file is read as it was written, whatever is kept after it. So a run of the program that begins of
+/// what another one left follows it in a life; and locks that are found begin a segment again. So do all locks that start, new ones
+/// and handed holds among them.
 pub fn started_locks_are_found()
     ensures found { StartedLocksAreFound }
     ensures kept { KeptSegmentsStart }
