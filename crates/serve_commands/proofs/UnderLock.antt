@@ -20,21 +20,21 @@ use Rattle.serve_commands.specs.ServedFolder.{Place, IsRun, AreUnderLock}
 module _ (folder : List ℕ) where
   -- ---- a line changes no lock
 
-  save_locked : (journal saves : Option (List ℕ)) (was is : Option Held) (name : List ℕ) (rings : List Standing) (given : Answer) → IsSaveGiven journal saves was is name rings given → StandsLocked was folder → StandsLocked is folder
-  save_locked journal None was is name rings given g l = same_locked was is folder g.1 l
-  save_locked journal (Some place) was is name rings given (inl (plain, inl s)) l = put_locked was is folder _ _ s.1 l
-  save_locked journal (Some place) was is name rings given (inl (plain, inr s)) l = same_locked was is folder s.1 l
-  save_locked journal (Some place) was is name rings given (inr s) l = same_locked was is folder s.2 l
+  save_locked : (journal history saves : Option (List ℕ)) (was is : Option Held) (name : List ℕ) (rings : List Standing) (given : Answer) → IsSaveGiven journal history saves was is name rings given → StandsLocked was folder → StandsLocked is folder
+  save_locked journal history None was is name rings given g l = same_locked was is folder g.1 l
+  save_locked journal history (Some place) was is name rings given (inl (plain, inl s)) l = put_locked was is folder _ _ s.1 l
+  save_locked journal history (Some place) was is name rings given (inl (plain, inr s)) l = same_locked was is folder s.1 l
+  save_locked journal history (Some place) was is name rings given (inr s) l = same_locked was is folder s.2 l
 
-  given_locked : (journal saves : Option (List ℕ)) (was is : Option Held) (name : List ℕ) (rings : List Standing) (asked given : Answer) → IsGiven journal saves was is name rings asked given → StandsLocked was folder → StandsLocked is folder
-  given_locked journal saves was is name rings answer.Saved given g l = save_locked journal saves was is name rings given g l
-  given_locked journal saves was is name rings asked given g l = same_locked was is folder g.1 l
+  given_locked : (journal history saves : Option (List ℕ)) (was is : Option Held) (name : List ℕ) (rings : List Standing) (asked given : Answer) → IsGiven journal history saves was is name rings asked given → StandsLocked was folder → StandsLocked is folder
+  given_locked journal history saves was is name rings answer.Saved given g l = save_locked journal history saves was is name rings given g l
+  given_locked journal history saves was is name rings asked given g l = same_locked was is folder g.1 l
 
   answers_locked : (terms : Terms) (old new : List Standing) (was is : Option Held) (lines : List (List ℕ)) (said noted : List ℕ) → Answers terms old was lines said noted new is → StandsLocked was folder → StandsLocked is folder
   answers_locked terms old new was is [] said noted h l = same_locked was is folder h.3 l
   answers_locked terms old new was is (line ∷ lines) said noted h l =
       answers_locked terms h.0 new h.1 is lines h.3 h.5 h.9
-      (given_locked terms.journal terms.saves was h.1 (name_in line) h.0 h.6.turn.answer h.6.given h.6.gives l)
+      (given_locked terms.journal terms.history terms.saves was h.1 (name_in line) h.0 h.6.turn.answer h.6.given h.6.gives l)
 
   -- ---- before a part a segment ends, or goes on
 
