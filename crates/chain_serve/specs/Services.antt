@@ -13,7 +13,7 @@ use Rattle.ring_serve.specs.Segments.{AreNext, IsFull}
 use Rattle.ring_serve.specs.Due.{is_due}
 use Rattle.ring_serve.specs.Permits.{Terms, is_shut, IsTied}
 use Rattle.ring_serve.specs.Serving.{IsAnswered}
-use Rattle.chain_serve.specs.Texts.{segment_text, HaveNoText}
+use Rattle.chain_serve.specs.Texts.{segment_text, HasText, HaveNoText}
 use Rattle.chain_serve.specs.Segments.{file_of}
 use Rattle.chain_serve.specs.Service.{part_terms}
 use Rattle.chain_serve.specs.declared.segments.SegmentRules.{SegmentRules}
@@ -89,5 +89,5 @@ segmenting = record {
   HasNoNext = λ s why. HasNoNext s.rings s.number why;
   HasNoText = λ s why. HaveNoText s.rings why;
   IsKept = λ old why new. new ≡ record old { refusing = Some (refusal_of why) };
-  HasText = λ s number behind. Unit {0};
+  HasText = λ s number behind. HasText number behind s.rings;
 }

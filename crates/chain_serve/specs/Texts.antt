@@ -1,7 +1,8 @@
 -- The text with which the file of a segment begins (this project's own).
 use Rattle.std.specs.Prelude.{◌≡◌, ℕ, ◌≤◌, ◌^◌, ◌⊎◌, List, ◌++◌, length}
 use Rattle.ring_journal.specs.Spelling.{head_text as journal_text}
-use Rattle.ring_segments.specs.Spelling.{head_text}
+use Rattle.ring_saved.specs.Spelling.{Fits}
+use Rattle.ring_segments.specs.Spelling.{head_text, HeadFits}
 use Rattle.segment_loop.specs.declared.segmented.EndFault.{EndFault}
 use Rattle.segment_loop.specs.declared.segmented.EndFault.TheVariants as end
 use Rattle.ring_serve.specs.Standings.{Standing}
@@ -14,6 +15,11 @@ abbrev pub segment_text : ℕ → List ℕ → List Standing → List ℕ
 segment_text number behind rings =
     head_text (record { number = number; behind = behind; bases = bases_of rings })
     ++ journal_text (content_of rings)
+
+-- there is such a text: the head fits in it, and so do the rings
+pub record HasText (number : ℕ) (behind : List ℕ) (served : List Standing) : Type 0 where
+  pub head : HeadFits (record { number = number; behind = behind; bases = bases_of served })
+  pub rings : Fits (content_of served)
 
 -- no segment begins with a text of these rings: there is none, or there are too many; or there is no
 -- memory

@@ -1,11 +1,12 @@
 //! The text with which the file of a segment begins.
 
-ghost use Rattle.std.specs.Prelude.{◌≡◌, ◌≤◌, ◌<◌, ◌^◌, ◌++◌, length, IfOk, IfErr};
+ghost use Rattle.std.specs.Prelude.{◌≡◌, ◌≤◌, ◌<◌, ◌^◌, ◌++◌, length, IfOk, IfErr, OnOk};
 ghost use Rattle.text_lines.specs.Writing.{Writes};
+ghost use Rattle.ring_saved.specs.Spelling.{Fits};
 ghost use Rattle.ring_journal.specs.Spelling.{head_text as journal_text};
-ghost use Rattle.ring_segments.specs.Spelling.{head_of, head_text, DigestFits};
+ghost use Rattle.ring_segments.specs.Spelling.{head_of, head_text, DigestFits, HeadFits};
 ghost use Rattle.ring_serve.specs.Saved.{content_of};
-ghost use Rattle.chain_serve.specs.Texts.{segment_text, HaveNoText};
+ghost use Rattle.chain_serve.specs.Texts.{segment_text, HasText, HaveNoText};
 
 use ring_journal::put_first_line;
 use ring_segments::{DIGEST_DIGITS, SegmentHead, put_head};
@@ -19,8 +20,9 @@ use text_lines::WriteFault;
 fn put_beginning<W: Write>(out: &mut W, served: &Served) -> Result<(), WriteFault>
     requires some { 1 ≤ length served.now }
     requires most { length served.now < 2 ^ 32 }
-    ensures { Writes (W.contents out.old) (W.contents out.new) result
+    ensures written { Writes (W.contents out.old) (W.contents out.new) result
         (journal_text (content_of served.now)) }
+    ensures fits { IfOk result (λ _. Fits (content_of served.now)) }
 {
     match put_first_line(out) {
         Ok(()) => write_rings(out, served),
@@ -37,8 +39,9 @@ fn put_segment<W: Write>(out: &mut W, head: &SegmentHead, served: &Served) -> Re
     requires most_heads { length head.now.bases.items < 2 ^ 32 }
     requires some { 1 ≤ length served.now }
     requires most { length served.now < 2 ^ 32 }
-    ensures { Writes (W.contents out.old) (W.contents out.new) result
+    ensures written { Writes (W.contents out.old) (W.contents out.new) result
         (head_text (head_of head.now) ++ journal_text (content_of served.now)) }
+    ensures fits { IfOk result (λ _. HeadFits (head_of head.now) × Fits (content_of served.now)) }
 {
     match put_head(out, head) {
         Ok(()) => put_beginning(out, served),
@@ -61,6 +64,7 @@ pub(crate) fn segment_text(
     requires digits { DigestFits behind }
     ensures text { IfOk result (λ text. text.items ≡ segment_text number behind served.now) }
     ensures why { IfErr result (λ e. HaveNoText served.now e) }
+    ensures fits { OnOk result (HasText number behind served.now) }
 {
     let count = served.count();
     if count == 0 || count > u32::MAX as usize {
