@@ -24,7 +24,7 @@ TESTS = re.compile(r"^#\[cfg\(test\)\]\nmod \w+ \{", re.M)
 
 #: what is judged: the name of the kind, its files, and what of them is read
 KINDS = (
-    ("help of ring_tool", ("crates/ring_cli/src/*.rt",), "texts"),
+    ("help of ring_tool", ("crates/command_line/src/*.rt",), "texts"),
     ("texts of the server and the command", ("server/*/src/**/*.rs",), "texts"),
     ("texts of the clients", ("python/wozgirt/*.py", "rust/*/src/*.rs", "include/*.h", "include/*.c"), "texts"),
     ("comments of the C headers", ("include/*.h", "include/*.c"), "comments"),
@@ -35,8 +35,8 @@ KINDS = (
 )
 #: crates whose comments are not judged
 UNREAD = (
-    "disks segment_folder segment_loop line_loop line_replica lock_serve lock_laws lock_folder lock_commands chain_serve serve_commands "
-    "folder_commands text_commands tool_parts ring_serve ring_text ring_report command_tests"
+    "disks line_service line_service line_service line_replica lock_service lock_service lock_folder lock_commands ring_service serve_commands "
+    "folder_commands text_commands tool_parts ring_service ring_text ring_text command_tests"
 ).split()
 
 

@@ -1,7 +1,7 @@
 -- The running digest of all that is told (this project's own).
 use Rattle.std.specs.Prelude.{ℕ, List, [], ◌∷◌, ◌++◌, codes}
 use Rattle.text_lines.specs.Spelling.{spaced}
-use Rattle.ring_segments.specs.Spelling.{digest_of, no_digest}
+use Rattle.segment_files.specs.Spelling.{digest_of, no_digest}
 
 -- the last place that was told, and what the next digest is of: the digest then, and all that was
 -- told since; nothing before the first
