@@ -35,8 +35,8 @@ KINDS = (
 )
 #: crates whose comments are not judged
 UNREAD = (
-    "disks line_service line_service line_service line_replica lock_service lock_service lock_folder lock_commands ring_service serve_commands "
-    "folder_commands text_commands tool_parts ring_service ring_text ring_text command_tests"
+    "disks line_service line_replica lock_service lock_folder lock_commands ring_service serve_commands folder_commands "
+    "text_commands tool_parts ring_text command_tests"
 ).split()
 
 

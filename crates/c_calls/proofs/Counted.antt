@@ -8,7 +8,7 @@ use Rattle.held_locks.specs.declared.answers.HoldEnd.{HoldEnd}
 use Rattle.held_locks.specs.declared.answers.Holder.{Holder}
 use Rattle.held_locks.specs.declared.answers.Left.{Left}
 use Rattle.c_calls.specs.declared.lock_answers.Grant.{Grant}
-use Rattle.held_locks.specs.Lines.{Lock}
+use Rattle.held_locks.specs.Queues.{Lock}
 use Rattle.held_locks.specs.Locks.{Ask, Leave, Input, Asked, Restart, Turn, restarted, turn, step, step_at}
 use Rattle.held_locks.specs.Promises.{locks_after, leaves}
 use Rattle.held_locks.specs.Cuts.{AreNext}

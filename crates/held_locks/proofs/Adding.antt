@@ -7,7 +7,7 @@ use Rattle.endless_ring.specs.Endless.{EndlessView}
 use Rattle.ring_model.specs.Ring.{is_settled}
 use Rattle.held_locks.specs.declared.answers.Waiter.{Waiter}
 use Rattle.held_locks.specs.declared.answers.Holder.{Holder}
-use Rattle.held_locks.specs.Lines.{Lock, stands, waits_for, holder_of}
+use Rattle.held_locks.specs.Queues.{Lock, stands, waits_for, holder_of}
 use Rattle.held_locks.specs.Promises.{AreRight, IsRightLock}
 use Rattle.held_locks.specs.Waiting.{lock_in, AreWaits}
 use Rattle.held_locks.specs.Kept.{LockView, state_of, lock_of, locks_of, lock_limit, IsKeptRing, IsKeptLock, AreKept}

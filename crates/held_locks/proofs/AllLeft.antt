@@ -16,7 +16,7 @@ use Rattle.held_locks.specs.declared.answers.Left.{Left}
 use Rattle.held_locks.specs.declared.parts.LockParts.{LockParts}
 use Rattle.held_locks.specs.Parts.{view_of, views_of}
 use Rattle.held_locks.specs.Kept.{LockView, state_of, lock_of, locks_of, AreMade, ended_in, ended_at, own_answer, other_grant, IsDone, left_by, left_at, left_of, grants_behind, IsLeft}
-use Rattle.held_locks.specs.Lines.{Lock, stands, without, is_held_by}
+use Rattle.held_locks.specs.Queues.{Lock, stands, without, is_held_by}
 use Rattle.held_locks.specs.Locks.{Leave, Asked, Input, Step, advanced, turn, step, step_at}
 use Rattle.held_locks.specs.Promises.{locks_after, answers_after, leaves, LeaversAreGone}
 use Rattle.held_locks.proofs.Standing.{get_set, stands_without}

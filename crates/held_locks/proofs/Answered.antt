@@ -10,7 +10,7 @@ use Rattle.held_locks.specs.declared.answers.Waiter.{Waiter}
 use Rattle.held_locks.specs.declared.answers.Holder.{Holder}
 use Rattle.held_locks.specs.declared.answers.Answer.{Answer}
 use Rattle.held_locks.specs.declared.answers.Answer.TheVariants as answer
-use Rattle.held_locks.specs.Lines.{Lock, stands, waits_for, client_of, holder_of, comes_to}
+use Rattle.held_locks.specs.Queues.{Lock, stands, waits_for, client_of, holder_of, comes_to}
 use Rattle.held_locks.specs.Locks.{Ask, Acquire, Try, Release, Cancel, Leave, Corrupt, Stats, Turn, advanced, turn, step_at}
 use Rattle.held_locks.specs.Promises.{AreRight, comes, ComesToAnEnd, IsGrantOfAnother, IsAnswered, OneAnswerEach, NobodyWaitsForNothing, NoCircle, CirclesAreReal}
 use Rattle.held_locks.proofs.Moves.{Move, Stays, Waits, Gets, Ends, Drops, Faults, IsEnd, Released, Left, IsDrop, Cancelled, Gone, IsAsking, Acquires, Tries, is_leave, move_of}

@@ -2,7 +2,7 @@
 use Rattle.std.proofs.Common.{◌≡◌, ◌≢◌, ℕ, zero, suc, true, false, List, refl, sym, ◌∙◌, ap, subst, inl, inr, Option, Some, None}
 use Rattle.std.specs.Prelude.{◌==◌, slice_get, slice_set, ◌⊎◌}
 use Rattle.std.proofs.lemmas.Bool.{cases_Bool, cases_eq, eqb-false, true≢false, or_parts, both_ways}
-use Rattle.held_locks.specs.Lines.{Lock, stands, waits_for, client_of, holder_of, comes_to}
+use Rattle.held_locks.specs.Queues.{Lock, stands, waits_for, client_of, holder_of, comes_to}
 use Rattle.held_locks.specs.Promises.{comes, ComesToAnEnd}
 use Rattle.held_locks.proofs.Standing.{Once, get_set, get_set_same, get_set_other, waits_at, waits_nowhere, nowhere_waits, waits_there}
 

@@ -9,7 +9,7 @@ use Rattle.held_locks.specs.declared.answers.Holder.{Holder}
 use Rattle.held_locks.specs.declared.answers.Answer.{Answer}
 use Rattle.held_locks.specs.declared.answers.Answer.TheVariants as answer
 use Rattle.held_locks.specs.declared.answers.Refusal.TheVariants as refusal
-use Rattle.held_locks.specs.Lines.{Lock, without, is_held_with}
+use Rattle.held_locks.specs.Queues.{Lock, without, is_held_with}
 use Rattle.held_locks.specs.Locks.{Ask, Release, Mark, Turn, told, ended, turn, joined, fault, Input, Asked, Step, step, step_at, restarted}
 use Rattle.held_locks.specs.Promises.{locks_after, names, grant_of, grants_in, grants_of, ends_hold, NoneIs, GoesOn, Exclusion, OthersReleaseNothing}
 use Rattle.held_locks.proofs.Moves.{Move, Stays, Waits, Gets, Ends, Drops, Faults, IsEnd, Released, Left, IsDrop, Cancelled, Gone, waiter, is_grant}

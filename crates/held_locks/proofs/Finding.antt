@@ -5,7 +5,7 @@ use Rattle.std.proofs.lemmas.Bool.{cases_Bool, both_ways, eq-eqb, ne_eqb, false_
 use Rattle.std.proofs.lemmas.List.{length-map}
 use Rattle.std.proofs.lemmas.Option.{slice_get-map, slice_get_within, slice_get_read}
 use Rattle.held_locks.specs.declared.parts.LockParts.{LockParts}
-use Rattle.held_locks.specs.Lines.{Lock, stands, is_held_by, waits_for, client_of, holder_of, comes_to}
+use Rattle.held_locks.specs.Queues.{Lock, stands, is_held_by, waits_for, client_of, holder_of, comes_to}
 use Rattle.held_locks.specs.declared.answers.Refusal.{Refusal}
 use Rattle.held_locks.specs.declared.answers.Refusal.TheVariants as refusal
 use Rattle.held_locks.specs.Locks.{acquire_refusal}

@@ -8,7 +8,7 @@ use Rattle.held_locks.specs.declared.answers.Holder.{Holder}
 use Rattle.held_locks.specs.declared.answers.Answer.{Answer}
 use Rattle.held_locks.specs.declared.answers.Answer.TheVariants as answer
 use Rattle.held_locks.specs.declared.answers.Refusal.TheVariants as refusal
-use Rattle.held_locks.specs.Lines.{Lock, stands, without, is_held_by}
+use Rattle.held_locks.specs.Queues.{Lock, stands, without, is_held_by}
 use Rattle.held_locks.specs.Locks.{Ask, Acquire, Try, Release, Cancel, Leave, Corrupt, Stats, Turn, told, granted, advanced, dropped, ended, Input, Asked, Restart, Step, turn, step, step_at}
 use Rattle.held_locks.specs.Promises.{AreRight, AreApart, IsRightLock, locks_after, names, grants_in, grants_of, gives_up, breaks, NoneIs, before, gives_way, given_up, NoneOf, TokensAreForeseen}
 use Rattle.held_locks.proofs.Rings.{grant_grants}

@@ -6,7 +6,7 @@ use Rattle.std.proofs.lemmas.List.{map-set, length-set}
 use Rattle.std.proofs.lemmas.Option.{slice_get-map}
 use Rattle.held_locks.specs.declared.answers.Waiter.{Waiter}
 use Rattle.held_locks.specs.declared.handing.Handover.{Handover}
-use Rattle.held_locks.specs.Lines.{Lock, stands, waits_for, holder_of}
+use Rattle.held_locks.specs.Queues.{Lock, stands, waits_for, holder_of}
 use Rattle.held_locks.specs.Promises.{AreRight, IsRightLock}
 use Rattle.held_locks.specs.Waiting.{AreWaits}
 use Rattle.held_locks.specs.Kept.{LockView, lock_of, locks_of, IsKeptLock, AreKept}

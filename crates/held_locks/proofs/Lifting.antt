@@ -11,7 +11,7 @@ use Rattle.held_locks.specs.declared.answers.Answer.TheVariants as answer
 use Rattle.held_locks.specs.declared.answers.Answers.{Answers}
 use Rattle.held_locks.specs.declared.answers.Refusal.TheVariants as refusal
 use Rattle.held_locks.specs.declared.parts.LockParts.{LockParts}
-use Rattle.held_locks.specs.Lines.{Lock, stands, without, is_held_by}
+use Rattle.held_locks.specs.Queues.{Lock, stands, without, is_held_by}
 use Rattle.held_locks.specs.Locks.{Ask, Turn, turn, Asked, Step, step, step_at}
 use Rattle.held_locks.specs.Promises.{AreRight, AreApart}
 use Rattle.held_locks.specs.Waiting.{lock_in, AreWaits}

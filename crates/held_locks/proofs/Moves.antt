@@ -9,7 +9,7 @@ use Rattle.held_locks.specs.declared.answers.Holder.{Holder}
 use Rattle.held_locks.specs.declared.answers.Answer.{Answer}
 use Rattle.held_locks.specs.declared.answers.Answer.TheVariants as answer
 use Rattle.held_locks.specs.declared.answers.Refusal.TheVariants as refusal
-use Rattle.held_locks.specs.Lines.{Lock, stands, without, is_held_by, is_held_with, waits_for, client_of, comes_to}
+use Rattle.held_locks.specs.Queues.{Lock, stands, without, is_held_by, is_held_with, waits_for, client_of, comes_to}
 use Rattle.held_locks.specs.Locks.{Ask, Acquire, Try, Release, Cancel, Leave, Corrupt, Stats, Call, Turn, told, granted, ended, fault, joined, acquired, tried, tried_of, turn}
 
 -- the answer is not a grant

@@ -16,7 +16,7 @@ use Rattle.ring_model.proofs.Shifts.{add_order-none, add_order-amount, grants_le
 use Rattle.endless_ring.specs.Endless.{EndlessView, IsEndless, IsSameEndless, IsCalled, IsNext}
 use Rattle.held_locks.specs.declared.answers.Waiter.{Waiter}
 use Rattle.held_locks.specs.declared.parts.LockParts.{LockParts}
-use Rattle.held_locks.specs.Lines.{Lock}
+use Rattle.held_locks.specs.Queues.{Lock}
 use Rattle.held_locks.specs.Grants.{carried, other_machine}
 use Rattle.held_locks.specs.Locks.{Call, called}
 use Rattle.held_locks.specs.Promises.{AreRight, IsRightLock, token_of, events_of, carries}

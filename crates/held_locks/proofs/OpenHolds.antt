@@ -24,7 +24,7 @@ use Rattle.ring_model.proofs.Shifts.{shifted_state, begins, after_shifted}
 use Rattle.ring_logs.specs.LogView.{LogView}
 use Rattle.one_thread_ring.specs.Clients.{ClientView, receipts_by, log_from, told_of, told_all}
 use Rattle.endless_ring.specs.Endless.{EndlessView}
-use Rattle.held_locks.specs.Lines.{Lock}
+use Rattle.held_locks.specs.Queues.{Lock}
 use Rattle.held_locks.specs.Locks.{Mark, Call, Survey}
 use Rattle.held_locks.specs.Promises.{marks_of, events_of, open_behind, open_after, carries}
 use Rattle.held_locks.specs.Kept.{state_of, IsKeptRing}

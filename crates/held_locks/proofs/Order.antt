@@ -7,7 +7,7 @@ use Rattle.ring_model.specs.History.{State, next}
 use Rattle.held_locks.specs.declared.answers.Waiter.{Waiter}
 use Rattle.held_locks.specs.declared.answers.Holder.{Holder}
 use Rattle.held_locks.specs.declared.answers.Answer.{Answer}
-use Rattle.held_locks.specs.Lines.{Lock, without}
+use Rattle.held_locks.specs.Queues.{Lock, without}
 use Rattle.held_locks.specs.Locks.{Ask, Mark, Turn, told, granted, advanced, Input, Asked, step}
 use Rattle.held_locks.specs.Promises.{IsRightLock, names, grants_in, grants_of, gives_up, AreServed, FirstComeFirstServed}
 use Rattle.held_locks.proofs.Moves.{Move, Stays, Waits, Gets, Ends, Drops, Faults, IsEnd, Released, Left, IsDrop, Cancelled, Gone, waiter}

@@ -8,7 +8,7 @@ use Rattle.ring_model.specs.Resources.{till}
 use Rattle.held_locks.specs.declared.answers.Waiter.{Waiter}
 use Rattle.held_locks.specs.declared.answers.Holder.{Holder}
 use Rattle.held_locks.specs.declared.answers.Answer.{Answer}
-use Rattle.held_locks.specs.Lines.{Lock, stands, without, waits_for, client_of, holder_of}
+use Rattle.held_locks.specs.Queues.{Lock, stands, without, waits_for, client_of, holder_of}
 use Rattle.held_locks.specs.Locks.{Ask, Turn, granted, advanced, fault, joined, turn, Input, Asked, Restart, step, step_at, restarted}
 use Rattle.held_locks.specs.Promises.{AreApart, IsRightLock, AreRight, comes, ComesToAnEnd, EmptyLinesAreRight, RightStays}
 use Rattle.held_locks.proofs.Rings.{IsGood, grant_good, fault_is}

@@ -11,7 +11,7 @@ use Rattle.ring_model.proofs.Histories.{after-append, IsLegal-append}
 use Rattle.held_locks.specs.declared.answers.Waiter.{Waiter}
 use Rattle.held_locks.specs.declared.answers.Holder.{Holder}
 use Rattle.held_locks.specs.declared.answers.Answer.{Answer}
-use Rattle.held_locks.specs.Lines.{Lock, without}
+use Rattle.held_locks.specs.Queues.{Lock, without}
 use Rattle.held_locks.specs.Locks.{Ask, Mark, Call, Survey, Turn, granted, advanced, ended, joined, fault, Input, Asked, Restart, turn, step, step_at, restarted}
 use Rattle.held_locks.specs.Promises.{IsRightLock, locks_after, names, marks_of, events_of, most_events, most_of_fault, OneEventEach, open_behind, open_after, Alternate, carries, SegmentsShowHolds, SegmentsRecover, CarriedChangesNothing, token_of, IsShown, HistoryShowsHolds, recovered, RestartsRecover}
 use Rattle.held_locks.specs.Grants.{carried}

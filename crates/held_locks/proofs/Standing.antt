@@ -3,7 +3,7 @@ use Rattle.std.proofs.Common.{◌≡◌, ◌≢◌, ℕ, zero, suc, Bool, true, 
 use Rattle.std.specs.Prelude.{◌||◌, ◌==◌, if◌then◌else◌, slice_get, slice_set, ◌⊎◌}
 use Rattle.std.proofs.lemmas.Bool.{cases_Bool, cases_eq, eqb-true, eqb-false, ne_eqb, or_cases, or_left, or_right, or_from, or_parts, both_ways}
 use Rattle.held_locks.specs.declared.answers.Waiter.{Waiter}
-use Rattle.held_locks.specs.Lines.{Lock, stands, without, waits_for}
+use Rattle.held_locks.specs.Queues.{Lock, stands, without, waits_for}
 use Rattle.held_locks.specs.Promises.{AreApart}
 
 -- ---- lists of locks

@@ -10,7 +10,7 @@ use Rattle.held_locks.specs.declared.answers.Holder.{Holder}
 use Rattle.held_locks.specs.declared.answers.Refusal.TheVariants as refusal
 use Rattle.held_locks.specs.declared.answers.Waiter.{Waiter}
 use Rattle.held_locks.specs.declared.handing.Handover.{Handover}
-use Rattle.held_locks.specs.Lines.{Lock, is_held_with}
+use Rattle.held_locks.specs.Queues.{Lock, is_held_with}
 use Rattle.held_locks.specs.Locks.{Release, Asked, Turn, told, ended, turn, step, step_at}
 use Rattle.held_locks.specs.Kept.{LockView, lock_of, locks_of}
 use Rattle.held_locks.specs.Handed.{handed, IsHanded, IsTheirs, HandedHoldsAreTheirs}

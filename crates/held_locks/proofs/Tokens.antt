@@ -6,7 +6,7 @@ use Rattle.ring_model.specs.Ring.{IsRing}
 use Rattle.held_locks.specs.declared.answers.Waiter.{Waiter}
 use Rattle.held_locks.specs.declared.answers.Holder.{Holder}
 use Rattle.held_locks.specs.declared.answers.Answer.{Answer}
-use Rattle.held_locks.specs.Lines.{Lock}
+use Rattle.held_locks.specs.Queues.{Lock}
 use Rattle.held_locks.specs.Locks.{Ask, Mark, Turn, granted, advanced, Input, Asked, step}
 use Rattle.held_locks.specs.Promises.{names, grants_in, grants_of, breaks, Rise, TokensRise, AreCounted, TokensAreCounted}
 use Rattle.held_locks.proofs.Rings.{grant_grants, fault_is}

@@ -14,7 +14,7 @@ use Rattle.held_locks.specs.declared.answers.Answer.TheVariants as answer
 use Rattle.held_locks.specs.declared.answers.Answers.{Answers}
 use Rattle.held_locks.specs.declared.answers.HoldEnd.{HoldEnd}
 use Rattle.held_locks.specs.declared.answers.Refusal.TheVariants as refusal
-use Rattle.held_locks.specs.Lines.{Lock, stands, without, is_held_by}
+use Rattle.held_locks.specs.Queues.{Lock, stands, without, is_held_by}
 use Rattle.held_locks.specs.Locks.{Leave, Cancel, turn, Turn, Call, called, first_pass, fault, told, granted, joined, tried_of, ended, dropped, faulted}
 use Rattle.held_locks.specs.Kept.{LockView, state_of, lock_of, IsKeptRing, IsKeptLock, AreMade, own_answer, answers_of}
 use Rattle.held_locks.specs.Parts.{IsMade, IsTurned, IsWanting, IsTurnedIn, IsWantingIn, IsEntryOf, Unchanged, Begun, Passed, Dropped}

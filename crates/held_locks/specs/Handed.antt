@@ -4,7 +4,7 @@ use Rattle.held_locks.specs.declared.handing.Handover.{Handover}
 use Rattle.held_locks.specs.declared.answers.Holder.{Holder}
 use Rattle.held_locks.specs.declared.answers.Answer.TheVariants as answer
 use Rattle.held_locks.specs.declared.answers.Refusal.TheVariants as refusal
-use Rattle.held_locks.specs.Lines.{Lock}
+use Rattle.held_locks.specs.Queues.{Lock}
 use Rattle.held_locks.specs.Locks.{Release, Input, Asked, step, restarted}
 use Rattle.held_locks.specs.Promises.{locks_after, grants_of, ends_hold, NoneIs, GoesOn}
 use Rattle.held_locks.specs.Kept.{LockView, lock_of, locks_of}

@@ -14,7 +14,7 @@ use Rattle.held_locks.specs.declared.answers.Answers.{Answers}
 use Rattle.held_locks.specs.declared.answers.HoldEnd.{HoldEnd}
 use Rattle.held_locks.specs.declared.answers.Left.{Left}
 use Rattle.held_locks.specs.declared.answers.Refusal.TheVariants as refusal
-use Rattle.held_locks.specs.Lines.{Lock}
+use Rattle.held_locks.specs.Queues.{Lock}
 use Rattle.held_locks.specs.Locks.{Ask, Leave, Corrupt, Mark, Call, Survey as Surveyed, Turn, Asked, turn, step}
 use Rattle.held_locks.specs.Promises.{AreRight, locks_after, answers_after, leaves}
 use Rattle.held_locks.specs.Waiting.{AreWaits}

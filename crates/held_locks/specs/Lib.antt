@@ -1,4 +1,4 @@
-pub mod Lines
+pub mod Queues
 pub mod Inputs
 pub mod Grants
 pub mod Locks

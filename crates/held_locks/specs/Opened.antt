@@ -13,7 +13,7 @@ use Rattle.held_locks.specs.declared.answers.Holder.{Holder}
 use Rattle.held_locks.specs.declared.answers.Refusal.{Refusal}
 use Rattle.held_locks.specs.declared.answers.Refusal.TheVariants as refusal
 use Rattle.held_locks.specs.Grants.{most_passes, repairs}
-use Rattle.held_locks.specs.Lines.{Lock}
+use Rattle.held_locks.specs.Queues.{Lock}
 use Rattle.held_locks.specs.Locks.{Mark, Call, Survey, Input, Restart}
 use Rattle.held_locks.specs.Promises.{AreRight, locks_after, marks_of, events_of, open_after, carries}
 use Rattle.held_locks.specs.Kept.{LockView, state_of, lock_of, lock_limit, AreMade}

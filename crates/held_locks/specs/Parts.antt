@@ -9,7 +9,7 @@ use Rattle.held_locks.specs.declared.answers.Answers.{Answers}
 use Rattle.held_locks.specs.declared.answers.Refusal.{Refusal}
 use Rattle.held_locks.specs.declared.answers.Refusal.TheVariants as refusal
 use Rattle.held_locks.specs.declared.parts.LockParts.{LockParts}
-use Rattle.held_locks.specs.Lines.{stands, without}
+use Rattle.held_locks.specs.Queues.{stands, without}
 use Rattle.held_locks.specs.Waiting.{lock_in}
 use Rattle.held_locks.specs.Locks.{Call, called, Turn}
 use Rattle.held_locks.specs.Kept.{LockView, state_of, lock_of, IsKeptLock, AreMade, ended_in, answers_of}

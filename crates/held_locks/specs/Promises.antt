@@ -14,7 +14,7 @@ use Rattle.held_locks.specs.declared.answers.Holder.{Holder}
 use Rattle.held_locks.specs.declared.answers.Answer.{Answer}
 use Rattle.held_locks.specs.declared.answers.Answer.TheVariants as answer
 use Rattle.held_locks.specs.declared.answers.Refusal.TheVariants as refusal
-use Rattle.held_locks.specs.Lines.{Lock, stands, is_held_by, is_held_with, waits_for, client_of, holder_of, comes_to}
+use Rattle.held_locks.specs.Queues.{Lock, stands, is_held_by, is_held_with, waits_for, client_of, holder_of, comes_to}
 use Rattle.held_locks.specs.Locks.{Ask, Release, Cancel, Leave, Corrupt, Mark, Call, Survey, Input, Asked, Restart, step}
 
 -- ---- what is true at every moment

@@ -1,7 +1,7 @@
 -- For which lock each client waits, as a list of entries (this project's own).
 use Rattle.std.specs.Prelude.{◌≡◌, ℕ, true, nat_eq, List, slice_get, Option, Some}
 use Rattle.std.specs.Map.{lookup}
-use Rattle.held_locks.specs.Lines.{Lock, stands}
+use Rattle.held_locks.specs.Queues.{Lock, stands}
 
 -- the lock of a client
 abbrev pub lock_in : List (ℕ × ℕ) → ℕ → Option ℕ

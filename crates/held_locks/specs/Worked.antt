@@ -5,7 +5,7 @@ use Rattle.ring_model.specs.declared.events.Op.TheVariants.{Pass, Corrupt}
 use Rattle.ring_model.specs.declared.events.Reply.TheVariants.{Granted, Corrupted}
 use Rattle.held_locks.specs.declared.answers.Answer.TheVariants as answer
 use Rattle.held_locks.specs.declared.answers.Refusal.TheVariants as refusal
-use Rattle.held_locks.specs.Lines.{Lock}
+use Rattle.held_locks.specs.Queues.{Lock}
 use Rattle.held_locks.specs.Locks as locks
 use Rattle.held_locks.specs.Locks.{Mark, Input, Asked, Restart}
 use Rattle.held_locks.specs.Promises.{answers_after, marks_of}

@@ -3,7 +3,7 @@
 ghost use Rattle.std.specs.Prelude.{◌≡◌, ℕ, ◌+◌, ◌⊎◌, List, [], None};
 ghost use Rattle.std.specs.Prelude.{true, false, length, IsTrue};
 ghost use Rattle.ring_model.specs.Ring.{is_settled};
-ghost use Rattle.held_locks.specs.Lines.{stands, is_held_by, is_held_with};
+ghost use Rattle.held_locks.specs.Queues.{stands, is_held_by, is_held_with};
 ghost use Rattle.held_locks.specs.Locks.{Release, Cancel, Leave, Corrupt, Stats as Asks_stats, acquired, joined, tried, turn};
 ghost use Rattle.held_locks.specs.Kept.{state_of, lock_of, need, IsKeptLock};
 ghost use Rattle.held_locks.specs.Waiting.{lock_in};

@@ -8,7 +8,7 @@ mod cuts;
 mod handing;
 pub mod laws;
 mod leaving;
-mod line;
+mod queue;
 mod locks;
 mod marks;
 mod opened;

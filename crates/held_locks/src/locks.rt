@@ -1,7 +1,7 @@
 //! Locks that are called by their numbers.
 
 ghost use Rattle.std.specs.Prelude.{◌≡◌, ℕ, ◌+◌, ◌<◌, ◌≤◌, ◌⊎◌, ◌++◌, ◌∷◌, [], List, true, false, length, slice_get, None, Some, IfOk, IfErr, OnOk, OnErr, vec_len, vec_capacity};
-ghost use Rattle.held_locks.specs.Lines.{stands, waits_for, client_of, holder_of, comes_to};
+ghost use Rattle.held_locks.specs.Queues.{stands, waits_for, client_of, holder_of, comes_to};
 ghost use Rattle.held_locks.specs.Locks.{Acquire, Try, Release, Cancel, Corrupt, Stats, acquire_refusal, try_refusal};
 ghost use Rattle.held_locks.specs.Cuts.{AreNext, HaveNoNext};
 ghost use Rattle.held_locks.specs.Handed.{IsHanded, CannotBeHanded};

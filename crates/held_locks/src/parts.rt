@@ -3,7 +3,7 @@
 ghost use Rattle.std.specs.Prelude.{◌≡◌, ◌+◌, ◌<◌, ◌⊎◌, List, ◌∷◌, length, Some, None, IsSome, true};
 ghost use Rattle.ring_model.specs.Ring.{first_privileged, is_settled};
 ghost use Rattle.endless_ring.specs.Endless.{local_survey};
-ghost use Rattle.held_locks.specs.Lines.{without};
+ghost use Rattle.held_locks.specs.Queues.{without};
 ghost use Rattle.held_locks.specs.Waiting.{lock_in};
 ghost use Rattle.held_locks.specs.Locks.{Corrupt, ended, faulted, granted, joined};
 ghost use Rattle.held_locks.specs.declared.answers.Waiter.{Waiter};

@@ -15,7 +15,7 @@ use Rattle.held_locks.specs.declared.answers.Answer.{Answer}
 use Rattle.held_locks.specs.declared.answers.Answer.TheVariants as answer
 use Rattle.held_locks.specs.declared.answers.Refusal.{Refusal}
 use Rattle.held_locks.specs.declared.answers.Refusal.TheVariants as refusal
-use Rattle.held_locks.specs.Lines.{Lock, stands, without, is_held_by, is_held_with}
+use Rattle.held_locks.specs.Queues.{Lock, stands, without, is_held_by, is_held_with}
 use Rattle.held_locks.specs.Grants.{advanced}
 use Rattle.held_locks.specs.Locks.{Ask, Acquire, Try, Release, Cancel, Leave, Corrupt, Stats, Mark, Survey, Turn, told, called, first_pass, granted, ended, dropped, faulted, joined, acquired, acquire_refusal, tried, tried_of, try_refusal, turn}
 use Rattle.held_locks.specs.Promises.{number_of, events_of}

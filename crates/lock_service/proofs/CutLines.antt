@@ -11,7 +11,7 @@ use Rattle.ring_service.proofs.Recovering.{split, after_head}
 use Rattle.held_locks.specs.declared.answers.HoldEnd.{HoldEnd}
 use Rattle.held_locks.specs.declared.answers.Answers.{Answers}
 use Rattle.held_locks.specs.declared.answers.Left.{Left}
-use Rattle.held_locks.specs.Lines.{Lock}
+use Rattle.held_locks.specs.Queues.{Lock}
 use Rattle.held_locks.specs.Locks.{Ask, Acquire, Try, Release, Cancel, Leave, Stats, Mark, Asked, Turn, Step, turn, step, step_at}
 use Rattle.held_locks.specs.Promises.{AreRight, locks_after, leaves}
 use Rattle.held_locks.specs.Kept.{LockView, lock_of, locks_of, AreMade, ended_in, ended_at, answers_of, IsDone, IsWant, IsAnswer, IsLeft, left_at, left_of}

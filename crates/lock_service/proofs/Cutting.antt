@@ -19,7 +19,7 @@ use Rattle.ring_service.proofs.Effects.{right_at}
 use Rattle.ring_service.proofs.RecordedBlocks.{set_there}
 use Rattle.ring_service.proofs.Recovering.{lines_of, split, after_head, cut_calls}
 use Rattle.held_locks.specs.declared.answers.Waiter.{Waiter}
-use Rattle.held_locks.specs.Lines.{Lock}
+use Rattle.held_locks.specs.Queues.{Lock}
 use Rattle.held_locks.specs.Locks.{Ask, Corrupt, Mark, Survey, Input, Asked, Turn, Step, turn, step, advanced}
 use Rattle.held_locks.specs.Promises.{AreRight, locks_after}
 use Rattle.held_locks.specs.Kept.{LockView, state_of, lock_of, locks_of, AreMade, ended_in}

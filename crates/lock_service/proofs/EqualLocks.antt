@@ -9,7 +9,7 @@ use Rattle.endless_ring.specs.Endless.{IsSameEndless, local_survey}
 use Rattle.held_locks.specs.declared.answers.Answers.{Answers}
 use Rattle.held_locks.specs.declared.answers.HoldEnd.{HoldEnd}
 use Rattle.held_locks.specs.declared.answers.Left.{Left}
-use Rattle.held_locks.specs.Lines.{Lock}
+use Rattle.held_locks.specs.Queues.{Lock}
 use Rattle.held_locks.specs.Locks.{Ask, Leave, Mark, Call, Survey, Asked, Turn, turn, step}
 use Rattle.held_locks.specs.Promises.{locks_after, leaves}
 use Rattle.held_locks.specs.Kept.{LockView, lock_of, locks_of, ended_in, ended_at, answers_of, IsDone, IsWant, IsAnswer, IsLeft, AreMade, left_by, left_at, left_of}

@@ -12,7 +12,7 @@ use Rattle.ring_model.specs.declared.bases.Base.{Base}
 use Rattle.ring_model.specs.Bases.{base_after}
 use Rattle.endless_ring.specs.Endless.{EndlessView, IsSameEndless, IsNext as IsNextRing}
 use Rattle.ring_service.specs.Standings.{Standing, standing_of}
-use Rattle.held_locks.specs.Lines.{Lock}
+use Rattle.held_locks.specs.Queues.{Lock}
 use Rattle.held_locks.specs.Promises.{carries}
 use Rattle.held_locks.specs.Kept.{LockView, lock_of, locks_of, IsKeptRing, AreMade}
 use Rattle.held_locks.specs.Cuts.{IsNextOf, AreNext}

@@ -12,7 +12,7 @@ use Rattle.endless_ring.specs.Endless.{IsSameEndless}
 use Rattle.ring_service.specs.Standings.{Standing}
 use Rattle.ring_service.specs.Saved.{IsRight}
 use Rattle.ring_service.proofs.Recovering.{lines_of}
-use Rattle.held_locks.specs.Lines.{Lock}
+use Rattle.held_locks.specs.Queues.{Lock}
 use Rattle.held_locks.specs.Locks.{Ask, Mark, Survey, Asked, Turn, Step, turn, step, step_at}
 use Rattle.held_locks.specs.Promises.{AreRight, Alternate, token_of, marks_of, open_after}
 use Rattle.held_locks.specs.Kept.{LockView, state_of, lock_of, locks_of, AreMade, ended_in}

@@ -8,7 +8,7 @@ use Rattle.held_locks.specs.declared.answers.Holder.{Holder}
 use Rattle.held_locks.specs.declared.answers.Answer.{Answer}
 use Rattle.held_locks.specs.declared.answers.Answer.TheVariants as answer
 use Rattle.held_locks.specs.declared.answers.Refusal.TheVariants as refusal
-use Rattle.held_locks.specs.Lines.{Lock, stands, without, is_held_by, is_held_with}
+use Rattle.held_locks.specs.Queues.{Lock, stands, without, is_held_by, is_held_with}
 use Rattle.held_locks.specs.Locks.{Ask, Cancel, Input, Asked, Step, turn, step, step_at, told, dropped, ended}
 use Rattle.held_locks.specs.Promises.{AreApart, locks_after}
 use Rattle.held_locks.proofs.Moves.{IsEnd, Released, Left}

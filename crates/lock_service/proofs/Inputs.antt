@@ -11,7 +11,7 @@ use Rattle.held_locks.specs.declared.answers.Answer.TheVariants as answer
 use Rattle.held_locks.specs.declared.answers.Refusal.{Refusal}
 use Rattle.held_locks.specs.declared.answers.Refusal.TheVariants as refusal
 use Rattle.held_locks.specs.declared.answers.Answers.{Answers}
-use Rattle.held_locks.specs.Lines.{Lock, without, is_held_by}
+use Rattle.held_locks.specs.Queues.{Lock, without, is_held_by}
 use Rattle.held_locks.specs.Locks.{Ask, Acquire, Try, Release, Cancel, Leave, Corrupt, Stats, Input, Asked, Restart, Turn, Step, turn, step, advanced, ended, dropped}
 use Rattle.held_locks.specs.Promises.{locks_after, leaves}
 use Rattle.held_locks.specs.Kept.{LockView, state_of, lock_of, locks_of, own_answer, other_grant, answers_of, IsFull, IsDone, IsWant, IsAnswer, left_by, left_at, left_of, ended_in}

@@ -1,6 +1,6 @@
 pub mod Telling
 pub mod Short
-pub mod Wants
+pub mod Lacks
 pub mod Unchanged
 pub mod NeverFull
 pub mod Places

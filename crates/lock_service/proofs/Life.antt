@@ -11,7 +11,7 @@ use Rattle.ring_service.specs.Standings.{Standing}
 use Rattle.ring_service.specs.Saved.{IsRight, content_of}
 use Rattle.ring_service.specs.Segments.{bases_of}
 use Rattle.ring_service.proofs.Recovering.{lines_of}
-use Rattle.held_locks.specs.Lines.{Lock}
+use Rattle.held_locks.specs.Queues.{Lock}
 use Rattle.held_locks.specs.Locks.{Input, Restart, restarted}
 use Rattle.held_locks.specs.Promises.{AreRight, locks_after}
 use Rattle.held_locks.specs.Kept.{LockView, lock_of, locks_of}

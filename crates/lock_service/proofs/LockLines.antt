@@ -28,7 +28,7 @@ use Rattle.held_locks.specs.declared.answers.Refusal.TheVariants as refusal
 use Rattle.held_locks.specs.declared.answers.Answers.{Answers}
 use Rattle.held_locks.specs.declared.answers.HoldEnd.{HoldEnd}
 use Rattle.held_locks.specs.declared.answers.Left.{Left}
-use Rattle.held_locks.specs.Lines.{Lock, without, is_held_by}
+use Rattle.held_locks.specs.Queues.{Lock, without, is_held_by}
 use Rattle.held_locks.specs.Locks.{Ask, Acquire, Try, Release, Cancel, Leave, Corrupt, Stats, Mark, Asked, Turn, Step, turn, step, step_at, advanced, ended, dropped}
 use Rattle.held_locks.specs.Promises.{AreRight, locks_after, leaves}
 use Rattle.held_locks.specs.Kept.{LockView, state_of, lock_of, locks_of, AreMade, ended_in, ended_at, own_answer, other_grant, answers_of, IsFull, IsDone, IsWant, IsAnswer, IsLeft, left_by, left_at, left_of}

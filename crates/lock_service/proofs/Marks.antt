@@ -27,7 +27,7 @@ use Rattle.held_locks.specs.declared.answers.Holder.{Holder}
 use Rattle.held_locks.specs.declared.answers.Answer.{Answer}
 use Rattle.held_locks.specs.declared.answers.HoldEnd.{HoldEnd}
 use Rattle.held_locks.specs.Grants.{most_passes, repairs, first_pass}
-use Rattle.held_locks.specs.Lines.{Lock, without}
+use Rattle.held_locks.specs.Queues.{Lock, without}
 use Rattle.held_locks.specs.Locks.{Ask, Acquire, Try, Mark, Call, Survey, Turn, called, advanced}
 use Rattle.held_locks.specs.Promises.{open_behind, open_after, events_of, Alternate}
 use Rattle.held_locks.specs.Kept.{AreMade, ended_in}

@@ -9,7 +9,7 @@ use Rattle.held_locks.specs.Kept.{LockView, IsKeptLock, need}
 use Rattle.lock_service.specs.Asking.{is_want}
 use Rattle.lock_service.specs.Due.{is_short, is_short_at, NoAskIsRefusedFull}
 use Rattle.lock_service.proofs.Short.{none_at}
-use Rattle.lock_service.proofs.Wants.{done_not}
+use Rattle.lock_service.proofs.Lacks.{done_not}
 
 module _ (v : LockView) (kept : IsKeptLock v) (room : is_short v ≡ false) where
   within : (ask : Ask) → event_limit < length v.ring.ring.book.history + need v ask → ⊥

@@ -6,7 +6,7 @@ use Rattle.held_locks.specs.declared.answers.Waiter.{Waiter}
 use Rattle.held_locks.specs.declared.answers.Holder.{Holder}
 use Rattle.held_locks.specs.declared.answers.Answer.TheVariants as answer
 use Rattle.held_locks.specs.declared.answers.Refusal.{Refusal}
-use Rattle.held_locks.specs.Lines.{Lock, stands, is_held_by, waits_for, client_of, holder_of, comes_to}
+use Rattle.held_locks.specs.Queues.{Lock, stands, is_held_by, waits_for, client_of, holder_of, comes_to}
 use Rattle.held_locks.specs.Locks.{Acquire, acquired, joined, acquire_refusal, turn}
 use Rattle.held_locks.specs.Promises.{AreApart, AreRight, comes, ComesToAnEnd}
 use Rattle.held_locks.proofs.Answered.{circles_are_real}

@@ -39,7 +39,7 @@ use Rattle.ring_service.proofs.RecordedFits.{bounded}
 use Rattle.ring_service.proofs.Recovering.{lines_of}
 use Rattle.held_locks.specs.declared.answers.Holder.{Holder}
 use Rattle.held_locks.specs.Grants.{most_passes, repairs}
-use Rattle.held_locks.specs.Lines.{Lock}
+use Rattle.held_locks.specs.Queues.{Lock}
 use Rattle.held_locks.specs.Locks.{Call, restarted}
 use Rattle.held_locks.specs.Promises.{IsRightLock, token_of, open_after}
 use Rattle.held_locks.specs.Kept.{seat_count, LockView, state_of, lock_of, locks_of, AreMade}

@@ -18,7 +18,7 @@ use Rattle.ring_model.specs.Bases.{shifted_event, shifted}
 use Rattle.endless_ring.specs.Endless.{EndlessView, IsSameEndless, IsCalled}
 use Rattle.ring_service.specs.Standings.{Standing, standing_of}
 use Rattle.held_locks.specs.Grants.{most_passes, repairs, first_pass, carried}
-use Rattle.held_locks.specs.Lines.{Lock}
+use Rattle.held_locks.specs.Queues.{Lock}
 use Rattle.held_locks.specs.Locks.{Mark, Call, Survey, called}
 use Rattle.held_locks.specs.Promises.{open_behind, open_after, token_of}
 use Rattle.held_locks.specs.Kept.{LockView, state_of, IsKeptRing, AreMade}

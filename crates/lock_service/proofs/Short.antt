@@ -7,7 +7,7 @@ use Rattle.ring_model.specs.declared.events.Event.{Event}
 use Rattle.endless_ring.specs.Endless.{IsSameEndless}
 use Rattle.held_locks.specs.declared.answers.Waiter.{Waiter}
 use Rattle.held_locks.specs.declared.answers.Answers.{Answers}
-use Rattle.held_locks.specs.Lines.{Lock}
+use Rattle.held_locks.specs.Queues.{Lock}
 use Rattle.held_locks.specs.Locks.{Ask, Acquire, Try, Release, Cancel, Leave, Corrupt, Stats, Input, Asked, Restart, step, step_at, restarted}
 use Rattle.held_locks.specs.Promises.{locks_after, leaves}
 use Rattle.held_locks.specs.Kept.{LockView, lock_of, locks_of, IsDone, IsWant, IsAnswer, IsLeft}

@@ -11,7 +11,7 @@ use Rattle.held_locks.specs.declared.answers.Answer.{Answer}
 use Rattle.held_locks.specs.declared.answers.Answers.{Answers}
 use Rattle.held_locks.specs.declared.answers.Holder.{Holder}
 use Rattle.held_locks.specs.declared.answers.Waiter.{Waiter}
-use Rattle.held_locks.specs.Lines.{Lock, without}
+use Rattle.held_locks.specs.Queues.{Lock, without}
 use Rattle.held_locks.specs.Locks.{Ask, Acquire, Try, Release, Cancel, Leave, Corrupt, Stats, Input, Asked, Turn, advanced, step, step_at, turn}
 use Rattle.held_locks.specs.Promises.{AreRight, locks_after, leaves}
 use Rattle.held_locks.specs.Kept.{LockView, lock_of, locks_of, IsAnswer}

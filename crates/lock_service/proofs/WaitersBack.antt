@@ -16,7 +16,7 @@ use Rattle.held_locks.specs.declared.answers.Answer.{Answer}
 use Rattle.held_locks.specs.declared.answers.Answer.TheVariants as answer
 use Rattle.held_locks.specs.declared.answers.HoldEnd.{HoldEnd}
 use Rattle.held_locks.specs.declared.answers.Waiter.{Waiter}
-use Rattle.held_locks.specs.Lines.{Lock, stands}
+use Rattle.held_locks.specs.Queues.{Lock, stands}
 use Rattle.held_locks.specs.Locks.{Acquire, Asked, Mark, Step, Turn, step}
 use Rattle.held_locks.specs.Promises.{AreRight}
 use Rattle.held_locks.specs.Kept.{LockView, lock_of, locks_of, lock_limit, IsDone, AreMade, ended_at}

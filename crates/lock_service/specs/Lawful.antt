@@ -1,7 +1,7 @@
 -- What follows of a life of locks, in what clients are told (this project's own).
 use Rattle.std.specs.Prelude.{◌≡◌, ℕ, ◌==◌, if◌then◌else◌, List, [], ◌∷◌, ◌++◌, slice_get, Some}
 use Rattle.held_locks.specs.declared.answers.Holder.{Holder}
-use Rattle.held_locks.specs.Lines.{Lock}
+use Rattle.held_locks.specs.Queues.{Lock}
 use Rattle.held_locks.specs.Locks.{Input}
 use Rattle.held_locks.specs.Promises.{AreRight, locks_after, grants_in, grants_of, ends_hold, NoneIs, GoesOn, Rise}
 use Rattle.lock_service.specs.Told.{Telling}

@@ -11,7 +11,7 @@ use Rattle.held_locks.specs.declared.answers.Answer.{Answer}
 use Rattle.held_locks.specs.declared.answers.Answer.TheVariants as answer
 use Rattle.held_locks.specs.declared.answers.Refusal.{Refusal}
 use Rattle.held_locks.specs.declared.answers.Refusal.TheVariants as refusal
-use Rattle.held_locks.specs.Lines.{Lock}
+use Rattle.held_locks.specs.Queues.{Lock}
 use Rattle.held_locks.specs.Locks.{Ask, Cancel, Input, Asked, Restart, step}
 use Rattle.held_locks.specs.Promises.{AreRight, locks_after, leaves}
 use Rattle.held_locks.specs.Kept.{LockView, locks_of, AreKept}

@@ -5,7 +5,7 @@ use Rattle.std.proofs.lemmas.List.{length-append, length-map}
 use Rattle.std.proofs.lemmas.Option.{slice_get-map}
 use Rattle.endless_ring.specs.Endless.{EndlessView}
 use Rattle.held_locks.specs.declared.answers.Left.{Left}
-use Rattle.held_locks.specs.Lines.{Lock, is_held_by}
+use Rattle.held_locks.specs.Queues.{Lock, is_held_by}
 use Rattle.held_locks.specs.Promises.{LeaversAreGone, locks_after, leaves}
 use Rattle.held_locks.specs.Kept.{LockView, lock_of, locks_of, IsLeft}
 use Rattle.held_locks.specs.Opened.{open_in, holder_behind, IsAdded}

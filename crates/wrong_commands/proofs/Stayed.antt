@@ -2,7 +2,7 @@
 use Rattle.std.proofs.Common.{◌≡◌, ◌∙◌, ℕ, Bool, true, false, List, [], ◌∷◌, sym, ap, Option, Some, slice_get}
 use Rattle.std.specs.Prelude.{slice_set, option_map, if◌then◌else◌}
 use Rattle.std.proofs.lemmas.Option.{slice_get-map}
-use Rattle.held_locks.specs.Lines.{Lock, stands, without}
+use Rattle.held_locks.specs.Queues.{Lock, stands, without}
 use Rattle.held_locks.specs.Locks.{Cancel, Turn, step_at, told, dropped, turn}
 use Rattle.held_locks.specs.declared.answers.Answer.TheVariants as answer
 use Rattle.held_locks.specs.declared.answers.Refusal.TheVariants as refusal

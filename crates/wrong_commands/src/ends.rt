@@ -2,7 +2,7 @@
 
 ghost use Rattle.std.specs.Prelude.{◌≡◌, ◌+◌, ◌≤◌, true, Some, slice_get, [], length, IfSome, vec_len, vec_capacity};
 ghost use Rattle.held_locks.specs.Locks.{Release, Cancel};
-ghost use Rattle.held_locks.specs.Lines.{stands};
+ghost use Rattle.held_locks.specs.Queues.{stands};
 ghost use Rattle.held_locks.specs.Kept.{LockView, IsDone, IsLeft};
 
 use held_locks::{Answer, Answers, Holder, Left, Locks, Refusal};

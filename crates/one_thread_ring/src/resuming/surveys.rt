@@ -5,9 +5,9 @@ ghost use Rattle.ring_check.specs.Meaning.{survey_of, AreInOrder, AreOnward};
 ghost use Rattle.one_thread_ring.specs.Texts.{surveys_kept};
 ghost use Rattle.one_thread_ring.specs.Resuming.{AreSeated, IsToldFirst, IsWantOfMemory};
 
+use super::ResumeError;
 use crate::clients::Client;
 use crate::errors::CallError;
-use super::ResumeError;
 use ring_model::Survey;
 use saved_history::SavedSurvey;
 use std::alloc::{AllocError, Global};

@@ -1,7 +1,7 @@
 use Rattle.std.proofs.Common.{◌≡◌, true, sym, ◌∙◌, ap, subst, ◌∷◌, []}
 use Rattle.held_locks.specs.declared.answers.Answers.{Answers}
 use Rattle.held_locks.specs.declared.answers.Answer.TheVariants as answer
-use Rattle.held_locks.specs.Lines.{stands}
+use Rattle.held_locks.specs.Queues.{stands}
 use Rattle.held_locks.specs.Locks.{Turn}
 use Rattle.held_locks.specs.Kept.{answers_of}
 use Rattle.held_locks.specs.Parts.{view_of, IsTurnedIn}

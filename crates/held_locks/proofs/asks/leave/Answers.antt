@@ -1,6 +1,6 @@
 use Rattle.std.proofs.Common.{◌≡◌, true, false, refl, sym, ◌∙◌, subst, [], None}
 use Rattle.held_locks.specs.declared.answers.Answers.{Answers}
-use Rattle.held_locks.specs.Lines.{stands, is_held_by}
+use Rattle.held_locks.specs.Queues.{stands, is_held_by}
 use Rattle.held_locks.specs.Locks.{Turn}
 use Rattle.held_locks.specs.Parts.{view_of, IsTurnedIn}
 use Rattle.held_locks.proofs.Turned.{dropped_in, leave_held, leave_out, not_there}

@@ -1,6 +1,6 @@
 use Rattle.std.proofs.Common.{◌≡◌, ℕ, true, false, length, Option, is_some, sym, ◌∙◌, ap}
 use Rattle.held_locks.specs.declared.parts.LockParts.{LockParts}
-use Rattle.held_locks.specs.Lines.{is_held_by, waits_for, client_of, comes_to}
+use Rattle.held_locks.specs.Queues.{is_held_by, waits_for, client_of, comes_to}
 use Rattle.held_locks.specs.Kept.{lock_of, locks_of}
 use Rattle.held_locks.specs.Parts.{view_of, views_of}
 use Rattle.held_locks.proofs.Finding.{part_is, waits_is, refused_waits, refused_circle, refused_not, many_locks}

@@ -1,6 +1,6 @@
 use Rattle.std.proofs.Common.{length, refl, sym, ◌∙◌, ap}
 use Rattle.held_locks.specs.declared.parts.LockParts.{LockParts}
-use Rattle.held_locks.specs.Lines.{client_of}
+use Rattle.held_locks.specs.Queues.{client_of}
 use Rattle.std.proofs.lemmas.Option.{slice_get_read}
 use Rattle.held_locks.proofs.Finding.{entry_below, awaited_is, nobody_awaited}
 use Rattle.held_locks.proofs.locks.awaited.Goals as goal

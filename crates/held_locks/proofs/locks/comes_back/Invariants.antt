@@ -1,5 +1,5 @@
 use Rattle.std.proofs.Common.{◌≡◌, length}
-use Rattle.held_locks.specs.Lines.{comes_to}
+use Rattle.held_locks.specs.Queues.{comes_to}
 use Rattle.held_locks.specs.Kept.{locks_of}
 use Rattle.held_locks.specs.Parts.{views_of}
 use Rattle.held_locks.proofs.locks.comes_back.Given as goal

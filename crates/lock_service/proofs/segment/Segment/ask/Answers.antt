@@ -5,7 +5,7 @@ use Rattle.lock_service.specs.Noting.{events_at}
 use Rattle.lock_service.specs.Due.{has_short}
 use Rattle.lock_service.specs.Counting.{SegmentView, IsCounted, count_about, end_count}
 use Rattle.lock_service.proofs.Short.{asked_long, short_after, watched_after}
-use Rattle.lock_service.proofs.Wants.{wanted_same}
+use Rattle.lock_service.proofs.Lacks.{wanted_same}
 use Rattle.lock_service.proofs.Unchanged.{unchanged}
 use Rattle.lock_service.proofs.segment.Segment.ask.Goals as goal
 

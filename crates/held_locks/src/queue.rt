@@ -2,7 +2,7 @@
 
 ghost use Rattle.std.specs.Prelude.{◌≡◌, ◌∷◌, [], List, MatchOption};
 ghost use Rattle.held_locks.specs.declared.answers.Waiter.{Waiter};
-ghost use Rattle.held_locks.specs.Lines.{without};
+ghost use Rattle.held_locks.specs.Queues.{without};
 
 use crate::answers::Waiter;
 use std::collections::VecDeque;

@@ -8,7 +8,7 @@ use Rattle.held_locks.specs.declared.answers.Answer.{Answer}
 use Rattle.held_locks.specs.declared.answers.Answer.TheVariants as answer
 use Rattle.held_locks.specs.declared.answers.Answers.{Answers}
 use Rattle.held_locks.specs.declared.answers.Refusal.TheVariants as refusal
-use Rattle.held_locks.specs.Lines.{Lock, stands, without, is_held_by, is_held_with, waits_for, client_of, comes_to}
+use Rattle.held_locks.specs.Queues.{Lock, stands, without, is_held_by, is_held_with, waits_for, client_of, comes_to}
 use Rattle.held_locks.specs.Locks.{Ask, Acquire, Try, Release, Cancel, Leave, Corrupt, Stats, acquired, joined, tried, tried_of, ended, told, dropped, faulted, turn, step_at}
 use Rattle.ring_model.specs.History.{State}
 use Rattle.held_locks.specs.Kept.{LockView, locks_of, own_answer, other_grant, IsDone, IsAnswer}
