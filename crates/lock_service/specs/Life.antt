@@ -56,7 +56,7 @@ pub record IsTaken (ls : List Lock) (line said : List ℕ) (is : List Input) : T
   pub inputs : is ≡ inputs_of (length ls) client (one_ask (seen ask))
   pub says : said ≡ text_of (tellings ls is)
 
--- nothing was said of a line of nobody; or a denial, or that a client is refused for want of room or
+-- nothing was said of a line of nobody; or a denial, or that a client is refused for lack of room or
 -- of memory
 abbrev pub IsNoAnswer : List ℕ → List ℕ → Type 0
 IsNoAnswer line said =
