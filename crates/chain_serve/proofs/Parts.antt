@@ -1,5 +1,5 @@
 -- What the loop says of rings in segments, said of the rings.
-use Rattle.std.proofs.Common.{◌≡◌, ℕ, ◌+◌, Bool, true, false, List, [], ◌∷◌, ◌++◌, map, Option, None, Some, refl, sym, ap, subst, ◌∙◌, inl, inr}
+use Rattle.std.proofs.Common.{◌≡◌, ℕ, ◌+◌, ◌≤◌, ◌^◌, ◌⊎◌, Bool, true, false, List, [], ◌∷◌, ◌++◌, map, Option, None, Some, refl, sym, ap, subst, ◌∙◌, inl, inr}
 use Rattle.std.specs.Prelude.{is_some, IfSome}
 use Rattle.std.specs.Io.KnownBytes.{Appends}
 use Rattle.std.specs.List.{AllByRecursion}
@@ -18,19 +18,22 @@ use Rattle.segment_loop.specs.Segments as at
 use Rattle.segment_loop.specs.Service as loop
 use Rattle.segment_loop.specs.Notes as notes
 use Rattle.segment_loop.specs.Lasting as lasting
+use Rattle.segment_loop.proofs.Changing.{kept_file, kept_cause}
 use Rattle.segment_loop.proofs.Lasting.{last_is, known_is, front_has}
 use Rattle.ring_serve.specs.declared.answers.Refusal.{Refusal}
 use Rattle.ring_serve.specs.Standings.{Standing}
 use Rattle.ring_serve.specs.Saved.{IsRight}
+use Rattle.ring_serve.specs.Segments.{IsFull}
 use Rattle.ring_serve.specs.Due.{is_due}
 use Rattle.ring_serve.specs.Permits.{Terms}
 use Rattle.ring_serve.specs.Serving.{IsAnswered, Answers, Stops}
 use Rattle.ring_serve.proofs.Looped.{answers_of, stops_of}
 use Rattle.chain_serve.specs.declared.segments.SegmentRules.{SegmentRules}
 use Rattle.chain_serve.specs.Segments.{Moment, file_of, moment_of, IsPut, HasEnded, IsCause, IsReady, IsLeft}
+use Rattle.chain_serve.specs.Texts.{HaveNoText}
 use Rattle.chain_serve.specs.Service.{part_terms, Part, AreParts, all_lines, all_said, IsStopped, ServesSegments, ServesSomeSegments}
-use Rattle.chain_serve.specs.Recovered.{AnsweredCallsAreRecovered, LeavesSegment, AnsweredCallsLast}
-use Rattle.chain_serve.specs.Services.{ServiceView, service_of, terms_of, IsServed, IsNext, refusal_of, segmenting}
+use Rattle.chain_serve.specs.Recovered.{AnsweredCallsAreRecovered, LeavesSegment, AnsweredCallsLast, AreWhole, EachSegmentLasts}
+use Rattle.chain_serve.specs.Services.{ServiceView, service_of, terms_of, IsServed, IsNext, HasNoNext, refusal_of, segmenting}
 use Rattle.chain_serve.proofs.Recovering.{AreRight, keeps_last}
 
 -- ---- moments and parts
@@ -112,10 +115,34 @@ put_in s a next is h = record {
   put = h.put;
 }
 
-has_cause : (why : EndFault) → IsCause (refusal_of why)
-has_cause end.File = tt
-has_cause end.OutOfMemory = tt
-has_cause end.Full = tt
+-- why it continues
+for_reason : (m : Moment) (why e : EndFault) → why ≡ e → IsCause m (refusal_of e) → IsCause m (refusal_of why)
+for_reason m why e is cause = subst (λ (w : EndFault). IsCause m (refusal_of w)) (sym is) cause
+
+no_next_cause : (a : at.Moment ServiceView) (why : EndFault) → a.service.number ≡ a.number → HasNoNext a.service.rings a.service.number why → IsCause (moment_in a) (refusal_of why)
+no_next_cause a why same (inl h) = for_reason (moment_in a) why end.Full h.0 (subst (λ (n : ℕ). IsFull a.service.rings ⊎ (2 ^ 64 ≤ n + 1)) same h.1)
+no_next_cause a why same (inr e) = for_reason (moment_in a) why end.OutOfMemory e tt
+
+no_text_cause : (m : Moment) (rings : List Standing) (why : EndFault) → HaveNoText rings why → IsCause m (refusal_of why)
+no_text_cause m rings why (inl h) = for_reason m why end.File h.0 tt
+no_text_cause m rings why (inr e) = for_reason m why end.OutOfMemory e tt
+
+unprepared_cause : (a : at.Moment ServiceView) (why : EndFault) → a.service.number ≡ a.number → at.IsUnprepared segmenting a.service a.number why → IsCause (moment_in a) (refusal_of why)
+unprepared_cause a why same (inl h) = no_next_cause a why same h
+unprepared_cause a why same (inr (inl h)) = no_text_cause (moment_in a) h.0.rings why h.2
+unprepared_cause a why same (inr (inr (inl h))) = for_reason (moment_in a) why end.Full h.0 (inr h.1)
+unprepared_cause a why same (inr (inr (inr e))) = for_reason (moment_in a) why end.OutOfMemory e tt
+
+file_cause : (m : Moment) (why : EndFault) → at.IsFileCause why → IsCause m (refusal_of why)
+file_cause m why (inl e) = for_reason m why end.File e tt
+file_cause m why (inr e) = for_reason m why end.OutOfMemory e tt
+
+cause_in : (folder : List ℕ) (a b : at.Moment ServiceView) (why : EndFault) → a.service.number ≡ a.number → at.IsKept segmenting folder why a b → IsCause (moment_in a) (refusal_of why)
+cause_in folder a b why same h = by (kept_cause segmenting folder why a b h)
+  where
+    by : at.IsUnprepared segmenting a.service a.number why ⊎ at.IsFileCause why → IsCause (moment_in a) (refusal_of why)
+    by (inl k) = unprepared_cause a why same k
+    by (inr k) = file_cause (moment_in a) why k
 
 ready_in : (s : SegmentRules) (kept : Option EndFault) (a b : at.Moment ServiceView) → IsSound s a.number a.service → at.IsReady segmenting s.folder.now kept a b → IsReady s b.service.refusing (moment_in a) (moment_in b) × IsSound s b.number b.service
 unfolding put_in
@@ -146,7 +173,7 @@ ready_in s (Some why) a b is h =
     let kept : b.service ≡ record a.service { refusing = Some (refusal_of why) } = h.1.kept in
     let rings : b.service.rings ≡ a.service.rings = ap (λ (v : ServiceView). v.rings) kept in
     let off : b.service.refusing ≡ Some (refusal_of why) = ap (λ (v : ServiceView). v.refusing) kept in (
-      subst (λ (x : Option Refusal). IsReady s x (moment_in a) (moment_in b)) (sym off) (high, has_cause why, record { rings = rings; number = h.1.number; file = h.1.file }),
+      subst (λ (x : Option Refusal). IsReady s x (moment_in a) (moment_in b)) (sym off) (high, cause_in s.folder.now a b why is.number_is h.1, record { rings = rings; number = h.1.number; file = kept_file segmenting s.folder.now why a b h.1 }),
       record {
         rules = ap (λ (v : ServiceView). v.rules) kept ∙ is.rules;
         number_is = ap (λ (v : ServiceView). v.number) kept ∙ (is.number_is ∙ sym h.1.number);
@@ -280,6 +307,24 @@ last_in s a new input rest out after left sound t = record {
   left_is = leaves_in s t.noted.mid t.journal left t.left_is;
 }
 
+-- and of the segments before
+whole_in : (s : SegmentRules) (a : at.Moment ServiceView) (ps : List (loop.Part ServiceView)) (held : Held) → lasting.AreWhole s.folder.now a ps held → AreWhole s (moment_in a) (map part_in ps) held
+whole_in s a [] held h = tt
+whole_in s a (p ∷ ps) held h = (h.0, whole_in s p.to ps held h.1)
+
+each_left : (s : SegmentRules) (a : at.Moment ServiceView) (ps : List (loop.Part ServiceView)) (front : Held → Type 0) (left : Option Held) → IfSome left (λ (held : Held). lasting.AreApart s.folder.now held → lasting.AreWhole s.folder.now a ps held × front held) →
+    IfSome left (λ (held : Held). lasting.AreApart s.folder.now held → AreWhole s (moment_in a) (map part_in ps) held × front held)
+each_left s a ps front None h = tt
+each_left s a ps front (Some held) h = λ apart. let one = h apart in (whole_in s a ps held one.0, one.1)
+
+pub each_in : (s : SegmentRules) (a : at.Moment ServiceView) (new : ServiceView) (input rest out after : Option (List ℕ)) (left : Option Held) → IsSound s a.number a.service → lasting.EachSegmentLasts IsServed segmenting s.folder.now a new input rest out after left →
+    EachSegmentLasts s (moment_in a) new.rings input rest out after left
+unfolding recovered_in last_in
+each_in s a new input rest out after left sound t = record {
+  told = last_in s a new input rest out after left sound t.told;
+  each = each_left s a t.told.noted.parts (λ (held : Held). HasFront held (file_of s t.told.noted.mid.number) (Some t.told.journal)) left t.each;
+}
+
 -- ---- from the service with which lines are served first
 
 module _ (s : SegmentRules) (v new : ServiceView) (rings others : List Standing) (files : Option Held) (number : ℕ) (journal input rest out after : Option (List ℕ)) (e : v ≡ service_of s rings number None) (right : AllByRecursion IsRight rings) (same : new.rings ≡ others) where
@@ -309,6 +354,13 @@ module _ (s : SegmentRules) (v new : ServiceView) (rings others : List Standing)
       let all = last_in s (at.moment_of v files number journal) new input rest out after left (first_sound s rings number v e right) t in
       subst (λ (x : List Standing). AnsweredCallsLast s (moment_of rings files number journal) x input rest out after left) same
       (subst (λ (x : List Standing). AnsweredCallsLast s (moment_of x files number journal) new.rings input rest out after left) (ap (λ (y : ServiceView). y.rings) e) all)
+
+  pub each_from : (left : Option Held) → lasting.EachSegmentLasts IsServed segmenting s.folder.now (at.moment_of v files number journal) new input rest out after left →
+      EachSegmentLasts s (moment_of rings files number journal) others input rest out after left
+  each_from left t =
+      let all = each_in s (at.moment_of v files number journal) new input rest out after left (first_sound s rings number v e right) t in
+      subst (λ (x : List Standing). EachSegmentLasts s (moment_of rings files number journal) x input rest out after left) same
+      (subst (λ (x : List Standing). EachSegmentLasts s (moment_of x files number journal) new.rings input rest out after left) (ap (λ (y : ServiceView). y.rings) e) all)
 
 -- no line was answered
 pub none_in : (s : SegmentRules) (rings : List Standing) (files : Option Held) (number : ℕ) (journal : Option (List ℕ)) (input out : Option (List ℕ)) → ServesSomeSegments s (moment_of rings files number journal) rings files input input out out × AnsweredCallsAreRecovered s (moment_of rings files number journal) rings input input out out journal
@@ -362,3 +414,25 @@ none_last s rings files number journal kept input out was left name e all h =
     let front = subst (λ (j : Option (List ℕ)). IfSome left (λ (held : Held). HasFront held name j)) (last_is journal kept all ∙ k.1) (front_has was left name kept h) in
     subst (λ (j : Option (List ℕ)). AnsweredCallsLast s (moment_of rings files number j) rings input input out out left) (sym k.1)
     (none_last_of s rings files number k.0 input out left (front_segment s (moment_of rings files number (Some k.0)) left name k.0 e front))
+
+only_front : (s : SegmentRules) (a : Moment) (front : Held → Type 0) (left : Option Held) → IfSome left front → IfSome left (λ (held : Held). lasting.AreApart s.folder.now held → AreWhole s a [] held × front held)
+only_front s a front None h = tt
+only_front s a front (Some held) h = λ apart. (tt, h)
+
+none_each_of : (s : SegmentRules) (rings : List Standing) (files : Option Held) (number : ℕ) (bytes : List ℕ) (input out : Option (List ℕ)) (left : Option Held) → IfSome left (λ (held : Held). HasFront held (file_of s number) (Some bytes)) →
+    EachSegmentLasts s (moment_of rings files number (Some bytes)) rings input input out out left
+unfolding none_in none_last_of
+none_each_of s rings files number bytes input out left h =
+    let a = moment_of rings files number (Some bytes) in
+    record {
+      told = none_last_of s rings files number bytes input out left (front_segment s a left (file_of s number) bytes refl h);
+      each = only_front s a (λ (held : Held). HasFront held (file_of s number) (Some bytes)) left h;
+    }
+
+pub none_each : (s : SegmentRules) (rings : List Standing) (files : Option Held) (number : ℕ) (journal kept : Option (List ℕ)) (input out : Option (List ℕ)) (was left : Option Held) (name : List ℕ) → name ≡ file_of s number → AllLasts journal kept → LeavesFront was left name kept →
+    EachSegmentLasts s (moment_of rings files number journal) rings input input out out left
+none_each s rings files number journal kept input out was left name e all h =
+    let k = known_is journal kept all in
+    let front = subst (λ (j : Option (List ℕ)). IfSome left (λ (held : Held). HasFront held name j)) (last_is journal kept all ∙ k.1) (front_has was left name kept h) in
+    subst (λ (j : Option (List ℕ)). EachSegmentLasts s (moment_of rings files number j) rings input input out out left) (sym k.1)
+    (none_each_of s rings files number k.0 input out left (subst (λ (n : List ℕ). IfSome left (λ (held : Held). HasFront held n (Some k.0))) e front))

@@ -6,6 +6,7 @@ use Rattle.text_lines.specs.Writing.{Wrote}
 use Rattle.disks.specs.Held.{Held, bytes_of}
 use Rattle.disks.specs.Lasting.{HasFront}
 use Rattle.ring_segments.specs.Spelling.{digest_of}
+use Rattle.segment_loop.specs.Lasting.{AreApart}
 use Rattle.ring_saved.specs.Spelling.{Fits}
 use Rattle.ring_journal.specs.Spelling.{head_text as journal_text}
 use Rattle.ring_journal.specs.Recovery.{IsRecovered}
@@ -33,8 +34,8 @@ HasCallsIn s rings p =
     AreCallsIn (part_terms s p.from.number p.refusing) p.from.rings p.from.files p.lines p.said
     rings
 
--- Of these bytes rings are recovered that have the call of each line of these parts, with the
--- answer that was told. From there the rings have only grown.
+-- Of these bytes rings are recovered that have the call of each line of these parts, with its
+-- answer. From there the rings have only grown.
 pub record AreRecovered (s : SegmentRules) (parts : List Part) (bytes : List ℕ)
     (new : List Standing) : Type 0 where
   pub rings : List Standing
@@ -42,7 +43,7 @@ pub record AreRecovered (s : SegmentRules) (parts : List Part) (bytes : List ℕ
   pub calls : AllByRecursion (HasCallsIn s rings) parts
   pub grown : HaveGrown rings new
 
--- The file of the last segment has, behind its head, the rings with which its first part began, and
+-- The file of the last segment has, after its head, the rings with which its first part began, and
 -- the notes of its parts, and then perhaps more. Of whatever is kept of that, if it has the notes
 -- of these parts, rings are recovered that have the call of each of their lines.
 abbrev pub KeepsLast : SegmentRules → List Part → List ℕ → List Standing → Type 0
@@ -55,7 +56,7 @@ KeepsLast s parts more new =
     → IsPrefix (journal_text (content_of first.from.rings) ++ all_noted (first ∷ others)) kept
     → AreRecovered s (first ∷ others) kept new
 
--- Wherever serving ended: these parts were told, the output has a prefix of their answers and
+-- Wherever serving ended: these parts were delivered, the output has a prefix of their answers and
 -- nothing else, and the file of the last segment got their notes, and then perhaps more: it keeps
 -- the answers to its lines.
 pub record AnsweredCallsAreRecovered (s : SegmentRules) (a : Moment) (new : List Standing)
@@ -76,7 +77,7 @@ pub record AnsweredCallsAreRecovered (s : SegmentRules) (a : Moment) (new : List
 -- ---- what a loss of power leaves
 
 -- Where it is known what a loss of power leaves: the file of this moment's segment begins with these
--- bytes, or that of the next one is there, with the whole text with which it begins behind them.
+-- bytes, or that of the next one is there, with the whole text with which it begins after them.
 abbrev pub LeavesSegment : SegmentRules → Moment → List ℕ → Option Held → Type 0
 LeavesSegment s a bytes left =
     IfSome left
@@ -87,10 +88,30 @@ LeavesSegment s a bytes left =
     ≡ Some (segment_text (a.number + 1) (digest_of bytes) next))))
 
 -- Wherever serving ended, and whenever the power fails then: the file of the last segment begins
--- with these bytes, which have the notes of all lines that were told in it, and keep the answers to
--- them; or that of the next one is there, which begins behind them.
+-- with these bytes, which have the notes of all lines that were delivered in it, and keep the
+-- answers to them; or that of the next one is there, which begins after them.
 pub record AnsweredCallsLast (s : SegmentRules) (a : Moment) (new : List Standing)
     (input rest out after : Option (List ℕ)) (left : Option Held) : Type 0 where
   pub journal : List ℕ
   pub recovered : AnsweredCallsAreRecovered s a new input rest out after (Some journal)
   pub left_is : LeavesSegment s recovered.mid journal left
+
+-- ---- each segment of the run
+
+-- Where the next part is in the next segment, that of the moment before has ended: its file is left
+-- whole, with all that was written to it.
+abbrev pub AreWhole : SegmentRules → Moment → List Part → Held → Type 0
+AreWhole s a [] held = Unit {0}
+AreWhole s a (p ∷ ps) held =
+    (p.from.number ≡ a.number + 1 → bytes_of held (file_of s a.number) ≡ a.journal)
+    × AreWhole s p.to ps held
+
+-- The answers to the lines of the last segment last; and if each segment has a file of its own, those
+-- that have ended are left whole, and that of the last one begins with these bytes.
+pub record EachSegmentLasts (s : SegmentRules) (a : Moment) (new : List Standing)
+    (input rest out after : Option (List ℕ)) (left : Option Held) : Type 0 where
+  pub told : AnsweredCallsLast s a new input rest out after left
+  pub each : IfSome left
+      (λ held. AreApart s.folder.now held
+      → AreWhole s a told.recovered.parts held
+      × HasFront held (file_of s told.recovered.mid.number) (Some told.journal))

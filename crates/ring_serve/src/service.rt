@@ -55,6 +55,7 @@ impl<'j, 'p> RingService<'j, 'p> {
 }
 
 impl AnswersLines for RingService<'_, '_> {
+    ghost use Rattle.std.specs.Prelude.{is_some};
     ghost use Rattle.ring_serve.specs.Permits.{is_shut};
     ghost use Rattle.ring_serve.specs.Services.{IsServed};
     ghost use Rattle.ring_serve.specs.Starts.{by_start};
@@ -63,9 +64,11 @@ impl AnswersLines for RingService<'_, '_> {
 
     ghost is_over = { λ s. is_shut s.terms s.rings };
 
+    ghost changes_files = { λ s. is_some s.terms.saves };
+
     ghost by_start = { by_start };
 
-    /// The line is answered in any case: only to tell of it memory may be wanted.
+    /// The line is answered in any case: memory may be short only for the text of its answer and for its notes.
     fn answer<D: Disk>(
         &mut self,
         disk: &mut D,
