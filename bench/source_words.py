@@ -33,11 +33,6 @@ KINDS = (
     ("comments of the proved crates", ("crates/*/src/**/*.rt",), "comments"),
     ("comments of definitions and proofs", ("crates/*/specs/**/*.antt", "crates/*/proofs/**/*.antt"), "comments"),
 )
-#: crates whose comments are not judged
-UNREAD = (
-    "disks segment_folder segment_loop line_loop line_replica lock_serve lock_laws lock_folder lock_commands chain_serve serve_commands "
-    "folder_commands text_commands tool_parts ring_serve ring_text ring_report command_tests"
-).split()
 
 
 def numbered(text, start, lines):
@@ -147,9 +142,7 @@ def blocks_of(path, text, kind):
 
 def files_of(top, patterns):
     found = {it for pattern in patterns for it in glob.glob(f"{top}/{pattern}", recursive=True)}
-    for path in sorted(os.path.relpath(it, top) for it in found):
-        if not any(path.startswith(f"crates/{it}/") for it in UNREAD):
-            yield path
+    yield from sorted(os.path.relpath(it, top) for it in found)
 
 
 def wrong_sources(top, excuses):

@@ -1,13 +1,14 @@
 -- What is known of a service of rings in segments.
-use Rattle.std.proofs.Common.{◌≡◌, ℕ, ◌+◌, ◌≤◌, Bool, true, false, ◌&&◌, List, Option, None, Some, refl, sym, ap, subst, ◌∙◌}
+use Rattle.std.proofs.Common.{◌≡◌, ℕ, ◌+◌, ◌≤◌, ◌^◌, ◌⊎◌, Bool, true, false, ◌&&◌, List, Option, None, Some, refl, sym, ap, subst, ◌∙◌, inl, inr}
 use Rattle.std.specs.List.{AllByRecursion}
 use Rattle.std.proofs.lemmas.Bool.{false≢true}
 use Rattle.disks.specs.Held.{Held}
 use Rattle.segment_loop.specs.declared.segmented.EndFault.{EndFault}
+use Rattle.segment_loop.specs.declared.segmented.EndFault.TheVariants as end
 use Rattle.ring_serve.specs.declared.answers.Refusal.{Refusal}
 use Rattle.ring_serve.specs.Standings.{Standing}
 use Rattle.ring_serve.specs.Saved.{IsRight}
-use Rattle.ring_serve.specs.Segments.{AreNext}
+use Rattle.ring_serve.specs.Segments.{AreNext, IsFull}
 use Rattle.ring_serve.specs.Due.{is_due}
 use Rattle.ring_serve.specs.Permits.{Terms, terms_in, IsOpen, is_shut, IsTied}
 use Rattle.ring_serve.specs.Serving.{IsAnswered}
@@ -15,7 +16,7 @@ use Rattle.ring_serve.proofs.Shutting.{tied_open}
 use Rattle.chain_serve.specs.declared.segments.SegmentRules.{SegmentRules}
 use Rattle.chain_serve.specs.Segments.{file_of}
 use Rattle.chain_serve.specs.Service.{part_terms}
-use Rattle.chain_serve.specs.Services.{ServiceView, service_of, is_over, IsKnown, IsServed, IsNext, refusal_of}
+use Rattle.chain_serve.specs.Services.{ServiceView, service_of, is_over, IsKnown, IsServed, IsNext, HasNoNext, refusal_of}
 use Rattle.chain_serve.proofs.Fresh.{next_goes}
 
 and_true : (b : Bool) → (b && true) ≡ b
@@ -82,6 +83,18 @@ next_is s rings next number refusing v r is_v is_r a right =
 pub next_open : (s : SegmentRules) (rings next : List Standing) (number : ℕ) (r : ServiceView) → r ≡ service_of s next number None → 1 ≤ s.limit → AreNext rings next → is_over r ≡ false
 next_open s rings next number r is_r limit a =
     subst (λ (x : ServiceView). is_over x ≡ false) (sym is_r) (and_true (is_due (Some s.limit) next) ∙ next_goes s.limit rings next limit a)
+
+-- why there is no next one
+pub no_next : (s : SegmentRules) (rings : List Standing) (number : ℕ) (refusing : Option Refusal) (v : ServiceView) (why : EndFault) → service_of s rings number refusing ≡ v → ((why ≡ end.Full) × IsFull rings) ⊎ (why ≡ end.OutOfMemory) → HasNoNext v.rings v.number why
+no_next s rings number refusing v why is_v (inl h) =
+    let one : HasNoNext rings number why = inl (h.0, inl h.1) in
+    subst (λ (x : ServiceView). HasNoNext x.rings x.number why) is_v one
+no_next s rings number refusing v why is_v (inr e) = inr e
+
+pub no_number : (s : SegmentRules) (rings : List Standing) (number : ℕ) (refusing : Option Refusal) (v : ServiceView) → service_of s rings number refusing ≡ v → 2 ^ 64 ≤ number + 1 → HasNoNext v.rings v.number end.Full
+no_number s rings number refusing v is_v most =
+    let one : HasNoNext rings number end.Full = inl (refl, inr most) in
+    subst (λ (x : ServiceView). HasNoNext x.rings x.number end.Full) is_v one
 
 pub kept_is : (s : SegmentRules) (rings : List Standing) (number : ℕ) (refusing : Option Refusal) (v : ServiceView) (r : Refusal) (why : EndFault) → service_of s rings number refusing ≡ v → r ≡ refusal_of why → service_of s rings number (Some r) ≡ record v { refusing = Some (refusal_of why) }
 kept_is s rings number refusing v r why is_v e =

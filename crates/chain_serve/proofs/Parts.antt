@@ -1,5 +1,5 @@
 -- What the loop says of rings in segments, said of the rings.
-use Rattle.std.proofs.Common.{◌≡◌, ℕ, ◌+◌, Bool, true, false, List, [], ◌∷◌, ◌++◌, map, Option, None, Some, refl, sym, ap, subst, ◌∙◌, inl, inr}
+use Rattle.std.proofs.Common.{◌≡◌, ℕ, ◌+◌, ◌≤◌, ◌^◌, ◌⊎◌, Bool, true, false, List, [], ◌∷◌, ◌++◌, map, Option, None, Some, refl, sym, ap, subst, ◌∙◌, inl, inr}
 use Rattle.std.specs.Prelude.{is_some, IfSome}
 use Rattle.std.specs.Io.KnownBytes.{Appends}
 use Rattle.std.specs.List.{AllByRecursion}
@@ -18,19 +18,22 @@ use Rattle.segment_loop.specs.Segments as at
 use Rattle.segment_loop.specs.Service as loop
 use Rattle.segment_loop.specs.Notes as notes
 use Rattle.segment_loop.specs.Lasting as lasting
+use Rattle.segment_loop.proofs.Changing.{kept_file, kept_cause}
 use Rattle.segment_loop.proofs.Lasting.{last_is, known_is, front_has}
 use Rattle.ring_serve.specs.declared.answers.Refusal.{Refusal}
 use Rattle.ring_serve.specs.Standings.{Standing}
 use Rattle.ring_serve.specs.Saved.{IsRight}
+use Rattle.ring_serve.specs.Segments.{IsFull}
 use Rattle.ring_serve.specs.Due.{is_due}
 use Rattle.ring_serve.specs.Permits.{Terms}
 use Rattle.ring_serve.specs.Serving.{IsAnswered, Answers, Stops}
 use Rattle.ring_serve.proofs.Looped.{answers_of, stops_of}
 use Rattle.chain_serve.specs.declared.segments.SegmentRules.{SegmentRules}
 use Rattle.chain_serve.specs.Segments.{Moment, file_of, moment_of, IsPut, HasEnded, IsCause, IsReady, IsLeft}
+use Rattle.chain_serve.specs.Texts.{HaveNoText}
 use Rattle.chain_serve.specs.Service.{part_terms, Part, AreParts, all_lines, all_said, IsStopped, ServesSegments, ServesSomeSegments}
 use Rattle.chain_serve.specs.Recovered.{AnsweredCallsAreRecovered, LeavesSegment, AnsweredCallsLast}
-use Rattle.chain_serve.specs.Services.{ServiceView, service_of, terms_of, IsServed, IsNext, refusal_of, segmenting}
+use Rattle.chain_serve.specs.Services.{ServiceView, service_of, terms_of, IsServed, IsNext, HasNoNext, refusal_of, segmenting}
 use Rattle.chain_serve.proofs.Recovering.{AreRight, keeps_last}
 
 -- ---- moments and parts
@@ -112,10 +115,34 @@ put_in s a next is h = record {
   put = h.put;
 }
 
-has_cause : (why : EndFault) → IsCause (refusal_of why)
-has_cause end.File = tt
-has_cause end.OutOfMemory = tt
-has_cause end.Full = tt
+-- why it continues
+for_reason : (m : Moment) (why e : EndFault) → why ≡ e → IsCause m (refusal_of e) → IsCause m (refusal_of why)
+for_reason m why e is cause = subst (λ (w : EndFault). IsCause m (refusal_of w)) (sym is) cause
+
+no_next_cause : (a : at.Moment ServiceView) (why : EndFault) → a.service.number ≡ a.number → HasNoNext a.service.rings a.service.number why → IsCause (moment_in a) (refusal_of why)
+no_next_cause a why same (inl h) = for_reason (moment_in a) why end.Full h.0 (subst (λ (n : ℕ). IsFull a.service.rings ⊎ (2 ^ 64 ≤ n + 1)) same h.1)
+no_next_cause a why same (inr e) = for_reason (moment_in a) why end.OutOfMemory e tt
+
+no_text_cause : (m : Moment) (rings : List Standing) (why : EndFault) → HaveNoText rings why → IsCause m (refusal_of why)
+no_text_cause m rings why (inl h) = for_reason m why end.File h.0 tt
+no_text_cause m rings why (inr e) = for_reason m why end.OutOfMemory e tt
+
+unprepared_cause : (a : at.Moment ServiceView) (why : EndFault) → a.service.number ≡ a.number → at.IsUnprepared segmenting a.service a.number why → IsCause (moment_in a) (refusal_of why)
+unprepared_cause a why same (inl h) = no_next_cause a why same h
+unprepared_cause a why same (inr (inl h)) = no_text_cause (moment_in a) h.0.rings why h.2
+unprepared_cause a why same (inr (inr (inl h))) = for_reason (moment_in a) why end.Full h.0 (inr h.1)
+unprepared_cause a why same (inr (inr (inr e))) = for_reason (moment_in a) why end.OutOfMemory e tt
+
+file_cause : (m : Moment) (why : EndFault) → at.IsFileCause why → IsCause m (refusal_of why)
+file_cause m why (inl e) = for_reason m why end.File e tt
+file_cause m why (inr e) = for_reason m why end.OutOfMemory e tt
+
+cause_in : (folder : List ℕ) (a b : at.Moment ServiceView) (why : EndFault) → a.service.number ≡ a.number → at.IsKept segmenting folder why a b → IsCause (moment_in a) (refusal_of why)
+cause_in folder a b why same h = by (kept_cause segmenting folder why a b h)
+  where
+    by : at.IsUnprepared segmenting a.service a.number why ⊎ at.IsFileCause why → IsCause (moment_in a) (refusal_of why)
+    by (inl k) = unprepared_cause a why same k
+    by (inr k) = file_cause (moment_in a) why k
 
 ready_in : (s : SegmentRules) (kept : Option EndFault) (a b : at.Moment ServiceView) → IsSound s a.number a.service → at.IsReady segmenting s.folder.now kept a b → IsReady s b.service.refusing (moment_in a) (moment_in b) × IsSound s b.number b.service
 unfolding put_in
@@ -146,7 +173,7 @@ ready_in s (Some why) a b is h =
     let kept : b.service ≡ record a.service { refusing = Some (refusal_of why) } = h.1.kept in
     let rings : b.service.rings ≡ a.service.rings = ap (λ (v : ServiceView). v.rings) kept in
     let off : b.service.refusing ≡ Some (refusal_of why) = ap (λ (v : ServiceView). v.refusing) kept in (
-      subst (λ (x : Option Refusal). IsReady s x (moment_in a) (moment_in b)) (sym off) (high, has_cause why, record { rings = rings; number = h.1.number; file = h.1.file }),
+      subst (λ (x : Option Refusal). IsReady s x (moment_in a) (moment_in b)) (sym off) (high, cause_in s.folder.now a b why is.number_is h.1, record { rings = rings; number = h.1.number; file = kept_file segmenting s.folder.now why a b h.1 }),
       record {
         rules = ap (λ (v : ServiceView). v.rules) kept ∙ is.rules;
         number_is = ap (λ (v : ServiceView). v.number) kept ∙ (is.number_is ∙ sym h.1.number);

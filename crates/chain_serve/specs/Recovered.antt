@@ -33,8 +33,8 @@ HasCallsIn s rings p =
     AreCallsIn (part_terms s p.from.number p.refusing) p.from.rings p.from.files p.lines p.said
     rings
 
--- Of these bytes rings are recovered that have the call of each line of these parts, with the
--- answer that was told. From there the rings have only grown.
+-- Of these bytes rings are recovered that have the call of each line of these parts, with its
+-- answer. From there the rings have only grown.
 pub record AreRecovered (s : SegmentRules) (parts : List Part) (bytes : List ℕ)
     (new : List Standing) : Type 0 where
   pub rings : List Standing
@@ -42,7 +42,7 @@ pub record AreRecovered (s : SegmentRules) (parts : List Part) (bytes : List ℕ
   pub calls : AllByRecursion (HasCallsIn s rings) parts
   pub grown : HaveGrown rings new
 
--- The file of the last segment has, behind its head, the rings with which its first part began, and
+-- The file of the last segment has, after its head, the rings with which its first part began, and
 -- the notes of its parts, and then perhaps more. Of whatever is kept of that, if it has the notes
 -- of these parts, rings are recovered that have the call of each of their lines.
 abbrev pub KeepsLast : SegmentRules → List Part → List ℕ → List Standing → Type 0
@@ -55,7 +55,7 @@ KeepsLast s parts more new =
     → IsPrefix (journal_text (content_of first.from.rings) ++ all_noted (first ∷ others)) kept
     → AreRecovered s (first ∷ others) kept new
 
--- Wherever serving ended: these parts were told, the output has a prefix of their answers and
+-- Wherever serving ended: these parts were delivered, the output has a prefix of their answers and
 -- nothing else, and the file of the last segment got their notes, and then perhaps more: it keeps
 -- the answers to its lines.
 pub record AnsweredCallsAreRecovered (s : SegmentRules) (a : Moment) (new : List Standing)
@@ -76,7 +76,7 @@ pub record AnsweredCallsAreRecovered (s : SegmentRules) (a : Moment) (new : List
 -- ---- what a loss of power leaves
 
 -- Where it is known what a loss of power leaves: the file of this moment's segment begins with these
--- bytes, or that of the next one is there, with the whole text with which it begins behind them.
+-- bytes, or that of the next one is there, with the whole text with which it begins after them.
 abbrev pub LeavesSegment : SegmentRules → Moment → List ℕ → Option Held → Type 0
 LeavesSegment s a bytes left =
     IfSome left
@@ -87,8 +87,8 @@ LeavesSegment s a bytes left =
     ≡ Some (segment_text (a.number + 1) (digest_of bytes) next))))
 
 -- Wherever serving ended, and whenever the power fails then: the file of the last segment begins
--- with these bytes, which have the notes of all lines that were told in it, and keep the answers to
--- them; or that of the next one is there, which begins behind them.
+-- with these bytes, which have the notes of all lines that were delivered in it, and keep the
+-- answers to them; or that of the next one is there, which begins after them.
 pub record AnsweredCallsLast (s : SegmentRules) (a : Moment) (new : List Standing)
     (input rest out after : Option (List ℕ)) (left : Option Held) : Type 0 where
   pub journal : List ℕ

@@ -1,12 +1,12 @@
 -- How a segment ends and the next begins, in files (this project's own).
-use Rattle.std.specs.Prelude.{◌≡◌, ℕ, ◌+◌, true, false, List, Option, None, Some, IfSome, ◌⊎◌}
+use Rattle.std.specs.Prelude.{◌≡◌, ℕ, ◌+◌, ◌≤◌, ◌^◌, true, false, List, Option, None, Some, IfSome, ◌⊎◌}
 use Rattle.disks.specs.Held.{Held, Replaces}
 use Rattle.segment_folder.specs.Names.{segment_file}
 use Rattle.ring_segments.specs.Spelling.{digest_of}
 use Rattle.ring_serve.specs.declared.answers.Refusal.{Refusal}
 use Rattle.ring_serve.specs.declared.answers.Refusal.TheVariants as refusal
 use Rattle.ring_serve.specs.Standings.{Standing}
-use Rattle.ring_serve.specs.Segments.{AreNext}
+use Rattle.ring_serve.specs.Segments.{AreNext, IsFull}
 use Rattle.ring_serve.specs.Due.{is_due}
 use Rattle.chain_serve.specs.Texts.{segment_text}
 use Rattle.chain_serve.specs.declared.segments.SegmentRules.{SegmentRules}
@@ -51,8 +51,8 @@ pub record HasEnded (s : SegmentRules) (a b : Moment) : Type 0 where
   pub journal : IfSome file.between
       (λ _. b.journal ≡ Some (segment_text b.number file.behind b.rings))
 
--- It could not be ended, and goes on: the rings are as they were, and its file holds what it held,
--- settled or not.
+-- It could not be ended, and continues: the rings are as they were, and its file holds what it
+-- held, settled or not.
 pub record IsKept (s : SegmentRules) (a b : Moment) : Type 0 where
   pub rings : b.rings ≡ a.rings
   pub number : b.number ≡ a.number
@@ -60,24 +60,24 @@ pub record IsKept (s : SegmentRules) (a b : Moment) : Type 0 where
       ⊎ (Replaces a.files b.files (file_of s a.number) a.journal
       × IfSome a.files (λ _. IfSome a.journal (λ bytes. b.journal ≡ Some bytes)))
 
--- the reasons: a file could not be made or written, there is no memory, or no segment has room
--- after this one
-abbrev pub IsCause : Refusal → Type 0
-IsCause refusal.File = Unit {0}
-IsCause refusal.OutOfMemory = Unit {0}
-IsCause refusal.HistoryFull = Unit {0}
-IsCause _ = ⊥
+-- the reasons: a file could not be made or written; there is no memory; or there is no segment after
+-- this one, since none has room after that of some ring, or no number is left
+abbrev pub IsCause : Moment → Refusal → Type 0
+IsCause a refusal.File = Unit {0}
+IsCause a refusal.OutOfMemory = Unit {0}
+IsCause a refusal.HistoryFull = IsFull a.rings ⊎ (2 ^ 64 ≤ a.number + 1)
+IsCause a _ = ⊥
 
--- Before lines are answered: a segment that is due has ended, or it goes on and every line is
+-- Before lines are answered: a segment that is due has ended, or it continues and every line is
 -- refused for that reason. One that is not due stays.
 abbrev pub IsReady : SegmentRules → Option Refusal → Moment → Moment → Type 0
 IsReady s None a b =
     ((is_due (Some s.limit) a.rings ≡ false) × (b ≡ a))
     ⊎ ((is_due (Some s.limit) a.rings ≡ true) × HasEnded s a b)
-IsReady s (Some why) a b = (is_due (Some s.limit) a.rings ≡ true) × IsCause why × IsKept s a b
+IsReady s (Some why) a b = (is_due (Some s.limit) a.rings ≡ true) × IsCause a why × IsKept s a b
 
--- What the disk has where it could be neither ended nor go on: the files as they were; or the file
--- of the segment is settled; and then perhaps that of the next one was put there.
+-- What the disk has where it could neither be ended nor continue: the files as they were; or the
+-- file of the segment is settled; and then perhaps that of the next one was put there.
 abbrev pub IsLeft : SegmentRules → Moment → Option Held → Type 0
 IsLeft s a is =
     (is ≡ a.files)

@@ -63,7 +63,7 @@ pub record ServesSegments (s : SegmentRules) (a b : Moment) (input rest out afte
   pub ended : IsAtEnd rest
   pub wrote : Appends out after (all_said parts)
 
--- After some parts no more was answered, and this is what the disk has; or some of the lines behind
+-- After some parts no more was answered, and this is what the disk has; or some of the lines after
 -- them were answered, as the serving of a part stops.
 abbrev pub IsStopped : SegmentRules → Moment → List Standing → Option Held → Option (List ℕ)
     → Option (List ℕ) → List ℕ → Type 0

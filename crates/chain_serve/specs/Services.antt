@@ -1,5 +1,5 @@
 -- Rings that answer lines in the segments of a folder (this project's own).
-use Rattle.std.specs.Prelude.{◌≡◌, ℕ, ◌+◌, ◌≤◌, Bool, true, List, Option, None, Some, is_some}
+use Rattle.std.specs.Prelude.{◌≡◌, ℕ, ◌+◌, ◌≤◌, ◌^◌, ◌⊎◌, Bool, true, List, Option, None, Some, is_some}
 use Rattle.std.specs.List.{AllByRecursion}
 use Rattle.disks.specs.Held.{Held}
 use Rattle.segment_loop.specs.Segmenting.{Segmenting}
@@ -9,11 +9,11 @@ use Rattle.ring_serve.specs.declared.answers.Refusal.{Refusal}
 use Rattle.ring_serve.specs.declared.answers.Refusal.TheVariants as refusal
 use Rattle.ring_serve.specs.Standings.{Standing}
 use Rattle.ring_serve.specs.Saved.{IsRight}
-use Rattle.ring_serve.specs.Segments.{AreNext}
+use Rattle.ring_serve.specs.Segments.{AreNext, IsFull}
 use Rattle.ring_serve.specs.Due.{is_due}
 use Rattle.ring_serve.specs.Permits.{Terms, is_shut, IsTied}
 use Rattle.ring_serve.specs.Serving.{IsAnswered}
-use Rattle.chain_serve.specs.Texts.{segment_text}
+use Rattle.chain_serve.specs.Texts.{segment_text, HaveNoText}
 use Rattle.chain_serve.specs.Segments.{file_of}
 use Rattle.chain_serve.specs.Service.{part_terms}
 use Rattle.chain_serve.specs.declared.segments.SegmentRules.{SegmentRules}
@@ -74,11 +74,19 @@ pub record IsNext (old new : ServiceView) : Type 0 where
   pub refusing : new.refusing ≡ None
   pub right : AllByRecursion IsRight new.rings
 
+-- There is no next segment: none has room after that of some ring, or no number is left; or there is
+-- no memory.
+abbrev pub HasNoNext : List Standing → ℕ → EndFault → Type 0
+HasNoNext rings number why =
+    ((why ≡ end.Full) × (IsFull rings ⊎ (2 ^ 64 ≤ number + 1))) ⊎ (why ≡ end.OutOfMemory)
+
 -- the text of a segment has the rings; one that is kept on stays as it is, and each line is refused
 abbrev pub segmenting : Segmenting ServiceView
 segmenting = record {
   text = λ s number behind. segment_text number behind s.rings;
   is_due = λ s. is_due (Some s.rules.limit) s.rings;
   IsNext = IsNext;
+  HasNoNext = λ s why. HasNoNext s.rings s.number why;
+  HasNoText = λ s why. HaveNoText s.rings why;
   IsKept = λ old why new. new ≡ record old { refusing = Some (refusal_of why) };
 }

@@ -1,7 +1,9 @@
 -- The text with which the file of a segment begins (this project's own).
-use Rattle.std.specs.Prelude.{ℕ, List, ◌++◌}
+use Rattle.std.specs.Prelude.{◌≡◌, ℕ, ◌≤◌, ◌^◌, ◌⊎◌, List, ◌++◌, length}
 use Rattle.ring_journal.specs.Spelling.{head_text as journal_text}
 use Rattle.ring_segments.specs.Spelling.{head_text}
+use Rattle.segment_loop.specs.declared.segmented.EndFault.{EndFault}
+use Rattle.segment_loop.specs.declared.segmented.EndFault.TheVariants as end
 use Rattle.ring_serve.specs.Standings.{Standing}
 use Rattle.ring_serve.specs.Segments.{bases_of}
 use Rattle.ring_serve.specs.Saved.{content_of}
@@ -12,3 +14,9 @@ abbrev pub segment_text : ℕ → List ℕ → List Standing → List ℕ
 segment_text number behind rings =
     head_text (record { number = number; behind = behind; bases = bases_of rings })
     ++ journal_text (content_of rings)
+
+-- no segment begins with a text of these rings: there is none, or there are too many; or there is no
+-- memory
+abbrev pub HaveNoText : List Standing → EndFault → Type 0
+HaveNoText rings why =
+    ((why ≡ end.File) × ((length rings ≡ 0) ⊎ (2 ^ 32 ≤ length rings))) ⊎ (why ≡ end.OutOfMemory)

@@ -4,8 +4,8 @@ ghost use Rattle.std.specs.Prelude.{◌≡◌, ◌<◌, true, IfOk, IfErr, OnErr
 ghost use Rattle.ring_segments.specs.Spelling.{DigestFits};
 ghost use Rattle.segment_loop.specs.Digested.{hashed};
 ghost use Rattle.segment_loop.specs.Segments.{IsNamed};
-ghost use Rattle.chain_serve.specs.Segments.{IsCause, moment_of};
-ghost use Rattle.chain_serve.specs.Beginning.{HasBegun, IsLeftUnbegun};
+ghost use Rattle.chain_serve.specs.Segments.{moment_of};
+ghost use Rattle.chain_serve.specs.Beginning.{HasBegun, IsBeginCause, IsLeftUnbegun};
 
 use crate::segmented::refusal_of;
 use crate::segments::SegmentRules;
@@ -16,7 +16,7 @@ use ring_serve::{Refusal, Served};
 use segment_loop::{OpenSegment, SegmentRules as FolderRules, begin_file};
 use std::alloc::Global;
 
-/// Puts the file of the segment of this number into the folder, with the rings as they stand and after a file of this digest, and
+/// Puts the file of the segment of this number into the folder, with the rings as they are and after a file of this digest, and
 /// opens it.
 ///
 /// # Errors
@@ -38,7 +38,7 @@ pub fn begin_segment<D: Disk>(
         (moment_of served.now (D.holds disk.new) segment.number
         (hashed (D.Grown.contents segment.writer.inner) segment.writer.hasher))) }
     ensures named { IfOk result (λ segment. IsNamed rules.entry.folder.now segment) }
-    ensures err { IfErr result (λ why. IsCause why) }
+    ensures err { IfErr result (λ why. IsBeginCause why) }
     ensures left { OnErr result (IsLeftUnbegun rules.entry served.now number behind
         (D.holds disk.old) (D.holds disk.new)) }
     ensures lasts { IfOk result (λ segment. rules.entry.synced ≡ true

@@ -1,10 +1,10 @@
 //! How rings live in segments.
 
-ghost use Rattle.std.specs.Prelude.{◌≡◌, IfOk};
+ghost use Rattle.std.specs.Prelude.{◌≡◌, ◌⊎◌, IfOk, IfErr};
 ghost use Rattle.std.specs.List.{AllByRecursion};
 ghost use Rattle.ring_serve.specs.Saved.{IsRight};
-ghost use Rattle.ring_serve.specs.Segments.{AreNext};
-ghost use Rattle.chain_serve.specs.Segments.{IsCause};
+ghost use Rattle.ring_serve.specs.Segments.{AreNext, IsFull};
+ghost use Rattle.segment_loop.specs.declared.segmented.EndFault.TheVariants as end;
 ghost use Rattle.chain_serve.specs.Services.{refusal_of};
 
 use crate::service::ChainService;
@@ -18,7 +18,9 @@ use std::alloc::Global;
 
 /// The rings with their next segments.
 fn next_rings(alloc: Global, served: &Served) -> Result<Served, EndFault>
-    ensures { IfOk result (λ next. AreNext served.now next × AllByRecursion IsRight next) }
+    ensures next { IfOk result (λ next. AreNext served.now next × AllByRecursion IsRight next) }
+    ensures why { IfErr result
+        (λ e. ((e ≡ end.Full) × IsFull served.now) ⊎ (e ≡ end.OutOfMemory)) }
 {
     match served.next(alloc) {
         Ok(next) => {
@@ -32,8 +34,7 @@ fn next_rings(alloc: Global, served: &Served) -> Result<Served, EndFault>
 
 /// What each line is refused with while a segment is kept on.
 pub(crate) fn refusal_of(why: EndFault) -> Refusal
-    ensures refusal { result ≡ refusal_of why }
-    ensures cause { IsCause result }
+    ensures { result ≡ refusal_of why }
 {
     match why {
         EndFault::File => Refusal::File,
@@ -62,7 +63,7 @@ impl Segmented for ChainService<'_> {
             Err(why) => return Err(why),
         };
         if self.number == u64::MAX {
-            return Err(EndFault::File);
+            return Err(EndFault::Full);
         }
         let number = self.number + 1;
         let Ok(name) = segment_file(alloc, self.rules.folder, number) else {

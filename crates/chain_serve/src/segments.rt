@@ -7,7 +7,7 @@ use ring_serve::Permits;
 pub struct SegmentRules<'n> {
     /// The folder of the segments.
     pub folder: &'n str,
-    /// A segment is due once its journal has so many lines.
+    /// A segment is due once its journal has this number of lines.
     pub limit: u64,
     /// Whether notes are put on the disk before their answers leave.
     pub synced: bool,

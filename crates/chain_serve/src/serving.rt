@@ -26,18 +26,18 @@ use std::mem;
 /// Returns the segment that is open in the end, which the caller settles.
 ///
 /// Between two lines, a segment that is due ends ([`Served::is_due`]). All answers have left then. Its file is settled, the file of
-/// the next one is put into the folder and opened, and the rings go on with their next segments. If the segment cannot be ended,
-/// since there is no memory or no file can be written, it goes on; every line is refused then, and this is tried again when the next
-/// block has been read.
+/// the next one is put into the folder and opened, and the rings continue with their next segments. If the segment cannot be ended,
+/// since there is no memory or no file can be written, it continues; every line is refused then, and this is tried again when the
+/// next block has been read.
 ///
-/// Of whatever is kept of the last segment's file, if it has the notes of the told lines, rings are recovered that have the call of
-/// each told line in this segment, with its answer.
+/// Of whatever is kept of the last segment's file, if it has the notes of the delivered lines, rings are recovered that have the
+/// call of each delivered line in this segment, with its answer.
 ///
 /// # Errors
 ///
-/// Those of [`serve`](ring_serve::serve), but `TooLong` only behind 2 to the power 63 bytes; `Journal` too if the file of a segment that is due cannot be settled, or if that file, or
-/// the next one, cannot be opened. The folder then has the segment that was written, with all that was told, or the next one
-/// as the last, which tells the same.
+/// Those of [`serve`](ring_serve::serve), but `TooLong` only after 2 to the power 63 bytes; `Journal` too if the file of a segment
+/// that is due cannot be settled, or if that file, or the next one, cannot be opened. The folder then has the segment that was
+/// written, with all that was delivered; or it has the next one as the last, whose text says the same.
 pub fn serve_segments<D: Disk, I: Read, W: Write>(
     alloc: Global,
     served: &mut Served,
@@ -76,7 +76,7 @@ pub fn serve_segments<D: Disk, I: Read, W: Write>(
         (I.remaining input.old) (I.remaining input.new) (W.contents out.old) (W.contents out.new)
         journal) }
 
-    // Where each note is put on the disk, and the content of files is known: what was told is there whenever the power fails.
+    // Where each note is put on the disk, and the content of files is known: what was delivered is there whenever the power fails.
     ensures lasts { rules.entry.synced ≡ true → IsSome (D.holds disk.old)
         → AllLasts (hashed (D.Grown.contents first.writer.inner) first.writer.hasher)
         (D.Grown.lasting first.writer.inner)

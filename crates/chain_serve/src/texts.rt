@@ -1,11 +1,11 @@
 //! The text with which the file of a segment begins.
 
-ghost use Rattle.std.specs.Prelude.{◌≡◌, ◌≤◌, ◌<◌, ◌^◌, ◌++◌, length, IfOk};
+ghost use Rattle.std.specs.Prelude.{◌≡◌, ◌≤◌, ◌<◌, ◌^◌, ◌++◌, length, IfOk, IfErr};
 ghost use Rattle.text_lines.specs.Writing.{Writes};
 ghost use Rattle.ring_journal.specs.Spelling.{head_text as journal_text};
 ghost use Rattle.ring_segments.specs.Spelling.{head_of, head_text, DigestFits};
 ghost use Rattle.ring_serve.specs.Saved.{content_of};
-ghost use Rattle.chain_serve.specs.Texts.{segment_text};
+ghost use Rattle.chain_serve.specs.Texts.{segment_text, HaveNoText};
 
 use ring_journal::put_first_line;
 use ring_segments::{DIGEST_DIGITS, SegmentHead, put_head};
@@ -59,7 +59,8 @@ pub(crate) fn segment_text(
 ) -> Result<Vec<u8>, EndFault>
     requires number { 0 < number }
     requires digits { DigestFits behind }
-    ensures { IfOk result (λ text. text.items ≡ segment_text number behind served.now) }
+    ensures text { IfOk result (λ text. text.items ≡ segment_text number behind served.now) }
+    ensures why { IfErr result (λ e. HaveNoText served.now e) }
 {
     let count = served.count();
     if count == 0 || count > u32::MAX as usize {

@@ -5,6 +5,7 @@ mod grown;
 mod joins;
 mod losing;
 pub mod memory;
+mod one_server;
 mod replacing;
 mod safety;
 mod streams;

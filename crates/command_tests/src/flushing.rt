@@ -1,4 +1,4 @@
-//! Outputs whose flush fails: what was written stays, no more is read, and nothing more is told.
+//! Outputs whose flush fails: what was written stays, no more is read, and nothing more is reported.
 
 use crate::files::memory::{bytes_of, make_folder, no_files, put};
 use crate::reading::Giver;
@@ -170,7 +170,7 @@ fn locks_end_where_their_output_is_stuck(rt: HostRuntime) -> Result<(), Fail> {
     Ok(())
 }
 
-// The bad lines are written in both runs; the refusal tells of the output where that is stuck.
+// The bad lines are written in both runs; the refusal is that of the output where that is stuck.
 #[test]
 fn bad_lines_are_told_to_an_output_that_is_stuck(rt: HostRuntime) {
     let bytes = b"ringfarm 2\nring 0 3 3\nstart 0 0 0\nend 1\ndone 1\n";
@@ -245,7 +245,7 @@ fn no_sums_are_told_of_a_picture_on_an_output_that_is_stuck(rt: HostRuntime) -> 
     Ok(())
 }
 
-// A command that is done ends so as if it had not been; one that is refused tells why it is.
+// Where the output is stuck, a command that was done fails, and one that was refused reports its own refusal.
 #[test]
 fn a_command_ends_with_an_output_that_is_stuck(rt: HostRuntime) {
     let fault = || io::Error::from(ErrorKind::BrokenPipe);

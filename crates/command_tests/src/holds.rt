@@ -10,7 +10,7 @@ const ALL: Choice = Choice {
     label: None,
 };
 
-/// The saved history of one ring of three machines with these lines behind its start.
+/// The saved history of one ring of three machines with these lines after its start.
 fn saved_of(rt: &impl Abort, alloc: Global, lines: &str) -> Saved {
     let mut text = Vec::new(alloc);
     assert!(rt;
@@ -55,7 +55,7 @@ fn refuses_what_no_lock_has(rt: HostRuntime) {
         // A grant with no greater token, while a hold is open and at the start.
         ("p 0 0 7 g 1 7\np 0 1 8 g 1 15\nend 2\ns 1 1 1 1 1 0\n", 1),
         ("p 0 0 7 g 0 7\nend 1\n", 0),
-        // A hold that goes on, of which another event came before.
+        // A hold that continues, before which another event came.
         ("c 8 0 0 0\np 3 0 2 n\nend 2\n", 1),
     ];
     for (history, place) in rows {

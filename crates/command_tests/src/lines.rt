@@ -28,7 +28,7 @@ fn writes_stats(rt: HostRuntime) {
     says(&rt, rt.alloc(), Answer::Stats(held), line);
 }
 
-// Of a lock that is full, and for want of memory.
+// For lack of room, and for lack of memory.
 #[test]
 fn writes_refusals(rt: HostRuntime) {
     says(

@@ -1,4 +1,4 @@
-//! Commands on a system whose syncs fail from some moment on: what was told by then is in what a loss of power leaves.
+//! Commands on a system whose syncs fail from some moment on: what was delivered by then is in what a loss of power leaves.
 
 use crate::files::memory::{bytes_of, make_folder, no_files, put};
 use crate::reading::Giver;
@@ -33,10 +33,10 @@ const SERVED: [(&str, &str); 3] = [
 const SEGMENT: &str =
     "ringsegment 1 1 1\nbehind 0000000000000000000000000000000000000000000000000000000000000000\nbase 0 0 0 0\nringjournal 1\nringfarm 2\nring 0 3 3\nstart 0 0 0\nend 0\ndone 1\n";
 
-const LENT: &str =
+pub const LENT: &str =
     "ringsegment 1 1 1\nbehind 0000000000000000000000000000000000000000000000000000000000000000\nbase 0 0 0 0\nringjournal 1\nringfarm 2\nring 0 3 3\nstart 0 0 0\nend 0\ndone 1\n0 p 0 0 77 g 1 77\n";
 
-/// A journal in memory, all of which is on the disk, and a folder. Of each file that is opened only so many syncs succeed.
+/// A journal in memory, all of which is on the disk, and a folder. Of each file that is opened only `syncs` syncs succeed.
 fn disk_of(alloc: Global, syncs: u32) -> io::Result<LosingDisk> {
     let mut held = no_files(alloc);
     make_folder(&mut held, "f")?;

@@ -51,11 +51,14 @@ impl Segmented for Count {
     ghost use Rattle.std.specs.Prelude.{◌≡◌, refl, nat_lt, [], ◌∷◌, Option, IsSome};
     ghost use Rattle.std.proofs.Common.{subst, sym};
     ghost use Rattle.disks.specs.Held.{Held};
+    ghost use Rattle.segment_loop.specs.declared.segmented.EndFault.TheVariants as end;
 
     ghost segmenting = { record {
       text = λ s number behind. 116 ∷ 10 ∷ [];
       is_due = λ s. nat_lt 99 s.lines;
       IsNext = λ old new. new.lines ≡ old.lines;
+      HasNoNext = λ s why. ⊥;
+      HasNoText = λ s why. why ≡ end.OutOfMemory;
       IsKept = λ old why new. new.lines ≡ old.lines;
     } };
 
@@ -101,7 +104,7 @@ impl HasState for Count {
     }
 }
 
-/// What is told of these lines, and the notes; nothing where they are not served to the end.
+/// The answers to these lines, and the notes; nothing where they are not served to the end.
 fn told<S: AnswersLines>(alloc: Global, replica: &mut S, lines: &[u8]) -> (Vec<u8>, Vec<u8>)
     requires { S.is_over replica.old ≡ false }
 {
@@ -128,7 +131,7 @@ fn told<S: AnswersLines>(alloc: Global, replica: &mut S, lines: &[u8]) -> (Vec<u
     }
 }
 
-// What has a number is answered once, and then told again: the first line of the first answer.
+// What has a number is answered once. After that the first line of the first answer is sent again.
 #[test]
 fn answers_each_number_once(rt: HostRuntime) {
     let alloc = rt.alloc();
@@ -157,7 +160,7 @@ fn uses_up_no_number_for_what_is_no_call(rt: HostRuntime) {
     assert!(rt; notes.as_slice() == b"!\n!\n!\n!\n!\n# 7 9 did 1 5\n!\n".as_slice());
 }
 
-// What others are told is not told again: 1 is answered, whoever asks.
+// An answer to another client is not sent again: 1 is answered, whoever asks.
 #[test]
 fn tells_nothing_of_others_again(rt: HostRuntime) {
     let alloc = rt.alloc();
@@ -192,8 +195,8 @@ fn keeps_what_it_is_told_of_keys(rt: HostRuntime) {
     assert!(rt; notes.as_slice() == b"# 7 5 forget\n!\n# 7 4 did 1 1\n".as_slice());
 }
 
-// A place is told with the digest of all that was told since the last; what a place tells is not in it. It goes on from a digest that
-// is given, and in the next segment.
+// A place is answered with the digest of all that was answered since the last; the answer to a place is not in it. It continues
+// from a digest that is given, and in the next segment.
 #[test]
 fn tells_the_digest_at_a_place(rt: HostRuntime) {
     let alloc = rt.alloc();
@@ -224,7 +227,7 @@ fn tells_the_digest_at_a_place(rt: HostRuntime) {
     assert!(rt; out.as_slice() == third.as_slice());
 }
 
-// The state is told as the lines that bring it back, and how many they are; it is not in the digest.
+// The state is answered as the lines that bring it back, and how many they are; it is not in the digest.
 #[test]
 fn tells_the_lines_that_bring_it_back(rt: HostRuntime) {
     let alloc = rt.alloc();
@@ -243,7 +246,7 @@ fn tells_the_lines_that_bring_it_back(rt: HostRuntime) {
     assert!(rt; replica.inner().inner().lines == 2);
 }
 
-// What brings its own state back is noted in remarks, behind the notes of the service inside, and once; and the next segment begins
+// What brings its own state back is noted in remarks, after the notes of the service inside, and once; and the next segment begins
 // with all that is kept then.
 #[test]
 fn notes_what_brings_it_back(rt: HostRuntime) {

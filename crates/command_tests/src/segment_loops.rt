@@ -14,7 +14,7 @@ use std::alloc::{AllocError, Global};
 use std::io::{self, Cursor, ErrorKind, Read};
 use std::process::Abort;
 
-/// A segment is due once more lines are told in it than this.
+/// A segment is due once more lines are answered in it than this.
 const MOST: u64 = 1;
 
 const RULES: SegmentRules<'static> = SegmentRules {
@@ -22,12 +22,12 @@ const RULES: SegmentRules<'static> = SegmentRules {
     synced: false,
 };
 
-/// Lines that were told in a segment, which has a letter.
+/// Lines that were answered in a segment, which has a letter.
 #[derive(Drop)]
 struct Tally {
     letter: u8,
     told: u64,
-    /// There is memory for the next segment once so many lines are told.
+    /// There is memory for the next segment once this number of lines is answered.
     poor: u64,
     kept: Option<EndFault>,
 }
@@ -59,14 +59,17 @@ impl AnswersLines for Tally {
 }
 
 impl Segmented for Tally {
-    ghost use Rattle.std.specs.Prelude.{◌≡◌, ◌∷◌, ◌++◌, ◌&&◌, Bool, [], Option, Some, IsSome, is_none, nat_lt};
+    ghost use Rattle.std.specs.Prelude.{◌≡◌, ◌<◌, ◌∷◌, ◌++◌, ◌&&◌, Bool, [], Option, Some, IsSome, is_none, nat_lt};
     ghost use Rattle.std.proofs.Common.{ap, subst, sym};
+    ghost use Rattle.segment_loop.specs.declared.segmented.EndFault.TheVariants as end;
     ghost use Rattle.disks.specs.Held.{Held};
 
     ghost segmenting = { record {
       text = λ s number behind. s.letter ∷ 10 ∷ behind ++ 10 ∷ [];
       is_due = λ s. nat_lt 1 s.told;
       IsNext = λ old new. new.told ≡ 0;
+      HasNoNext = λ s why. (why ≡ end.OutOfMemory) × (s.told < s.poor);
+      HasNoText = λ s why. why ≡ end.OutOfMemory;
       IsKept = λ old why new. (new.told ≡ old.told) × (new.kept ≡ Some why);
     } };
 
@@ -134,6 +137,10 @@ impl Disk for Full {
         self.files.is_one_file(one, other)
     }
 
+    fn leads_into(&self, folder: &str, name: &str) -> io::Result<bool> {
+        self.files.leads_into(folder, name)
+    }
+
     fn list(&self, folder: &str) -> io::Result<Vec<FolderEntry>> {
         self.files.list(folder)
     }
@@ -158,6 +165,10 @@ impl Disk for Full {
         self.files.discard(name)
     }
 
+    fn lock(&mut self, name: &str) -> io::Result<()> {
+        self.files.lock(name)
+    }
+
     fn grow(&mut self, name: &str, synced: bool) -> io::Result<Vec<u8>> {
         self.files.grow(name, synced)
     }
@@ -171,7 +182,7 @@ impl Disk for Full {
     }
 }
 
-/// A reader of which each block has so many bytes.
+/// A reader of which each block has `size` bytes.
 #[derive(Drop)]
 struct Blocks {
     left: &'static [u8],
@@ -187,7 +198,7 @@ impl Read for Blocks {
     }
 }
 
-/// What is served, in blocks of this size, and how: so many files cannot be made, and there is memory after so many lines.
+/// What is served, in blocks of `size` bytes, and how: `fails` files cannot be made, and there is memory after `poor` lines.
 struct Row {
     input: &'static [u8],
     size: usize,
@@ -200,7 +211,7 @@ struct Row {
     kept: Option<EndFault>,
 }
 
-/// The file of the first segment, with the notes of so many lines.
+/// The file of the first segment, with the notes of two lines, of three or of four.
 const FIRST_OF_TWO: &[u8] =
     b"a\n0000000000000000000000000000000000000000000000000000000000000000\n!\n!\n";
 
@@ -241,7 +252,7 @@ const ROWS: [Row; 5] = [
         second: SECOND_AFTER_TWO,
         kept: None,
     },
-    // No file can be made: the segment goes on.
+    // No file can be made: the segment continues.
     Row {
         input: b"1\n2\n3\n4\n",
         size: ONE_BLOCK,

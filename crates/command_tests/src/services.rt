@@ -25,7 +25,7 @@ fn opened(rt: &impl Abort, alloc: Global) -> EndlessRing
     }
 }
 
-/// Two locks that answer lines, in segments of so many notes.
+/// Two locks that answer lines, in segments of `limit` notes.
 fn two_locks(rt: &impl Abort, alloc: Global, limit: u64, strict: bool) -> LockService {
     let terms = Terms {
         faults: false,

@@ -11,7 +11,7 @@ use std::process::Abort;
 use std::test::Fail;
 use tool_parts::faults::ToolError;
 
-/// A journal that tells no call.
+/// A journal that records no call.
 const BEGUN: &str = "ringjournal 1\nringfarm 2\nring 0 3 3\nstart 0 0 0\nend 0\ndone 1\n";
 
 /// The same with a call.
@@ -92,6 +92,10 @@ impl<'a> Disk for Watched<'a> {
         self.files.is_one_file(one, other)
     }
 
+    fn leads_into(&self, folder: &str, name: &str) -> io::Result<bool> {
+        self.files.leads_into(folder, name)
+    }
+
     fn list(&self, folder: &str) -> io::Result<Vec<FolderEntry>> {
         self.files.list(folder)
     }
@@ -110,6 +114,13 @@ impl<'a> Disk for Watched<'a> {
 
     fn discard(&mut self, name: &str) -> io::Result<bool> {
         self.files.discard(name)
+    }
+
+    fn lock(&mut self, name: &str) -> io::Result<()> {
+        if self.used {
+            return Err(io::Error::from(ErrorKind::WouldBlock));
+        }
+        self.files.lock(name)
     }
 
     fn grow(&mut self, name: &str, synced: bool) -> io::Result<Opened<'a>> {

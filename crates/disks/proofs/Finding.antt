@@ -29,6 +29,7 @@ pub pushed : (es : List StoredEntry) (e : StoredEntry) (name bytes : List ℕ) �
     IsReplaced (held_of es) (held_of (es ++ e ∷ [])) name bytes
 pushed es e name bytes named holds no_folder = record {
   places = λ other. refl;
+  locks = λ place. refl;
   folders = λ other.
       ap is_a_folder (found_push Nothing es e other)
       ∙ same_folder (bytes_eq (string_bytes e.name) other) (thing_of e.stored) (found Nothing es other) (ap is_a_folder holds)
@@ -98,6 +99,7 @@ folder_left false es name other is no_folder =
 pub removed : (es : List StoredEntry) (name : List ℕ) → is_a_folder (found Nothing es name) ≡ false → IsRemoved (held_of es) (held_of (without name es)) name
 removed es name no_folder = record {
   places = λ other. refl;
+  locks = λ place. refl;
   folders = λ other. folder_left (bytes_eq name other) es name other refl no_folder;
   here = λ other same. ap file_bytes (subst (λ (n : List ℕ). found Nothing (without name es) n ≡ Nothing) same (none_left Nothing es name));
   others = λ other differs. ap file_bytes (others_left Nothing es name other differs);

@@ -1,5 +1,5 @@
 -- The files of a folder among all.
-use Rattle.std.proofs.Common.{◌≡◌, ◌<◌, ◌+◌, ◌||◌, ℕ, suc, length, take, drop, get_or, List, [], ◌∷◌, ◌++◌, Bool, true, false, cond, refl, sym, ap, ◌∙◌, string_bytes}
+use Rattle.std.proofs.Common.{◌≡◌, ◌≢◌, Some, ◌<◌, ◌+◌, ◌||◌, ℕ, suc, length, take, drop, get_or, List, [], ◌∷◌, ◌++◌, Bool, true, false, cond, refl, sym, ap, ◌∙◌, string_bytes}
 use Rattle.std.specs.Str.{bytes_eq}
 use Rattle.std.specs.List.{AllByRecursion}
 use Rattle.std.proofs.lemmas.List.{take-append-drop, drop_more, length-append}
@@ -9,7 +9,7 @@ use Rattle.std.proofs.lemmas.Bool.{false_from_ne_true, true≢false}
 use Rattle.disks.proofs.Finding.{found_push}
 use Rattle.disks.specs.Held.{Thing, Nothing, is_a_thing}
 use Rattle.disks.specs.Entries.{thing_of, found, held_of}
-use Rattle.disks.specs.Folders.{path_in, has_slash, is_among, ListsNames}
+use Rattle.disks.specs.Folders.{path_in, LeadsInto, LeadsToNoNew, has_slash, is_among, ListsNames}
 use Rattle.disks.specs.declared.memory.Stored.{Stored}
 use Rattle.disks.specs.declared.memory.Stored.TheVariants as stored
 use Rattle.disks.specs.declared.memory.StoredEntry.{StoredEntry}
@@ -34,6 +34,15 @@ longer_than name folder n is = ap (λ (x : List ℕ). length x) is ∙ length-ap
 
 pub rest_of : (name folder n : List ℕ) → name ≡ path_in folder n → drop (length folder + 1) name ≡ n
 rest_of name folder n is = ap (λ (x : List ℕ). drop (length folder + 1) x) is ∙ drop-append-add folder (47 ∷ n) 1
+
+-- so it leads into the folder; and another leads to nothing there
+pub leads_in : (es : List StoredEntry) (name folder n f : List ℕ) → n ≡ name → f ≡ folder → n ≡ path_in f (drop (length f + 1) n) → LeadsInto (Some (held_of es)) folder name
+leads_in es name folder n f named foldered is =
+    let rest = drop (length f + 1) n in
+    (rest, ap (λ (x : List ℕ). path_in x rest) (sym foldered) ∙ sym is ∙ named)
+
+pub leads_elsewhere : (es : List StoredEntry) (name folder n f : List ℕ) → n ≡ name → f ≡ folder → ((o : List ℕ) → n ≢ path_in f o) → LeadsToNoNew (Some (held_of es)) folder name
+leads_elsewhere es name folder n f named foldered differs = λ other plain free same. differs other (named ∙ sym same ∙ ap (λ (x : List ℕ). path_in x other) (sym foldered))
 
 -- a name whose rest has a slash is that of no file of the folder
 pub deeper : (name folder rest n : List ℕ) → rest ≡ drop (length folder + 1) name → has_slash rest ≡ true → has_slash n ≡ false

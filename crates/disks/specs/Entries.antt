@@ -1,5 +1,5 @@
 -- Files and folders in memory: the last entry with a name is what has that name.
-use Rattle.std.specs.Prelude.{ℕ, List, [], ◌∷◌, Option, None, Some, cond, not, string_bytes}
+use Rattle.std.specs.Prelude.{ℕ, List, [], ◌∷◌, Option, None, Some, cond, not, true, string_bytes}
 use Rattle.std.specs.Borrow.{Bor}
 use Rattle.std.specs.List.{filter}
 use Rattle.std.specs.Str.{bytes_eq}
@@ -24,10 +24,11 @@ found before [] name = before
 found before (e ∷ es) name =
     found (cond (bytes_eq (string_bytes e.name) name) (thing_of e.stored) before) es name
 
--- the files and folders by these entries: each name leads to a place of its own
+-- The files and folders by these entries: each name leads to a place of its own. Nobody else has files
+-- in memory, so each of them is locked.
 abbrev pub held_of : List StoredEntry → Held
-held_of entries = record { place = λ name. name; at = found Nothing entries }
+held_of entries = record { place = λ name. name; at = found Nothing entries; locked = λ place. true }
 
--- these entries but for those with this name
+-- these entries except those with this name
 abbrev pub without : List ℕ → List StoredEntry → List StoredEntry
 without name entries = filter (λ e. not (bytes_eq (string_bytes e.name) name)) entries

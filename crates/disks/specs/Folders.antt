@@ -3,16 +3,29 @@ use Rattle.std.specs.Prelude.{◌≡◌, ℕ, List, ◌∷◌, ◌++◌, ◌==�
 use Rattle.std.specs.Borrow.{Bor}
 use Rattle.std.specs.List.{list_any, AllByRecursion}
 use Rattle.std.specs.Str.{bytes_eq}
-use Rattle.disks.specs.Held.{Held, is_folder, is_there}
+use Rattle.disks.specs.Held.{Held, is_folder, is_there, IsOneFile}
 use Rattle.disks.specs.declared.disk.FolderEntry.{FolderEntry}
 
--- the name of what has this name in the folder: a slash stands between the two
+-- the name of what has this name in the folder: a slash is between the two
 abbrev pub path_in : List ℕ → List ℕ → List ℕ
 path_in folder name = folder ++ 47 ∷ name
+
+-- what has this name, or would have it, has a name in the folder too, where it is known where names
+-- lead
+abbrev pub LeadsInto : Option Held → List ℕ → List ℕ → Type 0
+LeadsInto None folder name = ⊤
+LeadsInto (Some held) folder name = (other : List ℕ) × IsOneFile held (path_in folder other) name
 
 -- whether a name has a slash
 abbrev pub has_slash : List ℕ → Bool
 has_slash name = list_any (λ b. b == 47) name
+
+-- what would have this name has no name in the folder that nothing has yet, where it is known where
+-- names lead
+abbrev pub LeadsToNoNew : Option Held → List ℕ → List ℕ → Type 0
+LeadsToNoNew None folder name = ⊤
+LeadsToNoNew (Some held) folder name = (other : List ℕ) → has_slash other ≡ false
+    → is_there held (path_in folder other) ≡ false → IsOneFile held (path_in folder other) name → ⊥
 
 -- whether a name is among these
 abbrev pub is_among : List (List ℕ) → List ℕ → Bool

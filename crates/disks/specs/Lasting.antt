@@ -5,13 +5,13 @@ use Rattle.disks.specs.Held.{Held, IsOneFile, bytes_of}
 
 -- ---- one file
 
--- All of these bytes were added; or, at an error, so many of the first.
+-- All of these bytes were added; or, at an error, the first n of them, where n is the error.
 abbrev pub Adds : {T : Type 0} → Result T ℕ → Option (List ℕ) → Option (List ℕ) → List ℕ → Type 0
 Adds result old new bytes =
     MatchResult result (λ _. Appends old new bytes)
     (λ n. (n ≤ length bytes) × Appends old new (take n bytes))
 
--- all of these bytes last behind those that did; or, at an error, those last that did
+-- all of these bytes last after those that did; or, at an error, those last that did
 abbrev pub Lasts : {T E : Type 0} → Result T E → Option (List ℕ) → Option (List ℕ) → List ℕ
     → Type 0
 Lasts result old new bytes = MatchResult result (λ _. Appends old new bytes) (λ _. Keeps old new)
@@ -21,7 +21,7 @@ abbrev pub HasJust : Option (List ℕ) → Option (List ℕ) → Type 0
 HasJust has None = ⊤
 HasJust has (Some bytes) = has ≡ Some bytes
 
--- What is there begins with the bytes that last. Behind them there may be any others: what was added
+-- What is there begins with the bytes that last. After them there may be any others: what was added
 -- and does not last may be there, or a part of it, or bytes that nobody wrote. Where nothing is known
 -- to last, nothing is said: the file may be gone.
 abbrev pub BeginsWith : Option (List ℕ) → Option (List ℕ) → Type 0

@@ -1,5 +1,5 @@
 -- What a loss of power leaves of files in memory.
-use Rattle.std.specs.Prelude.{ℕ, List, cond, string_bytes}
+use Rattle.std.specs.Prelude.{ℕ, List, cond, false, string_bytes}
 use Rattle.std.specs.Str.{bytes_eq}
 use Rattle.disks.specs.Held.{Held, Thing, File, Nothing}
 use Rattle.disks.specs.Entries.{found}
@@ -12,6 +12,6 @@ left_at (Start entries) name = found Nothing entries.items name
 left_at (Over' p before place bytes) name =
     cond (bytes_eq (string_bytes place) name) (File bytes.items) (left_at before name)
 
--- the files and folders that are left: each name leads to a place of its own
+-- the files and folders that are left: each name leads to a place of its own, and none is locked
 abbrev pub held_left : Left → Held
-held_left files = record { place = λ name. name; at = left_at files }
+held_left files = record { place = λ name. name; at = left_at files; locked = λ place. false }

@@ -1,8 +1,8 @@
 //! The calls of a system on its files, one thing each.
 
 ghost use Rattle.std.specs.Prelude.{◌≡◌, ℕ, List, [], Option, None, Some, IfOk, IfSome, OnOk, OnErr, true, false, string_bytes};
-ghost use Rattle.disks.specs.Held.{Held, is_folder, IsOneFile, Opens, Starts, Creates, Discards, Grows, Replaces};
-ghost use Rattle.disks.specs.Folders.{Lists, names_of};
+ghost use Rattle.disks.specs.Held.{Held, is_folder, IsOneFile, Opens, Starts, Creates, Discards, Grows, Locks, Replaces};
+ghost use Rattle.disks.specs.Folders.{LeadsInto, LeadsToNoNew, Lists, names_of};
 ghost use Rattle.disks.specs.Lasting.{Leaves, MayLeave, MayRemove, LeavesFront};
 
 use crate::disk::FolderEntry;
@@ -32,7 +32,7 @@ pub trait FileCalls {
     /// The bytes of a new file, where they are known to be on the disk.
     ghost settled: { Self.Part → Option (List ℕ) };
 
-    /// Opens the file of this name, which is no folder.
+    /// Opens the file of this name, which is not a folder.
     fn open(&self, name: &str) -> io::Result<Self::Reader>
         ensures { IfOk result
             (λ reader. Opens (holds self.now) name.now (Self.Reader.remaining reader)) };
@@ -44,6 +44,17 @@ pub trait FileCalls {
         ensures yes { IfOk result (λ same. IfSome (holds self.now)
             (λ held. same ≡ true → is_folder held one.now ≡ true
             → IsOneFile held one.now other.now)) };
+
+    /// Whether links lead from this name to one in this folder.
+    ///
+    /// # Errors
+    ///
+    /// The folder or the name cannot be looked at, or there is no folder for its file.
+    fn leads_into(&self, folder: &str, name: &str) -> io::Result<bool>
+        ensures yes { IfOk result
+            (λ into. into ≡ true → LeadsInto (holds self.now) folder.now name.now) }
+        ensures no { IfOk result
+            (λ into. into ≡ false → LeadsToNoNew (holds self.now) folder.now name.now) };
 
     /// Whether the process reads or writes the file of this name by a standard descriptor.
     ///
@@ -91,6 +102,12 @@ pub trait FileCalls {
             (λ end. Grows (holds self.old) name.now (Self.End.written end)) }
         ensures sound { IfOk result (λ end. Self.End.is_sound end ≡ true) }
         ensures kept { holds self.new ≡ holds self.old }
+        ensures left { leaves self.new ≡ leaves self.old };
+
+    /// Opens the regular file of this name and locks it, for as long as the system is there.
+    fn lock(&mut self, name: &str) -> io::Result<()>
+        ensures locked { OnOk result (Locks (holds self.old) (holds self.new) name.now) }
+        ensures kept { OnErr result (holds self.new ≡ holds self.old) }
         ensures left { leaves self.new ≡ leaves self.old };
 
     /// Puts the name of this open file on the disk, so that a loss of power leaves by it what is on the disk of the file.

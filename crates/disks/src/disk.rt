@@ -2,8 +2,8 @@
 
 ghost use Rattle.std.specs.Prelude.{◌≡◌, ℕ, List, [], Option, None, Some, IfOk, IfErr, IfSome, OnOk, OnErr, true, false, string_bytes};
 ghost use Rattle.std.specs.Io.KnownBytes.{Keeps};
-ghost use Rattle.disks.specs.Held.{Held, is_folder, IsOneFile, Opens, Starts, Creates, Discards, Grows, Replaces};
-ghost use Rattle.disks.specs.Folders.{Lists, names_of};
+ghost use Rattle.disks.specs.Held.{Held, is_folder, IsOneFile, Opens, Starts, Creates, Discards, Grows, Locks, Replaces};
+ghost use Rattle.disks.specs.Folders.{LeadsInto, LeadsToNoNew, Lists, names_of};
 ghost use Rattle.disks.specs.Lasting.{bytes_in, Leaves, MayLeave, MayRemove, LeavesFront};
 
 use crate::grow::Grow;
@@ -39,7 +39,7 @@ pub trait Disk {
     /// file that is being grown is so once its writer is let go; until then the writer says what lasts.
     ghost leaves: { Self → Option Held } = { λ _. None };
 
-    /// Opens the file of this name, which is no folder. The reader has the bytes that the file holds now.
+    /// Opens the file of this name, which is not a folder. The reader has the bytes that the file holds now.
     fn open(&self, name: &str) -> io::Result<Self::Reader>
         ensures { IfOk result
             (λ reader. Opens (holds self.now) name.now (Self.Reader.remaining reader)) };
@@ -51,6 +51,18 @@ pub trait Disk {
         ensures yes { IfOk result (λ same. IfSome (holds self.now)
             (λ held. same ≡ true → is_folder held one.now ≡ true
             → IsOneFile held one.now other.now)) };
+
+    /// Whether links lead from this name to one in this folder: of a file there, or of one that would be made there. If it answers
+    /// no, none would be made there.
+    ///
+    /// # Errors
+    ///
+    /// The folder or the name cannot be looked at, or there is no folder for its file.
+    fn leads_into(&self, folder: &str, name: &str) -> io::Result<bool>
+        ensures yes { IfOk result
+            (λ into. into ≡ true → LeadsInto (holds self.now) folder.now name.now) }
+        ensures no { IfOk result
+            (λ into. into ≡ false → LeadsToNoNew (holds self.now) folder.now name.now) };
 
     /// Whether the process reads or writes the file of this name by a standard descriptor; if not, whether a file of this name
     /// can be made is looked at too. It is asked before long work that ends with such a file.
@@ -105,6 +117,17 @@ pub trait Disk {
         ensures discarded { IfOk result (Discards (holds self.old) (holds self.new) name.now) }
         ensures kept { OnErr result (holds self.new ≡ holds self.old) }
         ensures left { MayRemove (leaves self.old) (leaves self.new) name.now };
+
+    /// Locks the file of this name, which is there, for as long as this disk is: nobody else can lock it then, or open it to be
+    /// written at its end. No call lets a lock go.
+    ///
+    /// # Errors
+    ///
+    /// `WouldBlock` if somebody has it locked, or open so; or it cannot be opened.
+    fn lock(&mut self, name: &str) -> io::Result<()>
+        ensures locked { OnOk result (Locks (holds self.old) (holds self.new) name.now) }
+        ensures kept { OnErr result (holds self.new ≡ holds self.old) }
+        ensures left { leaves self.new ≡ leaves self.old };
 
     /// Opens a file that is there to be written at its end. Its writer has the content of the file. With `synced` that content,
     /// under its name, and all that is added are put on the disk.

@@ -146,7 +146,7 @@ impl LosingCalls {
         }
     }
 
-    /// The same, of which only so many syncs of each open file succeed, and so many of folders.
+    /// The same, of which only `file_syncs` syncs of each open file succeed, and only `folder_syncs` of folders.
     pub fn failing(mut self, file_syncs: u32, folder_syncs: u32) -> LosingCalls {
         self.file_syncs = file_syncs;
         self.folder_syncs = folder_syncs;
@@ -195,6 +195,10 @@ impl FileCalls for LosingCalls {
         self.memory.is_one_file(one, other)
     }
 
+    fn leads_into(&self, folder: &str, name: &str) -> io::Result<bool> {
+        self.memory.leads_into(folder, name)
+    }
+
     fn is_standard(&self, name: &str) -> io::Result<bool> {
         self.memory.is_standard(name)
     }
@@ -235,6 +239,10 @@ impl FileCalls for LosingCalls {
             syncs: self.file_syncs,
             failed: false,
         })
+    }
+
+    fn lock(&mut self, name: &str) -> io::Result<()> {
+        self.memory.lock(name)
     }
 
     fn sync_name(&mut self, end: &LosingEnd, name: &str) -> io::Result<()> {

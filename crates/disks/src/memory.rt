@@ -146,7 +146,7 @@ fn copied(alloc: Global, entries: &[StoredEntry], name: &str) -> io::Result<Vec<
     }
 }
 
-/// The place of a file of this name, which is no folder's: the name, and room for an entry.
+/// The place of a file of this name, which is not a folder's: the name, and room for an entry.
 fn place_for(disk: &mut MemoryDisk, name: &str) -> io::Result<String>
     ensures named { IfOk result (λ place. string_bytes place ≡ name.now) }
     ensures free { OnOk result
@@ -192,6 +192,10 @@ impl Disk for MemoryDisk {
         Ok(one == other)
     }
 
+    fn leads_into(&self, folder: &str, name: &str) -> io::Result<bool> {
+        Ok(is_in(name.as_bytes(), folder.as_bytes()))
+    }
+
     fn list(&self, folder: &str) -> io::Result<Vec<FolderEntry>> {
         if !is_folder(&self.entries, folder) {
             return Err(io::Error::from(ErrorKind::NotFound));
@@ -225,6 +229,13 @@ impl Disk for MemoryDisk {
         }
         remove_entries(&mut self.entries, name);
         Ok(true)
+    }
+
+    fn lock(&mut self, name: &str) -> io::Result<()> {
+        match last(&self.entries, name) {
+            Some(Stored::File(_)) => Ok(()),
+            _ => Err(io::Error::from(ErrorKind::NotFound)),
+        }
     }
 
     fn grow(&mut self, name: &str, _synced: bool) -> io::Result<Vec<u8>> {

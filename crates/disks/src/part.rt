@@ -55,7 +55,7 @@ impl<R: Files> Write for NewFile<'_, R> {
 }
 
 impl<R: Files<File = File>> NewFile<'_, R> {
-    /// Puts its bytes on the disk. What is no regular file has them as they are written.
+    /// Puts its bytes on the disk. What is not a regular file has them as they are written.
     pub(crate) fn sync(&self) -> io::Result<()> {
         if self.beside.is_none() {
             return Ok(());
@@ -207,7 +207,7 @@ fn standing<'a, R: Files<File = File> + AllocGlobal>(
     })
 }
 
-/// Gives a new file the owner, the group and the permissions of the old one. Who may not give a file away stays its owner.
+/// Gives a new file the owner, the group and the permissions of the old one. A process that may not give a file away stays its owner.
 fn keep_attributes(file: &File, was: &Metadata) -> io::Result<()> {
     if fchown(file, Some(was.uid()), Some(was.gid())).is_err() {
         let _ = fchown(file, None, Some(was.gid()));

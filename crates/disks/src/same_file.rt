@@ -8,14 +8,14 @@ use std::rt::Files;
 /// How many links are followed one after the other, as the system does.
 const MOST_LINKS: u32 = 40;
 
-/// What tells a file from each other one of the machine.
+/// What distinguishes a file from each other one of the machine.
 #[derive(Clone, Copy, Debug, PartialEq, Eq)]
 pub(crate) struct FileId {
     device: u64,
     inode: u64,
 }
 
-/// What tells the file of this description from others.
+/// What distinguishes the file of this description from others.
 pub(crate) fn file_id(there: &Metadata) -> FileId {
     FileId {
         device: there.dev(),
@@ -44,6 +44,18 @@ pub(crate) fn folder_of(name: &str) -> &str {
         Some(("", _)) => "/",
         Some((folder, _)) => folder,
     }
+}
+
+/// Whether the links that begin with this name end in this folder.
+pub(crate) fn ends_in<R: Files + AllocGlobal>(
+    files: &R,
+    folder: &str,
+    name: &str,
+) -> io::Result<bool> {
+    let end = end_of_links(files, name)?;
+    let one = fs::metadata(files, folder)?;
+    let other = fs::metadata(files, folder_of(end.as_str()))?;
+    Ok(file_id(&one) == file_id(&other))
 }
 
 /// The name to which the link of this name leads.

@@ -81,6 +81,10 @@ impl<C: FileCalls> Disk for SystemDisk<C> {
         self.calls.is_one_file(one, other)
     }
 
+    fn leads_into(&self, folder: &str, name: &str) -> io::Result<bool> {
+        self.calls.leads_into(folder, name)
+    }
+
     fn is_standard(&self, name: &str) -> io::Result<bool> {
         self.calls.is_standard(name)
     }
@@ -107,6 +111,10 @@ impl<C: FileCalls> Disk for SystemDisk<C> {
 
     fn discard(&mut self, name: &str) -> io::Result<bool> {
         self.calls.remove_empty(name)
+    }
+
+    fn lock(&mut self, name: &str) -> io::Result<()> {
+        self.calls.lock(name)
     }
 
     fn grow(&mut self, name: &str, synced: bool) -> io::Result<GrownFile<C::End>> {

@@ -8,7 +8,7 @@ use crate::disk::FolderEntry;
 use crate::grown::{opened_end, removed_empty};
 use crate::moment::entries;
 use crate::part::{NewFile, made_for, sync_folder};
-use crate::same_file::{FileId, are_one, end_of_links, file_id, folder_of, leads_to};
+use crate::same_file::{FileId, are_one, end_of_links, ends_in, file_id, folder_of, leads_to};
 use std::fs::{self, File};
 use std::io::{self, ErrorKind};
 use std::rt::Files;
@@ -22,11 +22,17 @@ pub struct SystemCalls<'a, R> {
     files: &'a R,
     /// The file that was opened last to be written at its end.
     own: Option<FileId>,
+    /// The file that is locked, which stays open.
+    lock: Option<File>,
 }
 
 impl<'a, R> SystemCalls<'a, R> {
     pub(crate) fn new(files: &'a R) -> SystemCalls<'a, R> {
-        SystemCalls { files, own: None }
+        SystemCalls {
+            files,
+            own: None,
+            lock: None,
+        }
     }
 }
 
@@ -62,6 +68,10 @@ impl<'a, R: Files<File = File> + AllocGlobal> FileCalls for SystemCalls<'a, R> {
 
     fn is_one_file(&self, one: &str, other: &str) -> io::Result<bool> {
         are_one(self.files, one, other)
+    }
+
+    fn leads_into(&self, folder: &str, name: &str) -> io::Result<bool> {
+        ends_in(self.files, folder, name)
     }
 
     fn is_standard(&self, name: &str) -> io::Result<bool> {
@@ -119,6 +129,15 @@ impl<'a, R: Files<File = File> + AllocGlobal> FileCalls for SystemCalls<'a, R> {
         let file = opened_end(self.files, name)?;
         self.own = Some(file_id(&file.metadata()?));
         Ok(file)
+    }
+
+    fn lock(&mut self, name: &str) -> io::Result<()> {
+        if self.lock.is_some() {
+            // one that is locked is not let go for another
+            return Err(io::Error::from(ErrorKind::WouldBlock));
+        }
+        self.lock = Some(opened_end(self.files, name)?);
+        Ok(())
     }
 
     fn sync_name(&mut self, end: &File, name: &str) -> io::Result<()> {

@@ -36,7 +36,7 @@ IsJournalRecovered words was is =
     × IsHanded words.new.now (text c)
     (legal_line (summary_of c) ++ left_line (length bytes - many) bad) was is
 
--- A journal is recovered, or the last segment of a folder, which is no standard stream.
+-- A journal is recovered, or the last segment of a folder, which is not a standard stream.
 abbrev pub IsRecoverAnswer : RecoverWords → World → World → Type 0
 IsRecoverAnswer words was is =
     IsJournalRecovered words was is

@@ -63,7 +63,7 @@ file_of_parts bytes head saved = record {
   content = content saved;
 }
 
--- ---- the head, behind the line of the sums, and the last place
+-- ---- the head, after the line of the sums, and the last place
 
 -- The text of the head and the line of the last place went where the line went: to standard output
 -- if the word names a file, else to standard error; and nothing else was written.

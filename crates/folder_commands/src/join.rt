@@ -214,9 +214,9 @@ fn join_folder<'a, D: Disk, W: Write, E: Write>(
 ///
 /// `NoSegment` if the name leads to no folder in which there is something; those of `check` for a folder; `Begins` with the number
 /// of the first segment if it is not 1; `Full` with the first ring that has too many events in all; `InFolder` if NEW lies in the
-/// folder, `SameFile` if it is another name of a file there. Then no file is made. `Save` where NEW cannot be made, written or put
-/// in its place, and `OutOfMemory`. Every file is as it was then, and nothing is written. `Write` where a writer fails, when the
-/// new file is in its place: the bytes written until then are a prefix.
+/// folder or leads to a new name there, `SameFile` if it is another name of a file there. Then no file is made. `Save` where NEW
+/// cannot be made, written or put in its place, and `OutOfMemory`. Every file is as it was then, and nothing is written. `Write`
+/// where a writer fails, when the new file is in its place: the bytes written until then are a prefix.
 pub fn run<'a, D: Disk, W: Write, E: Write>(
     alloc: Global,
     disk: &mut D,

@@ -43,7 +43,7 @@ pub(crate) struct RecoveredSegment<'b> {
     pub(crate) value: (Saved, Summary),
     /// What of the file is left out.
     pub(crate) left: LeftOut,
-    /// The last place that it tells.
+    /// The last place that its remarks give.
     pub(crate) place: &'b [u8],
 }
 
@@ -67,7 +67,7 @@ fn head_fault(error: ReadError) -> SegmentError
     }
 }
 
-/// Why a file is refused, by a refusal of the journal in the text that comes after so many lines.
+/// Why a file is refused, by a refusal of the journal in the text that comes after `lines` lines.
 fn journal_fault(lines: u64, text: &[u8], error: RecoverError) -> SegmentError
     requires { line_among (lines_in text.now) (line_in error) + lines < 2 ^ 64 }
     ensures { result
@@ -108,8 +108,8 @@ fn kept_without_remarks(
     }
 }
 
-/// The file with these bytes, as far as it is kept: its head, its history, what is left out, and the last place that is told in
-/// front of that.
+/// The file with these bytes, as far as it is kept: its head, its history, what is left out, and the last place that a remark
+/// before that gives.
 ///
 /// # Errors
 ///
@@ -276,11 +276,11 @@ fn hand_out_segment<'a, D: Disk, W: Write, E: Write>(
 }
 
 /// Recovers the last segment of a folder with these entries: reads it, which stays as it is, and hands out its history, its head,
-/// and the last place that it tells.
+/// and the last place that its remarks give.
 ///
 /// # Errors
 ///
-/// Those of [`last_file`]; `InFolder` if the other name lies in the folder, `SameFile` if it is another
+/// Those of [`last_file`]; `InFolder` if the other name lies in the folder or leads to a new one there, `SameFile` if it is another
 /// one of a file there; `Segment` if nothing is recovered: no file is made then. Those of handing out, as for a journal.
 pub(crate) fn recover_folder<'a, D: Disk, W: Write, E: Write>(
     alloc: Global,

@@ -1,4 +1,4 @@
-//! The last place in a log that the remarks of a file tell.
+//! The last place in a log that the remarks of a file give.
 
 ghost use Rattle.std.specs.Prelude.{◌≡◌, ◌<◌, ◌^◌, length, take, cond, IfSome};
 ghost use Rattle.ring_segments.specs.Chain.{line_in};
@@ -22,7 +22,7 @@ fn place_or<'a>(found: &'a [u8], line: &'a [u8]) -> &'a [u8]
     if tells_place(line) { line } else { found }
 }
 
-/// The last such remark among so many first lines of a text; nothing if there is none.
+/// The last such remark among the first `many` lines of a text; nothing if there is none.
 fn place_among(text: &[u8], many: u64) -> &[u8]
     ensures { result.now ≡ last_place (take many (lines_in text.now)) }
 {
@@ -51,7 +51,7 @@ fn line_in(fault: RecoverError) -> u64
     }
 }
 
-/// The last remark of a place in front of the line that a refusal names, where remarks have no number; nothing if there is none.
+/// The last remark of a place before the line that a refusal names, where remarks have no number; nothing if there is none.
 pub(crate) fn last_place(text: &[u8], bad: Option<RecoverError>) -> &[u8]
     requires { IfSome bad (λ e. line_among (lines_in text.now) (line_in e) < 2 ^ 64) }
     ensures { result.now ≡ last_place (kept_lines (lines_in text.now) bad) }

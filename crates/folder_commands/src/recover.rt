@@ -160,7 +160,7 @@ fn recover_text<'a, D: Disk, I: Read, W: Write, E: Write>(
 }
 
 /// `recover`, from its words: if the name leads to a folder in which there is something, its last segment is recovered, and its
-/// head is written behind the line of the sums; else the journal in standard input, or in the file.
+/// head is written after the line of the sums; else the journal in standard input, or in the file.
 ///
 /// # Errors
 ///

@@ -18,7 +18,7 @@ skipped from to count block few =
     ap (λ (x : List ℕ). take (to - (from + count)) x) (sym (drop-drop count from block))
     ∙ (sym (drop-take count (to - (from + count)) (drop from block)) ∙ ap (λ (n : ℕ). drop count (take n (drop from block))) left)
 
--- ---- a part that goes on
+-- ---- a part that continues
 
 -- what was taken of the unread and the read bytes, all of it served
 pub record Going {S : Type 0} (A : Answering S) (old : S) (begun unread read left line : List ℕ) (before after : Written) (new : S) : Type 0 where

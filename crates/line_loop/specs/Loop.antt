@@ -129,7 +129,7 @@ ServesSomeOf A old new begun unread input rest before after =
     × Consumes input rest read
     × Stops A old before after (begun ++ (unread ++ read)) new
 
--- only of an input of so many bytes it is said that it is too long
+-- `TooLong` is only reported of an input of 2^64 - 1 bytes or more
 abbrev pub IsFaultOf : LoopFault → Option (List ℕ) → Option (List ℕ) → Type 0
 IsFaultOf fault.TooLong unread rest =
     (bytes : List ℕ) × Consumes unread rest bytes × (2 ^ 64 - 1 ≤ length bytes)

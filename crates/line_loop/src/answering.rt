@@ -1,6 +1,6 @@
 //! What answers a line.
 
-ghost use Rattle.std.specs.Prelude.{◌≡◌, ◌++◌, ◌⊎◌, ℕ, List, Option, Bool, false, OnOk, OnErr};
+ghost use Rattle.std.specs.Prelude.{◌≡◌, ◌++◌, ◌⊎◌, ℕ, List, Option, Bool, true, false, OnOk, OnErr};
 ghost use Rattle.disks.specs.Held.{Held};
 ghost use Rattle.line_loop.specs.Answering.{IsByStart};
 ghost use Rattle.line_loop.specs.Stands.{by_stand};
@@ -18,6 +18,9 @@ pub trait AnswersLines {
 
     /// No line is answered any more until something else is done.
     ghost is_over: { Self → Bool };
+
+    /// Whether an answer may change what a loss of power leaves of files.
+    ghost changes_files: { Bool } = { true };
 
     /// Answers a line, which has its LF: its answer and its notes are pending then.
     ///
@@ -41,7 +44,8 @@ pub trait AnswersLines {
             ⊎ ((said : List ℕ)
             × (noted : List ℕ)
             × is_answered self.old (D.holds disk.old) line.now said noted self.new
-            (D.holds disk.new))) };
+            (D.holds disk.new))) }
+        ensures unchanged { changes_files ≡ false → D.leaves disk.new ≡ D.leaves disk.old };
 
     /// Whether no line is answered any more until something else is done.
     fn is_over(&self) -> bool

@@ -10,7 +10,7 @@ pub enum LoopFault {
     /// The output could not be written.
     Write,
     OutOfMemory,
-    /// The input goes on behind 2 to the power 64 less 1 blocks, more than are counted.
+    /// 2 to the power 64 less 1 blocks were read, and no more are counted.
     TooLong,
 }
 

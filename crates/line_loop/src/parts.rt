@@ -34,6 +34,7 @@ fn take_block<S: AnswersLines, D: Disk>(
         (stand service.new (D.holds disk.new)) line.new.items pending.new))
         (λ _. Stops (by_stand S.is_answered) old before after (bytes ++ unread.old)
         (stand service.new (D.holds disk.new))) }
+    ensures unchanged { S.changes_files ≡ false → D.leaves disk.new ≡ D.leaves disk.old }
 {
     match take_bytes(service, disk, line, unread.bytes(), pending) {
         Ok(taken) => {
@@ -87,6 +88,7 @@ fn serve_block<S: AnswersLines, D: Disk, J: Grow, W: Write>(
     ensures whole { OnOk result
         (AllLasts (held_by J.contents journal.old) (held_by J.lasting journal.old)
         → AllLasts (held_by J.contents journal.new) (held_by J.lasting journal.new)) }
+    ensures unchanged { S.changes_files ≡ false → D.leaves disk.new ≡ D.leaves disk.old }
 {
     let over = match take_block(service, disk, line, unread, pending) {
         Ok(over) => over,
@@ -109,8 +111,8 @@ fn serve_block<S: AnswersLines, D: Disk, J: Grow, W: Write>(
 /// # Errors
 ///
 /// The first error of the reader, of the journal or of the writer; `OutOfMemory` where there was none for what a block is
-/// answered; `TooLong` where no more blocks are counted. The lines before were answered; the writer holds a prefix of their
-/// answers, and the journal the notes of each that was told.
+/// answered; `TooLong` where no more blocks are counted. The lines before were answered. The writer holds a prefix of their
+/// answers, and the journal the notes of each delivered line.
 pub fn serve_part<S: AnswersLines, D: Disk, I: Read, J: Grow, W: Write>(
     alloc: Global,
     service: &mut S,
@@ -141,7 +143,7 @@ pub fn serve_part<S: AnswersLines, D: Disk, I: Read, J: Grow, W: Write>(
         IsFaultOf e (I.remaining input.old) (I.remaining input.new)) }
     ensures kept { is_some journal.new ≡ is_some journal.old }
 
-    // The same of the bytes that last: whenever the power fails, the journal has the notes of each line that was told.
+    // The same of the bytes that last: whenever the power fails, the journal has the notes of each delivered line.
     ensures lasts { (begun : List ℕ) → HasBegun begun line.old.items
         → MatchResult result
         (λ ending. ServesPart ending (by_stand S.is_answered) (stand service.old (D.holds disk.old))
@@ -157,6 +159,7 @@ pub fn serve_part<S: AnswersLines, D: Disk, I: Read, J: Grow, W: Write>(
     ensures whole { OnOk result
         (AllLasts (held_by J.contents journal.old) (held_by J.lasting journal.old)
         → AllLasts (held_by J.contents journal.new) (held_by J.lasting journal.new)) }
+    ensures unchanged { S.changes_files ≡ false → D.leaves disk.new ≡ D.leaves disk.old }
 {
     let mut pending = Pending {
         answers: Vec::new(alloc),

@@ -1,4 +1,5 @@
--- A line that is sent again is told the first line of its first answer, if that is for the client that asked.
+-- A line that is sent again gets the first line of its first answer, if that is for the client that
+-- asked.
 use Rattle.std.proofs.Common.{◌≡◌, ◌≢◌, ℕ, Bool, true, false, cond, List, [], ◌∷◌, Option, Some, None, refl, ap, sym, subst, ◌∙◌}
 use Rattle.std.specs.List.{AllByRecursion}
 use Rattle.std.specs.Option.{option_map}
@@ -20,7 +21,7 @@ use Rattle.line_replica.proofs.Entries.{told_other, told_same, told_without}
 use Rattle.line_replica.proofs.Given.{whole_line, whole_at}
 
 module _ {S : Type 0} (A : AnsweringWith S) where
-  -- a line of another key keeps what was told of this one
+  -- a line of another key changes nothing of what is kept of this one
   module _ (old new : Numbered S) (was is : Option Held) (said noted : List ℕ) (key : ℕ) where
     forgotten : (r : Turn) (keys : Table) (k : ℕ) → key ≢ k → told_of (forgotten_if r keys k) key ≡ told_of keys key
     forgotten turn.Fresh keys k ne = refl

@@ -13,7 +13,7 @@ ends [] i lt is = absurd (omega (arith, lt))
 ends (x ∷ xs) zero lt is = subst (λ (y : ℕ). cond (y == 10) (y ∷ []) (y ∷ first_line xs) ≡ y ∷ []) (sym is) refl
 ends (x ∷ xs) (suc i) lt is = ap (λ (u : List ℕ). x ∷ u) (ends xs i (omega (arith, lt)) is)
 
--- the byte at i is no LF
+-- the byte at i is not an LF
 pub line_more : (xs : List ℕ) (i : ℕ) → i < length xs → get_or xs i 0 ≢ 10 → take i xs ++ first_line (drop i xs) ≡ take (i + 1) xs ++ first_line (drop (i + 1) xs)
 line_more xs i lt other =
     let e : suc i ≡ i + 1 = omega arith in

@@ -62,7 +62,7 @@ own_of (Place place) keys since said = place_line place (next_of since) ∷ []
 own_of (Digest place digest) keys since said = place_line place digest ∷ []
 own_of Plain keys since said = []
 
--- they are of this kind, if the service inside was told so of an input
+-- the own lines that this line may bring are of this kind, if the service inside answered it so
 pub record Brings {S : Type 0} (A : AnsweringWith S) (Own : List ℕ → Type 0) (since : List ℕ) (old : S) (was : Option Held) (line said : List ℕ) (new : S) (is : Option Held) : Type 0 where
   pub done : (tag : Tag) (rest inside : List ℕ) → heard line ≡ Tagged tag rest → A old was rest said inside new is → Own (kept_line tag (line_to_asker rest said))
   pub did : (tag : Tag) (rest text : List ℕ) → heard line ≡ Tagged tag rest → did_at rest ≡ Some text → Own (kept_line tag (kept_text text))
@@ -168,12 +168,12 @@ module _ {S : Type 0} (A : AnsweringWith S) where
       of (inl w) = w.heard_as
       of (inr l) = absurd (true_or_false (sym l.lost ∙ whole))
 
-  -- behind a line that leads on nothing is lost
+  -- where nothing is lost after some lines, nothing was lost before them
   pub whole_at : (old new : Replica S) (was is : Option Held) (lines : List (List ℕ)) (said noted : List ℕ) → Answers (by_stand (IsReplied A)) (stand old was) lines said noted (stand new is) → new.lost ≡ false → old.lost ≡ false
   whole_at old new was is [] said noted a whole = ap (λ (s : Stand (Replica S)). s.service.lost) (sym a.2) ∙ whole
   whole_at old new was is (line ∷ lines) said noted a whole = a.5.before
 
-  -- where an answer was lost, no line was answered behind it, and nothing is told of it
+  -- where an answer was lost, no line was answered after it, and nothing is said
   ends_lost : (old new : Replica S) (was is : Option Held) (lines : List (List ℕ)) (said noted : List ℕ) → Answers (by_stand (IsReplied A)) (stand old was) lines said noted (stand new is) → old.lost ≡ true → (lines ≡ []) × (said ≡ [])
   ends_lost old new was is [] said noted a lost = (refl, a.0)
   ends_lost old new was is (line ∷ lines) said noted a lost = absurd (true_or_false (sym lost ∙ a.5.before))

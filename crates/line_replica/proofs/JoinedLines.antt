@@ -1,4 +1,4 @@
--- Lines that are joined, one behind the other.
+-- Lines that are joined, one after the other.
 use Rattle.std.proofs.Common.{◌≡◌, ℕ, List, [], ◌∷◌, ◌++◌, append_assoc, refl, ap, sym, ◌∙◌}
 use Rattle.line_loop.specs.Answering.{joined_lines}
 

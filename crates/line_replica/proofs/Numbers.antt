@@ -1,4 +1,4 @@
--- The last numbers of keys, without what was told.
+-- The last numbers of keys, without the answers that are kept.
 use Rattle.std.proofs.Common.{◌≡◌, ℕ, Bool, true, false, cond, [], ◌∷◌, Option, Some, refl, ap, sym}
 use Rattle.std.specs.Option.{option_map}
 use Rattle.std.specs.declared.cmp.Ordering.{Ordering}

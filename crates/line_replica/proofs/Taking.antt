@@ -1,4 +1,4 @@
--- A line with a key and a number is taken by what is behind them.
+-- A line with a key and a number is taken by what follows them.
 use Rattle.std.proofs.Common.{◌≡◌, ℕ, Bool, true, false, cond, List, [], Option, Some, None, inl, inr, refl, subst}
 use Rattle.disks.specs.Held.{Held}
 use Rattle.line_loop.specs.Stands.{AnsweringWith}

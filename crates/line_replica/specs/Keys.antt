@@ -11,7 +11,7 @@ use Rattle.line_replica.specs.Reading.{is_to_asker}
 use Rattle.line_replica.specs.declared.keys.Turn.{Turn}
 use Rattle.line_replica.specs.declared.keys.Turn.TheVariants as turn
 
--- the last number of a key, and the first line of its answer that is told again
+-- the last number of a key, and the first line of its answer, which is sent again
 pub record ToldView : Type 0 where
   pub number : ℕ
   pub first : List ℕ
@@ -53,8 +53,8 @@ abbrev pub first_line : List ℕ → List ℕ
 first_line [] = []
 first_line (b ∷ bs) = if b == 10 then b ∷ [] else b ∷ first_line bs
 
--- the first line of the answer to an input, if it is for the client that asked, and else none: what
--- others were told may be over when it is told again
+-- the first line of the answer to an input, if it is for the client that asked, and else none: an
+-- answer to another client may be out of date when it is sent again
 abbrev pub line_to_asker : List ℕ → List ℕ → List ℕ
 line_to_asker input said = cond (is_to_asker (order_at 32 input) said) (first_line said) []
 

@@ -14,7 +14,7 @@ use Rattle.line_replica.specs.Reading.{Tagged, heard, did_at, is_forget}
 use Rattle.line_replica.specs.Replies.{IsReplied, turn_of}
 
 -- A log with lines that were sent again has the history of the log without them: the service inside
--- has answered those lines that it got, one after the other. The notes of each are noted, and behind
+-- has answered those lines that it got, one after the other. The notes of each are noted, and after
 -- them nothing but remarks.
 abbrev pub HasTheHistoryWithoutThem : {S : Type 0} → AnsweringWith S → Type 0
 HasTheHistoryWithoutThem A =
@@ -28,7 +28,7 @@ HasTheHistoryWithoutThem A =
     × AreGiven A IsOwn (numbers_of old.numbered.keys) (stand old.numbered.inner was) lines inside
     noted (stand new.numbered.inner is)
 
--- the lines are some and a last one, whose answer was lost: nothing is told of it
+-- the lines are some and a last one, whose answer was lost: nothing of it is said
 abbrev pub LosesLast : {S : Type 0} → AnsweringWith S → Replica S → Option Held
     → List (List ℕ) → List ℕ → List ℕ → Type 0
 LosesLast A old was lines said noted =
@@ -43,7 +43,7 @@ LosesLast A old was lines said noted =
     × (mid.lost ≡ false)
     × Answers (by_stand (IsReplied A)) (stand old was) front said note (stand mid between)
 
--- Where an answer was lost for want of memory, it was the last line's, and nothing was told of it.
+-- Where an answer was lost for lack of memory, it was the last line's, and nothing of it is said.
 abbrev pub IsLostAtTheEnd : {S : Type 0} → AnsweringWith S → Type 0
 IsLostAtTheEnd A =
     (old new : Replica _) (was is : Option Held) (lines : List (List ℕ)) (said noted : List ℕ)
@@ -61,8 +61,8 @@ pub record IsTagged (tag : Tag) (line : List ℕ) : Type 0 where
 abbrev pub IsNotOf : ℕ → List ℕ → Type 0
 IsNotOf key line = (tag : Tag) (rest : List ℕ) → heard line ≡ Tagged tag rest → tag.key ≢ key
 
--- A line whose number was done last is told what is kept of its answer again, and neither the
--- service inside nor what is kept of keys changes.
+-- A line whose number was done last gets again what is kept of its answer, and neither the service
+-- inside nor what is kept of keys changes.
 abbrev pub IsToldAgain : {S : Type 0} → AnsweringWith S → Type 0
 IsToldAgain A =
     (old new : Replica _) (was is : Option Held) (tag : Tag) (line said noted first : List ℕ)
@@ -71,8 +71,8 @@ IsToldAgain A =
     → IsReplied A old was line said noted new is → new.lost ≡ false
     → (said ≡ first) × (noted ≡ []) × (new.numbered ≡ old.numbered) × (is ≡ was)
 
--- So a line with a new number that is sent again, behind lines of other keys, is told the first
--- line of its first answer, if that is for the client that asked, and else nothing.
+-- So a line with a new number that is sent again, after lines of other keys, gets the first line of
+-- its first answer, if that is for the client that asked, and else nothing.
 abbrev pub IsAnsweredAsBefore : {S : Type 0} → AnsweringWith S → Type 0
 IsAnsweredAsBefore A =
     (old mid late new : Replica _) (was then by is : Option Held) (tag : Tag)

@@ -32,7 +32,7 @@ given_behind (Some text) numbers tag rest = []
 given_behind None numbers tag rest =
     cond (is_forget rest) [] (given_at (turn_in numbers tag) rest)
 
--- a plain line, or what is behind a key and a number; a place is the replica's
+-- a plain line, or what follows a key and a number; a place is the replica's
 abbrev pub given_of : Heard → Numbers → List ℕ → List (List ℕ)
 given_of (Tagged tag rest) numbers line = given_behind (did_at rest) numbers tag rest
 given_of Plain numbers line = line ∷ []
@@ -41,7 +41,7 @@ given_of _ numbers line = []
 abbrev pub with_number : Numbers → Tag → Numbers
 with_number numbers tag = insert_entry nat_cmp numbers tag.key tag.number
 
--- the last numbers behind a line
+-- the last numbers after a line
 abbrev pub numbers_at : Turn → Numbers → Tag → Numbers
 numbers_at turn.Fresh numbers tag = with_number numbers tag
 numbers_at _ numbers tag = numbers
@@ -61,7 +61,7 @@ numbers_after (Tagged tag rest) numbers = numbers_behind (did_at rest) numbers t
 numbers_after _ numbers = numbers
 
 -- The lines of a log that the service inside gets, without those that were sent again: a function
--- of the log and of the last numbers alone.
+-- only of the log and of the last numbers.
 abbrev pub given : Numbers → List (List ℕ) → List (List ℕ)
 given numbers [] = []
 given numbers (line ∷ lines) =

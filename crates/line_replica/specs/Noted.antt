@@ -16,8 +16,8 @@ IsOwn line =
     ⊎ (((tag : Tag) × (line ≡ forget_line tag))
     ⊎ ((place : ℕ) × (digest : List ℕ) × (line ≡ place_line place digest)))
 
--- What is given of a line was answered inside. All that was noted behind its notes are the remarks of
--- these lines, each of which is of this kind.
+-- What is given of a line was answered inside. All that was noted after its notes are the remarks
+-- of these lines, each of which is of this kind.
 pub record IsGiven {S : Type 0} (A : AnsweringWith S) (Own : List ℕ → Type 0) (old : Stand S)
     (lines own : List (List ℕ)) (noted : List ℕ) (new : Stand S) : Type 0 where
   pub told : List ℕ

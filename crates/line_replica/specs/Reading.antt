@@ -12,7 +12,7 @@ abbrev pub on_read : {X : Type 0} → Result (List ℕ) Fault → X → (List �
 on_read (Ok rest) none some = some rest
 on_read (Err e) none some = none
 
--- what is behind the word did, if it is there
+-- what follows the word did, if it is there
 unfoldable pub did_at : List ℕ → Option (List ℕ)
 did_at rest = on_read (word_at (codes "did ") rest) None Some
 
@@ -55,7 +55,7 @@ with_key (Err e) = None
 unfoldable pub tagged_at : List ℕ → Option (Tag × List ℕ)
 tagged_at line = with_key (order_at 32 line)
 
--- the first line that a text behind did is: none if it is empty
+-- the first line that is kept of a text after did: none if it is empty
 abbrev pub kept_text : List ℕ → List ℕ
 kept_text [] = []
 kept_text (b ∷ []) = cond (b == 10) [] (b ∷ [])
@@ -106,7 +106,7 @@ digest_at line =
 
 -- ---- all of it
 
--- what a line is: one with a key and a number, and this behind them; a place in the log, which is
+-- what a line is: one with a key and a number, and this after them; a place in the log, which is
 -- to be answered; a place with its digest; or a plain one, for the service inside
 pub data Heard : Type 0 where
   Tagged : (tag : Tag) (rest : List ℕ) → Heard

@@ -15,7 +15,7 @@ use Rattle.line_replica.specs.Reading.{Heard, Tagged, Place, Digest, Plain, hear
 use Rattle.line_replica.specs.Running.{with_said, next_of, at_place, place_line}
 use Rattle.line_replica.specs.State.{kept_line, forget_line}
 
--- nothing happens but that this is told, this is kept of keys, and this is noted
+-- this is answered, this is kept of keys, this is noted, and nothing else happens
 pub record IsTold {S : Type 0} (text : List ℕ) (keys : Table) (note : List ℕ) (old : Numbered S)
     (was : Option Held) (said noted : List ℕ) (new : Numbered S) (is : Option Held) : Type 0 where
   pub says : said ≡ text
@@ -24,15 +24,15 @@ pub record IsTold {S : Type 0} (text : List ℕ) (keys : Table) (note : List ℕ
   pub keys_are : new.keys ≡ keys
   pub files : is ≡ was
 
--- the service inside answers, and its answer is told
+-- the service inside answers, and its answer is passed on
 pub record IsPassedOn {S : Type 0} (A : AnsweringWith S) (old : Numbered S) (was : Option Held)
     (line said noted : List ℕ) (new : Numbered S) (is : Option Held) : Type 0 where
   pub answered : A old.inner was line said noted new.inner is
   pub keys_are : new.keys ≡ old.keys
 
--- The service inside answers, and its answer is told. The first line of it is kept of the key, if
--- it is for the client that asked, and the remark of the key's line is noted behind the notes of the
--- service inside.
+-- The service inside answers, and its answer is passed on. The first line of it is kept of the key,
+-- if it is for the client that asked, and the remark of the key's line is noted after the notes of
+-- the service inside.
 pub record IsDone {S : Type 0} (A : AnsweringWith S) (tag : Tag) (old : Numbered S)
     (was : Option Held) (input said noted : List ℕ) (new : Numbered S) (is : Option Held) : Type 0
   where
@@ -46,7 +46,7 @@ abbrev pub past_line : ℕ → ℕ → List ℕ
 past_line key last = spaced key ++ (codes "refused past " ++ ended last)
 
 -- A line whose number is new is answered inside, and the first line of its answer is kept, if it is
--- for the client that asked. What is kept is told again where the number is the last. One before it
+-- for the client that asked. What is kept is sent again where the number is the last. One before it
 -- is refused.
 abbrev pub IsAnsweredOnce : {S : Type 0} → AnsweringWith S → Turn → Tag → Numbered S
     → Option Held → List ℕ → List ℕ → List ℕ → Numbered S → Option Held → Type 0
@@ -95,7 +95,7 @@ pub record IsPlaced {S : Type 0} (place : ℕ) (digest text : List ℕ) (old : R
   pub files : is ≡ was
 
 -- By what is heard of a line: a plain one is answered inside; a place is answered with the digest
--- of all that was told since the last, or takes the digest that is given.
+-- of all that was answered since the last, or takes the digest that is given.
 abbrev pub IsHeard : {S : Type 0} → AnsweringWith S → Heard → Replica S → Option Held → List ℕ
     → List ℕ → List ℕ → Replica S → Option Held → Type 0
 IsHeard A (Tagged tag rest) old was line said noted new is =
@@ -124,7 +124,7 @@ IsAnsweredOrNot A old was line noted new is =
     ((noted ≡ []) × (new ≡ old) × (is ≡ was))
     ⊎ ((said : List ℕ) × A old was line said noted new is)
 
--- There was no memory for an answer, or to keep it: nothing is told, and no line is answered any
+-- There was no memory for an answer, or to keep it: nothing is said, and no line is answered any
 -- more.
 pub record IsLost {S : Type 0} (A : AnsweringWith S) (old : Replica S) (was : Option Held)
     (line said noted : List ℕ) (new : Replica S) (is : Option Held) : Type 0 where

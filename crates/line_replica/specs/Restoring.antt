@@ -1,8 +1,8 @@
--- How what tells its state lives in segments; and a line that is too long asks no state (this
--- project's own).
+-- How a service that answers with its state lives in segments; and a line that is too long asks for
+-- no state (this project's own).
 use Rattle.std.proofs.Common.{◌≡◌, ℕ, ◌<◌, Bool, true, false, cond, List, Option, length, subst, sym, ap}
 use Rattle.std.proofs.lemmas.Bool.{lt-ltb}
-use Rattle.std.specs.Prelude.{codes, IsSome}
+use Rattle.std.specs.Prelude.{codes}
 use Rattle.text_lines.specs.Reading.{word_at}
 use Rattle.line_parts.specs.Limits.{line_limit}
 use Rattle.line_loop.specs.Answering.{cut, IsByStart}
@@ -13,6 +13,7 @@ use Rattle.line_replica.specs.declared.restorable.Restorable.{Restorable}
 use Rattle.line_replica.specs.Reading.{on_read, is_none_left}
 use Rattle.line_replica.specs.Starts.{long_cut}
 use Rattle.line_replica.specs.State.{is_state, IsStateTold, IsRestorable}
+use Rattle.line_replica.specs.Knows.{Leads, StayKnown, known_as_before}
 
 no_state : (line : List ℕ) → line_limit < length line → is_state line ≡ false
 unfolding is_state
@@ -31,13 +32,19 @@ segmenting G = record {
   text = λ r number behind. G.text r.inner number behind;
   is_due = λ r. G.is_due r.inner;
   IsNext = λ old new. G.IsNext old.inner new.inner;
+  HasNoNext = λ r why. G.HasNoNext r.inner why;
+  HasNoText = λ r why. G.HasNoText r.inner why;
   IsKept = λ old why new. G.IsKept old.inner why new.inner;
 }
 
--- where the content of files is known before a line it is known after it
-pub knows : {S : Type 0} (A : AnsweringWith S) (lines : S → List (List ℕ)) → KeepsKnown A → KeepsKnown (IsRestorable A lines)
-knows A lines keeps old new was is line said noted a some = by_word (is_state line) a
+-- What each line of the service inside does to files, each line does; so where their content is known
+-- before a line it is known after it.
+pub restored_leads : {S : Type 0} (A : AnsweringWith S) (lines : S → List (List ℕ)) (Such : Option Held → Option Held → Type 0) → ((was is : Option Held) → is ≡ was → Such was is) → Leads A Such → Leads (IsRestorable A lines) Such
+restored_leads A lines Such as_before leads old new was is line said noted a = by_word (is_state line) a
   where
-    by_word : (b : Bool) → cond b (IsStateTold (lines old.inner) old was said noted new is) (A old.inner was line said noted new.inner is) → IsSome is
-    by_word true t = subst (λ (f : Option Held). IsSome f) (sym t.files) some
-    by_word false t = keeps old.inner new.inner was is line said noted t some
+    by_word : (b : Bool) → cond b (IsStateTold (lines old.inner) old was said noted new is) (A old.inner was line said noted new.inner is) → Such was is
+    by_word true t = as_before was is t.files
+    by_word false t = leads old.inner new.inner was is line said noted t
+
+pub knows : {S : Type 0} (A : AnsweringWith S) (lines : S → List (List ℕ)) → KeepsKnown A → KeepsKnown (IsRestorable A lines)
+knows A lines keeps old new was is line said noted a some = restored_leads A lines StayKnown known_as_before keeps old new was is line said noted a some

@@ -54,7 +54,7 @@ forget_line tag = spaced tag.key ++ (spaced tag.number ++ codes "forget\n")
 abbrev pub remarks_of : List (List ℕ) → List ℕ
 remarks_of lines = flat_map remark_of lines
 
--- ---- how the state is told
+-- ---- how the state is answered
 
 -- the line is the word state
 unfoldable pub is_state : List ℕ → Bool
@@ -66,7 +66,7 @@ is_state line =
 abbrev pub state_text : List (List ℕ) → List ℕ
 state_text lines = joined_lines lines ++ (codes "state " ++ ended (length lines))
 
--- the state is told, and nothing changes
+-- the state is answered, and nothing changes
 pub record IsStateTold {S : Type 0} (lines : List (List ℕ)) (old : Restorable S)
     (was : Option Held) (said noted : List ℕ) (new : Restorable S) (is : Option Held) : Type 0
   where
@@ -75,7 +75,7 @@ pub record IsStateTold {S : Type 0} (lines : List (List ℕ)) (old : Restorable 
     pub same : new ≡ old
     pub files : is ≡ was
 
--- the state is told where it is asked, and any other line is answered inside
+-- the state is answered where it is asked for, and any other line is answered inside
 abbrev pub IsRestorable : {S : Type 0} → AnsweringWith S → (S → List (List ℕ))
     → AnsweringWith (Restorable S)
 IsRestorable A lines old was line said noted new is =

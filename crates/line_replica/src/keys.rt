@@ -17,7 +17,7 @@ use std::collections::BTreeMap;
 use std::marker::Model;
 use text_lines::Line;
 
-/// The last number of a key, and the first line of its answer that is told again. Contracts see both.
+/// The last number of a key, and the first line of its answer, which is sent again. Contracts see both.
 #[derive(Drop)]
 pub(crate) struct Told {
     number: u64,
@@ -54,7 +54,7 @@ pub(crate) enum Turn {
     Past { last: u64 },
 }
 
-/// What is kept of each key. Contracts see the keys, rising, each with what was told.
+/// What is kept of each key. Contracts see the keys, rising, each with its last number and first line.
 #[derive(Drop)]
 pub(crate) struct Keys {
     alloc: Global,

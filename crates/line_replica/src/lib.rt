@@ -1,5 +1,5 @@
 //! A replica of a service that answers lines: what has a number of its own is done once, however often it is sent; and all that
-//! is told goes into a running digest.
+//! is answered goes into a running digest.
 #![tactic(auto)]
 
 mod keys;

@@ -29,6 +29,7 @@ fn answer_untagged<S: AnswersLines, D: Disk>(
         (input_of (of_place (place_at line.now) line.now) line.now)
         noted replica.new.numbered.inner (D.holds disk.new)) }
     ensures lost { replica.new.lost ≡ replica.old.lost }
+    ensures unchanged { S.changes_files ≡ false → D.leaves disk.new ≡ D.leaves disk.old }
 {
     match place(line) {
         Some(place) => tell_place(replica, place, pending),
@@ -57,6 +58,7 @@ fn answer_heard<S: AnswersLines, D: Disk>(
         (input_of (heard line.now) line.now) noted replica.new.numbered.inner
         (D.holds disk.new)) }
     ensures lost { replica.new.lost ≡ replica.old.lost }
+    ensures unchanged { S.changes_files ≡ false → D.leaves disk.new ≡ D.leaves disk.old }
 {
     if line.len() > LINE_LIMIT {
         return answer_plain(replica, disk, line, pending);
@@ -74,6 +76,8 @@ impl<S: AnswersLines> AnswersLines for Replica<S> {
     ghost is_answered = { IsReplied S.is_answered };
 
     ghost is_over = { λ r. S.is_over r.numbered.inner };
+
+    ghost changes_files = { S.changes_files };
 
     ghost by_start = { by_start S.is_answered S.by_start };
 

@@ -13,15 +13,15 @@ use line_parts::put_word;
 use std::alloc::AllocError;
 use text_lines::Line;
 
-/// A service that answers lines, with the last number of each key and the first line of its answer that is told again.
+/// A service that answers lines, with the last number of each key and the first line of its answer, which is sent again.
 #[derive(Drop)]
 pub struct Numbered<S> {
     pub(crate) inner: S,
     pub(crate) keys: Keys,
 }
 
-/// The first line of the answer to an input, if it is for the client that asked, and else none: what others were told may be over when
-/// it is told again.
+/// The first line of the answer to an input, if it is for the client that asked, and else none: an answer to another client may be out
+/// of date when it is sent again.
 fn line_to_asker<'a>(input: &[u8], said: &'a [u8]) -> &'a [u8]
     ensures { result.now ≡ line_to_asker input.now said.now }
 {
@@ -60,6 +60,7 @@ pub(crate) fn answer_inside<S: AnswersLines, D: Disk>(
     ensures err { OnErr result ((noted : List ℕ)
         × IsAnsweredOrNot S.is_answered numbered.old.inner (D.holds disk.old) line.now noted
         numbered.new.inner (D.holds disk.new)) }
+    ensures unchanged { S.changes_files ≡ false → D.leaves disk.new ≡ D.leaves disk.old }
 {
     numbered.inner.answer(disk, line, pending)
 }
@@ -81,6 +82,7 @@ fn answer_fresh<S: AnswersLines, D: Disk>(
     ensures err { OnErr result ((noted : List ℕ)
         × IsAnsweredOrNot S.is_answered numbered.old.inner (D.holds disk.old) input.now noted
         numbered.new.inner (D.holds disk.new)) }
+    ensures unchanged { S.changes_files ≡ false → D.leaves disk.new ≡ D.leaves disk.old }
 {
     let place = pending.answers.len();
     match answer_inside(numbered, disk, input, pending) {
@@ -108,6 +110,7 @@ fn answer_once<S: AnswersLines, D: Disk>(
     ensures err { OnErr result ((noted : List ℕ)
         × IsAnsweredOrNot S.is_answered numbered.old.inner (D.holds disk.old) input.now noted
         numbered.new.inner (D.holds disk.new)) }
+    ensures unchanged { S.changes_files ≡ false → D.leaves disk.new ≡ D.leaves disk.old }
 {
     match numbered.keys.turn(tag) {
         Turn::Fresh => answer_fresh(numbered, disk, tag, input, pending),
@@ -116,7 +119,7 @@ fn answer_once<S: AnswersLines, D: Disk>(
     }
 }
 
-/// Answers a line by what is behind its key and its number.
+/// Answers a line by what follows its key and its number.
 pub(crate) fn answer_tagged<S: AnswersLines, D: Disk>(
     numbered: &mut Numbered<S>,
     disk: &mut D,
@@ -133,6 +136,7 @@ pub(crate) fn answer_tagged<S: AnswersLines, D: Disk>(
     ensures err { OnErr result ((noted : List ℕ)
         × IsAnsweredOrNot S.is_answered numbered.old.inner (D.holds disk.old) rest.now noted
         numbered.new.inner (D.holds disk.new)) }
+    ensures unchanged { S.changes_files ≡ false → D.leaves disk.new ≡ D.leaves disk.old }
 {
     if let Some(text) = did(rest) {
         return numbered.keys.keep(tag, kept_text(text), &mut pending.notes);

@@ -17,7 +17,7 @@ pub(crate) struct Tag {
     pub(crate) number: u64,
 }
 
-/// What is behind the word `did`, if it is there.
+/// What follows the word `did`, if it is there.
 #[tactic(auto, unfolding(crate::specs::Reading::did_at))]
 pub(crate) fn did(rest: &[u8]) -> Option<&[u8]>
     ensures { option_map (λ x. x.now) result ≡ did_at rest.now }
@@ -50,8 +50,8 @@ fn is_some_number(bytes: &[u8]) -> bool
     }
 }
 
-/// Whether this may follow a key and a number. What is no call may not: it is answered inside, with the key in front, so that it uses
-/// no number up.
+/// Whether this may follow a key and a number. What is not a call may not: it is answered inside, with the key in front, so that it
+/// uses up no number.
 #[tactic(auto, unfolding(crate::specs::Reading::may_follow))]
 fn may_follow(rest: &[u8]) -> bool
     ensures { result ≡ may_follow rest.now }
@@ -90,7 +90,7 @@ pub(crate) fn tagged(line: &[u8]) -> Option<(Tag, &[u8])>
     }
 }
 
-/// The first line that a text behind `did` is: none if it is empty.
+/// The first line that is kept of a text after `did`: none if it is empty.
 pub(crate) fn kept_text(text: &[u8]) -> &[u8]
     ensures { result.now ≡ kept_text text.now }
 {
@@ -164,7 +164,7 @@ fn are_digits(bytes: &[u8]) -> bool
     true
 }
 
-/// The first so many bytes.
+/// The first `count` bytes.
 fn first(bytes: &[u8], count: usize) -> &[u8]
     requires { count ≤ length bytes.now }
     ensures { result.now ≡ take count bytes.now }
@@ -179,7 +179,7 @@ fn is_last_digest(rest: &[u8]) -> bool
     rest.len() == DIGEST_DIGITS + 1 && are_digits(first(rest, DIGEST_DIGITS))
 }
 
-/// A place and the digest behind it.
+/// A place and the digest after it.
 fn with_digest(bytes: &[u8]) -> Option<(u64, &[u8])>
     ensures { option_map (λ x. (x.0, x.1.now)) result ≡ with_digest (order_at 32 bytes.now) }
 {
@@ -195,7 +195,7 @@ fn with_digest(bytes: &[u8]) -> Option<(u64, &[u8])>
     }
 }
 
-/// The place that is told, with its digest.
+/// The place that a line gives, with its digest.
 #[tactic(auto, unfolding(crate::specs::Reading::digest_at))]
 pub(crate) fn place_with_digest(line: &[u8]) -> Option<(u64, &[u8])>
     ensures { option_map (λ x. (x.0, x.1.now)) result ≡ digest_at line.now }

@@ -1,4 +1,4 @@
-//! A replica: a service with what is kept of keys, and the running digest of all that is told.
+//! A replica: a service with what is kept of keys, and the running digest of all that is answered.
 
 ghost use Rattle.std.specs.Prelude.{◌≡◌, ◌++◌, List, ℕ, [], false, OnOk, OnErr};
 ghost use Rattle.line_replica.specs.Reading.{did_at};
@@ -15,7 +15,7 @@ use disks::Disk;
 use line_loop::{AnswersLines, Pending};
 use std::alloc::{AllocError, Global};
 
-/// A service that answers lines, with what is kept of keys, and the running digest of all that is told.
+/// A service that answers lines, with what is kept of keys, and the running digest of all that is answered.
 #[derive(Drop)]
 pub struct Replica<S> {
     pub(crate) numbered: Numbered<S>,
@@ -41,6 +41,7 @@ pub(crate) fn answer_plain<S: AnswersLines, D: Disk>(
         × IsAnsweredOrNot S.is_answered replica.old.numbered.inner (D.holds disk.old) line.now
         noted replica.new.numbered.inner (D.holds disk.new)) }
     ensures lost { replica.new.lost ≡ replica.old.lost }
+    ensures unchanged { S.changes_files ≡ false → D.leaves disk.new ≡ D.leaves disk.old }
 {
     let place = pending.answers.len();
     match answer_inside(&mut replica.numbered, disk, line, pending) {
@@ -67,6 +68,7 @@ pub(crate) fn answer_numbered<S: AnswersLines, D: Disk>(
         × IsAnsweredOrNot S.is_answered replica.old.numbered.inner (D.holds disk.old) rest.now
         noted replica.new.numbered.inner (D.holds disk.new)) }
     ensures lost { replica.new.lost ≡ replica.old.lost }
+    ensures unchanged { S.changes_files ≡ false → D.leaves disk.new ≡ D.leaves disk.old }
 {
     let place = pending.answers.len();
     match answer_tagged(&mut replica.numbered, disk, tag, rest, pending) {
@@ -75,7 +77,7 @@ pub(crate) fn answer_numbered<S: AnswersLines, D: Disk>(
     }
 }
 
-/// Tells the digest of all that was told up to this place, and notes it.
+/// Answers with the digest of all that was answered up to this place, and notes it.
 pub(crate) fn tell_place<S>(
     replica: &mut Replica<S>,
     place: u64,
@@ -95,7 +97,7 @@ pub(crate) fn tell_place<S>(
     }
 }
 
-/// The digest at this place is this one, which is noted. Nothing is told.
+/// The digest at this place is this one, which is noted. Nothing is answered.
 pub(crate) fn set_place<S>(
     replica: &mut Replica<S>,
     place: u64,

@@ -1,4 +1,4 @@
-//! A service that tells its state where it is asked.
+//! A service that answers with its state if it is asked for it.
 
 ghost use Rattle.std.specs.Prelude.{◌≡◌, ◌++◌, ◌⊎◌, List, ℕ, [], OnOk, IfOk};
 ghost use Rattle.line_replica.specs.State.{is_state, state_text};
@@ -31,7 +31,7 @@ fn is_state(line: &[u8]) -> bool
     }
 }
 
-/// Tells the lines of the state, and how many they are.
+/// Adds the lines of the state, and how many they are.
 fn tell_state<S: HasState>(service: &S, text: &mut Vec<u8>) -> Result<(), AllocError>
     ensures { OnOk result (text.new.items
         ≡ text.old.items ++ state_text (S.state_lines service.now)) }
@@ -65,6 +65,8 @@ impl<S: HasState> AnswersLines for Restorable<S> {
     ghost is_answered = { IsRestorable S.is_answered S.state_lines };
 
     ghost is_over = { λ r. S.is_over r.inner };
+
+    ghost changes_files = { S.changes_files };
 
     ghost by_start = { by_start S.is_answered S.state_lines S.by_start };
 

@@ -1,4 +1,4 @@
-//! The running digest of all that is told.
+//! The running digest of all that is answered.
 
 ghost use Rattle.std.specs.Prelude.{◌≡◌, ◌≤◌, ◌++◌, [], length, take, OnOk, IfOk};
 ghost use Rattle.line_loop.specs.Answering.{joined_lines};
@@ -11,7 +11,7 @@ use ring_segments::{DIGEST_DIGITS, digest, put_remark};
 use std::alloc::{AllocError, Global};
 use std::marker::Model;
 
-/// The last place that was told, and what the next digest is of. Contracts see both.
+/// The last place, and what the next digest is of. Contracts see both.
 #[derive(Drop)]
 pub(crate) struct Running {
     alloc: Global,
@@ -78,7 +78,7 @@ fn note_place(
     }
 }
 
-/// The first bytes, so many or all.
+/// The first `count` bytes, or all if there are fewer.
 fn first(bytes: &[u8], count: usize) -> &[u8]
     ensures { result.now ≡ take count bytes.now }
 {
@@ -127,7 +127,7 @@ impl Running {
         }
     }
 
-    /// Takes in what is told.
+    /// Takes in what is answered.
     pub(crate) fn take_in(&mut self, text: &[u8]) -> Result<(), AllocError>
         ensures ok { OnOk result (self.new ≡ with_said self.old text.now) }
     {

@@ -1,4 +1,4 @@
-//! A replica lives in segments as the service inside does, and goes on with its keys and its last place.
+//! A replica lives in segments as the service inside does, and keeps its keys and its last place.
 
 ghost use Rattle.std.specs.Prelude.{◌≡◌};
 

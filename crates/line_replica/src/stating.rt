@@ -7,7 +7,7 @@ use crate::replica::Replica;
 use line_loop::AnswersLines;
 use std::alloc::AllocError;
 
-/// How many lines there are; as many as no memory holds are told as if it was short.
+/// How many lines there are. A number of lines that no memory holds is reported as out of memory.
 fn sum_of(inside: u64, keys: u64, places: u64) -> Result<u64, AllocError>
     requires { (inside < 2 ^ 63) × (keys < 2 ^ 63) × (places ≤ 1) }
     ensures sum { IfOk result (λ n. n ≡ inside + (keys + places)) }
@@ -20,9 +20,9 @@ fn sum_of(inside: u64, keys: u64, places: u64) -> Result<u64, AllocError>
     Ok(sum)
 }
 
-/// What answers lines, and tells the lines that bring it back to where it stands.
+/// What answers lines, and has lines that bring it back to its present state.
 pub trait HasState: AnswersLines {
-    /// The lines that bring a new service to where this one stands.
+    /// The lines that bring a new service to the state of this one.
     ghost state_lines: { Self → List (List ℕ) };
 
     /// Adds these lines to a text, and says how many they are.

@@ -3,3 +3,4 @@ mod HoldTexts
 mod Summing
 pub mod UnreadLists
 mod StartedLocks
+mod UnderLock

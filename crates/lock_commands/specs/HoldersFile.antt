@@ -13,7 +13,7 @@ use Rattle.tool_parts.specs.declared.faults.ToolError.TheVariants as tool
 abbrev pub holders_word : LocksWords → Option (List ℕ)
 holders_word words = option_map (λ file. file.now) words.holders
 
--- the name that a refusal tells; it has no byte if no file is named
+-- the name that a refusal reports; it has no byte if no file is named
 abbrev pub name_of : Option (List ℕ) → List ℕ
 name_of None = []
 name_of (Some name) = name

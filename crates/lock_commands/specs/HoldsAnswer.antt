@@ -95,7 +95,7 @@ pub record AreFolderHolds (name : List ℕ) (files : Option Held) (holds : List 
   pub numbers : IsRightNumbers entries (Ok (Some r))
   pub held : AreFilesHolds files name r holds
 
--- a text, or, if it is no standard stream, a folder
+-- a text, or, if it is not a standard stream, a folder
 abbrev pub AreNamedHolds : List ℕ → World → World → List (List Hold) → Type 0
 AreNamedHolds word was is holds =
     AreTextHolds word was.files was.input is.input holds
@@ -117,7 +117,7 @@ IsBlockRefusal name ks (tool.NoHold named lock at) =
 IsBlockRefusal name ks tool.OutOfMemory = Unit {0}
 IsBlockRefusal name ks _ = ⊥
 
--- the bytes are no legal saved text; or they are one, of which a ring is refused
+-- the bytes are not a legal saved text; or they are one, of which a ring is refused
 abbrev pub IsUnheldText : List ℕ → List ℕ → ToolError → Type 0
 IsUnheldText name bytes e =
     IsSavedTextRefusal bytes e
@@ -142,7 +142,7 @@ IsUnheld files name n before last (tool.NoHold named lock at) =
     × IsHoldRefusal before bytes last (unheld.NoHold lock at)
 IsUnheld files name n before last e = IsAddRefusal files name n before.state last e
 
--- after files that follow one another, and tell of holds, the next one is refused
+-- after files that follow one another, and show holds, the next one is refused
 abbrev pub IsFileUnheld : Option Held → List ℕ → SegmentNumbers → ToolError → Type 0
 IsFileUnheld files name r e =
     (fs : List File)
@@ -174,7 +174,7 @@ IsFolderUnheld name files e =
     × IsRightNumbers entries (Ok (Some r))
     × IsUnheldChain files name r e))
 
--- a text is refused, or, if the word is no standard stream, a folder
+-- a text is refused, or, if the word is not a standard stream, a folder
 abbrev pub IsNamedUnheld : List ℕ → World → World → ToolError → Type 0
 IsNamedUnheld word was is e =
     IsTextUnheld word was.files was.input is.input e

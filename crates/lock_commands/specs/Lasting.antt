@@ -4,15 +4,16 @@ use Rattle.disks.specs.Held.{Held}
 use Rattle.ring_locks.specs.declared.handing.Handover.{Handover}
 use Rattle.lock_folder.specs.Folders.{Place, AreStarted}
 use Rattle.segment_loop.specs.Segments.{Moment}
-use Rattle.segment_loop.specs.Lasting.{ToldLinesLast}
+use Rattle.segment_loop.specs.Lasting.{EachSegmentLasts}
 use Rattle.ring_requests.specs.declared.requests.LocksWords.{LocksWords}
 use Rattle.tool_parts.specs.Locking.{IsLocked}
 use Rattle.tool_parts.specs.Worlds.{World, IsUnserved}
 use Rattle.lock_commands.specs.HoldersFile.{holders_word, AreHoldersOf}
 use Rattle.lock_commands.specs.Locks.{folder_of, list_of, Service, answering, by_segments, HasStarted}
 
--- From where the locks start: nothing was told; or their first segment has begun, and this is left of
--- the folder, with the notes of all lines that were told.
+-- From where the locks start: no line was served; or their first segment has begun, and this is
+-- left of the folder, with the notes of all lines that were delivered: in each segment that has
+-- ended since, which is left whole, and in the last one.
 abbrev pub RunLasts : LocksWords → Place → Option Held → Option (List ℕ) → Option (List ℕ)
     → Option (List ℕ) → Option (List ℕ) → Option Held → Type 0
 RunLasts words start files was is old new left =
@@ -20,10 +21,10 @@ RunLasts words start files was is old new left =
     ⊎ ((first : Moment Service)
     × (end : Service)
     × HasStarted words start files first
-    × ToldLinesLast answering by_segments (folder_of words) first end was is old new left)
+    × EachSegmentLasts answering by_segments (folder_of words) first end was is old new left)
 
--- In a folder, with these holders: nothing was told; or the folder was locked, the locks started, and
--- what was told lasts.
+-- In a folder, with these holders: no line was served; or the folder was locked, the locks started,
+-- and what was delivered lasts.
 abbrev pub FolderLasts : LocksWords → List Handover → Option Held → Option (List ℕ)
     → Option (List ℕ) → Option (List ℕ) → Option (List ℕ) → Option Held → Type 0
 FolderLasts words holders before was is old new left =
@@ -35,8 +36,9 @@ FolderLasts words holders before was is old new left =
     × AreStarted (folder_of words) (list_of words) holders there listed start
     × RunLasts words start listed was is old new left)
 
--- Whenever the power fails behind the call: nothing was told; or the folder is left with the notes of
--- all lines whose answers the output got, from where the locks started with the holders of the file.
+-- Whenever the power fails after the call: no line was served; or the folder is left with the notes
+-- of all lines whose answers the output got, from where the locks started with the holders of the
+-- file.
 abbrev pub ToldLocksLast : LocksWords → World → World → Option Held → Type 0
 ToldLocksLast words was is left =
     IsUnserved was.input is.input was.out is.out

@@ -1,5 +1,6 @@
 -- The answer of `locks` (this project's own).
-use Rattle.std.specs.Prelude.{◌≡◌, ℕ, ◌⊎◌, max, true, false, List, [], Option, Some}
+use Rattle.std.specs.Prelude.{◌≡◌, ℕ, ◌⊎◌, max, true, false, List, [], Option, Some, IsSome}
+use Rattle.std.specs.List.{AllByRecursion}
 use Rattle.std.specs.Option.{option_map}
 use Rattle.std.specs.Io.KnownBytes.{Appends}
 use Rattle.disks.specs.Held.{Held, Replaces}
@@ -21,7 +22,7 @@ use Rattle.segment_loop.specs.declared.segmented.EndFault.{EndFault}
 use Rattle.line_loop.specs.Stands.{AnsweringWith}
 use Rattle.segment_loop.specs.Segmenting.{Segmenting}
 use Rattle.segment_loop.specs.Segments.{Moment, HasBegun, IsLeftUnbegun}
-use Rattle.segment_loop.specs.Service.{ServesSegments, ServesSomeSegments, IsFaultOf}
+use Rattle.segment_loop.specs.Service.{Part, ServesSegments, ServesSomeSegments, IsFaultOf}
 use Rattle.segment_loop.specs.Notes.{ToldLinesAreNoted}
 use Rattle.line_replica.specs.declared.replica.Replica.{Replica}
 use Rattle.line_replica.specs.declared.restorable.Restorable.{Restorable}
@@ -34,7 +35,7 @@ use Rattle.ring_requests.specs.declared.requests.LocksWords.{LocksWords}
 use Rattle.tool_parts.specs.declared.faults.ToolError.{ToolError}
 use Rattle.tool_parts.specs.declared.faults.ToolError.TheVariants as tool
 use Rattle.tool_parts.specs.Worlds.{IsUnserved}
-use Rattle.tool_parts.specs.Locking.{IsLocked, IsLockLeft, IsUnkeptFolder}
+use Rattle.tool_parts.specs.Locking.{IsLocked, StandsLocked, IsLockLeft, IsUnkeptFolder}
 use Rattle.tool_parts.specs.Worlds.{World}
 use Rattle.lock_commands.specs.Refusals.{IsStartName, IsBeginName, IsLoopName, IsListIf, IsNoListFor}
 use Rattle.lock_commands.specs.HoldersFile.{holders_word, name_of, AreHoldersOf, HasNoHolders}
@@ -59,8 +60,8 @@ terms_of words = record {
   strict = words.strict;
 }
 
--- the service that answers: a replica of the locks' service, whose state is told where it is asked;
--- how it answers a line, and how it lives in segments
+-- the service that answers: a replica of the locks' service, whose state is answered where it is
+-- asked for; how it answers a line, and how it lives in segments
 abbrev pub Service : Type 0
 Service = Restorable (Replica LockService)
 
@@ -101,8 +102,14 @@ pub record IsRun (words : LocksWords) (start : Place) (end : Service)
   pub end_is : end ≡ last.service
   pub settled : Replaces last.files after (segment_file (folder_of words) last.number) last.journal
 
--- The folder's lock was had, the locks started with these holders, and all lines were served from
--- there.
+-- The folder is locked when the first line of each part is read, and when its last one is answered;
+-- no line changes a file.
+abbrev pub AreUnderLock : List ℕ → List (Part Service) → Type 0
+AreUnderLock folder parts =
+    AllByRecursion (λ p. StandsLocked p.from.files folder × StandsLocked p.to.files folder) parts
+
+-- The folder was locked, the locks started with these holders, and all lines were served from there.
+-- Where the content of files is known, it is locked as long as lines are served.
 pub record IsServedIn (words : LocksWords) (holders : List Handover) (end : Service)
     (before after : Option Held) (was is old new : Option (List ℕ)) : Type 0 where
   pub there : Option Held
@@ -111,6 +118,7 @@ pub record IsServedIn (words : LocksWords) (holders : List Handover) (end : Serv
   pub start : Place
   pub started : AreStarted (folder_of words) (list_of words) holders there listed start
   pub run : IsRun words start end listed after was is old new
+  pub held : IsSome before → AreUnderLock (folder_of words) run.served.parts
 
 -- The same, and the sums over the locks are reported on standard error.
 pub record IsLocksAnswer (words : LocksWords) (was is : World) : Type 0 where
@@ -133,7 +141,7 @@ IsUnbegun words start before after e =
     (by_segments.text service start.number start.behind) before after
     × ((why : EndFault) × IsBeginName (folder_of words) why e))
 
--- Some lines were answered, and then there was this fault. Whatever was told is noted.
+-- Some lines were answered, and then there was this fault. Whatever was delivered is noted.
 pub record IsBroken (words : LocksWords) (first : Moment Service) (after : Option Held)
     (was is old new : Option (List ℕ)) (e : ToolError) : Type 0 where
   pub why : LoopFault
@@ -190,8 +198,8 @@ IsRefusedIn words holders before after was is old new e =
     × AreStarted (folder_of words) (list_of words) holders there listed start
     × IsRunRefused words start listed after was is old new e)))
 
--- with these holders: those of the folder, and those while lines are served, where nothing is told
--- on standard error; and, when all lines have been served, those of the sums
+-- with these holders: those of the folder, and those while lines are served, where nothing is
+-- written to standard error; and, when all lines have been served, those of the sums
 abbrev pub IsRefusedWith : LocksWords → List Handover → World → World → ToolError → Type 0
 IsRefusedWith words holders was is e =
     ((is.err ≡ was.err)

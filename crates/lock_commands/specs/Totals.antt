@@ -33,7 +33,7 @@ with_ring all e = record {
 abbrev pub AreTooLarge : Sums → Type 0
 AreTooLarge all = (2 ^ 64 ≤ all.events) ⊎ (2 ^ 64 ≤ all.granted)
 
--- the line of so many locks with these sums
+-- the line of this number of locks with these sums
 abbrev pub sums_line : ℕ → Sums → List ℕ
 sums_line locks all =
     codes "total locks "
@@ -46,7 +46,7 @@ sums_line locks all =
 abbrev pub total_line : List LockView → List ℕ
 total_line vs = sums_line (length vs) (sums_of vs)
 
--- The sums are not told: one of them is too large, and nothing is written; or standard error
+-- The sums are not reported: one of them is too large, and nothing is written; or standard error
 -- failed, and got a prefix of the line.
 abbrev pub IsUntold : List LockView → Option (List ℕ) → Option (List ℕ) → ToolError → Type 0
 IsUntold vs early late tool.TotalsTooLarge = (late ≡ early) × AreTooLarge (sums_of vs)

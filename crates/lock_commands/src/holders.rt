@@ -12,7 +12,7 @@ use std::alloc::Global;
 use tool_parts::faults::ToolError;
 use tool_parts::reading::read_file;
 
-/// The name of the file that a refusal tells.
+/// The name of the file that a refusal reports.
 pub(crate) fn name_of<'a>(file: Option<&'a str>) -> &'a str
     ensures { result.now ≡ name_of (option_map (λ w. w.now) file.entry) }
 {

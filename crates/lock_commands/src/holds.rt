@@ -1,4 +1,4 @@
-//! `holds`: who held the locks whose histories are a saved text, or the segments of a folder.
+//! `holds`: the holds of the locks whose histories are a saved text, or the segments of a folder.
 
 ghost use Rattle.std.specs.Prelude.{true, false, ◌≡◌, ◌≢◌, None, map, OnOk, IfOk, IfErr};
 ghost use Rattle.tool_parts.specs.Reading.{names_stream};

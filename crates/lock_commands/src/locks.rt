@@ -37,7 +37,7 @@ fn terms_of(words: &LocksWords<'_>) -> Terms
     }
 }
 
-/// The service as it begins with these locks: a replica without a key, whose state is told where it is asked.
+/// The service as it begins with these locks: a replica without a key, whose state is answered where it is asked for.
 fn service_of(
     alloc: Global,
     locks: Locks,
@@ -101,7 +101,7 @@ fn serve_from<'a, D: Disk, I: Read, W: Write>(
     }
 }
 
-/// The locks of a folder, when all lines have been served. The folder is locked from before it is listed.
+/// The locks of a folder, when all lines have been served. The folder is locked from before it is listed, and stays so.
 fn run_in_folder<'a, D: Disk, I: Read, W: Write>(
     alloc: Global,
     disk: &mut D,
@@ -122,19 +122,20 @@ fn run_in_folder<'a, D: Disk, I: Read, W: Write>(
         → FolderLasts words.now holders.now (D.holds disk.old) (I.remaining input.old)
         (I.remaining input.new) (W.contents out.old) (W.contents out.new) (D.leaves disk.new) }
 {
-    let lock = match lock_folder(alloc, disk, words.journal) {
-        Ok(lock) => lock,
+    match lock_folder(alloc, disk, words.journal) {
+        Ok(()) => {}
         Err(fault) => return Err(fault),
-    };
+    }
     let start = match start_locks(alloc, disk, words.journal, words.locks, holders) {
         Ok(start) => start,
         Err(fault) => {
             return Err(start_refusal(fault, words.journal, name_of(words.holders)));
         }
     };
-    let end = serve_from(alloc, disk, start, words, input, out);
-    drop(lock);
-    end
+    match serve_from(alloc, disk, start, words, input, out) {
+        Ok(end) => Ok(end),
+        Err(fault) => Err(fault),
+    }
 }
 
 /// Checks the list that is named, before any file is made.
@@ -171,7 +172,7 @@ pub fn run<'a, D: Disk, I: Read, W: Write, E: Write>(
         (world (D.holds disk.new) (I.remaining input.new) (W.contents out.new)
         (E.contents err.new)) e) }
 
-    // Where each note is put on the disk, and the content of files is known: what was told is there whenever the power fails.
+    // Where each note is put on the disk, and the content of files is known: what was delivered is there whenever the power fails.
     ensures lasts { words.now.synced ≡ true → IsSome (D.holds disk.old) → ToldLocksLast words.now
         (world (D.holds disk.old) (I.remaining input.old) (W.contents out.old) (E.contents err.old))
         (world (D.holds disk.new) (I.remaining input.new) (W.contents out.new)

@@ -47,7 +47,7 @@ fn sums_of(locks: &Locks) -> Option<Sums>
     Some(all)
 }
 
-/// Writes the line of so many locks with these sums, by one write, so that lines of processes that share a file do not mix.
+/// Writes the line of `locks` locks with these sums, by one write, so that lines of processes that share a file do not mix.
 fn put_sums<W: Write>(out: &mut W, locks: u32, sums: Sums) -> Result<(), WriteFault>
     ensures { Writes (W.contents out.old) (W.contents out.new) result (sums_line locks sums) }
 {

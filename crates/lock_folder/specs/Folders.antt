@@ -10,9 +10,9 @@ use Rattle.segment_folder.specs.declared.errors.FolderError.{FolderError}
 use Rattle.segment_folder.specs.declared.errors.FolderError.TheVariants as folders
 use Rattle.segment_folder.specs.declared.numbers.SegmentNumbers.{SegmentNumbers}
 use Rattle.ring_segments.specs.Spelling.{no_digest}
-use Rattle.ring_segments.specs.Last.{IsRightLast}
 use Rattle.ring_segments.specs.declared.last.LastSegment.{LastSegment}
 use Rattle.ring_segments.specs.declared.errors.SegmentError.TheVariants as segment
+use Rattle.torn_ends.specs.Torn.{IsRightEnd}
 use Rattle.ring_locks.specs.declared.handing.Handover.{Handover}
 use Rattle.ring_locks.specs.Kept.{LockView}
 use Rattle.ring_locks.specs.Handed.{AreHanded}
@@ -52,12 +52,12 @@ pub record IsAtFirst (ls : List Listed) (p : Place) : Type 0 where
   pub number : p.number ≡ 1
   pub behind : p.behind ≡ no_digest
 
--- the file of the segment of this number, which is the last, says that number
+-- the file of the segment of this number, which is the last, says that number; its end may be torn
 pub record IsAtLast (files : Option Held) (folder : List ℕ) (n : ℕ) (s : LastSegment) : Type 0
   where
     pub bytes : List ℕ
     pub held : IsHeld files (segment_file folder n) bytes
-    pub right : IsRightLast bytes (Ok s)
+    pub right : IsRightEnd bytes (Ok s)
     pub named : s.head.number ≡ n
 
 -- where it ends
@@ -166,9 +166,9 @@ IsUnread n _ = ⊥
 abbrev pub IsNoEnd : ℕ → List ℕ → StartFault → Type 0
 IsNoEnd n bytes (fault.Segment m e) =
     (m ≡ n)
-    × (IsRightLast bytes (Err e)
+    × (IsRightEnd bytes (Err e)
     ⊎ ((e ≡ segment.Number)
-    × ((s : LastSegment) × IsRightLast bytes (Ok s) × (s.head.number ≢ n))))
+    × ((s : LastSegment) × IsRightEnd bytes (Ok s) × (s.head.number ≢ n))))
 IsNoEnd n bytes fault.OutOfMemory = Unit {0}
 IsNoEnd n bytes _ = ⊥
 

@@ -1,4 +1,4 @@
--- Where the rings of locks stand when they start (this project's own).
+-- Where the rings of locks are when these start (this project's own).
 use Rattle.std.specs.Prelude.{◌≡◌, ℕ, ◌<◌, ◌≤◌, List, [], length, map, replicate, slice_get, Option, Some, None, ◌⊎◌}
 use Rattle.ring_model.specs.Ring.{ring_with}
 use Rattle.ring_saved.specs.declared.saved.SavedRing.{SavedRing}

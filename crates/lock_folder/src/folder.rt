@@ -176,7 +176,7 @@ fn start_in<D: Disk>(
 ///
 /// # Errors
 ///
-/// `Folder` if a name in the folder may not stand there; `NoLocks`, `NoLocksFile`, `UnreadLocks`, `BadLocks`, `Word`, `OtherLock`
+/// `Folder` if a name in the folder is not allowed there; `NoLocks`, `NoLocksFile`, `UnreadLocks`, `BadLocks`, `Word`, `OtherLock`
 /// for the list; `UnreadSegment`, `Segment`, `OtherRing`, `Full` for the last segment; `Holder` for a hold that is not open;
 /// `Unsaved`, `OutOfMemory`. Every file is as it was then.
 pub fn start_locks<D: Disk>(

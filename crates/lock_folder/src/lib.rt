@@ -1,4 +1,4 @@
-//! The locks of a folder: their names and sizes, and where their rings stand.
+//! The locks of a folder: their names and sizes, and where their rings are.
 #![tactic(auto)]
 
 mod faults;

@@ -4,7 +4,7 @@ ghost use Rattle.std.specs.Prelude.{◌≡◌, ◌<◌, map, length, All, IfOk, 
 ghost use Rattle.segment_folder.specs.Names.{segment_file};
 ghost use Rattle.ring_chains.specs.Bases.{IsBase};
 ghost use Rattle.ring_segments.specs.Spelling.{DigestFits};
-ghost use Rattle.ring_segments.specs.Last.{IsRightLast};
+ghost use Rattle.torn_ends.specs.Torn.{IsRightEnd};
 ghost use Rattle.lock_lists.specs.Lists.{listed};
 ghost use Rattle.ring_locks.specs.Handed.{AreHanded};
 ghost use Rattle.lock_folder.specs.Folders.{IsHeld, IsUnread, IsNoEnd, IsSegmentFault, IsAtFirst, IsAtLast, IsAfter, StandsAt, StandsHanded, place_of, IsFirstFault, IsLastFault, IsPlaceFault, IsUnhanded, IsHandingFault};
@@ -16,9 +16,10 @@ use disks::Disk;
 use lock_holders::hand_all;
 use lock_lists::ListedLock;
 use ring_locks::{Handover, Locks};
-use ring_segments::{DIGEST_DIGITS, LastSegment, SegmentError, read_last};
+use ring_segments::{DIGEST_DIGITS, LastSegment, SegmentError};
 use segment_folder::{SegmentNumbers, segment_file};
 use std::alloc::Global;
+use torn_ends::read_end;
 
 /// Where the locks of a folder start.
 #[derive(Drop)]
@@ -50,16 +51,16 @@ fn segment_bytes<D: Disk>(
     }
 }
 
-/// The segment with these bytes, if a chain can end with it, and it says this number.
+/// The segment with these bytes, without a torn end, if a chain can end with it, and it says this number.
 fn segment_in(alloc: Global, number: u64, bytes: &[u8]) -> Result<LastSegment, StartFault>
-    ensures ok { IfOk result (λ last. IsRightLast bytes.now (Ok last)) }
+    ensures ok { IfOk result (λ last. IsRightEnd bytes.now (Ok last)) }
     ensures named { IfOk result (λ last. last.head.number ≡ number) }
     ensures many { IfOk result
         (λ last. length last.head.bases.items ≡ length last.saved.rings.items) }
     ensures bases { IfOk result (λ last. All IsBase last.head.bases.items) }
     ensures err { IfErr result (λ e. IsNoEnd number bytes.now e) }
 {
-    match read_last(alloc, bytes) {
+    match read_end(alloc, bytes) {
         Ok(last) => {
             if last.head.number == number {
                 Ok(last)

@@ -29,7 +29,7 @@ fn resumed(alloc: Global, base: Base, saved: &SavedRing) -> Result<EndlessRing, 
 {
     match from_saved(alloc, saved, SEATS) {
         Ok(ring) => Ok(EndlessRing::after(base, ring)),
-        // no ring of a segment is refused but for want of memory
+        // a ring of a segment is only refused if memory is short
         Err(_) => Err(StartFault::OutOfMemory),
     }
 }

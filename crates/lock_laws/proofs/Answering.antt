@@ -1,4 +1,4 @@
--- Which answers a turn has that tell of a grant or of a release.
+-- Which answers a turn has that report a grant or a release.
 use Rattle.std.proofs.Common.{◌≡◌, ℕ, suc, ◌+◌, Bool, true, false, List, [], ◌∷◌, ◌++◌, map, length, get_or, Option, Some, None, refl, sym, ◌∙◌, ap, subst, inl, inr, arith, slice_get}
 use Rattle.std.specs.Prelude.{if◌then◌else◌, nat_le}
 use Rattle.std.specs.List.{AllByRecursion}
@@ -25,7 +25,7 @@ use Rattle.lock_lines.specs.Answers.{answer_line, denial_line}
 use Rattle.lock_serve.specs.Noting.{lines_about}
 use Rattle.lock_laws.specs.Told.{IsGrantIn, IsToldIn, Telling, text_of, IsText}
 
--- an answer that tells of no grant and of no release
+-- an answer that reports no grant and no release
 abbrev pub is_quiet : Answer → Bool
 is_quiet (answer.Granted token) = false
 is_quiet answer.Released = false
@@ -34,7 +34,7 @@ is_quiet _ = true
 abbrev pub AreQuiet : List (ℕ × Answer) → Type 0
 AreQuiet answers = AllByRecursion (λ (a : ℕ × Answer). is_quiet a.1 ≡ true) answers
 
--- a turn tells of neither; or it is a grant, a release, or the end of a hold by a leave
+-- a turn reports neither; or it is a grant, a release, or the end of a hold by a leave
 pub data Tells (a : State ℕ) (c : ℕ) (t : Turn) : Type 0 where
   Quiet : AreQuiet t.answers → Tells a c t
   Grants : (line : List Waiter) (w : Waiter) → t ≡ granted a line w → Tells a c t
@@ -86,7 +86,7 @@ module _ (ls : List Lock) (l : Lock) (c : ℕ) where
 
 -- ---- one ring
 
--- what an answer tells is in the ring
+-- what an answer reports is in the ring
 abbrev pub IsShownIn : Standing → Standing → Answer → Type 0
 IsShownIn was is (answer.Granted token) = IsGrantIn was is token
 IsShownIn was is answer.Released = HasGrown (with_survey was 1 (survey_now was)) is
@@ -143,7 +143,7 @@ turn_in was is a c t es (Leaves line e) g h s ends =
 
 -- ---- among all rings
 
--- what is told, with the lines of it
+-- the answers of a text, each of which is in the rings
 pub record AreToldIn (was is : List Standing) (said : List ℕ) : Type 0 where
   pub tellings : List Telling
   pub text : IsText said tellings
@@ -183,7 +183,7 @@ quiet_told was is lock (answer.Corrupted old) q = tt
 quiet_told was is lock (answer.Stats s) q = tt
 quiet_told was is lock (answer.Refused why) q = tt
 
--- an answer that tells of no hold, whatever the rings
+-- an answer that reports no hold, whatever the rings
 pub told_quiet : (was is : List Standing) (lock c : ℕ) (a : Answer) (answers : List (ℕ × Answer)) → is_quiet a ≡ true → answers ≡ (c, a) ∷ [] → AreToldIn was is (lines_about lock answers)
 told_quiet was is lock c a answers q e = record {
   tellings = tellings_of lock ((c, a) ∷ []);

@@ -113,7 +113,7 @@ replica_runs_are_stages r k =
 
 -- ---- lines of which some ask for the state
 
--- what was told inside of lines
+-- what the replica inside answered of lines
 record AreOthers (b : Bool) (old : Stand (Replica LockService)) (line : List ℕ) (lines : List (List ℕ)) (said noted : List ℕ) (new : Stand (Replica LockService)) : Type 0 where
   pub told : List ℕ
   pub answered : Answers (by_stand (IsReplied IsServed)) old (cond (not b) (line ∷ filter (λ line. not (is_state line)) lines) (filter (λ line. not (is_state line)) lines)) told noted new

@@ -1,4 +1,4 @@
--- Calls of a journal, one after the other, and the rings that it tells behind each.
+-- Calls of a journal, one after the other, and the rings that it records after each.
 use Rattle.std.proofs.Common.{◌≡◌, ℕ, ◌<◌, ◌^◌, List, [], ◌∷◌, ◌++◌, length, map, Option, Some, refl, sym, ◌∙◌, ap, subst, inl, inr, append_assoc, slice_get, slice_set}
 use Rattle.std.specs.List.{AllByRecursion}
 use Rattle.std.proofs.lemmas.List.{append-nil, length-set, map-append}
@@ -27,7 +27,7 @@ use Rattle.ring_serve.proofs.RecordedBlocks.{set_there}
 use Rattle.std.proofs.lemmas.Bool.{cases_eq}
 use Rattle.lock_laws.proofs.Shadows.{open_of, called_turn, ended_turn, IsCalledSo, IsEndedSo}
 
--- ---- how a ring goes on
+-- ---- how a ring continues
 
 -- the ring has gone on by these marks: grants and ends of holds alternate, and the hold that is open is the last one's
 pub record GoesOnBy (was is : Standing) : Type 0 where
@@ -159,7 +159,7 @@ pub chain_fits : (a b : List Standing) (xs : List JournalLine) → Chain a xs b 
 chain_fits a b [] p = tt
 chain_fits a b (x ∷ xs) p = (p.1.fits, subst (λ (n : ℕ). AllByRecursion (JournalLineFits latest_version n) xs) p.1.many (chain_fits p.0 b xs p.2))
 
--- what the journal records behind them
+-- what the journal records after them
 pub chain_stands : (old : List Standing) (done : List JournalLine) (a b : List Standing) (xs : List JournalLine) → Stands old done a → Chain a xs b → Stands old (done ++ xs) b
 chain_stands old done a b [] s p = subst (λ (x : List Standing). Stands old (done ++ []) x) (sym p) (subst (λ (x : List JournalLine). Stands old x a) (sym (append-nil done)) s)
 chain_stands old done a b (x ∷ xs) s p =

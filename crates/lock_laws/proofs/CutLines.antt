@@ -84,7 +84,7 @@ module _ (rings : List Standing) (old new : List LockView) (few : length rings <
           ∙ ap (λ (x : Option LockView). end_line i (ended_in v.ring t.marks) ++ events_from i (length v.ring.ring.book.history) x) w.1) in
           cut_turn rings old few f i v c ask at w.0 small plain made lock (most i w.0 w.1) bytes lost (e ∙ note)
 
-  -- nothing is noted of an ask that is refused for want
+  -- nothing is noted of an ask that is refused for lack of room or memory
   pub want_notes : (r : Answers) → IsWant old new i ask r → note_about i old new r.ended ≡ []
   want_notes r d =
       ap (λ (x : Option HoldEnd). end_line i x ++ events_from i (events_at (slice_get old i)) (slice_get new i)) d.none.0

@@ -1,4 +1,5 @@
--- What is kept of the notes of lines, cut at any byte, tells locks behind some of their inputs.
+-- What is kept of the notes of lines, cut at any byte, records the locks after some of their
+-- inputs.
 use Rattle.std.proofs.Common.{◌≡◌, ◌≢◌, ℕ, suc, ◌+◌, ◌<◌, ◌≤◌, ◌^◌, false, List, [], ◌∷◌, ◌++◌, drop, length, length-append, Option, Some, None, refl, sym, ◌∙◌, ap, subst, inl, inr, arith, append_assoc, slice_get, slice_set}
 use Rattle.std.specs.Prelude.{option_map}
 use Rattle.std.specs.List.{AllByRecursion}
@@ -35,8 +36,8 @@ use Rattle.lock_laws.proofs.Following.{Follows, Followed, some_is, step_is, turn
 use Rattle.lock_laws.proofs.Lines.{IsNotedSo}
 use Rattle.lock_laws.proofs.GivenUp.{all_give_up, each_gives_up, same_lists, ended_alone}
 
--- Of these bytes, which are the first of the notes of some inputs, the journal tells locks that are
--- behind what was kept of these.
+-- These bytes are the first of the notes of some inputs. The locks that the journal records with
+-- them are those after what was kept of these inputs.
 pub record IsCutSo (rings : List Standing) (ls : List Lock) (asked : List Input) (bytes : List ℕ) : Type 0 where
   pub kept : List Input
   pub kept_so : AreKeptOf asked kept
@@ -54,7 +55,7 @@ kept_none asked = inl (asked, refl)
 pub kept_all : (asked : List Input) → AreKeptOf asked asked
 kept_all asked = inl ([], sym (append-nil asked))
 
--- more is asked behind, or before
+-- more is asked after them, or before
 pub kept_then : (asked kept more : List Input) → AreKeptOf asked kept → AreKeptOf (asked ++ more) kept
 kept_then asked kept more (inl p) = inl (p.0 ++ more, ap (λ (x : List Input). x ++ more) p.1 ∙ append_assoc kept p.0 more)
 kept_then asked kept more (inr k) = inr (record {
@@ -87,7 +88,7 @@ pub nothing_of : (xs ys : List ℕ) → xs ++ ys ≡ [] → xs ≡ []
 nothing_of [] ys e = refl
 nothing_of (x ∷ xs) ys e = let long : length (x ∷ (xs ++ ys)) ≡ 0 = ap (λ (u : List ℕ). length u) e in absurd (omega (arith, long))
 
--- nothing of them is told yet
+-- nothing of them is recorded yet
 pub cut_none : (rings : List Standing) (vs : List LockView) (asked : List Input) (bytes : List ℕ) → Followed rings vs → has_line_end bytes ≡ false → IsCutSo rings (locks_of vs) asked bytes
 cut_none rings vs asked bytes f none = record {
   kept = [];
@@ -104,7 +105,7 @@ cut_none rings vs asked bytes f none = record {
 pub cut_empty : (rings : List Standing) (vs : List LockView) (asked : List Input) (bytes lost : List ℕ) → Followed rings vs → bytes ++ lost ≡ [] → IsCutSo rings (locks_of vs) asked bytes
 cut_empty rings vs asked bytes lost f e = cut_none rings vs asked bytes f (ap has_line_end (nothing_of bytes lost e))
 
--- more was asked behind
+-- more was asked after them
 pub cut_then : (rings : List Standing) (ls : List Lock) (asked more : List Input) (bytes : List ℕ) → IsCutSo rings ls asked bytes → IsCutSo rings ls (asked ++ more) bytes
 cut_then rings ls asked more bytes c = record {
   kept = c.kept;
@@ -118,7 +119,7 @@ cut_then rings ls asked more bytes c = record {
   behind = c.behind;
 }
 
--- all of some inputs was told before
+-- some inputs were recorded as a whole before
 abbrev pub cut_behind : (rings : List Standing) (ls : List Lock) (vs : List LockView) (first asked : List Input) (notes rest bytes : List ℕ) (n : IsNotedSo rings vs notes) → locks_of vs ≡ locks_after ls first → IsCutSo n.behind (locks_of vs) asked rest → bytes ≡ notes ++ rest →
     IsCutSo rings ls (first ++ asked) bytes
 cut_behind rings ls vs first asked notes rest bytes n now c e = record {
@@ -145,7 +146,7 @@ within_first bytes lost first later e le = sym (split first later bytes lost (sy
 
 -- ---- one lock is asked
 
--- another lock at this place, whose ring the journal tells
+-- another lock at this place, whose ring the journal records
 set_followed : (rings : List Standing) (vs : List LockView) (i : ℕ) (v w : LockView) (s t : Standing) → Followed rings vs → slice_get vs i ≡ Some v → slice_get rings i ≡ Some s → Follows t w → AllByRecursion IsRight (slice_set rings i t) → AreRight (locks_of (slice_set vs i w)) →
     Followed (slice_set rings i t) (slice_set vs i w)
 set_followed rings vs i v w s t f at there follows right locks =
@@ -187,7 +188,7 @@ advanced_few : (a : State ℕ) (line : List Waiter) → length (advanced a line)
 advanced_few a [] = omega arith
 advanced_few a (w ∷ line) = omega arith
 
--- An ask is no fault.
+-- An ask is not a fault.
 abbrev pub IsNoFault : Ask → Type 0
 IsNoFault ask = (i v : ℕ) → ask ≡ Corrupt i v → ⊥
 
@@ -201,7 +202,7 @@ module _ (rings : List Standing) (vs : List LockView) (few : length rings < 2 ^ 
   here : slice_get ls i ≡ Some (lock_of v)
   here = lock_there vs i v at
 
-  -- behind the end of a hold, with nobody behind it
+  -- the lock after the end of a hold, for which nobody waits
   abbrev ended_lock : LockView
   ended_lock = record { ring = v.ring; line = []; holder = None }
 

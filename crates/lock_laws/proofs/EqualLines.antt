@@ -33,7 +33,7 @@ counted_alike a b c d m n e f same p q = record {
   short = q.short ∙ ap (λ (x : Bool). x || has_short d.locks) e.short ∙ ap (λ (x : Bool). a.short || x) (short_equal c.locks d.locks f) ∙ sym p.short;
 }
 
--- ---- what is told
+-- ---- what is answered
 
 module _ (a b c d : SegmentView) (e : AreEqualSegments a b) (said noted told kept : List ℕ) where
   pub record AreAlike : Type 0 where

@@ -83,7 +83,7 @@ short_equal (v ∷ a) (w ∷ b) e =
     ap (λ (x : Bool). x || has_short b) (short_like v w (lock_equal (v ∷ a) (w ∷ b) e 0 v w refl refl) (e.rings 0 v w refl refl))
     ∙ ap (λ (x : Bool). is_short v || x) (short_equal a b (others_equal v w a b e))
 
--- ---- notes and counts of locks before and behind
+-- ---- notes and counts of locks before and after
 
 module _ (a b c d : List LockView) (e : AreEqualLocks a b) (f : AreEqualLocks c d) where
   pub note_equal : (lock : ℕ) (ended : Option HoldEnd) → note_about lock b d ended ≡ note_about lock a c ended
@@ -142,7 +142,7 @@ module _ (a b c d : List LockView) (e : AreEqualLocks a b) where
       ended = q.ended ∙ ap (λ (ms : List Mark). ended_at (slice_get b i) ms) marks_equal ∙ ended_equal a b e (step (locks_of a) (Asked client i ask)).marks i ∙ sym p.ended;
     }
 
--- nobody is refused for want
+-- nobody is refused for lack of room or memory
 want_is : (old new : List LockView) (i : ℕ) (ask : Ask) (r : Answers) → IsWant old new i ask r → is_want r.own ≡ true
 want_is old new i ask r w = elim w.why [
   | inl f ↦ ap is_want f.0

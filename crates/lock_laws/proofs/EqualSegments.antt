@@ -1,4 +1,4 @@
--- Equal locks go on in equal segments.
+-- Equal locks continue in equal segments.
 use Rattle.std.proofs.Common.{◌≡◌, ℕ, zero, suc, ◌<◌, List, [], ◌∷◌, length, Some, refl, sym, ap, subst, ◌∙◌, arith, slice_get}
 use Rattle.std.specs.Prelude.{slice_index_or}
 use Rattle.ring_model.specs.Ring.{Ring}

@@ -1,4 +1,4 @@
--- The rings that a journal tells follow the locks.
+-- The rings that a journal records follow the locks.
 use Rattle.std.proofs.Common.{◌≡◌, ℕ, ◌<◌, ◌≤◌, ◌^◌, Bool, true, List, [], ◌∷◌, ◌++◌, length, drop, Option, Some, None, refl, sym, ◌∙◌, ap, subst, arith, slice_get, slice_set}
 use Rattle.std.specs.Prelude.{◌==◌, if◌then◌else◌, option_map}
 use Rattle.std.specs.List.{AllByRecursion}
@@ -27,7 +27,7 @@ use Rattle.lock_laws.proofs.Chains.{Chain}
 use Rattle.lock_laws.proofs.Answering.{AreShownIn, turn_in, tells_of}
 use Rattle.lock_laws.proofs.Marks.{IsSmallAsk, AreMarksOf, IsEndFirst, marks_of_move, marks_so}
 
--- the ring that the journal tells is that of the lock, and shows its hold
+-- the ring that the journal records is that of the lock, and shows its hold
 pub record Follows (s : Standing) (v : LockView) : Type 0 where
   pub shadows : Shadows s v.ring
   pub hold : open_of s ≡ token_of v.holder

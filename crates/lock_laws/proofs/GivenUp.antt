@@ -1,4 +1,5 @@
--- Who waits for a lock gives up, one after the other; and a hold that ends then is followed by none.
+-- The clients that wait for a lock give up, one after the other; and a hold that ends then is
+-- followed by none.
 use Rattle.std.proofs.Common.{◌≡◌, ◌≢◌, ℕ, suc, Bool, true, false, List, [], ◌∷◌, ◌++◌, map, Option, Some, None, refl, sym, ◌∙◌, ap, inl, inr, slice_get, slice_set}
 use Rattle.std.specs.Prelude.{if◌then◌else◌}
 use Rattle.std.specs.List.{AllByRecursion}
@@ -42,7 +43,7 @@ stands_first w rest = rw (eq-eqb w.client w.client refl) refl
 without_first : (w : Waiter) (rest : List Waiter) → stands w.client rest ≡ false → without w.client (w ∷ rest) ≡ rest
 without_first w rest s = rw (eq-eqb w.client w.client refl) (without_absent w.client rest s)
 
--- who stands first gives up
+-- the client that is first in line gives up
 gives_up_first : (ls : List Lock) (l : Lock) (w : Waiter) (rest : List Waiter) → l.line ≡ w ∷ rest → stands w.client rest ≡ false → (turn ls l w.client Cancel).lock ≡ record l { line = rest }
 gives_up_first ls l w rest e s =
     let here : stands w.client l.line ≡ true = ap (λ (x : List Waiter). stands w.client x) e ∙ stands_first w rest in
@@ -80,7 +81,7 @@ ends_alone ls l c ask h seat line answers held own (Left a b d e) =
     let is : is_held_by c l.holder ≡ true = ap (λ (x : Option Holder). is_held_by c x) held ∙ same in
     ap (λ (x : Ask). (turn ls (alone l) c x).lock) a ∙ ap (λ (b : Bool). (if b then ended l.ring (without c []) 2 [] else dropped (alone l) c []).lock) is
 
--- the locks behind both: nobody holds this one, and nobody waits for it; the others are as they were
+-- the locks after both: nobody holds this one, and nobody waits for it; the others are as they were
 pub ended_alone : (ls now : List Lock) (i : ℕ) (l : Lock) (c : ℕ) (ask : Ask) (h : Holder) (seat : ℕ) (line : List Waiter) (answers : List (ℕ × Answer)) → slice_get ls i ≡ Some l → AreApart l.line → l.holder ≡ Some h → h.client ≡ c → IsEnd l c h ask seat line answers →
     slice_get now i ≡ Some (record { ring = l.ring; line = []; holder = None }) → ((j : ℕ) → j ≢ i → slice_get now j ≡ slice_get ls j) → now ≡ locks_after ls (all_give_up i l.line ++ Asked c i ask ∷ [])
 ended_alone ls now i l c ask h seat line answers at apart held own is here others =

@@ -14,7 +14,7 @@ use Rattle.ring_segments.specs.Spelling.{DigestFits, digest_digits, is_digit}
 use Rattle.line_replica.specs.Reading.{Heard, Tagged, Place, Digest, Plain, heard, of_tagged, of_place, of_digest, with_key, with_number, tagged_at, on_read, may_follow, place_at, last_number, digest_at, with_digest, is_last_digest}
 use Rattle.lock_laws.proofs.KeyLines.{same_text}
 
--- a line of this key and number, with this behind them
+-- a line of this key and number, with this after them
 pub record IsOfKey (key number : ℕ) (rest line : List ℕ) : Type 0 where
   pub key_small : key < 2 ^ 64
   pub number_small : number < 2 ^ 64

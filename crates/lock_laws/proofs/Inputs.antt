@@ -36,7 +36,7 @@ use Rattle.lock_laws.proofs.Answering.{lines_are}
 use Rattle.lock_laws.proofs.Following.{lock_there, step_is}
 use Rattle.lock_laws.proofs.Lines.{stays}
 
--- what a line does: the locks behind it are those behind its inputs
+-- what a line does: the locks after it are those after its inputs
 pub record IsHeardSo (ls new : List Lock) (line said : List ℕ) : Type 0 where
   pub inputs : List Input
   pub heard : IsTaken ls line said inputs ⊎ (IsNoAnswer line said × (inputs ≡ []))
@@ -63,7 +63,7 @@ module _ (old new : List LockView) (c i : ℕ) (ask : Ask) where
       ∙ (ap (λ (x : List (ℕ × Answer)). text_of (about i x)) d.answers
       ∙ ap text_of (sym (append-nil (about i (step (locks_of old) (Asked c i ask)).answers))))
 
--- who is refused for want
+-- a client that is refused for lack of room or memory
 pub wanted : (line : List ℕ) (old : List LockView) (i : ℕ) (ask : Ask) (c : ℕ) (r : Answers) → r.granted ≡ None → ((r.own ≡ Some (answer.Refused refusal.Full)) × IsFull old i ask) ⊎ (r.own ≡ Some (answer.Refused refusal.Memory)) → IsNoAnswer line (lines_about i (answers_of c r))
 wanted line old i ask c r none w = elim w [
   | inl f ↦ inr (inr (c, i, refusal.Full, inl refl, only refusal.Full f.0))

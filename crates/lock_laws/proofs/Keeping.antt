@@ -1,4 +1,5 @@
--- Nothing that was told is lost, wherever the journal was cut: each lock goes on in what is recovered.
+-- Nothing that was delivered is lost, wherever the journal was cut: each lock continues in what is
+-- recovered.
 use Rattle.std.proofs.Common.{◌≡◌, ℕ, Option, zero, suc, ◌+◌, ◌<◌, ◌^◌, List, [], ◌∷◌, ◌++◌, length, Some, refl, sym, ◌∙◌, ap, subst, arith, append_assoc, slice_get}
 use Rattle.std.specs.List.{AllByRecursion}
 use Rattle.std.proofs.lemmas.List.{append_cancel_left}

@@ -1,4 +1,4 @@
--- The line of a key and that of a place are read as what they tell.
+-- The line of a key and that of a place are read as what they say.
 use Rattle.std.proofs.Common.{◌≡◌, ℕ, zero, suc, ◌+◌, ◌<◌, ◌≤◌, ◌^◌, Bool, true, cond, eqb, IsTrue, List, [], ◌∷◌, ◌++◌, length, take, Option, Some, None, Ok, inl, inr, refl, ap, sym, ◌∙◌, length-append, arith}
 use Rattle.std.specs.Prelude.{codes}
 use Rattle.std.specs.Fmt.{decimal, digits}
@@ -81,7 +81,7 @@ no_tag : (rest : List ℕ) → tagged_at (codes "at " ++ rest) ≡ None
 unfolding tagged_at order_at decimal_at
 no_tag rest = refl
 
--- a place with a digest behind it ends no line
+-- a place with a digest after it ends no line
 no_place : (place : ℕ) (rest : List ℕ) → place < 2 ^ 64 → place_at (codes "at " ++ (spaced place ++ rest)) ≡ None
 unfolding place_at order_at
 no_place place rest lt =

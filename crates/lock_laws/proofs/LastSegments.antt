@@ -1,11 +1,11 @@
 -- What is kept of a folder's last segment starts the next run: the head of its file is the one that was written.
-use Rattle.std.proofs.Common.{◌≡◌, ℕ, ◌+◌, ◌%◌, ◌^◌, ◌<◌, ◌≤◌, Bool, true, false, eqb, List, [], ◌∷◌, ◌++◌, map, replicate, zero, suc, length, Option, Some, None, Ok, refl, sym, ◌∙◌, ap, subst, arith}
+use Rattle.std.proofs.Common.{◌≡◌, ℕ, ◌+◌, ◌%◌, ◌^◌, ◌<◌, ◌≤◌, Bool, true, false, eqb, List, [], ◌∷◌, ◌++◌, map, replicate, zero, suc, length, Option, Some, None, Ok, refl, sym, ◌∙◌, ap, subst, append_assoc, ◌⊎◌, inl, inr, arith}
 use Rattle.std.specs.Prelude.{codes, ◌||◌, ◌-◌}
 use Rattle.std.specs.List.{AllByRecursion}
 use Rattle.std.specs.Fmt.{decimal}
 use Rattle.std.proofs.lemmas.Bool.{ne_eqb}
 use Rattle.std.proofs.lemmas.Fmt.{decimal_by_steps}
-use Rattle.std.proofs.lemmas.List.{length-map}
+use Rattle.std.proofs.lemmas.List.{length-map, append-nil}
 use Rattle.std.proofs.lemmas.List.Folds.{list_any-append}
 use Rattle.text_lines.proofs.Basics.{ok_is}
 use Rattle.disks.specs.Held.{Held, Thing, Nothing, Folder, File, file_bytes, is_a_thing, bytes_of, is_there}
@@ -16,14 +16,22 @@ use Rattle.segment_folder.specs.Numbers.{has_segment, IsRightNumbers}
 use Rattle.segment_folder.specs.declared.numbers.SegmentNumbers.{SegmentNumbers}
 use Rattle.ring_saved.specs.declared.saved.SavedRing.{SavedRing}
 use Rattle.ring_saved.specs.Content.{Block, block_of, content}
+use Rattle.ring_journal.specs.Spelling.{Journal, journal_text}
+use Rattle.ring_journal.specs.Beginnings.{IsRightJournal}
 use Rattle.ring_journal.specs.Recovery.{IsRecovered}
 use Rattle.ring_chains.specs.declared.bases.Base.{Base}
 use Rattle.ring_segments.specs.Spelling.{Head, head_of, head_text}
 use Rattle.ring_segments.specs.Remarks.{without_remarks}
 use Rattle.ring_segments.specs.Reading.{head_at}
+use Rattle.ring_segments.specs.RemarkLaws.{AreLines}
+use Rattle.ring_segments.specs.declared.last.LastSegment.{LastSegment}
+use Rattle.ring_segments.specs.Last.{IsRightLast}
 use Rattle.ring_segments.proofs.HeadLaws.{head_reads}
+use Rattle.torn_ends.specs.Torn.{IsTorn, IsRightEnd}
+use Rattle.torn_ends.proofs.Staying.{one_rest, told_stay}
 use Rattle.ring_endless.specs.Endless.{EndlessView}
 use Rattle.ring_serve.specs.Segments.{bases_of}
+use Rattle.ring_serve.specs.Recovered.{IsPrefix}
 use Rattle.ring_locks.specs.Kept.{LockView, IsKeptRing}
 use Rattle.lock_lists.specs.Lists.{Listed}
 use Rattle.lock_folder.specs.Rings.{AreBegun}
@@ -31,7 +39,7 @@ use Rattle.lock_folder.specs.Folders.{Place, StandsAt}
 use Rattle.lock_serve.specs.Segments.{rings_of}
 use Rattle.lock_laws.specs.Recovered.{AreMadeOf}
 use Rattle.lock_laws.specs.Life.{AreFound}
-use Rattle.lock_laws.specs.Started.{head_with, IsKeptLast, StartThere, KeptSegmentsStart, FoundLocksBegin}
+use Rattle.lock_laws.specs.Started.{head_with, IsKeptLast, IsTornAfter, StartThere, KeptSegmentsStart, FoundLocksBegin}
 use Rattle.lock_laws.proofs.Following.{some_is}
 use Rattle.lock_laws.proofs.Segments.{added_locks_begin}
 use Rattle.lock_laws.proofs.Started.{bases_many, started_locks_are_found}
@@ -60,6 +68,18 @@ no_slash n small = no_slash_append (padded n) (codes ".ring") (no_slash_append (
 
 -- ---- the last segment
 
+-- a file that is read, as it is or without a torn end
+record IsReadAs (bytes : List ℕ) (s : LastSegment) : Type 0 where
+  pub front : List ℕ
+  pub left_out : List ℕ
+  pub parts : bytes ≡ front ++ left_out
+  pub right : IsRightLast front (Ok s)
+  pub end : (left_out ≡ []) ⊎ ((t : IsTorn bytes s) × (t.front ≡ front))
+
+read_as : (bytes : List ℕ) (s : LastSegment) → IsRightEnd bytes (Ok s) → IsReadAs bytes s
+read_as bytes s (inl r) = record { front = bytes; left_out = []; parts = sym (append-nil bytes); right = r; end = inl refl }
+read_as bytes s (inr t) = record { front = t.front; left_out = t.left_out; parts = t.bad.spelled; right = t.right; end = inr (t, refl) }
+
 a_thing : (t : Thing) (bytes : List ℕ) → file_bytes t ≡ Some bytes → is_a_thing t ≡ true
 a_thing Nothing bytes e = absurd cc
 a_thing Folder bytes e = absurd cc
@@ -74,6 +94,27 @@ module _ (held : Held) (folder : List ℕ) (number : ℕ) (behind : List ℕ) (s
 
   has_it : (names : List (List ℕ)) → ListsNames held folder names → has_segment names number ≡ true
   has_it names l = seen names l number is_number ∙ a_thing (held.at (held.place (segment_file folder number))) (head_text (head_with number behind start) ++ kept) k.file
+
+  -- the end of the file, and what it keeps
+  module _ (s : LastSegment) (bytes front left_out rest : List ℕ) (text : bytes ≡ head_text (head_with number behind start) ++ kept) where
+    torn_there : front ≡ head_text (head_with number behind start) ++ rest → (t : IsTorn bytes s) × (t.front ≡ front) → IsTornAfter number behind start kept rest
+    torn_there is e =
+        let t = subst (λ (u : List ℕ). (t : IsTorn u s) × (t.front ≡ front)) text e in
+        (s, t.0, t.1 ∙ is)
+
+    torn_after : front ≡ head_text (head_with number behind start) ++ rest → (left_out ≡ []) ⊎ ((t : IsTorn bytes s) × (t.front ≡ front)) → (left_out ≡ []) ⊎ IsTornAfter number behind start kept rest
+    torn_after is (inl e) = inl e
+    torn_after is (inr e) = inr (torn_there is e)
+
+    told_stays : rest ++ left_out ≡ kept → front ≡ head_text (head_with number behind start) ++ rest → (left_out ≡ []) ⊎ ((t : IsTorn bytes s) × (t.front ≡ front)) → (j : Journal) (told more : List ℕ) → IsRightJournal j → AreLines told →
+        without_remarks told ≡ journal_text j → kept ≡ told ++ more → IsPrefix told rest
+    told_stays parts is (inl e) j told more right lines journal keeps =
+        (more, sym (append-nil rest) ∙ (ap (λ (u : List ℕ). rest ++ u) (sym e) ∙ (parts ∙ keeps)))
+    told_stays parts is (inr e) j told more right lines journal keeps =
+        let h : Head = head_with number behind start in
+        let t = subst (λ (u : List ℕ). (t : IsTorn u s) × (t.front ≡ front)) (text ∙ ap (λ (u : List ℕ). head_text h ++ u) keeps) e in
+        let m = told_stay h j told more s k.fits right lines journal t.0 in
+        (m.0, one_rest h h rest (told ++ m.0) k.fits k.fits (sym is ∙ (sym t.1 ∙ (m.1 ∙ append_assoc (head_text h) told m.0))))
 
   starts_there : (entries : List FolderEntry) → ListsNames held folder (names_of entries) → (range : Option SegmentNumbers) → IsRightNumbers entries (Ok range) → (locks : List Listed) (p : Place) → StandsAt (Some held) folder range locks p → length p.locks ≡ length start →
       StartThere number behind start kept p
@@ -90,23 +131,31 @@ module _ (held : Held) (folder : List ℕ) (number : ℕ) (behind : List ℕ) (s
       let same : r.last ≡ number = omega (arith, up, down) in
       let h : Head = head_with number behind start in
       let read : Head = head_of s.segment.head in
-      let f = s.last.right.file in
+      let r = read_as s.last.bytes s.segment s.last.right in
+      let f = r.right.file in
       let text : s.last.bytes ≡ head_text h ++ kept = some_is s.last.bytes (head_text h ++ kept) (sym s.last.held ∙ (ap (λ (n : ℕ). bytes_of held (segment_file folder n)) same ∙ k.file)) in
-      let one : Head × List ℕ = (read, f.rest) in
+      let one : Head × List ℕ = (read, f.rest ++ r.left_out) in
       let other : Head × List ℕ = (h, kept) in
-      let both : one ≡ other = ok_is one other (sym (head_reads.again read f.rest f.fits) ∙ (ap head_at (sym f.spelled ∙ text) ∙ head_reads.again h kept k.fits)) in
+      let all : head_text read ++ (f.rest ++ r.left_out) ≡ head_text h ++ kept =
+      sym (append_assoc (head_text read) f.rest r.left_out) ∙ (ap (λ (u : List ℕ). u ++ r.left_out) (sym f.spelled) ∙ (sym r.parts ∙ text)) in
+      let both : one ≡ other = ok_is one other (sym (head_reads.again read (f.rest ++ r.left_out) f.fits) ∙ (ap head_at all ∙ head_reads.again h kept k.fits)) in
       let heads : read ≡ h = ap (λ (z : Head × List ℕ). z.0) both in
-      let rest : f.rest ≡ kept = ap (λ (z : Head × List ℕ). z.1) both in
+      let rest : f.rest ++ r.left_out ≡ kept = ap (λ (z : Head × List ℕ). z.1) both in
       let bases : s.segment.head.bases.items ≡ bases_of (rings_of start) = ap (λ (z : Head). z.bases) heads in
       let rings : List SavedRing = s.segment.saved.rings.items in
-      let as_many : length s.segment.head.bases.items ≡ length (map block_of rings) = s.last.right.bases.rings in
+      let as_many : length s.segment.head.bases.items ≡ length (map block_of rings) = r.right.bases.rings in
       let listed : length p.locks ≡ length locks = s.begun.many in
       let written : length s.segment.head.bases.items ≡ length start = ap (λ (bs : List Base). length bs) bases ∙ bases_many start in
       let saved : length (map block_of rings) ≡ length rings = length-map rings block_of in record {
         number_is = s.number ∙ same;
         behind_is = s.behind ∙ ap (λ (z : Head). z.behind) heads;
-        found = started_locks_are_found start p.locks (without_remarks kept) s.segment.saved locks
-            (subst (λ (u : List ℕ). IsRecovered (without_remarks u) (content s.segment.saved)) rest f.recovered)
+        front = f.rest;
+        left_out = r.left_out;
+        parts = sym rest;
+        end = torn_after s.segment s.last.bytes r.front r.left_out f.rest text (f.spelled ∙ ap (λ (z : Head). head_text z ++ f.rest) heads) r.end;
+        stays = told_stays s.segment s.last.bytes r.front r.left_out f.rest text rest (f.spelled ∙ ap (λ (z : Head). head_text z ++ f.rest) heads) r.end;
+        found = started_locks_are_found start p.locks (without_remarks f.rest) s.segment.saved locks
+            f.recovered
             (subst (λ (bs : List Base). AreBegun bs rings locks p.locks) bases s.begun)
             (omega (arith, as_many, listed, written, saved, many))
             (omega (arith, listed, many));
@@ -119,7 +168,12 @@ kept_segments_start held folder number behind start kept word after p k started 
     let t = starts_there held folder number behind start kept k started.entries started.listed.1 started.range started.right started.started.locks stands.found stands.stands (sym (ap (λ (vs : List LockView). length vs) same) ∙ many) in record {
       number_is = stands.number ∙ t.number_is;
       behind_is = stands.behind ∙ t.behind_is;
-      found = subst (λ (vs : List LockView). AreFound start (without_remarks kept) vs) (sym same) t.found;
+      front = t.front;
+      left_out = t.left_out;
+      parts = t.parts;
+      end = t.end;
+      stays = t.stays;
+      found = subst (λ (vs : List LockView). AreFound start (without_remarks t.front) vs) (sym same) t.found;
     }
 
 -- ---- locks that are found

@@ -1,4 +1,4 @@
--- What follows of a life of locks, in what clients are told.
+-- What follows of a life of locks, in the answers that clients get.
 use Rattle.std.proofs.Common.{◌≡◌, ℕ, Bool, true, false, List, [], ◌∷◌, ◌++◌, Option, Some, None, refl, sym, ◌∙◌, ap, subst, append_assoc, slice_get}
 use Rattle.std.specs.Prelude.{◌==◌, if◌then◌else◌}
 use Rattle.std.specs.List.{cons_option}

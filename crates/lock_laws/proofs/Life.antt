@@ -31,7 +31,7 @@ use Rattle.lock_laws.proofs.CutLines.{cut_lines}
 
 -- ---- one run
 
--- its inputs, and the locks that are found behind them
+-- its inputs, and the locks that are found after them
 pub record IsRunSo (s : Stage) : Type 0 where
   pub inputs : List Input
   pub run : IsLockRun (locks_of s.start.locks) s inputs
@@ -91,7 +91,7 @@ module _ (s : Stage) (k : IsStage s) where
             ∙ (ap (λ (x : List Lock). map restarted x) w.behind ∙ sym (locks_append ls (h.inputs ++ c.cut.kept) (Restart ∷ [])));
       }
 
-  -- all of it was told, and the next segment began
+  -- all of it was delivered, and the next segment began
   pub run_through : s.untold ≡ [] → (next : List LockView) → AreNext s.mid.locks next → (is : List Input) × IsLockRun (locks_of s.start.locks) s is × (locks_of next ≡ locks_after (locks_of s.start.locks) is)
   run_through none next n =
       let ls : List Lock = locks_of s.start.locks in
@@ -119,7 +119,7 @@ module _ (s : Stage) (k : IsStage s) where
 
 -- ---- the life
 
--- what comes behind a run, and the locks that the next begins with
+-- what comes after a run, and the locks that the next begins with
 record IsPassedOn (s next : Stage) : Type 0 where
   pub inputs : List Input
   pub run : IsLockRun (locks_of s.start.locks) s inputs

@@ -10,7 +10,7 @@ use Rattle.ring_segments.specs.Spelling.{is_digit}
 use Rattle.lock_laws.proofs.KeyLines.{same_text}
 use Rattle.lock_laws.proofs.KeysBack.{all_push}
 
--- a byte in front of a line
+-- a byte before a line
 pub line_more : (b : ℕ) (line : List ℕ) → b ≢ 10 → IsLine line → IsLine (b ∷ line)
 line_more b [] ne is = absurd is
 line_more b (c ∷ cs) ne is = (ne, is)
@@ -19,7 +19,7 @@ pub line_behind : (front line : List ℕ) → HasNoEnd front → IsLine line →
 line_behind [] line none is = is
 line_behind (b ∷ bs) line none is = line_more b (bs ++ line) none.0 (line_behind bs line none.1 is)
 
--- what is behind a part of a line is a line, or nothing
+-- what follows a part of a line is a line, or nothing
 pub line_rest : (front : List ℕ) (b : ℕ) (bs : List ℕ) → IsLine (front ++ b ∷ bs) → IsLine (b ∷ bs)
 line_rest [] b bs is = is
 line_rest (x ∷ []) b bs is = is.1

@@ -1,4 +1,4 @@
--- The notes of lines are calls of the journal, behind which its rings follow the locks.
+-- The notes of lines are calls of the journal, after which its rings follow the locks.
 use Rattle.std.proofs.Common.{◌≡◌, ℕ, zero, suc, ◌<◌, ◌≤◌, ◌^◌, Bool, true, false, List, [], ◌∷◌, ◌++◌, length, drop, Option, Some, None, refl, sym, ◌∙◌, ap, subst, inl, inr, arith, ◌⊎◌, slice_get, slice_set}
 use Rattle.std.specs.Prelude.{nat_lt, if◌then◌else◌, option_map}
 use Rattle.std.specs.List.{AllByRecursion, flat_map}
@@ -61,7 +61,7 @@ use Rattle.lock_laws.proofs.Following.{Follows, Followed, some_is, none_is, step
 abbrev pub AreBounded : List LockView → Type 0
 AreBounded vs = (i : ℕ) (v : LockView) → slice_get vs i ≡ Some v → length v.ring.ring.book.history ≤ event_limit
 
--- the notes are those of calls, behind which the rings follow these locks
+-- the notes are those of calls, after which the rings follow these locks
 pub record IsNotedSo (rings : List Standing) (new : List LockView) (noted : List ℕ) : Type 0 where
   pub calls : List JournalLine
   pub behind : List Standing
@@ -69,7 +69,7 @@ pub record IsNotedSo (rings : List Standing) (new : List LockView) (noted : List
   pub followed : Followed behind new
   pub lines : noted ≡ lines_of calls
 
--- and what is said tells what the rings got of it
+-- and the answers that are said are in the rings
 pub record IsLineSo (rings : List Standing) (new : List LockView) (said notes : List ℕ) : Type 0 where
   pub noted : IsNotedSo rings new notes
   pub told : AreToldIn rings noted.behind said
@@ -299,7 +299,7 @@ pub record AreLeftSo (rings : List Standing) (old new : List LockView) (c n : �
   pub tells : (j : ℕ) (v : LockView) → j < n → slice_get old j ≡ Some v → AllByRecursion (λ (t : Telling). IsToldIn rings behind t.lock t.said) (tellings_of j (turn [] (lock_of v) c Leave).answers)
   pub rest : (j : ℕ) → n ≤ j → slice_get behind j ≡ slice_get rings j
 
--- what is told of a lock stays so, when another changes
+-- the answers about a lock are still in the rings when another lock changes
 told_still : (was is : List Standing) (n lock : ℕ) (s : Standing) (answers : List (ℕ × Answer)) → (lock ≡ n → ⊥) → AllByRecursion (λ (t : Telling). IsToldIn was is t.lock t.said) (tellings_of lock answers) →
     AllByRecursion (λ (t : Telling). IsToldIn was (slice_set is n s) t.lock t.said) (tellings_of lock answers)
 told_still was is n lock s [] ne all = tt

@@ -110,7 +110,7 @@ are_of rings vs f i v e =
     let k = f.each i v e in
     (k.0, k.1, record { base = k.2.shadows.base; start = k.2.shadows.start; history = k.2.shadows.history })
 
--- the notes of lines are calls, and what each line tells is in the rings
+-- the notes of lines are calls, and what the answer to each line reports is in the rings
 pub record AreNotedSo (terms : Terms) (rings : List Standing) (old : SegmentView) (lines : List (List ℕ)) (said noted : List ℕ) (new : SegmentView) : Type 0 where
   pub notes : IsNotedSo rings new.locks noted
   pub told : AreLinesIn terms old rings lines said new notes.behind

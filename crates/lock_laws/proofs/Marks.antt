@@ -66,7 +66,7 @@ small_without : (c : ℕ) (line : List Waiter) → AreSmall line → AreSmall (w
 small_without c [] s = tt
 small_without c (w ∷ line) s = small_kept (not (w.client == c)) w (without c line) s.0 (small_without c line s.1)
 
--- the marks of a turn, and who waits behind it
+-- the marks of a turn, and the clients that wait after it
 pub record AreMarksOf (t : Turn) : Type 0 where
   pub marks : AreMarks t.marks
   pub small : AreSmall t.lock.line
@@ -195,7 +195,7 @@ abbrev pub first_seat : List Mark → ℕ
 first_seat (Survey seat ∷ ms) = seat
 first_seat _ = 0
 
--- the journal's line of the end of a hold, behind which the ring shows none
+-- the journal's line of the end of a hold, after which the ring shows none
 pub record IsEndFirst (rings : List Standing) (ring : ℕ) (old : EndlessView) (calls : List JournalLine) : Type 0 where
   pub call : JournalLine
   pub later : List JournalLine
@@ -205,7 +205,7 @@ pub record IsEndFirst (rings : List Standing) (ring : ℕ) (old : EndlessView) (
   pub shadows : Shadows mid old
   pub open_hold : open_of mid ≡ None
 
--- what the journal gets of marks, from the ring before to the ring behind them
+-- what the journal gets of marks, from the ring before to the ring after them
 pub record AreMarkedSo (rings : List Standing) (ring : ℕ) (s : Standing) (old new : EndlessView) (ms : List Mark) : Type 0 where
   pub calls : List JournalLine
   pub behind : Standing

@@ -1,4 +1,4 @@
--- What the locks inside were given and said, of lines of a service that were told in parts.
+-- What the locks inside were given and said, of lines of a service that were delivered in parts.
 use Rattle.std.proofs.Common.{◌≡◌, ℕ, Bool, true, false, cond, List, [], ◌∷◌, ◌++◌, Option, refl, ap, sym, subst, ◌∙◌, append_assoc}
 use Rattle.std.specs.Prelude.{not}
 use Rattle.std.specs.List.{AllByRecursion}
@@ -26,9 +26,9 @@ use Rattle.lock_laws.proofs.WithoutRemarks.{lines_bring, parts, remarks_go, no_h
 use Rattle.lock_laws.proofs.Telling.{CanTell, tells_all}
 use Rattle.lock_laws.proofs.Around.{AreTakenSo, all_taken, terms_stay, other_lines_are_replied}
 
--- ---- lines behind others
+-- ---- lines after others
 
--- the last numbers behind lines
+-- the last numbers after lines
 abbrev pub numbers_all : Numbers → List (List ℕ) → Numbers
 numbers_all numbers [] = numbers
 numbers_all numbers (line ∷ lines) = numbers_all (numbers_after (heard line) numbers) lines
@@ -164,7 +164,7 @@ goes_on start old new lines replied noted s o = record {
   numbers = o.numbers ∙ s.numbers;
 }
 
--- what is left of the notes of lines that are answered behind, without their remarks
+-- what is left of the notes of lines that are answered after these, without their remarks
 pub behind_left : (start old new : Service) (was is : Option Held) (lines more : List (List ℕ)) (said replied noted notes : List ℕ) (entries : List (ℕ × ℕ)) → HaveBegun (inside start).segment.locks → AreKept (inside new).segment.locks entries →
     SoFar start old lines replied noted → (p : IsPartSo old new was is more said notes) →
     AreAnswered (inside start).terms (inside old).segment (given (numbers_of old.inner.numbered.keys) (others_of more)) p.taken.told p.taken.inside (inside new).segment × ((rest : List ℕ) → without_remarks (notes ++ rest) ≡ p.taken.inside ++ without_remarks rest)

@@ -1,4 +1,4 @@
--- What is kept of a journal tells rings that have gone on from those of the told lines.
+-- What is kept of a journal records rings that have continued from those of the delivered lines.
 use Rattle.std.proofs.Common.{◌≡◌, ℕ, zero, suc, ◌+◌, ◌<◌, ◌≤◌, ◌^◌, Bool, true, false, if◌then◌else◌, List, [], ◌∷◌, ◌++◌, drop, length, Some, refl, sym, ◌∙◌, ap, subst, inl, inr, arith, append_assoc, slice_get}
 use Rattle.std.specs.Prelude.{nat_le}
 use Rattle.std.specs.List.{AllByRecursion}

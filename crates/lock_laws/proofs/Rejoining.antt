@@ -13,7 +13,7 @@ use Rattle.ring_locks.proofs.Answered.{circles_are_real}
 use Rattle.ring_locks.proofs.Circles.{whom}
 use Rattle.ring_locks.proofs.Standing.{waits_at, waits_there, nowhere_waits}
 
--- ---- who comes back to itself comes to no end
+-- ---- a client that comes back to itself comes to no end
 
 some_none : (c : ℕ) → ◌≡◌ {A = Option ℕ} (Some c) None → ⊥
 some_none c e = cc
@@ -41,12 +41,12 @@ no_way_round ls c steps end back = never ls c steps back end.0 end.0 (omega arit
 
 -- ---- locks in which a part of those wait who wait in others
 
--- each has the same holder, and who stands in its line stands in the other's
+-- each has the same holder, and the clients in its line are in the other's
 abbrev pub ArePart : List Lock → List Lock → Type 0
 ArePart ms ls = (i : ℕ) (m : Lock) → slice_get ms i ≡ Some m → (l : Lock) × (slice_get ls i ≡ Some l) × (m.holder ≡ l.holder) × ((c : ℕ) → stands c m.line ≡ true → stands c l.line ≡ true)
 
 module _ (ls ms : List Lock) (right : AreRight ls) (part : ArePart ms ls) where
-  -- who waits for somebody in the part does so in the whole
+  -- a client that waits for somebody in the part does so in the whole
   by_wait : (d : ℕ) (w : Option Lock) → waits_for ms d ≡ w → (e : ℕ) → holder_of w ≡ Some e → whom ls d ≡ Some e
   by_wait d None p e q = absurd (some_none e (sym q))
   by_wait d (Some m) p e q =
@@ -133,7 +133,7 @@ module _ (ls ms : List Lock) (right : AreRight ls) (also : AreRight ms) (part : 
       let none : m.line ++ w ∷ back ≡ [] = sym line ∙ (right.each i l at).held e in
       absurd (not_empty m.line w back none)
 
-  -- and waits again, behind those who wait
+  -- and waits again, after those who wait
   pub waits_again : turn ms m w.client (Acquire w.order)
       ≡ record { lock = record m { line = m.line ++ w ∷ [] }; marks = []; answers = (w.client, answer.Waiting (length m.line)) ∷ [] }
   waits_again =

@@ -68,7 +68,7 @@ hears_forget k n few small = sym (is_tagged (forget_line (record { key = k; numb
 take_told : (since said : List ℕ) (digest told : List ℕ) → length digest ≡ digest_digits → since ≡ digest ++ told → take digest_digits (digest ++ (told ++ said)) ≡ take digest_digits since
 take_told since said digest told long e = first_digits digest (told ++ said) long ∙ sym (ap (take digest_digits) e ∙ first_digits digest told long)
 
--- what is told does not change it
+-- what is answered does not change it
 pub last_stays : (r : RunningView) (said : List ℕ) → IsRunning r → at_last (with_said r said) ≡ at_last r
 last_stays r said (inl fresh) = subst (λ (v : RunningView). at_last (with_said v said) ≡ at_last v) (sym fresh) refl
 last_stays r said (inr b) =
@@ -203,7 +203,7 @@ module _ {S : Type 0} (A : AnsweringWith S) where
     pub line_brings : IsReplied A old was line said noted new is → new.lost ≡ false → Brings old new (own_of (heard line) old.numbered.keys old.running.since said)
     line_brings r whole = by_heard (heard line) (read_so line) (whole_line A old new was is line said noted r whole)
 
-  -- ---- one behind the other
+  -- ---- one after the other
 
   record AreApart (old new : Stand (Replica S)) (lines more : List (List ℕ)) (said : List ℕ) : Type 0 where
     pub mid : Stand (Replica S)
@@ -246,7 +246,7 @@ module _ {S : Type 0} (A : AnsweringWith S) where
         };
   }
 
-  -- a fresh replica is brought to where one stood by its own lines
+  -- a replica's own lines bring a fresh one to its keys and its last place
   own_bring : (source fresh c : Replica S) (was is : Option Held) (told notes : List ℕ) → IsSound source → IsFresh fresh → Answers (by_stand (IsReplied A)) (stand fresh was) (own_lines source) told notes (stand c is) → c.lost ≡ false → IsBrought source fresh was told c is
   own_bring source fresh c was is told notes sound begun a whole =
       let k = keys_come_back A source fresh c was is told notes sound begun a whole in

@@ -75,7 +75,7 @@ events_back a [] l = refl
 events_back a (e ∷ h) l =
     ap (λ (x : Event). x ∷ map event_of (map saved_event h)) (event_back a (next till a e.op) e.seat e.op e.reply l.0) ∙ ap (λ (x : List Event). e ∷ x) (events_back (next till a e.op) h l.1)
 
--- the last survey of a log, by its surveys alone
+-- the last survey of a log, from its surveys only
 abbrev last_place : ℕ → List SavedSurvey → ℕ
 last_place place [] = place
 last_place place (s ∷ ss) = last_place s.position ss
@@ -102,7 +102,7 @@ same_open r s j k b h e =
 
 -- ---- one lock
 
--- the ring that the journal tells is that of a lock that is right, and of this base
+-- the ring that the journal records is that of a lock that is right, and of this base
 pub record Returns (s : Standing) (before : Base) (v : LockView) : Type 0 where
   pub follows : Follows s v
   pub right : IsRight s
@@ -210,7 +210,7 @@ bases_many : (vs : List LockView) → length (bases_of (rings_of vs)) ≡ length
 bases_many [] = refl
 bases_many (v ∷ vs) = ap suc (bases_many vs)
 
--- the rings that the journal tells behind some lines
+-- the rings that the journal records after some lines
 module _ (old new : List LockView) (noted : List ℕ) (n : IsNotedSo (rings_of old) new noted) where
   of_base : (i : ℕ) (s : Standing) (before : Base) (v : LockView) → slice_get n.behind i ≡ Some s → slice_get (bases_of (rings_of old)) i ≡ Some before → slice_get new i ≡ Some v → s.base ≡ before
   of_base i s before v p q t =

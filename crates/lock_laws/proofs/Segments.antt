@@ -44,7 +44,7 @@ open_kept e k = record { seats = k.seats; ended = end_within e k }
 
 -- ---- calls
 
--- the ring behind a call, and the hold that is open in it
+-- the ring after a call, and the hold that is open in it
 record IsOpenBehind (old new : EndlessView) (shown : Event) : Type 0 where
   pub ring : IsOpen new
   pub open_hold : open_in new ≡ open_behind (open_in old) shown

@@ -1,4 +1,5 @@
--- The ring of a lock, and the ring that its journal tells: it has the surveys that end holds in its logs, too.
+-- The ring of a lock, and the ring that its journal records: that has the surveys that end holds in
+-- its logs, too.
 use Rattle.std.proofs.Common.{◌≡◌, ℕ, ◌+◌, ◌<◌, ◌≤◌, ◌^◌, Bool, true, false, if◌then◌else◌, List, [], ◌∷◌, ◌++◌, map, drop, length, length-append, get_or, Option, None, refl, sym, ◌∙◌, ap, subst, inl, inr, arith, ◌⊎◌, get_or-set_same, get_or-set_other}
 use Rattle.std.specs.Prelude.{nat_le}
 use Rattle.std.proofs.lemmas.Bool.{cases_eq, leb-true, leb-false}
@@ -41,7 +42,7 @@ use Rattle.ring_locks.specs.Promises.{open_behind, open_after}
 use Rattle.ring_locks.specs.Opened.{last_survey, later}
 use Rattle.ring_locks.proofs.Shown.{open_append}
 
--- ---- the hold that is open in a ring as its journal tells it
+-- ---- the hold that is open in a ring as its journal records it
 
 abbrev pub log_at : List LogView → ℕ → List Entry
 log_at cs seat = (get_or cs seat (record { number = seat; log = [] })).log
@@ -201,7 +202,7 @@ pub record IsCalledSo (ring : ℕ) (s : Standing) (old new : EndlessView) (seat 
   pub of_call : grew.es ≡ local ∷ []
   pub small : SmallCall local
 
--- the hold behind one event more
+-- the hold after one event more
 pub open_more : (s : Standing) (seat : ℕ) (e : Event) → seat < length s.clients → end_of s.clients ≤ length s.history → open_of (with_events s seat (e ∷ [])) ≡ open_behind (open_of s) (shifted_event s.base e)
 open_more s seat e l most =
     let n : ℕ = end_of s.clients in

@@ -1,4 +1,4 @@
--- What a replica keeps can be told, whatever was asked.
+-- What a replica keeps can be written as lines, whatever was asked.
 use Rattle.std.proofs.Common.{◌≡◌, ℕ, suc, ◌+◌, ◌<◌, ◌≤◌, ◌^◌, Bool, true, false, cond, eqb, List, [], ◌∷◌, ◌++◌, length, take, Option, Some, None, Result, Ok, Err, inl, inr, ◌⊎◌, refl, ap, sym, subst, ◌∙◌, append_assoc, append-nil, length-append, arith}
 use Rattle.std.specs.Prelude.{codes}
 use Rattle.std.specs.List.{AllByRecursion}
@@ -82,7 +82,7 @@ rising_taken_out : (test : ℕ → Bool) (es : Table) → IsRising es → IsRisi
 rising_taken_out test [] rising = tt
 rising_taken_out test (e ∷ es) rising = rising_or_less (test e.0) e es (remove_entry test es) rising.1 (taken_out (λ (d : ℕ × ToldView). e.0 < d.0) test es rising.0, rising_taken_out test es rising.1)
 
--- keys that can be told
+-- keys that can be written as lines
 record AreKept (keys : Table) : Type 0 where
   pub rising : IsRising keys
   pub each : AllByRecursion IsKept keys
@@ -101,7 +101,7 @@ kept_without keys k kept = record {
 
 -- ---- the line of a key
 
--- the part in front of the first line
+-- the part before the first line
 key_front : (k n : ℕ) → k < 2 ^ 64 → n < 2 ^ 64 → (text : List ℕ) → length (spaced k ++ (spaced n ++ (codes "did " ++ text))) ≤ 46 + length text
 key_front k n few small text =
     let a = length-append (spaced k) (spaced n ++ (codes "did " ++ text)) in

@@ -1,4 +1,4 @@
--- Lines that are told in parts are a run in stages, segment by segment.
+-- Lines that are delivered in parts are a run in stages, segment by segment.
 use Rattle.std.proofs.Common.{◌≡◌, ℕ, ◌+◌, Bool, true, false, List, [], ◌∷◌, ◌++◌, Option, None, Some, refl, ap, sym, subst, ◌∙◌, append_assoc, append-nil, inl, inr, ◌⊎◌}
 use Rattle.std.specs.Prelude.{IfSome, IsSome, not}
 use Rattle.std.specs.Io.KnownBytes.{Appends}
@@ -12,6 +12,7 @@ use Rattle.line_loop.specs.Stands.{by_stand, stand}
 use Rattle.segment_loop.specs.declared.segmented.EndFault.{EndFault}
 use Rattle.segment_loop.specs.Segments.{Moment, stand_of, IsReady, IsKept, HasEnded}
 use Rattle.segment_loop.specs.Service.{Part, IsPart, AreParts, all_said}
+use Rattle.segment_loop.proofs.Changing.{kept_file}
 use Rattle.ring_segments.specs.Remarks.{without_remarks}
 use Rattle.ring_serve.specs.Recovered.{IsPrefix}
 use Rattle.line_replica.specs.Log.{Numbers, numbers_of, given}
@@ -75,7 +76,7 @@ module _ (first : Moment Service) (before : List ℕ) where
   }
 
   holds_kept : (folder : List ℕ) (start : Service) (digest noted : List ℕ) (why : EndFault) (a b : Moment Service) → Holds start a digest noted → IsKept by_segments folder why a b → Holds start b digest noted
-  holds_kept folder start digest noted why a b h is = by is.file
+  holds_kept folder start digest noted why a b h is = by (kept_file by_segments folder why a b is)
     where
       renumbered : a.journal ≡ Some (by_segments.text start a.number digest ++ noted) → a.journal ≡ Some (by_segments.text start b.number digest ++ noted)
       renumbered e = e ∙ ap (λ (n : ℕ). Some (by_segments.text start n digest ++ noted)) (sym is.number)
@@ -219,7 +220,7 @@ module _ (first : Moment Service) (before : List ℕ) where
 
     -- ---- before a part
 
-    -- the segment in which the part is, and how a run from there goes on from what was before
+    -- the segment in which the part is, and how a run from there continues what was before
     record Readied (start : Service) (lines : List (List ℕ)) (replied : List ℕ) (f : Moment Service) : Type 0 where
       pub began : Service
       pub digest : List ℕ

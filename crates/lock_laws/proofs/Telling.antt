@@ -22,7 +22,7 @@ use Rattle.lock_laws.proofs.Heard.{IsReadSo, read_so}
 use Rattle.lock_laws.proofs.SoundKeys.{inserted, taken_out, runs_on, at_digest, next_fits, key_is_line, place_is_line, none_or_behind}
 use Rattle.lock_laws.proofs.WithoutRemarks.{lines_bring}
 
--- the line of each key is one, and the running digest can be told
+-- the line of each key is one, and the running digest can be written
 abbrev AreKeyLines : Table → Type 0
 AreKeyLines keys = AllByRecursion (λ (e : ℕ × ToldView). IsLine (key_line e)) keys
 

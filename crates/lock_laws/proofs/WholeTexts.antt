@@ -1,4 +1,4 @@
--- What is told of a line, and what is noted of it, are whole lines.
+-- What is answered to a line, and what is noted of it, are whole lines.
 use Rattle.std.proofs.Common.{◌≡◌, ℕ, Bool, true, false, cond, eqb, List, [], ◌∷◌, ◌++◌, Option, Some, None, slice_get, inl, inr, ◌⊎◌, refl, ap, sym, subst, ◌∙◌, append_assoc, append-nil}
 use Rattle.std.specs.Prelude.{codes}
 use Rattle.std.specs.Fmt.{decimal}
@@ -58,7 +58,7 @@ of_each : {A : Type 0} (line : A → List ℕ) → ((a : A) → AreLines (line a
 of_each line each [] = inl refl
 of_each line each (a ∷ all) = of_both (line a) (flat_map line all) (each a) (of_each line each all)
 
--- ---- what is told
+-- ---- what is answered
 
 refusal_ends : (lock : ℕ) (r : Refusal) → IsEnded (refusal_text lock r)
 refusal_ends lock refusal.Lock = (codes "refused lock", refl)

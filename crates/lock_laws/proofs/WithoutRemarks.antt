@@ -119,7 +119,7 @@ no_hash_calls version rings (r ∷ rs) fits = no_hash_append (journal_line r) (f
 
 -- ---- the notes
 
--- behind the notes of a line of the service inside come remarks, which go
+-- after the notes of a line of the service inside come remarks, which go
 one_goes : (notes rest : List ℕ) (own : List (List ℕ)) → AreLines notes → HasNoHash notes → AllByRecursion IsLine own → without_remarks ((notes ++ remarks_of own) ++ rest) ≡ notes ++ without_remarks rest
 one_goes notes rest own ends none all =
     ap without_remarks (append_assoc notes (remarks_of own) rest)

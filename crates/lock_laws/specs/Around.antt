@@ -33,8 +33,8 @@ AreToldAround numbers (line ∷ lines) said told =
     × (((given_of (heard line) numbers line ≡ []) × (inner ≡ [])) ⊎ (inner ≡ first))
     × AreToldAround (numbers_after (heard line) numbers) lines later more
 
--- Of each line either the state is told, and nothing else happens; or what is said is what the replica
--- says.
+-- Of each line either the state is answered, and nothing else happens; or what is said is what the
+-- replica says.
 abbrev pub AreToldBehind : List (List ℕ) → List ℕ → List ℕ → Type 0
 AreToldBehind [] said told = (said ≡ []) × (told ≡ [])
 AreToldBehind (line ∷ lines) said told =
@@ -44,8 +44,8 @@ AreToldBehind (line ∷ lines) said told =
     × (((is_state line ≡ true) × (inner ≡ [])) ⊎ (inner ≡ first))
     × AreToldBehind lines later more
 
--- A law: a replica whose state is told where it is asked answers all other lines as the replica
--- itself, with the same notes.
+-- A law: a replica whose state is answered where it is asked for answers all other lines as the
+-- replica itself, with the same notes.
 abbrev pub OtherLinesAreReplied : Type 0
 OtherLinesAreReplied =
     (old new : Restorable (Replica LockService)) (was is : Option Held) (lines : List (List ℕ))
@@ -68,7 +68,7 @@ pub record ReplicaRun : Type 0 where
   pub journal : List ℕ
   pub killed : Bool
 
--- lines were answered, told and noted so, and no answer was lost for want of memory
+-- lines were answered, delivered and noted so, and no answer was lost for lack of memory
 pub record IsReplicaRun (r : ReplicaRun) : Type 0 where
   pub said : List ℕ
   pub noted : List ℕ

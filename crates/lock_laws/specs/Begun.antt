@@ -16,7 +16,7 @@ use Rattle.lock_serve.specs.declared.service.Terms.{Terms}
 use Rattle.lock_serve.specs.Counting.{SegmentView}
 use Rattle.lock_serve.specs.Serving.{IsLineAnswered, IsServed}
 
--- the text with which the journal of a segment begins, behind the head of its file
+-- the text with which the journal of a segment begins, after the head of its file
 abbrev pub begun_text : List LockView → List ℕ
 begun_text vs = head_text (content_of vs)
 

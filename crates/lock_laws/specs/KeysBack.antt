@@ -13,7 +13,7 @@ use Rattle.line_replica.specs.Replies.{IsReplied}
 use Rattle.line_replica.specs.Running.{RunningView, at_place}
 use Rattle.line_replica.specs.State.{key_line, own_lines, remarks_of}
 
--- a replica has no key, and stands before the first place
+-- a replica has no key, and is before the first place
 pub record IsFresh {S : Type 0} (r : Replica S) : Type 0 where
   pub keys : r.numbered.keys ≡ []
   pub running : r.running ≡ at_place 0 []
@@ -36,7 +36,7 @@ abbrev pub IsRising : Table → Type 0
 IsRising [] = Unit {0}
 IsRising (e ∷ es) = AllByRecursion (λ (d : ℕ × ToldView). e.0 < d.0) es × IsRising es
 
--- the digest at a place, and what was told since
+-- the digest at a place, and what was answered since
 pub record IsBehind (r : RunningView) : Type 0 where
   pub place : r.place < 2 ^ 64
   pub digest : List ℕ
@@ -44,24 +44,24 @@ pub record IsBehind (r : RunningView) : Type 0 where
   pub since : r.since ≡ digest ++ told
   pub digits : DigestFits digest
 
--- before the first place, or behind one
+-- before the first place, or after one
 abbrev pub IsRunning : RunningView → Type 0
 IsRunning r = (r ≡ at_place 0 []) ⊎ IsBehind r
 
--- what is kept can be told
+-- what is kept can be written as lines
 pub record IsSound {S : Type 0} (r : Replica S) : Type 0 where
   pub rising : IsRising r.numbered.keys
   pub each : AllByRecursion IsKept r.numbered.keys
   pub running : IsRunning r.running
 
--- ---- laws: what a replica keeps can be told
+-- ---- laws: what a replica keeps can be written as lines
 
 -- A replica with no key, before the first place, keeps nothing.
 abbrev pub FreshIsSound : {S : Type 0} → AnsweringWith S → Type 0
 FreshIsSound {S} A = (r : Replica S) → IsFresh r → IsSound r
 
--- what is told of a line begins with one that can be kept: a number, a key and the word did, in 46
--- bytes at most, have room in front of it
+-- the answer to a line begins with one that can be kept: a number, a key and the word did, in 46
+-- bytes at most, have room before it
 pub record IsKeepable (said : List ℕ) : Type 0 where
   pub first : IsFirst (first_line said)
   pub short : length (first_line said) + 46 ≤ line_limit
@@ -83,7 +83,7 @@ OwnLinesAreLines {S} A = (r : Replica S) → IsSound r → AllByRecursion IsLine
 abbrev pub at_last : RunningView → RunningView
 at_last r = at_place r.place (take digest_digits r.since)
 
--- The replica has the keys of another one and its digest at the last place; nothing is told, the
+-- The replica has the keys of another one and its digest at the last place; nothing is said, the
 -- remarks of the other's own lines are noted, no file changes, and the service inside is the one
 -- that it was.
 pub record IsBack {S : Type 0} (source old : Replica S) (was : Option Held)
@@ -104,7 +104,7 @@ KeysComeBack A =
     → Answers (by_stand (IsReplied A)) (stand old was) (own_lines source) said noted (stand new is)
     → new.lost ≡ false → IsBack source old was said noted new is
 
--- right behind a place the digest at the last place is the running digest
+-- right after a place the digest at the last place is the running digest
 abbrev pub PlacesAreLast : {S : Type 0} → AnsweringWith S → Type 0
 PlacesAreLast A =
     (old new : Replica _) (was is : Option Held) (place : ℕ) (line said noted : List ℕ)

@@ -1,4 +1,4 @@
--- What follows of a life of locks, in what clients are told (this project's own).
+-- What follows of a life of locks, in the answers that clients get (this project's own).
 use Rattle.std.specs.Prelude.{◌≡◌, ℕ, ◌==◌, if◌then◌else◌, List, [], ◌∷◌, ◌++◌, slice_get, Some}
 use Rattle.ring_locks.specs.declared.answers.Holder.{Holder}
 use Rattle.ring_locks.specs.Lines.{Lock}
@@ -8,18 +8,18 @@ use Rattle.lock_laws.specs.Told.{Telling}
 use Rattle.lock_laws.specs.Life.{tellings, Stage, IsStage}
 use Rattle.lock_laws.specs.Recovered.{AreKeptIn}
 
--- the grants of a lock among what clients are told
+-- the grants of a lock among the answers that clients get
 abbrev pub granted : ℕ → List Telling → List Holder
 granted at [] = []
 granted at (t ∷ ts) =
     (if t.lock == at then grants_in ((t.client, t.said) ∷ []) else []) ++ granted at ts
 
--- a law: what is told of grants is what the promises speak of
+-- a law: the grants that clients get are those of which the promises speak
 abbrev pub ToldGrantsAreGrants : Type 0
 ToldGrantsAreGrants =
     (ls : List Lock) (is : List Input) (at : ℕ) → granted at (tellings ls is) ≡ grants_of at ls is
 
--- a law: over all inputs of a life the tokens that clients are told rise
+-- a law: over all inputs of a life the tokens that clients get rise
 abbrev pub ToldTokensRise : Type 0
 ToldTokensRise =
     (ls : List Lock) (is : List Input) (at : ℕ) (l : Lock) → AreRight ls
@@ -27,7 +27,7 @@ ToldTokensRise =
     → (m : Lock) × (slice_get (locks_after ls is) at ≡ Some m)
     × Rise l.ring.grants (granted at (tellings ls is)) m.ring.grants
 
--- a law: while no input ends a hold, in this run or in later ones, no client is told of another
+-- a law: while no input ends a hold, in this run or in later ones, no client gets another grant
 abbrev pub ToldHoldsExclude : Type 0
 ToldHoldsExclude =
     (ls : List Lock) (before behind : List Input) (at : ℕ) (l : Lock) (h : Holder)
@@ -36,8 +36,8 @@ ToldHoldsExclude =
     → (granted at (tellings (locks_after ls before) behind) ≡ [])
     × ((m : Lock) × (slice_get (locks_after ls (before ++ behind)) at ≡ Some m) × GoesOn h m)
 
--- a law: of each run, each grant and each release that was told is in the history that is recovered
--- of what is kept of the journal
+-- a law: of each run, each grant and each release that was delivered is in the history that is
+-- recovered of what is kept of the journal
 abbrev pub ToldGrantsAreKept : Type 0
 ToldGrantsAreKept =
     (s : Stage) (k : IsStage s) → AreKeptIn s.terms s.start s.told k.said s.mid s.journal

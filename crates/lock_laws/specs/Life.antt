@@ -30,7 +30,7 @@ use Rattle.lock_laws.specs.Begun.{begun_text, HaveBegun, AreAnswered}
 use Rattle.lock_laws.specs.Told.{Telling, text_of}
 use Rattle.lock_laws.specs.Recovered.{AreMadeOf, AreAdded}
 
--- ---- what lines ask of the machine, and what is told
+-- ---- what lines ask of the machine, and what is answered
 
 -- the inputs of an ask: one, or where all locks are left a leave of each
 abbrev pub inputs_of : ℕ → ℕ → Option (ℕ × Ask) → List Input
@@ -56,8 +56,8 @@ pub record IsTaken (ls : List Lock) (line said : List ℕ) (is : List Input) : T
   pub inputs : is ≡ inputs_of (length ls) client (one_ask (seen ask))
   pub says : said ≡ text_of (tellings ls is)
 
--- nothing was said of a line of nobody; or a denial, or that a client is refused for want of room or
--- of memory
+-- nothing was said of a line of nobody; or a denial, or that a client is refused for lack of room
+-- or of memory
 abbrev pub IsNoAnswer : List ℕ → List ℕ → Type 0
 IsNoAnswer line said =
     (IsReadAs line input.Nobody × (said ≡ []))
@@ -81,8 +81,9 @@ AreHeard ls (line ∷ lines) said is =
 -- ---- one run, or as much of it as is in one segment of the journal
 
 -- What is known of it: on which terms lines were answered, and with which locks it began; the lines
--- that were told and the locks behind them; those behind, which were answered but not told; what the
--- output got, and what is kept of the journal; and whether the run ended with it.
+-- that were delivered and the locks after them; the lines after those, which were answered but not
+-- delivered; what the output got, and what is kept of the journal; and whether the run ended with
+-- it.
 pub record Stage : Type 0 where
   pub terms : Terms
   pub start : SegmentView
@@ -99,7 +100,8 @@ abbrev pub IsGivenUp : ℕ → Input → Type 0
 IsGivenUp lock (Asked c i Cancel) = i ≡ lock
 IsGivenUp lock _ = ⊥
 
--- The journal ended in the midst of an input: who waited for its lock had given up before it.
+-- The journal ended in the midst of an input: the clients that waited for its lock had given up
+-- before it.
 pub record AreKeptAmid (asked kept : List Input) : Type 0 where
   pub front : List Input
   pub client : ℕ
@@ -111,12 +113,12 @@ pub record AreKeptAmid (asked kept : List Input) : Type 0 where
   pub kept_is : kept ≡ front ++ (given_up ++ Asked client lock ask ∷ [])
   pub each : AllByRecursion (IsGivenUp lock) given_up
 
--- of the inputs that nobody was told of the first were kept
+-- of the inputs whose answers were not delivered the first were kept
 abbrev pub AreKeptOf : List Input → List Input → Type 0
 AreKeptOf asked kept = IsPrefix kept asked ⊎ AreKeptAmid asked kept
 
--- Of these locks: the output has no more than the answers to the told lines, in order. These inputs
--- are all of the told lines, and those that were kept of the others.
+-- Of these locks: the output has no more than the answers to the delivered lines, in order. These
+-- inputs are all of the delivered lines, and those that were kept of the others.
 pub record IsLockRun (ls : List Lock) (s : Stage) (is : List Input) : Type 0 where
   pub heard : List Input
   pub said : List ℕ
@@ -131,12 +133,12 @@ pub record IsLockRun (ls : List Lock) (s : Stage) (is : List Input) : Type 0 whe
 
 -- ---- the life
 
--- what comes behind: a restart where the run ended; where the next segment began, nothing
+-- what comes after a run: a restart where the run ended; where the next segment began, nothing
 abbrev pub behind : Stage → List Input
 behind s = if s.killed then Restart ∷ [] else []
 
 -- One list of inputs, from the first locks on: each run is that of some of them, in order, with a
--- restart between runs, and begins with the locks that are behind all before it.
+-- restart between runs, and begins with the locks after all inputs before it.
 abbrev pub IsLockLife : List Lock → Stage → List Stage → List Input → Type 0
 IsLockLife ls s [] is = (locks_of s.start.locks ≡ ls) × IsLockRun ls s is
 IsLockLife ls s (next ∷ more) is =
@@ -148,8 +150,8 @@ IsLockLife ls s (next ∷ more) is =
 
 -- ---- what the program promises of runs, by its own clauses
 
--- Lines were answered, told and noted so, and what is kept of the journal has the notes of the told
--- lines; no fault is permitted.
+-- Lines were answered, delivered and noted so, and what is kept of the journal has the notes of the
+-- delivered lines; no fault is permitted.
 pub record IsStage (s : Stage) : Type 0 where
   pub said : List ℕ
   pub noted : List ℕ

@@ -63,7 +63,7 @@ pub record ComeBack (old new : List LockView) (bytes : List ℕ) : Type 0 where
       → locks_of made ≡ (step (locks_of new) Restart).locks
 
 -- The locks of a segment come back from its beginning and the notes of the lines since, whatever is
--- torn behind them, as they stood behind the last line.
+-- torn after them, as they were after the last line.
 abbrev pub LocksComeBack : Type 0
 LocksComeBack =
     (terms : Terms) (old new : SegmentView) (entries : List (ℕ × ℕ)) (lines : List (List ℕ))
@@ -71,7 +71,7 @@ LocksComeBack =
     → AreKept new.locks entries → has_line_end torn ≡ false
     → ComeBack old.locks new.locks (begun_text old.locks ++ (noted ++ torn))
 
--- ---- what is recovered of a journal that has at least the notes of the told lines
+-- ---- what is recovered of a journal that has at least the notes of the delivered lines
 
 -- The history of this ring has the lock's events, and then those of some marks, among which grants
 -- and ends of holds alternate. The hold that is open in it is the last of these; with no such mark,
@@ -82,9 +82,10 @@ pub record GoesOnIn (v : LockView) (e : EndlessView) : Type 0 where
   pub alternate : Alternate (token_of v.holder) marks
   pub hold : open_in e ≡ open_after (token_of v.holder) marks
 
--- Of these bytes rings are recovered that have gone on from those that the journal tells behind the
--- told lines: the events of each, and the surveys in its logs, come first. Each told grant and each
--- told release is there, at its place. And each lock goes on in the ring that is made of it.
+-- Of these bytes rings are recovered that have continued from those that the journal records after
+-- the delivered lines: the events of each, and the surveys in its logs, come first. Each delivered
+-- grant and each delivered release is there, at its place. And each lock continues in the ring that
+-- is made of it.
 pub record AreKeptIn (terms : Terms) (old : SegmentView) (lines : List (List ℕ)) (said : List ℕ)
     (new : SegmentView) (bytes : List ℕ) : Type 0 where
   pub told : List Standing
@@ -98,8 +99,8 @@ pub record AreKeptIn (terms : Terms) (old : SegmentView) (lines : List (List ℕ
       (v : LockView) (e : EndlessView) → slice_get new.locks i ≡ Some v
       → slice_get es i ≡ Some e → GoesOnIn v e
 
--- Some lines were told, and some more were answered. Whatever is kept of the journal, if it has the
--- notes of the told lines, nothing that they did is lost.
+-- Some lines were delivered, and some more were answered. Whatever is kept of the journal, if it
+-- has the notes of the delivered lines, nothing that they did is lost.
 abbrev pub NothingToldIsLost : Type 0
 NothingToldIsLost =
     (terms : Terms) (old mid new : SegmentView) (entries : List (ℕ × ℕ))
@@ -117,7 +118,7 @@ AddedLocksBegin =
     (es : List EndlessView) (made : List LockView) → AllByRecursion IsKeptRing es
     → AreAdded [] es made → (i : ℕ) (v : LockView) → slice_get made i ≡ Some v → IsBegun v
 
--- And so does each lock that goes on in its next segment, behind lines that were answered in one
+-- And so does each lock that continues in its next segment, after lines that were answered in one
 -- that has begun.
 abbrev pub NextLocksBegin : Type 0
 NextLocksBegin =

@@ -17,13 +17,13 @@ use Rattle.lock_laws.specs.KeysBack.{IsKeepable, IsFresh, IsSound, at_last}
 use Rattle.lock_laws.specs.Recovered.{ComeBack}
 use Rattle.lock_laws.specs.StateBack.{locks_in}
 
--- the text with which the journal of a replica's segment begins, behind the head of its file: that
+-- the text with which the journal of a replica's segment begins, after the head of its file: that
 -- of its locks, and then the remarks of its own lines
 abbrev pub begun_with_remarks : Replica LockService → List ℕ
 begun_with_remarks r = begun_text (locks_in r) ++ remarks_of (own_lines r)
 
 -- Lines are answered so, one after the other, with a journal, by a replica whose locks begin a
--- segment, and whose keys and place can be told; and no answer is lost.
+-- segment, and whose keys and place can be written as lines; and no answer is lost.
 pub record AreReplied (A : AnsweringWith (Replica LockService)) (old : Replica LockService)
     (lines : List (List ℕ)) (said noted : List ℕ) (new : Replica LockService) : Type 0 where
   pub begun : HaveBegun (locks_in old)
@@ -35,8 +35,8 @@ pub record AreReplied (A : AnsweringWith (Replica LockService)) (old : Replica L
   pub answers : Answers (by_stand A) (stand old was) lines said noted (stand new is)
   pub whole : new.lost ≡ false
 
--- A law: without the remarks, the locks of a replica come back from the beginning of its segment and
--- the notes of the lines since, whatever is torn behind them, as they stood behind the last line.
+-- A law: without the remarks, the locks of a replica come back from the beginning of its segment
+-- and the notes of the lines since, whatever is torn after them, as they were after the last line.
 abbrev pub LocksOfReplicasComeBack : Type 0
 LocksOfReplicasComeBack =
     (old new : Replica LockService) (entries : List (ℕ × ℕ)) (lines : List (List ℕ))
@@ -47,7 +47,7 @@ LocksOfReplicasComeBack =
 
 -- ---- the remarks
 
--- it answers a line so, and the first line of what it tells can be kept
+-- it answers a line so, and the first line of what it says can be kept
 abbrev pub keepably : {S : Type 0} → AnsweringWith S → AnsweringWith S
 keepably A old was line said noted new is = A old was line said noted new is × IsKeepable said
 
@@ -55,7 +55,7 @@ keepably A old was line said noted new is = A old was line said noted new is × 
 abbrev pub lines_of_remarks : List (List ℕ) → List (List ℕ)
 lines_of_remarks remarks = map (drop 2) remarks
 
--- The replica has the keys of another one and its digest at the last place; nothing is told, no
+-- The replica has the keys of another one and its digest at the last place; nothing is said, no
 -- file changes, and the service inside is the one that it was.
 pub record IsBrought {S : Type 0} (source old : Replica S) (was : Option Held) (said : List ℕ)
     (new : Replica S) (is : Option Held) : Type 0 where
@@ -66,7 +66,7 @@ pub record IsBrought {S : Type 0} (source old : Replica S) (was : Option Held) (
   pub files : is ≡ was
 
 -- A law: a replica with no key, before the first place, that is given the lines of the remarks in a
--- segment has the keys, and the digest at the last place, that stood behind the segment's last line.
+-- segment has the keys after the segment's last line, and the digest at the last place.
 abbrev pub RemarksBringBack : Type 0
 RemarksBringBack =
     (old new : Replica LockService) (entries : List (ℕ × ℕ)) (lines : List (List ℕ))

@@ -32,8 +32,8 @@ use Rattle.lock_laws.specs.Around.{AreToldAround, AreToldBehind}
 
 -- ---- the service that a program of locks runs
 
--- a replica of locks, whose state is told where it is asked; how it answers a line, and how it lives
--- in segments
+-- a replica of locks, whose state is answered where it is asked for; how it answers a line, and how
+-- it lives in segments
 abbrev pub Service : Type 0
 Service = Restorable (Replica LockService)
 
@@ -69,7 +69,7 @@ abbrev pub lines_in : List (Part Service) → List (List ℕ)
 lines_in [] = []
 lines_in (p ∷ ps) = p.lines ++ lines_in ps
 
--- the told lines of stages, and what they said, one after the other
+-- the delivered lines of stages, and what they said, one after the other
 abbrev pub told_of : List Stage → List (List ℕ)
 told_of stages = flat_map (λ (s : Stage). s.told) stages
 
@@ -84,10 +84,10 @@ EndWith s (next ∷ more) start journal = (s.killed ≡ false) × EndWith next m
 
 -- ---- a run
 
--- A run from this service on, whose last segment began with that one, in which these lines were told
--- and this was said of them, is these stages of the locks inside. The locks were given the lines that
--- are new, and say what was said of these; else the replica said something of its own, or the state
--- was told.
+-- A run from this service on, whose last segment began with that one, in which these lines were
+-- delivered and this was said of them, is these stages of the locks inside. The locks were given
+-- the lines that are new, and say what was said of these; else the replica said something of its
+-- own, or the state was answered.
 pub record IsRun (start last : Service) (lines : List (List ℕ)) (said kept : List ℕ)
     (first : Stage) (more : List Stage) : Type 0 where
   pub stages : AreStages first more
@@ -99,9 +99,10 @@ pub record IsRun (start last : Service) (lines : List (List ℕ)) (said kept : L
   pub said_so : AreToldAround (numbers_of start.inner.numbered.keys) (others_of lines) replied
       (said_of (first ∷ more))
 
--- Of a run from this moment to that one, behind which other lines had these notes: the service with
--- which its last segment began, and the notes since. The segment's file holds that. Whatever is kept
--- of it behind its head, with these notes and no more than those others, the run is some stages.
+-- Of a run from this moment to that one, after which other lines had these notes: the service with
+-- which its last segment began, and the notes since. The segment's file holds that. Whatever is
+-- kept of it after its head, with these notes and no more than those others, the run is some
+-- stages.
 pub record IsInStages (a b : Moment Service) (before : List ℕ) (lines : List (List ℕ))
     (said notes : List ℕ) : Type 0 where
   pub last : Service
@@ -114,7 +115,8 @@ pub record IsInStages (a b : Moment Service) (before : List ℕ) (lines : List (
       → IsPrefix kept (begun_with_remarks last.inner ++ (noted ++ notes))
       → (first : Stage) × (more : List Stage) × IsRun a.service last lines said kept first more
 
--- A law: lines that are told in parts, and lines behind them that are answered, are a run in stages.
+-- A law: lines that are delivered in parts, and lines after them that are answered, are a run in
+-- stages.
 abbrev pub PartsAreStages : Type 0
 PartsAreStages =
     (folder : List ℕ) (a b : Moment Service) (before : List ℕ) (parts : List (Part Service))

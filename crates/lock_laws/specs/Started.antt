@@ -1,14 +1,20 @@
 -- Locks that a folder's last segment starts are those that are found in it (this project's own).
-use Rattle.std.specs.Prelude.{◌≡◌, ℕ, ◌≤◌, true, List, [], ◌++◌, length, Option, Some}
+use Rattle.std.specs.Prelude.{◌≡◌, ℕ, ◌≤◌, ◌⊎◌, true, List, [], ◌++◌, length, Option, Some}
 use Rattle.disks.specs.Held.{Held, bytes_of, is_there}
 use Rattle.segment_folder.specs.Names.{segment_file, IsNumber}
 use Rattle.ring_saved.specs.declared.saved.Saved.{Saved}
 use Rattle.ring_saved.specs.Content.{content}
 use Rattle.ring_saved.specs.Spelling.{Fits}
+use Rattle.ring_journal.specs.Spelling.{Journal, journal_text}
+use Rattle.ring_journal.specs.Beginnings.{IsRightJournal}
 use Rattle.ring_journal.specs.Recovery.{IsRecovered}
 use Rattle.ring_segments.specs.Spelling.{Head, head_text, HeadFits}
 use Rattle.ring_segments.specs.Remarks.{without_remarks}
+use Rattle.ring_segments.specs.RemarkLaws.{AreLines}
+use Rattle.ring_segments.specs.declared.last.LastSegment.{LastSegment}
+use Rattle.torn_ends.specs.Torn.{IsTorn}
 use Rattle.ring_serve.specs.Segments.{bases_of}
+use Rattle.ring_serve.specs.Recovered.{IsPrefix}
 use Rattle.ring_locks.specs.Kept.{LockView, AreKept}
 use Rattle.lock_lists.specs.Lists.{Listed}
 use Rattle.lock_folder.specs.Rings.{AreBegun}
@@ -38,7 +44,7 @@ head_with number behind locks = record {
 }
 
 -- The last segment of the folder is the one of this number, which began with these locks. The head
--- with which it began has a text, and behind it these bytes are kept of the file.
+-- with which it began has a text, and after it these bytes are kept of the file.
 pub record IsKeptLast (held : Held) (folder : List ℕ) (number : ℕ) (behind : List ℕ)
     (start : List LockView) (kept : List ℕ) : Type 0 where
   pub fits : HeadFits (head_with number behind start)
@@ -46,12 +52,26 @@ pub record IsKeptLast (held : Held) (folder : List ℕ) (number : ℕ) (behind :
       ≡ Some (head_text (head_with number behind start) ++ kept)
   pub last : (n : ℕ) → IsNumber n → is_there held (segment_file folder n) ≡ true → n ≤ number
 
--- locks start in that segment, as they are found in what is kept of it
+-- the end is torn, and this is the front
+abbrev pub IsTornAfter : ℕ → List ℕ → List LockView → List ℕ → List ℕ → Type 0
+IsTornAfter number behind start kept front =
+    (s : LastSegment)
+    × (torn : IsTorn (head_text (head_with number behind start) ++ kept) s)
+    × (torn.front ≡ head_text (head_with number behind start) ++ front)
+
+-- Locks start in that segment, as they are found in what is kept of it, or before a torn end.
+-- That front has each right journal which is kept, whatever comes after it.
 pub record StartThere (number : ℕ) (behind : List ℕ) (start : List LockView) (kept : List ℕ)
     (p : Place) : Type 0 where
   pub number_is : p.number ≡ number
   pub behind_is : p.behind ≡ behind
-  pub found : AreFound start (without_remarks kept) p.locks
+  pub front : List ℕ
+  pub left_out : List ℕ
+  pub parts : kept ≡ front ++ left_out
+  pub end : (left_out ≡ []) ⊎ IsTornAfter number behind start kept front
+  pub found : AreFound start (without_remarks front) p.locks
+  pub stays : (j : Journal) (told more : List ℕ) → IsRightJournal j → AreLines told
+      → without_remarks told ≡ journal_text j → kept ≡ told ++ more → IsPrefix told front
 
 -- A law: what is kept of a folder's last segment starts the next run, if no lock is new and no hold
 -- is handed over.

@@ -1,4 +1,4 @@
--- The whole state of locks behind a replica, which comes back by its lines (this project's own).
+-- The whole state of locks inside a replica, which comes back by its lines (this project's own).
 use Rattle.std.specs.Prelude.{◌≡◌, ℕ, true, false, List, ◌++◌, Option}
 use Rattle.disks.specs.Held.{Held}
 use Rattle.line_loop.specs.Answering.{Answers}
@@ -16,7 +16,7 @@ use Rattle.lock_laws.specs.WaitersBack.{HaveState, HaveTheHolds, HaveTheWaiters}
 abbrev pub locks_in : Replica LockService → List LockView
 locks_in r = r.numbered.inner.segment.locks
 
--- the lines of a state behind those of the holds, which are handed over at a start
+-- the lines of a state after those of the holds, which are handed over at a start
 abbrev pub lines_behind_holds : Replica LockService → List (List ℕ)
 lines_behind_holds r = waits_from 0 (locks_in r) ++ own_lines r
 

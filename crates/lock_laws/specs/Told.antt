@@ -1,4 +1,4 @@
--- What clients were told of locks, in the rings that a journal tells (this project's own).
+-- What clients were answered about locks, in the rings that a journal records (this project's own).
 use Rattle.std.specs.Prelude.{◌≡◌, ℕ, List, [], ◌∷◌, ◌++◌, slice_get, Some, ◌⊎◌}
 use Rattle.std.specs.List.{AllByRecursion, flat_map}
 use Rattle.ring_model.specs.declared.events.Event.{Event}
@@ -15,9 +15,9 @@ use Rattle.lock_serve.specs.declared.service.Terms.{Terms}
 use Rattle.lock_serve.specs.Counting.{SegmentView}
 use Rattle.lock_serve.specs.Serving.{IsLineAnswered}
 
--- ---- the rings that a journal tells
+-- ---- the rings that a journal records
 
--- a ring as the journal tells it, where surveys that end holds stand in the logs, is that of this
+-- a ring as the journal records it, where surveys that end holds are in the logs, is that of this
 -- lock
 pub record IsOf (r : Standing) (v : LockView) : Type 0 where
   pub base : r.base ≡ v.ring.base
@@ -30,9 +30,9 @@ AreOf rs vs =
     (i : ℕ) (v : LockView) → slice_get vs i ≡ Some v
     → (r : Standing) × (slice_get rs i ≡ Some r) × IsOf r v
 
--- ---- what a line tells
+-- ---- what the answers to a line report
 
--- A grant, from the ring before to the ring behind it: the next event is a pass on seat 0, and its
+-- A grant, from the ring before to the ring after it: the next event is a pass on seat 0, and its
 -- number, with those before the segment, is the token.
 pub record IsGrantIn (was is : Standing) (token : ℕ) : Type 0 where
   pub pass : Event
@@ -56,7 +56,7 @@ pub record HasRelease (was is : List Standing) (lock : ℕ) : Type 0 where
   pub here : slice_get is lock ≡ Some new
   pub release : HasGrown (with_survey old 1 (survey_now old)) new
 
--- what an answer tells is in the rings; others than these two tell of no hold
+-- what an answer reports is in the rings; others than these two report no hold
 abbrev pub IsToldIn : List Standing → List Standing → ℕ → Answer → Type 0
 IsToldIn was is lock (answer.Granted token) = HasGrant was is lock token
 IsToldIn was is lock answer.Released = HasRelease was is lock
@@ -77,8 +77,8 @@ IsText said ts =
     (said ≡ text_of ts)
     ⊎ ((ts ≡ []) × ((client : ℕ) × (why : Denial) × (said ≡ denial_line client why)))
 
--- From these locks and rings to those behind it the line was answered with this text, and what it
--- tells is in the rings.
+-- From these locks and rings to those after it the line was answered with this text, and what that
+-- reports is in the rings.
 pub record IsLineIn (terms : Terms) (old : SegmentView) (was : List Standing) (line said : List ℕ)
     (new : SegmentView) (is : List Standing) : Type 0 where
   pub note : List ℕ

@@ -16,7 +16,7 @@ use Rattle.lock_serve.specs.Counting.{SegmentView}
 use Rattle.lock_serve.specs.Serving.{IsLineAnswered, IsServed}
 use Rattle.lock_serve.specs.State.{waits_from}
 
--- who holds each lock, and who waits for it, in order
+-- the holder of each lock, and the clients that wait for it, in order
 abbrev pub holders_of : List LockView → List (Option Holder)
 holders_of vs = map (λ (v : LockView). v.holder) vs
 
@@ -27,7 +27,7 @@ waiters_of vs = map (λ (v : LockView). v.line) vs
 abbrev pub IsOfBits : Waiter → Type 0
 IsOfBits w = (w.client < 2 ^ 64) × (w.order < 2 ^ 64)
 
--- locks whose state is told are right, and not too many
+-- locks whose state is answered are right, and not too many
 pub record HaveState (vs : List LockView) : Type 0 where
   pub right : AreRight (locks_of vs)
   pub few : length vs ≤ lock_limit
@@ -39,14 +39,14 @@ HavingStateStays =
     (terms : Terms) (old new : SegmentView) (line said noted : List ℕ) → HaveState old.locks
     → IsLineAnswered terms old line said noted new → HaveState new.locks
 
--- locks with the holds of these, for which nobody waits, as behind a restart whose holds were
--- handed back
+-- locks with the holds of these, for which nobody waits, as after a restart whose holds were handed
+-- back
 pub record HaveTheHolds (vs now : List LockView) : Type 0 where
   pub right : AreRight (locks_of now)
   pub holders : holders_of now ≡ holders_of vs
   pub nobody : waiters_of now ≡ map (λ (v : LockView). []) vs
 
--- the answers to clients that wait again, of one lock and of all: each waits behind those before it
+-- the answers to clients that wait again, of one lock and of all: each waits after those before it
 abbrev pub waiting_lines : ℕ → ℕ → List Waiter → List ℕ
 waiting_lines lock before [] = []
 waiting_lines lock before (w ∷ line) =
@@ -56,8 +56,8 @@ abbrev pub waiting_from : ℕ → List LockView → List ℕ
 waiting_from lock [] = []
 waiting_from lock (v ∷ vs) = waiting_lines lock 0 v.line ++ waiting_from (lock + 1) vs
 
--- Each was told that it waits. The same clients wait for each lock, with the same orders and in the
--- same order, and the same clients hold them, with the same tokens.
+-- Each got the answer that it waits. The same clients wait for each lock, with the same orders and
+-- in the same order, and the same clients hold them, with the same tokens.
 pub record HaveTheWaiters (vs : List LockView) (said noted : List ℕ) (now : List LockView) :
     Type 0 where
   pub says : said ≡ waiting_from 0 vs

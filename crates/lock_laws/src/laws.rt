@@ -19,15 +19,15 @@ ghost use Rattle.lock_laws.specs.Recovered.{LocksComeBack, NothingToldIsLost, Ad
 use line_loop::AnswersLines;
 
 /// Lines that the service answers are answered so, whether its segment is kept on or not, and no file changes; and lines that are
-/// answered in parts, one behind the other, are answered as a whole.
+/// answered in parts, one after the other, are answered as a whole.
 pub fn answered_lines_follow()
     ensures served { ServedLinesAreAnswered }
     ensures follow { AnsweredLinesFollow }
 {}
 
-/// Of a journal that has the beginning of a segment and the notes of the lines that were told, and perhaps a torn line behind
-/// them, one history is recovered. The locks that are made of it are those that stood behind the last of these lines, restarted:
-/// nobody waits for them, and a hold that is open is client 0's, with its token.
+/// Of a journal that has the beginning of a segment and the notes of the lines that were delivered, and perhaps a torn line after
+/// them, one history is recovered. The locks that are made of it are those after the last of these lines, restarted: nobody waits
+/// for them, and a hold that is open is client 0's, with its token.
 pub fn locks_come_back()
     ensures { LocksComeBack }
 {}
@@ -38,21 +38,22 @@ pub fn locks_of_replicas_come_back()
 {}
 
 /// A replica with no key, before the first place, that is given the lines of the remarks in the journal of a segment has the keys
-/// that stood behind the last line, and the digest at the last place, as long as what is told begins with lines that can be kept.
+/// after the last line, and the digest at the last place, as long as answers begin with lines that can be kept.
 pub fn remarks_bring_back()
     ensures { RemarksBringBack }
 {}
 
-/// Of whatever is kept of a journal, if it has the beginning of a segment and the notes of the lines that were told, rings are
-/// recovered. They have gone on from those that the journal tells behind the last of these lines, where each grant and each
-/// release that was told is at its place. A hold that was told is open in them as long as the journal has no end of it.
+/// Of whatever is kept of a journal, if it has the beginning of a segment and the notes of the lines that were delivered, rings are
+/// recovered. They have continued from those that the journal records after the last of these lines, where each grant and each
+/// release that was delivered is at its place. A hold whose grant was delivered is open in them as long as the journal has no end
+/// of it.
 pub fn nothing_told_is_lost()
     ensures { NothingToldIsLost }
 {}
 
 /// Locks that were added one after the other show their holds, so they can begin a segment: a fresh ring shows none, and one that
-/// was recovered shows the hold that goes on as client 0's. So do locks that go on in their next segments, and locks whose open
-/// holds are handed over.
+/// was recovered shows the hold that continues as client 0's. So do locks that continue in their next segments, and locks whose
+/// open holds are handed over.
 pub fn locks_begin_segments()
     ensures added { AddedLocksBegin }
     ensures next { NextLocksBegin }
@@ -68,8 +69,8 @@ pub fn equal_lines_give_equal_answers()
 {}
 
 /// A replica with no key, before the first place, that is given the lines of another one's keys and last place has the same keys,
-/// and the digest at that place; it tells nothing, and the service inside gets none of these lines. So it is with each replica
-/// that began with no key: what it keeps can be told, in lines, as long as answers begin with lines that are not empty and not
+/// and the digest at that place; it answers nothing, and the service inside gets none of these lines. So it is with each replica
+/// that began with no key: what it keeps can be written as lines, as long as answers begin with lines that are not empty and not
 /// too long.
 pub fn keys_come_back<S: AnswersLines>()
     ensures fresh { FreshIsSound S.is_answered }
@@ -80,14 +81,14 @@ pub fn keys_come_back<S: AnswersLines>()
 {}
 
 /// Locks with the holds of others, for which nobody waits, that are given the lines of those who wait for the others, lock by
-/// lock and in their order, have the same clients waiting with the same orders, and the same holds. Each of them is told that it
-/// waits. What is asked of the others for it, numbers of 64 bits above all, stays so, whatever is asked of them.
+/// lock and in their order, have the same clients waiting with the same orders, and the same holds. Each of them gets the answer
+/// that it waits. What is asked of the others for it, numbers of 64 bits above all, stays so, whatever is asked of them.
 pub fn waiters_come_back()
     ensures stays { HavingStateStays }
     ensures back { WaitersComeBack }
 {}
 
-/// The lines of the state of locks behind a replica are those of their holds, and then others. On strict terms a replica of locks
+/// The lines of the state of locks inside a replica are those of their holds, and then others. On strict terms a replica of locks
 /// with these holds, for which nobody waits, with no key and before the first place, that is given these others has the same
 /// clients waiting, the same holds, the same keys, and the digest at the last place.
 pub fn state_comes_back()
@@ -96,14 +97,14 @@ pub fn state_comes_back()
 {}
 
 /// Runs of locks over one folder, each ended at any moment, and the next begun of what was kept, are one life: there is one list
-/// of inputs of the machine of locks, with a restart between runs. What each run told is, in order, what the machine answers to
-/// the inputs of the told lines; and each run begins with the locks that are behind all inputs before it.
+/// of inputs of the machine of locks, with a restart between runs. What each run delivered is, in order, what the machine answers
+/// to the inputs of the delivered lines; and each run begins with the locks after all inputs before it.
 pub fn runs_are_a_life()
     ensures { RunsAreALife }
 {}
 
-/// So over the whole life the tokens that clients are told rise, and while no input ends a hold nobody is told of another one of
-/// that lock. Each grant and each release that was told is in the history that is recovered of what was kept.
+/// So over the whole life the tokens that clients get rise, and while no input ends a hold nobody gets another grant of that lock.
+/// Each grant and each release that was delivered is in the history that is recovered of what was kept.
 pub fn lives_are_lawful()
     ensures grants { ToldGrantsAreGrants }
     ensures rise { ToldTokensRise }
@@ -113,14 +114,14 @@ pub fn lives_are_lawful()
 
 /// A run of a replica of locks, whatever is kept of its segment's file, is a run of the locks inside: they were given the lines
 /// that are new, the file without its remarks is their journal, and what they say is what the replica says of these lines.
-/// And where the state is told of lines that ask for it, all other lines are answered by the replica, with the same notes.
+/// And where the state is answered to lines that ask for it, all other lines are answered by the replica, with the same notes.
 pub fn replica_runs_are_stages()
     ensures runs { ReplicaRunsAreStages }
     ensures others { OtherLinesAreReplied }
 {}
 
-/// Lines that a program of locks tells in parts, whatever segments end between them, and lines behind them that were answered, are
-/// such runs in stages, segment by segment: begun with the locks of the first part, they say one after the other what was said,
+/// Lines that a program of locks delivers in parts, whatever segments end between them, and lines after them that were answered,
+/// are such runs in stages, segment by segment: begun with the locks of the first part, they say one after the other what was said,
 /// and the last one's journal is what is kept of the last segment's file. And a run that begins with the locks that are found there
 /// follows it.
 pub fn parts_are_stages()
@@ -128,9 +129,10 @@ pub fn parts_are_stages()
     ensures runs { RunsFollow }
 {}
 
-/// The locks that start of a folder's last segment, none of them new, are those that are found in its journal: the head of the file
-/// is read as it was written, whatever is kept behind it. So a run of the program that begins of what another one left follows it
-/// in a life; and locks that are found begin a segment again.
+/// The locks that start of a folder's last segment, none of them new, are those that are found in its journal: the head of
+/// the file is read as it was written, whatever is kept after it; a torn end is left out, and comes after each right journal
+/// that is kept. So a run of the program that begins with what another one left follows it in a life; and locks that are
+/// found begin a segment again.
 pub fn started_locks_are_found()
     ensures found { StartedLocksAreFound }
     ensures kept { KeptSegmentsStart }

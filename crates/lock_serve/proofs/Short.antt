@@ -60,7 +60,7 @@ answer_still : (old new : List LockView) (c i : ℕ) (ask : Ask) (r : Answers) �
 answer_still old new c i ask r (inl d) j n = done_still old new c i ask r d j n
 answer_still old new c i ask r (inr w) j n = want_still old new i ask r w j
 
--- an answer is one that may be refused for want
+-- each answer is one that may be a refusal for lack of room or memory
 pub as_answer : (old new : List LockView) (c i : ℕ) (ask : Ask) (r : Answers) → IsAnswerTo old new c i ask r → IsAnswer old new c i ask r
 as_answer old new c i (Acquire order) r a = a
 as_answer old new c i (Try order) r a = a

@@ -42,7 +42,7 @@ count_more was now goal part rest all p inv q =
     let n : length all ≡ length part + length rest = ap (λ (u : List (List ℕ)). length u) p ∙ length-append part rest in
     omega (arith, n, inv, q)
 
--- these lines are added behind those
+-- these lines are added after those
 pub lines_behind : (old mid new : List ℕ) (front back : List (List ℕ)) → mid ≡ old ++ joined_lines front → new ≡ mid ++ joined_lines back → new ≡ old ++ joined_lines (front ++ back)
 lines_behind old mid new front back p q =
     q

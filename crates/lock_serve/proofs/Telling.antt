@@ -1,4 +1,4 @@
--- Small steps of what is told and noted.
+-- Small steps of what is answered and noted.
 use Rattle.std.proofs.Common.{◌≡◌, ℕ, ◌+◌, ◌<◌, List, [], ◌∷◌, ◌++◌, length, take, get_or, Result, Ok, Err, sym, ap, subst, ◌∙◌, append_assoc}
 use Rattle.std.specs.Prelude.{OnOk, OnErr}
 use Rattle.std.specs.List.{flat_map}
@@ -30,7 +30,7 @@ piece_more f xs i d was now then lt p q =
     let more : flat_map f (take (i + 1) xs) ≡ flat_map f (take i xs) ++ f (get_or xs i d) = ap (flat_map f) (take_more xs i d lt) ∙ flat_then f (take i xs) (get_or xs i d) in
     q ∙ (ap (λ (u : List ℕ). u ++ f (get_or xs i d)) p ∙ (append_assoc was (flat_map f (take i xs)) (f (get_or xs i d)) ∙ ap (λ (u : List ℕ). was ++ u) (sym more)))
 
--- what was put is told, if there was memory for it
+-- the answer is pending, if there was memory for it; the line is answered in any case
 pub put_leaves : {E : Type 0} (r : Result (Unit {0}) E) (IsSo : List ℕ → List ℕ → Type 0) (same : Type 0) (old new : Pending) (said noted : List ℕ) → IsSo said noted → OnOk r (IsAdded old new said noted) → Leaves (put r) IsSo same old new
 put_leaves (Ok u) IsSo same old new said noted so added = (said, noted, so, added)
 put_leaves (Err e) IsSo same old new said noted so added = (said, noted, so)

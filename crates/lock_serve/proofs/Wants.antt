@@ -1,4 +1,5 @@
--- The machine refuses nobody for want; and who is refused for want has changed nothing.
+-- The machine refuses nobody for lack of room or memory; and a client that is so refused has
+-- changed nothing.
 use Rattle.std.proofs.Common.{◌≡◌, ℕ, Bool, true, false, if◌then◌else◌, List, [], ◌∷◌, ◌++◌, length, Option, None, Some, slice_get, refl, sym, ap, ◌∙◌, inl, inr}
 use Rattle.std.specs.Prelude.{nat_le, is_some}
 use Rattle.std.proofs.lemmas.Bool.{false≢true}

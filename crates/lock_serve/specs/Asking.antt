@@ -29,7 +29,7 @@ abbrev pub is_off : Bool → lines.Ask → Bool
 is_off faults (lines.corrupt lock machine value) = not faults
 is_off faults _ = false
 
--- how the lock answers: by its step; an ask that may make events can be refused for want of room or
+-- how the lock answers: by its step; an ask that may make events can be refused for lack of room or
 -- memory
 abbrev pub IsAnswerTo : List LockView → List LockView → ℕ → ℕ → Ask → Answers → Type 0
 IsAnswerTo old new c i (Acquire order) r = IsAnswer old new c i (Acquire order) r
@@ -46,7 +46,7 @@ asked one.Cancel = Cancel
 asked (one.Corrupt machine value) = Corrupt machine value
 asked one.Stats = Stats
 
--- whether the asker is refused for want of room or of memory
+-- whether the asker is refused for lack of room or of memory
 abbrev pub is_want : Option Answer → Bool
 is_want (Some (answer.Refused refusal.Full)) = true
 is_want (Some (answer.Refused refusal.Memory)) = true

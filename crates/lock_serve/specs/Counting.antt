@@ -43,13 +43,13 @@ count_of_left new l = 1 + (events_at (slice_get new l.lock) - l.ended.survey.pos
 abbrev pub count_of_all : List LockView → List Left → ℕ
 count_of_all new left = sum_by (count_of_left new) left
 
--- the journal had so many lines more
+-- the journal got this number of lines
 pub record IsCounted (old new : SegmentView) (lines : ℕ) : Type 0 where
   pub remaining : new.remaining ≡ old.remaining - lines
   pub short : new.short ≡ (old.short || has_short new.locks)
 
--- the first segment of these locks: its journal may have so many lines, those with which it begins
--- among them
+-- the first segment of these locks: its journal may have this number of lines, those with which it
+-- begins among them
 pub record IsStart (limit : ℕ) (locks : List LockView) (s : SegmentView) : Type 0 where
   pub locks_are : s.locks ≡ locks
   pub remaining : s.remaining ≡ limit - lines_at_start locks

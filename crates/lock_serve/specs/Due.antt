@@ -39,6 +39,10 @@ HaveNoSegment locks why =
 abbrev pub IsUnended : List LockView → EndFault → Type 0
 IsUnended locks why = ((why ≡ end.Full) × HaveNoSegment locks refusal.Full) ⊎ (why ≡ end.OutOfMemory)
 
+-- no segment begins with a text of these locks: there are none; or there is no memory
+abbrev pub HaveNoText : List LockView → EndFault → Type 0
+HaveNoText locks why = ((why ≡ end.File) × (length locks ≡ 0)) ⊎ (why ≡ end.OutOfMemory)
+
 -- ---- a law: while no lock is short, no ask is refused since a segment is full
 
 abbrev pub NoAskIsRefusedFull : Type 0

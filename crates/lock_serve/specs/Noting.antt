@@ -1,4 +1,4 @@
--- What clients are told of an answer, and what the journal gets of it (this project's own).
+-- The lines that clients get of an answer, and what the journal gets of it (this project's own).
 use Rattle.std.specs.Prelude.{ℕ, List, [], ◌∷◌, ◌++◌, length, drop, slice_get, Option, None, Some}
 use Rattle.std.specs.List.{flat_map}
 use Rattle.ring_journal.specs.Spelling.{journal_line}

@@ -5,6 +5,7 @@ use Rattle.segment_loop.specs.Segmenting.{Segmenting}
 use Rattle.lock_serve.specs.declared.service.LockService.{LockService}
 use Rattle.lock_serve.specs.declared.service.Stage.{Stage}
 use Rattle.lock_serve.specs.declared.service.Stage.TheVariants as stage
+use Rattle.lock_serve.specs.Due.{IsUnended, HaveNoText}
 use Rattle.lock_serve.specs.Segments.{segment_text}
 
 -- how many lines the journal of a segment may have
@@ -29,11 +30,14 @@ pub record IsNext (old new : LockService) : Type 0 where
   pub short : new.segment.short ≡ false
   pub stage_is : new.stage ≡ stage.Open
 
--- the text of a segment has the rings of the locks; a segment that is kept on stays as it is
+-- the text of a segment has the rings of the locks; whether there is a next one, or a text, depends
+-- only on the locks; a segment that is kept on stays as it is
 abbrev pub segmenting : Segmenting LockService
 segmenting = record {
   text = λ s number behind. segment_text number behind s.segment.locks;
   is_due = λ s. is_to_end s.stage;
   IsNext = IsNext;
+  HasNoNext = λ s why. IsUnended s.segment.locks why;
+  HasNoText = λ s why. HaveNoText s.segment.locks why;
   IsKept = λ old why new. new ≡ record old { stage = stage.KeptOn };
 }

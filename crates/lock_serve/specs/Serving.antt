@@ -35,8 +35,8 @@ pub record IsSaid (text : List ℕ) (old : SegmentView) (said noted : List ℕ) 
   pub notes : noted ≡ []
   pub leaves : new ≡ old
 
--- A lock answers. Those who asked or are granted are told, and the journal has what is new. On
--- strict terms nobody is refused for want.
+-- A lock answers. The clients that asked or are granted it get their lines, and the journal has
+-- what is new. On strict terms nobody is refused for lack of room or memory.
 pub record IsToldOf (strict noting : Bool) (client lock : ℕ) (ask : Ask) (old : SegmentView)
     (said noted : List ℕ) (new : SegmentView) : Type 0 where
   pub answers : Answers
@@ -46,7 +46,8 @@ pub record IsToldOf (strict noting : Bool) (client lock : ℕ) (ask : Ask) (old 
   pub notes : noted ≡ cond noting (note_about lock old.locks new.locks answers.ended) []
   pub counted : IsCounted old new (count_about lock old.locks new.locks answers.ended)
 
--- A client leaves all locks. Those who are granted are told, and the journal has what is new.
+-- A client leaves all locks. The clients that are granted one get their lines, and the journal has
+-- what is new.
 pub record IsToldOfLeave (noting : Bool) (client : ℕ) (old : SegmentView) (said noted : List ℕ)
     (new : SegmentView) : Type 0 where
   pub left : List Left
@@ -70,7 +71,7 @@ IsAnsweredIf true terms client ask old said noted new =
 IsAnsweredIf false terms client ask old said noted new =
     IsTold terms.strict terms.noting client (one_ask ask) old said noted new
 
--- what a client is told of a line that has a fault
+-- the refusal of a line that has a fault
 abbrev pub denial_of : Fault → Denial
 denial_of fault.Syntax = denial.Syntax
 denial_of fault.Number = denial.Number
@@ -128,8 +129,8 @@ abbrev pub IsAdded : Pending → Pending → List ℕ → List ℕ → Type 0
 IsAdded old new said noted =
     (new.answers.items ≡ old.answers.items ++ said) × (new.notes.items ≡ old.notes.items ++ noted)
 
--- what an answer leaves that is so: it is pending; or it is not told of; or, on strict terms, nothing
--- has changed
+-- what an answer leaves that is so: it is pending; or there was no memory for it; or, on strict
+-- terms, nothing has changed
 abbrev pub Leaves : Result (Unit {0}) Untold → (List ℕ → List ℕ → Type 0) → Type 0 → Pending
     → Pending → Type 0
 Leaves (Ok _) IsSo same old new =

@@ -1,4 +1,5 @@
--- The lines that bring locks back: who holds them, and who waits for them (this project's own).
+-- The lines that bring locks back: their holds, and the clients that wait for them (this project's
+-- own).
 use Rattle.std.specs.Prelude.{ℕ, ◌+◌, List, [], ◌∷◌, ◌++◌, codes, map, Option, None, Some}
 use Rattle.text_lines.specs.Spelling.{spaced, ended}
 use Rattle.ring_locks.specs.declared.answers.Holder.{Holder}

@@ -20,7 +20,7 @@ pub(crate) enum OneAsk {
     Stats,
 }
 
-/// The number of 32 bits that stands for a number.
+/// This number, or the greatest one of 32 bits if it is greater.
 fn narrow(number: u64) -> u32
     ensures { result ≡ in_32_bits number }
 {
@@ -64,7 +64,7 @@ pub(crate) fn one_ask(ask: Ask) -> Option<(u32, OneAsk)>
     }
 }
 
-/// Whether the asker is refused for want of room or of memory.
+/// Whether the asker is refused for lack of room or of memory.
 pub(crate) fn is_want(own: Option<Answer>) -> bool
     ensures { result ≡ is_want own }
 {

@@ -10,7 +10,7 @@ use crate::noting::events_at;
 use ring_endless::EndlessRing;
 use ring_locks::{HoldEnd, Left, Locks};
 
-/// What is left of so many lines after those with which a journal begins, of one ring.
+/// What is left of `remaining` lines after those of one ring with which a journal begins.
 fn after_ring(remaining: u64, ring: &EndlessRing) -> u64
     ensures { result ≡ remaining - lines_in (standing_of ring.now) }
 {

@@ -1,6 +1,6 @@
 //! Lines are answered by locks.
 
-ghost use Rattle.std.specs.Prelude.{◌≡◌, ◌++◌, ◌⊎◌, ℕ, List, OnOk, OnErr};
+ghost use Rattle.std.specs.Prelude.{◌≡◌, ◌++◌, ◌⊎◌, ℕ, List, false, OnOk, OnErr};
 ghost use Rattle.lock_serve.specs.Serving.{IsServed};
 
 use crate::service::{LockService, Stage, answer};
@@ -10,6 +10,7 @@ use lock_lines::read_input;
 use std::alloc::AllocError;
 
 impl AnswersLines for LockService {
+    ghost use Rattle.std.specs.Prelude.{false};
     ghost use Rattle.lock_serve.specs.Segmented.{is_over};
     ghost use Rattle.lock_serve.specs.Serving.{IsServed};
     ghost use Rattle.lock_serve.specs.Starts.{by_start};
@@ -18,10 +19,12 @@ impl AnswersLines for LockService {
 
     ghost is_over = { λ s. is_over s.stage };
 
+    ghost changes_files = { false };
+
     ghost by_start = { by_start };
 
-    /// The line is answered, and memory may be wanted to tell of it; or on strict terms nothing has changed. The disk is not
-    /// used.
+    /// The line is answered, even if memory is short for the text of its answer; or on strict terms nothing has changed. The disk
+    /// is not used.
     fn answer<D: Disk>(
         &mut self,
         disk: &mut D,
@@ -38,6 +41,7 @@ impl AnswersLines for LockService {
             × (noted : List ℕ)
             × IsServed self.old (D.holds disk.old) line.now said noted self.new
             (D.holds disk.new))) }
+        ensures unchanged { false ≡ false → D.leaves disk.new ≡ D.leaves disk.old }
     {
         let input = read_input(line);
         answer(self, input, pending)

@@ -1,4 +1,4 @@
-//! What is told of an answer, and what the journal gets of it.
+//! The lines that clients get of an answer, and what the journal gets of it.
 
 ghost use Rattle.std.specs.Prelude.{◌≡◌, ◌++◌, [], cond, slice_get, OnOk};
 ghost use Rattle.ring_locks.specs.Kept.{own_answer, other_grant, answers_of};
@@ -55,7 +55,7 @@ fn note_end(lock: u32, ended: Option<HoldEnd>, notes: &mut Vec<u8>) -> Result<()
     }
 }
 
-/// Adds what a journal gets of a lock whose ring had so many events.
+/// Adds what a journal gets of a lock whose ring had `place` events.
 fn note(
     locks: &Locks,
     lock: u32,
@@ -91,7 +91,7 @@ pub(crate) fn note_if(
     }
 }
 
-/// Tells who is granted a lock, if anybody is.
+/// Adds the line to the client that is granted a lock, if there is one.
 fn tell_grant(text: &mut Vec<u8>, lock: u32, granted: Option<Holder>) -> Result<(), AllocError>
     ensures { OnOk result (text.new.items ≡ text.old.items ++ lines_about lock (other_grant granted)) }
 {
@@ -101,7 +101,7 @@ fn tell_grant(text: &mut Vec<u8>, lock: u32, granted: Option<Holder>) -> Result<
     }
 }
 
-/// Tells who asked, if there is an answer.
+/// Adds the line to the client that asked, if there is an answer.
 fn tell_own(
     text: &mut Vec<u8>,
     client: u64,
@@ -116,7 +116,7 @@ fn tell_own(
     }
 }
 
-/// Tells all whom answers about a lock concern.
+/// Adds the lines to all clients that answers about a lock concern.
 pub(crate) fn tell(
     text: &mut Vec<u8>,
     client: u64,
@@ -132,7 +132,7 @@ pub(crate) fn tell(
     }
 }
 
-/// Tells who is granted what another client left.
+/// Adds the lines to the clients that are granted what another client left.
 pub(crate) fn tell_left(text: &mut Vec<u8>, left: &[Left]) -> Result<(), AllocError>
     ensures { OnOk result (text.new.items ≡ text.old.items ++ lines_of_left left.now) }
 {

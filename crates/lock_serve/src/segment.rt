@@ -16,7 +16,7 @@ use ring_locks::{Answers, Left, Locks, Refusal};
 use std::alloc::{AllocError, Global};
 use std::marker::Model;
 
-/// The locks of a segment. Its journal may have so many lines more until it is due.
+/// The locks of a segment. Its journal may have `remaining` lines more until it is due.
 #[derive(Drop)]
 pub(crate) struct Segment {
     locks: Locks,
@@ -46,12 +46,12 @@ fn was_or_is(was: bool, is: bool) -> bool
 }
 
 impl Segment {
-    /// The segment with which these locks start. Its journal may have so many lines until it is due, those with which it begins
+    /// The segment with which these locks start. Its journal may have `limit` lines until it is due, those with which it begins
     /// among them.
     ///
     /// # Errors
     ///
-    /// Out of memory alone.
+    /// Only if memory is short.
     pub(crate) fn start(alloc: Global, locks: Locks, limit: u64) -> Result<Segment, AllocError>
         ensures { IfOk result (λ s. IsStart limit locks s) }
     {
@@ -89,7 +89,7 @@ impl Segment {
         self.remaining == 0 || self.short
     }
 
-    /// Asks one lock. Only this lock is looked at, and nothing changes if the asker is refused for want of room or memory.
+    /// Asks one lock. Only this lock is looked at, and nothing changes if the asker is refused for lack of room or memory.
     pub(crate) fn ask(&mut self, client: u64, lock: u32, ask: OneAsk) -> Answers
         ensures answer { IsAnswerTo self.old.locks self.new.locks client lock (asked ask) result }
         ensures counted { IsCounted self.old self.new
@@ -116,7 +116,7 @@ impl Segment {
         self.short = was_or_is(self.short, has_short(&self.locks));
     }
 
-    /// The next segment, of the locks as they go on in the next segments of their rings.
+    /// The next segment, of the locks as they continue in the next segments of their rings.
     ///
     /// # Errors
     ///

@@ -1,8 +1,6 @@
 //! Locks live in segments.
 
-ghost use Rattle.std.specs.Prelude.{◌≡◌, false, IfOk, IfErr};
-ghost use Rattle.lock_serve.specs.Due.{IsUnended};
-ghost use Rattle.lock_serve.specs.Segmented.{IsNext, is_over};
+ghost use Rattle.std.specs.Prelude.{◌≡◌, false};
 
 use crate::service::{LockService, Stage, end_fault, is_to_end, limit_of};
 use crate::texts::segment_text;
@@ -26,11 +24,7 @@ impl Segmented for LockService {
         is_to_end(self.stage)
     }
 
-    fn next(&self, alloc: Global) -> Result<LockService, EndFault>
-        ensures next { IfOk result (λ next. IsNext self.now next) }
-        ensures open { IfOk result (λ next. is_over next.stage ≡ false) }
-        ensures why { IfErr result (λ e. IsUnended self.now.segment.locks e) }
-    {
+    fn next(&self, alloc: Global) -> Result<LockService, EndFault> {
         match self.segment.next(alloc, limit_of(self.terms.limit)) {
             Ok(segment) => Ok(LockService {
                 segment,

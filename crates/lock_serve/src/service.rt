@@ -30,10 +30,10 @@ pub struct Terms {
     pub faults: bool,
     /// Whether there are notes for a journal.
     pub noting: bool,
-    /// A segment is due once its journal has so many lines, or before a lock's ring has no room for an ask. Without a limit none
-    /// is.
+    /// A segment is due once its journal has this number of lines, or before a lock's ring has no room for an ask. Without a limit
+    /// none is.
     pub limit: Option<u64>,
-    /// Whether nobody is refused for want of memory or room, and no line is answered in a segment that is to end. Such a line
+    /// Whether nobody is refused for lack of memory or room, and no line is answered in a segment that is to end. Such a line
     /// is out of memory, and nothing has changed.
     pub strict: bool,
 }
@@ -44,16 +44,16 @@ pub(crate) enum Stage {
     Open,
     /// It is to end first.
     Due,
-    /// It is to end, and goes on until it can be ended.
+    /// It is to end, and continues until it can be ended.
     KeptOn,
 }
 
-/// Why nothing is told of a line.
+/// Why no answer to a line is pending.
 #[derive(Clone, Copy)]
 pub(crate) enum Untold {
     /// There is no memory for its text. It is answered.
     Answered,
-    /// It would be a refusal for want, on strict terms. Nothing has changed.
+    /// It would be a refusal for lack of room or memory, on strict terms. Nothing has changed.
     Unanswered,
 }
 
@@ -85,7 +85,7 @@ pub(crate) fn end_fault(why: Refusal) -> EndFault
     }
 }
 
-/// What was put is told, if there was memory for it.
+/// The answer is pending, if there was memory for it. The line is answered in any case.
 fn put(told: Result<(), AllocError>) -> Result<(), Untold>
     ensures { result ≡ put told }
 {
@@ -95,14 +95,14 @@ fn put(told: Result<(), AllocError>) -> Result<(), Untold>
     }
 }
 
-/// Whether it is a refusal for want, on strict terms.
+/// Whether it is a refusal for lack of room or memory, on strict terms.
 fn is_stop(strict: bool, own: Option<Answer>) -> bool
     ensures { result ≡ (strict && is_want own) }
 {
     strict && is_want(own)
 }
 
-/// Asks one lock, and tells the answers.
+/// Asks one lock, and adds the lines of the answers.
 fn answer_one(
     segment: &mut Segment,
     terms: Terms,
@@ -133,7 +133,7 @@ fn answer_one(
     }
 }
 
-/// A client leaves all locks, and the grants are told.
+/// A client leaves all locks. Each client that is granted one gets its line.
 fn leave(
     segment: &mut Segment,
     noting: bool,
@@ -173,7 +173,7 @@ fn answer_ask(
     }
 }
 
-/// What a client is told of a line that has a fault.
+/// The refusal of a line that has a fault.
 fn denial_of(why: Fault) -> Denial
     ensures { result ≡ denial_of why }
 {
@@ -283,7 +283,7 @@ impl LockService {
     ///
     /// # Errors
     ///
-    /// Out of memory alone. The locks are let go then.
+    /// Only if memory is short. The locks are let go then.
     pub fn new(alloc: Global, locks: Locks, terms: Terms) -> Result<LockService, AllocError>
         ensures start { IfOk result (λ s. IsStart (limit_of terms.limit) locks s.segment) }
         ensures terms { IfOk result (λ s. s.terms ≡ terms) }

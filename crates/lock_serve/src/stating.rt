@@ -92,7 +92,7 @@ fn put_line(locks: &Locks, lock: u32, text: &mut Vec<u8>) -> Result<(), AllocErr
     Ok(())
 }
 
-/// So many lines and these. As many as no memory holds are told as if it was short.
+/// The sum of `count` lines and `more`. A number of lines that no memory holds is reported as out of memory.
 fn sum_of(count: u64, more: usize) -> Result<u64, AllocError>
     requires { count < 2 ^ 63 }
     ensures sum { IfOk result (λ n. n ≡ count + more) }
@@ -104,7 +104,7 @@ fn sum_of(count: u64, more: usize) -> Result<u64, AllocError>
     Ok(count + more as u64)
 }
 
-/// The same, behind so many lines, and how many they are with these.
+/// Adds the lines of those who wait for a lock, after `count` lines, and says how many there are with these.
 fn put_counted(locks: &Locks, lock: u32, count: u64, text: &mut Vec<u8>) -> Result<u64, AllocError>
     requires lock { lock < length locks.now }
     requires count { count < 2 ^ 63 }
@@ -120,7 +120,7 @@ fn put_counted(locks: &Locks, lock: u32, count: u64, text: &mut Vec<u8>) -> Resu
     }
 }
 
-/// Adds the lines of those who wait, lock by lock, behind so many lines.
+/// Adds the lines of those who wait, lock by lock, after `before` lines, and says how many there are with these.
 fn put_waits(locks: &Locks, before: u64, text: &mut Vec<u8>) -> Result<u64, AllocError>
     requires { before < 2 ^ 63 }
     ensures lines { OnOk result (text.new.items

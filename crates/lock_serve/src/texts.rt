@@ -1,6 +1,6 @@
 //! The text with which a segment of locks begins.
 
-ghost use Rattle.std.specs.Prelude.{◌≡◌, ◌≤◌, ◌<◌, ◌^◌, ◌++◌, length, slice_get, Some, IfOk};
+ghost use Rattle.std.specs.Prelude.{◌≡◌, ◌≤◌, ◌<◌, ◌^◌, ◌++◌, length, slice_get, Some, IfOk, IfErr};
 ghost use Rattle.std.specs.List.{flat_map};
 ghost use Rattle.text_lines.specs.Writing.{Writes};
 ghost use Rattle.ring_saved.specs.Versions.{latest_version};
@@ -10,6 +10,7 @@ ghost use Rattle.ring_segments.specs.Spelling.{head_of, head_text, DigestFits};
 ghost use Rattle.ring_serve.specs.Standings.{standing_of};
 ghost use Rattle.ring_serve.specs.Segments.{bases_of};
 ghost use Rattle.ring_serve.specs.Saved.{block_at, blocks_from};
+ghost use Rattle.lock_serve.specs.Due.{HaveNoText};
 ghost use Rattle.lock_serve.specs.Segments.{rings_of, content_of, segment_text};
 
 use ring_chains::Base;
@@ -100,6 +101,10 @@ fn put_segment<W: Write>(out: &mut W, head: &SegmentHead, locks: &Locks) -> Resu
 }
 
 /// The text with which the segment of this number begins, after a file of this digest.
+///
+/// # Errors
+///
+/// `File` where there is no lock; `OutOfMemory`.
 pub(crate) fn segment_text(
     alloc: Global,
     number: u64,
@@ -108,7 +113,8 @@ pub(crate) fn segment_text(
 ) -> Result<Vec<u8>, EndFault>
     requires number { 0 < number }
     requires digits { DigestFits behind }
-    ensures { IfOk result (λ text. text.items ≡ segment_text number behind locks.now) }
+    ensures text { IfOk result (λ text. text.items ≡ segment_text number behind locks.now) }
+    ensures why { IfErr result (λ e. HaveNoText locks.now e) }
 {
     if locks.count() == 0 {
         return Err(EndFault::File);

@@ -28,9 +28,9 @@ program ends with status 1, and answers neither this line nor earlier lines of t
 and equal lines have equal answers.
 
 A call may begin with a key and a number of the client's choice: `KEY NUMBER CONNECTION acquire LOCK ORDER`. A number is
-done once: the last of KEY gets its first line again, and one below the last `KEY refused past LAST`. `KEY NUMBER forget`
-lets go of KEY. `at PLACE` answers a digest of all answers so far, and `state` the lines that bring the locks, the keys and
-the digest back.
+done once: the last of KEY gets its first line again, if it is for that CONNECTION, and one below the last gets
+`KEY refused past LAST`. `KEY NUMBER forget` lets go of KEY. `at PLACE` answers a digest of all answers so far, and `state`
+the lines that bring the locks, the keys and the digest back.
 
 The answers leave before more is read. At the end of standard input the totals of all locks go to standard error.
 

@@ -1,4 +1,4 @@
--- Rings go on with each turn, and have the calls of the turns before.
+-- Rings grow with each turn, and have the calls of the turns before.
 use Rattle.std.proofs.Common.{◌≡◌, ℕ, zero, suc, Bool, true, false, if◌then◌else◌, List, [], ◌∷◌, ◌++◌, length, get_or, Option, Some, None, refl, sym, ap, subst, ◌∙◌, ◌⊎◌, inl, inr, arith, append_assoc, get_or-set_same, get_or-set_other, slice_get, slice_set}
 use Rattle.std.proofs.lemmas.Bool.{cases_eq, cases_lt}
 use Rattle.std.proofs.lemmas.List.{append-nil, set_past}
@@ -116,7 +116,7 @@ grown_at (x ∷ rs) [] i r h e = absurd h
 grown_at (x ∷ rs) (s ∷ ss) zero r h e = (s, refl, subst (λ (y : Standing). HasGrown y s) (some_one x r e) h.0)
 grown_at (x ∷ rs) (s ∷ ss) (suc i) r h e = grown_at rs ss i r h.1 e
 
--- ---- what a turn of one ring leaves and tells
+-- ---- what a turn of one ring leaves and answers
 
 abbrev Nothing : Standing → Turn Standing → Type 0
 Nothing r turn = (turn.recorded ≡ []) × (turn.leaves ≡ r) × TellsNoEvent turn.answer
@@ -187,7 +187,7 @@ told_at r (save name) = inl (refl, refl, tt)
 abbrev NothingAmong : List Standing → Turn (List Standing) → Type 0
 NothingAmong rings turn = (turn.recorded ≡ []) × (turn.leaves ≡ rings) × TellsNoEvent turn.answer
 
--- one of the rings went on
+-- one of the rings recorded events or a survey
 record Went (rings : List Standing) (turn : Turn (List Standing)) : Type 0 where
   pub ring : ℕ
   pub was : Standing

@@ -126,7 +126,7 @@ served_by v old new terms was is line said noted e a =
     let one : IsServed (service_of old terms) was line said noted (service_of new terms) is = record { answered = a; same = refl } in
     subst (λ (x : ServiceView). IsServed x was line said noted (service_of new terms) is) e one
 
--- all that was answered was told
+-- all that was answered was delivered
 pub told_stops : {terms : Terms} {old new : List Standing} {was is : Option Held} {before after : Written} {bytes rest : List ℕ} → AreTold terms old was before after bytes rest new is → Stops terms old was before after bytes new is
 told_stops {terms} {old} {new} {was} {is} {before} {after} {bytes} {rest} t = record {
   mid = new;

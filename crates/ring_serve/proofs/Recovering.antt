@@ -1,4 +1,4 @@
--- What is kept of a journal is recovered as the rings stood after some line.
+-- What is kept of a journal is recovered as the rings were after some line.
 use Rattle.std.proofs.Common.{◌≡◌, ℕ, ◌+◌, ◌^◌, ◌<◌, ◌≤◌, Bool, true, false, cond, eqb, Option, List, [], ◌∷◌, ◌++◌, length, take, drop, map, refl, sym, ap, subst, ◌∙◌, ◌⊎◌, inl, inr, arith, append_assoc, length-append}
 use Rattle.std.specs.Prelude.{codes, ◌||◌, None, Some, is_some}
 use Rattle.std.specs.Fmt.{decimal}
@@ -374,7 +374,7 @@ module _ (old rings : List Standing) (calls open_calls : List JournalLine) (tail
         legal = content_legal rings s.right;
       }
 
--- the rings that are recovered, as they stood after some more lines
+-- the rings that are recovered, as they were after some more lines
 pub record Rebuilt (terms : Terms) (mid new : List Standing) (between : Option Held) (kept : List ℕ) : Type 0 where
   pub rings : List Standing
   pub recovered : IsRecovered kept (content_of rings)

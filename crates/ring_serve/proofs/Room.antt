@@ -128,7 +128,7 @@ group_full b seat machines e =
     let few : 0 + length machines ≤ size = rises_few 0 size machines (omega arith) (rise_is 0 size machines rises.1) in
     (omega (arith, few), ltb-true event_limit (b.events + length machines) (last (nat_lt event_limit (b.events + length machines)) u))
 
--- ---- answers that are no refusals
+-- ---- answers that are not refusals
 
 reply_full : (r : Reply) → answer_of r ≡ full → ⊥
 reply_full (reply_is.Granted number result) e = cc

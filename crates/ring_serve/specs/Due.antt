@@ -27,8 +27,8 @@ abbrev pub has_short : List Standing → Bool
 has_short [] = false
 has_short (r ∷ rs) = is_short r || has_short rs
 
--- The segment is due: its journal has so many lines, or one of its rings is short. Without a limit
--- no segment is.
+-- The segment is due: its journal has at least this number of lines, or one of its rings is short.
+-- Without a limit no segment is.
 abbrev pub is_due : Option ℕ → List Standing → Bool
 is_due None rings = false
 is_due (Some limit) rings = nat_le limit (lines_of rings) || has_short rings

@@ -12,7 +12,7 @@ use Rattle.ring_serve.specs.Due.{is_due}
 -- the terms on which lines are served: the name of the journal's file, if one is kept; whether a
 -- line may be a fault, and the folder that one may save all rings in, if there is one; the name of
 -- the history's file, which none replaces, if one was read; whether memory that is short is never
--- told; how many lines the journal of a segment gets until it is due, if segments end; and the
+-- reported; how many lines the journal of a segment gets until it is due, if segments end; and the
 -- refusal of every line while a segment that is due cannot be ended
 pub record Terms : Type 0 where
   pub journal : Option (List ℕ)

@@ -23,7 +23,7 @@ use Rattle.ring_serve.specs.Serving.{IsAnswered, Answers, Stops}
 abbrev pub IsPrefix : {A : Type 0} → List A → List A → Type 0
 IsPrefix {A} front whole = (more : List A) × (whole ≡ front ++ more)
 
--- ---- rings that went on
+-- ---- rings that have grown
 
 -- the entries in the log of a seat
 abbrev pub log_of : Standing → ℕ → List Entry
@@ -53,7 +53,7 @@ IsAnswerTo was es (answer.Block first count) =
 IsAnswerTo was es given =
     (e : Event) × (es ≡ e ∷ []) × (given ≡ answer_of (shifted_reply was.base e.reply))
 
--- an answer that tells of no event
+-- an answer that reports no event
 abbrev pub TellsNoEvent : Answer → Type 0
 TellsNoEvent (answer.Granted number result) = ⊥
 TellsNoEvent (answer.Corrupted old) = ⊥
@@ -84,7 +84,7 @@ pub record HasSurvey (old rings : List Standing) (ring seat : ℕ) (s : Survey) 
   pub told : given ≡ answer.Survey (shifted_survey was.base (is_quiet was.history) s)
 
 -- What a call recorded is in these rings, after what the rings had when it came, and the answer is
--- the one to that. If it recorded nothing, the answer tells of no event.
+-- the one to that. If it recorded nothing, the answer reports no event.
 abbrev pub IsCallIn : List Standing → List RingTrace → Answer → List Standing → Type 0
 IsCallIn old [] given rings = TellsNoEvent given
 IsCallIn old (events ring es ∷ []) given rings = HasEvents old rings ring es given
@@ -117,9 +117,9 @@ IsReached terms old was lines new =
     × (is : Option Held)
     × Answers terms old was lines said noted new is
 
--- Of these bytes the rings are recovered, as they stood after these lines and perhaps some more.
--- The call of each of these lines is in them with the answer that was told, and the rings have only
--- grown from there.
+-- Of these bytes the rings are recovered, as they were after these lines and perhaps some more. The
+-- call of each of these lines is in them, with its answer, and the rings have only grown from
+-- there.
 pub record AreRecovered (terms : Terms) (old : List Standing) (was : Option Held)
     (lines : List (List ℕ)) (said bytes : List ℕ) (new : List Standing) : Type 0 where
   pub rings : List Standing
@@ -129,9 +129,9 @@ pub record AreRecovered (terms : Terms) (old : List Standing) (was : Option Held
   pub reached : IsReached terms old was (lines ++ more) rings
   pub grown : HaveGrown rings new
 
--- With a journal some lines were told, and some more were answered. Of whatever is kept of the
--- journal, which begins with the rings and goes on with the notes of these lines, if it has the
--- notes of the told lines, rings are recovered that have the call of each told line.
+-- With a journal some lines were delivered, and some more were answered. The journal begins with
+-- the rings and continues with the notes of these lines. Of whatever is kept of it, if that has the
+-- notes of the delivered lines, rings are recovered that have the call of each delivered line.
 abbrev pub AnswersAreRecovered : Type 0
 AnswersAreRecovered =
     (terms : Terms) (old mid new : List Standing) (was between is : Option Held)
@@ -150,8 +150,8 @@ abbrev pub IsJustBegun : Option (List ℕ) → List Standing → Type 0
 IsJustBegun journal rings =
     (journal ≡ Some (head_text (content_of rings))) × Fits (content_of rings)
 
--- Of whatever is kept of a journal that had just begun, if it has the notes of the told lines,
--- rings are recovered that have the call of each told line, with the answer that was told.
+-- Of whatever is kept of a journal that had just begun, if it has the notes of the delivered lines,
+-- rings are recovered that have the call of each delivered line, with its answer.
 abbrev pub KeepsAnswers : {terms : Terms} {old new : List Standing} {was is : Option Held}
     {before after : Written} {bytes : List ℕ} → Stops terms old was before after bytes new is
     → Type 0
@@ -160,8 +160,8 @@ KeepsAnswers {terms} {old} {new} {was} {is} {before} {after} {bytes} ended =
     → IsPrefix (head_text (content_of old) ++ ended.noted) kept
     → AreRecovered terms old was ended.told.lines ended.said kept new
 
--- Wherever serving ended: some lines were told, the output has a prefix of their answers, and the
--- journal keeps these answers.
+-- Wherever serving ended: some lines were delivered, the output has a prefix of their answers, and
+-- the journal keeps these answers.
 pub record AnsweredCallsAreRecovered (terms : Terms) (old new : List Standing)
     (was is : Option Held) (unread rest : Option (List ℕ)) (before after : Written) : Type 0 where
   pub bytes : List ℕ

@@ -95,8 +95,8 @@ pub record IsAnswered (terms : Terms) (old : List Standing) (was : Option Held)
   pub notes : noted ≡ cond (is_some terms.journal) (notes_of turn.recorded) []
   pub leaves : turn.leaves ≡ new
 
--- what an answer leaves that is so: it is pending; or it is not told of, where nothing has changed or
--- the line is answered
+-- what an answer leaves that is so: it is pending; or, at an error, it is not, and nothing has
+-- changed or the line is answered
 abbrev pub IsMade : {E : Type 0} → Result (Unit {0}) E → Type 0 → (List ℕ → List ℕ → Type 0)
     → Pending → Pending → Type 0
 IsMade (Ok _) same IsSo old new =

@@ -84,7 +84,7 @@ abbrev pub passed : ℕ → Standing → ℕ → ℕ → ℕ → Turn Standing
 passed ring r seat machine order =
     unless (pass_refusal (bounds_now r) seat machine) r (called ring r seat (op.Pass machine order))
 
--- it waits, which is no event
+-- it waits, which is not an event
 abbrev pub waits : Standing → Turn Standing
 waits r = record { answer = answer.Waits; recorded = []; leaves = r }
 

@@ -20,7 +20,7 @@ pub enum Command {
         machine: u32,
         order: u64,
     },
-    /// A pass by a machine, for a seat, if the machine is privileged; it is no event if not.
+    /// A pass by a machine, for a seat, if the machine is privileged; otherwise it is not an event.
     Try {
         ring: u32,
         seat: u32,
@@ -178,7 +178,7 @@ fn survey(bytes: &[u8]) -> Result<(Option<Command>, &[u8]), Stop>
     Ok((Some(Command::Survey { ring, seat }), rest))
 }
 
-/// The bytes behind the end of the line.
+/// The bytes after the end of the line.
 fn end_of_line(bytes: &[u8]) -> Result<&[u8], Stop>
     ensures { Gives (λ rest. rest.now) result (end_of_line bytes.now) }
 {

@@ -3,9 +3,9 @@
 ghost use Rattle.ring_serve.specs.InChains.{CallsAreInChains};
 ghost use Rattle.ring_serve.specs.Recovered.{AnswersAreRecovered};
 
-/// Of some lines that were answered with a journal some were told. The journal begins with the saved rings and goes on with the
-/// notes of the lines, and may be cut anywhere after those of the told ones: then the rings are recovered as they stood after
-/// some line, and have the call of each told line at its place, with the answer that was told.
+/// Of some lines that were answered with a journal some were delivered. The journal begins with the saved rings, continues with the
+/// notes of the lines, and may be cut anywhere after those of the delivered ones: then the rings are recovered as they were after
+/// some line, and have the call of each delivered line at its place, with the answer that was delivered.
 pub fn answered_calls_are_recovered()
     ensures { AnswersAreRecovered }
 {}

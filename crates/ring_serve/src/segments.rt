@@ -47,14 +47,14 @@ impl Served {
     ///
     /// # Errors
     ///
-    /// Out of memory alone.
+    /// Only if memory is short.
     pub fn bases(&self, alloc: Global) -> Result<Vec<Base>, AllocError>
         ensures { IfOk result (λ bases. bases.items ≡ bases_of self.now) }
     {
         bases_of(alloc, self.rings())
     }
 
-    /// The rings with their next segments: each begins where its ring stands now, and has no events. These rings stay as they
+    /// The rings with their next segments: each begins where its ring is now, and has no events. These rings stay as they
     /// are.
     ///
     /// # Errors

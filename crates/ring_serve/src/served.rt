@@ -179,7 +179,7 @@ impl Served {
     ///
     /// # Errors
     ///
-    /// Out of memory alone.
+    /// Only if memory is short.
     pub fn add(&mut self, ring: EndlessRing) -> Result<(), AllocError>
         requires { IsEndless ring }
         ensures ok { OnOk result (self.new ≡ self.old ++ standing_of ring ∷ []) }
@@ -216,7 +216,7 @@ impl Served {
         events_of(self.rings.as_slice(), ring as usize, from)
     }
 
-    /// Whether the segment is due to end: its journal has at least so many lines, one for each event and each survey of all rings,
+    /// Whether the segment is due to end: its journal has at least `limit` lines, one for each event and each survey of all rings,
     /// or some ring has fewer places left for events than a line may need.
     pub fn is_due(&self, limit: u64) -> bool
         ensures { result ≡ is_due (Some limit) self.now }

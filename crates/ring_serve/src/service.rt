@@ -65,7 +65,7 @@ impl AnswersLines for RingService<'_, '_> {
 
     ghost by_start = { by_start };
 
-    /// The line is answered in any case: only to tell of it memory may be wanted.
+    /// The line is answered in any case: memory may be short only for the text of its answer and for its notes.
     fn answer<D: Disk>(
         &mut self,
         disk: &mut D,

@@ -40,7 +40,7 @@ pub struct Journal<'n, J> {
 /// When the segment ends in which lines are served.
 #[derive(Clone, Copy)]
 pub struct Ends {
-    /// It is due once its journal has so many lines.
+    /// It is due once its journal has this number of lines.
     pub limit: u64,
     /// What each line is refused with, if the segment is due and cannot be ended.
     pub refusing: Option<Refusal>,
@@ -94,7 +94,7 @@ fn may_be_stream<D: Disk>(disk: &D, name: &str) -> bool {
     !matches!(disk.is_standard(name), Ok(false))
 }
 
-/// The bytes behind the word `save` of a line, up to its LF.
+/// The bytes after the word `save` of a line, up to its LF.
 fn name_of(line: &[u8]) -> &[u8]
     ensures { result.now ≡ name_in line.now }
 {
@@ -332,14 +332,14 @@ pub fn are_right(served: &Served)
 ///
 /// If there is a journal, it gets the lines of what each turn recorded, and no `save` replaces its file. Before more is read they
 /// are added to the journal, and then the writer is flushed: no answer leaves whose call is not in the journal, and lasts there if
-/// its file is synced. So of whatever is kept of a journal that had just begun, if it has the notes of the told lines, rings are
-/// recovered that have the call of each of them, with its answer; the same holds of the bytes that last.
+/// its file is synced. So of whatever is kept of a journal that had just begun, if it has the notes of the delivered lines, rings
+/// are recovered that have the call of each of them, with its answer; the same holds of the bytes that last.
 ///
 /// # Errors
 ///
 /// The first error of the reader, of the journal or of the writer; `OutOfMemory` where there was none for what a block is
-/// answered; `TooLong` where no more blocks are counted. The lines before were answered; the writer holds a beginning of their
-/// answers, and the journal the notes of each that was told.
+/// answered; `TooLong` where no more blocks are counted. The lines before were answered. The writer holds a prefix of their
+/// answers, and the journal the notes of each delivered line.
 pub fn serve<D: Disk, I: Read, J: Grow + Drop, W: Write>(
     alloc: Global,
     served: &mut Served,
@@ -368,7 +368,7 @@ pub fn serve<D: Disk, I: Read, J: Grow + Drop, W: Write>(
         (record { journal = held_by J.contents journal.old; out = W.contents out.old })
         (record { journal = held_by J.contents journal.new; out = W.contents out.new }) }
 
-    // The same of the bytes that last: whenever the power fails, the calls of the told lines are recovered of the journal.
+    // The same of the bytes that last: whenever the power fails, the calls of the delivered lines are recovered from the journal.
     ensures lasts { AnsweredCallsAreRecovered (terms_of (named_by journal.old) permits.entry)
         served.old served.new (D.holds disk.old) (D.holds disk.new) (I.remaining input.old)
         (I.remaining input.new)

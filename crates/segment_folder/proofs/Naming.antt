@@ -44,7 +44,7 @@ zeros_needed : (len z digits : ℕ) → len ≡ z + (digits + 5) → IsPadded le
 zeros_needed len z digits is (inl e) = omega arith
 zeros_needed len z digits is (inr e) = omega (arith, e.0, e.1)
 
--- what is behind the zeros begins with another byte
+-- what follows the zeros begins with another byte
 first_behind : (name : List ℕ) (z : ℕ) → get_or (drop z name) 0 0 ≡ get_or name z 0
 first_behind name z = get_or-drop z name 0 0 ∙ ap (λ k. get_or name k 0) (omega arith)
 

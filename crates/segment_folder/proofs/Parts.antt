@@ -41,7 +41,7 @@ module _ (name : List ℕ) (end : ℕ) (within : end ≤ length name) (digits : 
     whole : length name ≡ length p.front + 5 + length p.digits
     whole = ap length spelled ∙ length-append (p.front ++ codes ".part") p.digits ∙ ap (λ k. k + length p.digits) size
 
-    -- the last byte of `.part` is no digit
+    -- the last byte of `.part` is not a digit
     no_digit : get_or name (length p.front + 4) 0 ≡ 116
     no_digit = ap (λ (x : List ℕ). get_or x (length p.front + 4) 0) p.spelled ∙ get_or-append-add p.front (codes ".part" ++ p.digits) 4 0
 

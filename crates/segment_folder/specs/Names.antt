@@ -6,7 +6,7 @@ use Rattle.text_lines.specs.Reading.{is_digit}
 use Rattle.std.specs.Prelude.{IsTrue}
 use Rattle.disks.specs.Folders.{path_in}
 
--- a number with zeros in front of it, if it has less than ten digits
+-- a number with zeros before it, if it has less than ten digits
 abbrev pub padded : ℕ → List ℕ
 padded n = replicate (10 - length (decimal n)) 48 ++ decimal n
 
@@ -38,7 +38,7 @@ pub record IsPartName (name : List ℕ) : Type 0 where
 abbrev pub list_name : List ℕ
 list_name = codes "locks"
 
--- a name that may stand beside the segments: that of the lock of the folder, of the list of locks, or
+-- a name that may be beside the segments: that of the lock of the folder, of the list of locks, or
 -- of a file that is being made
 abbrev pub IsOtherName : List ℕ → Type 0
 IsOtherName name = (name ≡ codes "lock") ⊎ ((name ≡ list_name) ⊎ IsPartName name)

@@ -25,7 +25,7 @@ pub record IsForeign (name : List ℕ) : Type 0 where
   pub segment : (n : ℕ) → ¬ IsSegmentName name n
   pub other : ¬ IsOtherName name
 
--- an entry that may stand there: a regular file of a segment's name, or another known name
+-- an entry that may be there: a regular file of a segment's name, or another known name
 abbrev pub IsRightEntry : FolderEntry → Type 0
 IsRightEntry e =
     ((n : ℕ) × IsSegmentName (string_bytes e.name) n × (e.is_regular ≡ true))
@@ -60,8 +60,8 @@ pub record IsGap (has : ℕ → Bool) (n : ℕ) : Type 0 where
   pub after : (n < last) × IsNumber last
   pub last_there : has last ≡ true
 
--- The right answer for these entries: each may stand there, and the segments are just those from
--- one number to another, or there is none; or the first of them that may not stand there; or the
+-- The right answer for these entries: each may be there, and the segments are just those from one
+-- number to another, or there is none; or the first of them that may not be there; or the
 -- least number that is missing; memory aside.
 abbrev pub IsRightNumbers : List FolderEntry → Result (Option SegmentNumbers) FolderError → Type 0
 IsRightNumbers entries (Ok None) =
@@ -92,7 +92,7 @@ IsFolderAnswer files folder answer =
 
 -- ---- the steps
 
--- the number of an entry, if it is a segment; or why it may not stand there
+-- the number of an entry, if it is a segment; or why it may not be there
 abbrev pub IsEntryNumber : FolderEntry → Result (Option ℕ) FolderError → Type 0
 IsEntryNumber e (Ok (Some n)) = IsSegmentName (string_bytes e.name) n × (e.is_regular ≡ true)
 IsEntryNumber e (Ok None) =
@@ -104,7 +104,7 @@ IsEntryNumber e (Err (Irregular n)) =
 IsEntryNumber e (Err OutOfMemory) = Unit {0}
 IsEntryNumber e (Err _) = ⊥
 
--- the numbers of entries, each of which may stand there
+-- the numbers of entries, each of which may be there
 pub record AreNumbersOf (entries : List FolderEntry) (numbers : List ℕ) : Type 0 where
   pub entries_right : All IsRightEntry entries
   pub each : All IsNumber numbers

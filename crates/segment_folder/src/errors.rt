@@ -49,9 +49,9 @@ impl fmt::Display for EntryName {
 pub enum FolderError {
     /// The names in it cannot be listed.
     Unlisted,
-    /// The name is neither a segment's nor one that may stand beside segments.
+    /// The name is neither a segment's nor one that may be beside segments.
     Foreign(EntryName),
-    /// The segment of this number is no regular file.
+    /// The segment of this number is not a regular file.
     Irregular(u64),
     /// The segment of this number is missing, but one before it and one after it are there.
     Missing(u64),

@@ -17,7 +17,7 @@ const DIGITS: usize = 10;
 /// How long a name is at least: with these digits, and what ends it.
 const LENGTH: usize = 15;
 
-/// Puts so many zeros behind a text.
+/// Puts `count` zeros after a text.
 fn push_zeros(text: &mut String, count: usize) -> Result<(), AllocError>
     ensures { OnOk result (string_bytes text.new ≡ string_bytes text.old ++ replicate count 48) }
 {
@@ -55,7 +55,7 @@ fn count_zeros(name: &[u8]) -> usize
     zeros
 }
 
-/// Whether a name that begins with so many zeros has no more of them than it needs to be long enough.
+/// Whether a name that begins with this number of zeros has no more of them than it needs to be long enough.
 fn is_padded(name: &[u8], zeros: usize) -> bool
     ensures { IsTrue result ↔ IsPadded (length name.now) zeros }
 {
@@ -78,7 +78,7 @@ pub(crate) fn segment_number(name: &[u8]) -> Result<Option<u64>, AllocError>
     }
 }
 
-/// How many bytes there are up to the last that is no digit.
+/// How many bytes there are up to the last that is not a digit.
 fn before_digits(name: &[u8]) -> usize
     ensures within { result ≤ length name.now }
     ensures digits { (k : ℕ) → result ≤ k → k < length name.now
@@ -113,7 +113,7 @@ pub fn list_name() -> EntryName
     EntryName { bytes, length: 5 }
 }
 
-/// Whether a file of this name may stand beside the segments.
+/// Whether a file of this name may be beside the segments.
 pub(crate) fn is_other(name: &[u8]) -> bool
     ensures { IsTrue result ↔ IsOtherName name.now }
 {

@@ -19,7 +19,7 @@ pub struct SegmentNumbers {
     pub last: u64,
 }
 
-/// The number of the segment that an entry is; none of another that may stand beside segments.
+/// The number of the segment that an entry is; none of another that may be beside segments.
 fn entry_number(entry: &FolderEntry) -> Result<Option<u64>, FolderError>
     ensures { IsEntryNumber entry.now result }
 {
@@ -79,7 +79,7 @@ fn range_of(numbers: &[u64]) -> Result<Option<SegmentNumbers>, u64>
 ///
 /// # Errors
 ///
-/// `Foreign` and `Irregular` with the first entry that may not stand there; `Missing` with the least number that is missing
+/// `Foreign` and `Irregular` with the first entry that may not be there; `Missing` with the least number that is missing
 /// between two that are there; `OutOfMemory`.
 pub fn numbers_among(
     alloc: Global,

@@ -1,5 +1,5 @@
 -- What is known of the file of a segment that is opened.
-use Rattle.std.proofs.Common.{◌≡◌, ℕ, ◌+◌, List, Option, None, Some, refl, sym, subst, ◌∙◌, inr}
+use Rattle.std.proofs.Common.{◌≡◌, ℕ, ◌+◌, List, Option, None, Some, refl, sym, subst, ◌∙◌, ◌⊎◌, inl, inr}
 use Rattle.std.specs.Prelude.{IfSome}
 use Rattle.disks.specs.Held.{Held, bytes_of, Grows, Replaces}
 use Rattle.segment_folder.specs.Names.{segment_file}
@@ -8,7 +8,7 @@ use Rattle.sha2.specs.Hashers.{Holds256}
 use Rattle.sha2.specs.declared.Sha256.{Sha256}
 use Rattle.segment_loop.specs.declared.segmented.EndFault.{EndFault}
 use Rattle.segment_loop.specs.Segmenting.{Segmenting}
-use Rattle.segment_loop.specs.Segments.{moment_of, IsPut, HasEnded, IsKept}
+use Rattle.segment_loop.specs.Segments.{Moment, moment_of, IsPut, HasEnded, IsUnprepared, IsFileCause, IsKept}
 
 -- what its writer has, if the file holds what the hasher has taken in
 abbrev pub Knows : Option Held → List ℕ → Sha256 → Option (List ℕ) → Type 0
@@ -32,7 +32,28 @@ kept_known (Some was) is name None s w r f k = tt
 kept_known (Some was) None name (Some bytes) s w r f k = absurd r
 kept_known (Some was) (Some is) name (Some bytes) s w r f k = k bytes (r.here name refl) (f bytes refl)
 
--- ---- the next file is put there, the segment has ended, or it goes on
+-- what holds of the file of a segment that continues, whatever the reason
+abbrev pub HoldsSame : {S : Type 0} → List ℕ → Moment S → Moment S → Type 0
+HoldsSame folder a b =
+    ((b.files ≡ a.files) × (b.journal ≡ a.journal))
+    ⊎ (Replaces a.files b.files (segment_file folder a.number) a.journal × IfSome a.files (λ (held : Held). IfSome a.journal (λ (bytes : List ℕ). b.journal ≡ Some bytes)))
+
+pub kept_file : {S : Type 0} (G : Segmenting S) (folder : List ℕ) (why : EndFault) (a b : Moment S) → IsKept G folder why a b → HoldsSame folder a b
+kept_file G folder why a b h = by h.file
+  where
+    by : (IsUnprepared G a.service a.number why × (b.files ≡ a.files) × (b.journal ≡ a.journal)) ⊎ (IsFileCause why × Replaces a.files b.files (segment_file folder a.number) a.journal × IfSome a.files (λ (held : Held). IfSome a.journal (λ (bytes : List ℕ). b.journal ≡ Some bytes))) → HoldsSame folder a b
+    by (inl k) = inl (k.1, k.2)
+    by (inr k) = inr (k.1, k.2)
+
+-- and the reason
+pub kept_cause : {S : Type 0} (G : Segmenting S) (folder : List ℕ) (why : EndFault) (a b : Moment S) → IsKept G folder why a b → IsUnprepared G a.service a.number why ⊎ IsFileCause why
+kept_cause G folder why a b h = by h.file
+  where
+    by : (IsUnprepared G a.service a.number why × (b.files ≡ a.files) × (b.journal ≡ a.journal)) ⊎ (IsFileCause why × Replaces a.files b.files (segment_file folder a.number) a.journal × IfSome a.files (λ (held : Held). IfSome a.journal (λ (bytes : List ℕ). b.journal ≡ Some bytes))) → IsUnprepared G a.service a.number why ⊎ IsFileCause why
+    by (inl k) = inl k.0
+    by (inr k) = inr k.0
+
+-- ---- the next file is put there, the segment has ended, or it continues
 
 module _ {S : Type 0} (G : Segmenting S) (folder : List ℕ) (service : S) (was mid : Option Held) (number : ℕ) (journal : Option (List ℕ)) (old_name : List ℕ) (settled : Replaces was mid old_name journal) (old : old_name ≡ segment_file folder number) where
   pub settled_here : Replaces was mid (segment_file folder number) journal
@@ -61,13 +82,14 @@ module _ {S : Type 0} (G : Segmenting S) (folder : List ℕ) (service : S) (was 
         journal = subst (λ (x : List ℕ). IfSome mid (λ (held : Held). w ≡ Some x)) spelled (placed_known mid put new_name text hasher w there hashes known);
       }))
 
-  pub is_kept : (new : S) (why : EndFault) (put is : Option Held) (b : ℕ) (w : Option (List ℕ)) (hasher : Sha256) → G.IsKept service why new → b ≡ number → put ≡ mid → is ≡ put → ((bytes : List ℕ) → journal ≡ Some bytes → Holds256 hasher bytes) → Knows put old_name hasher w →
+  pub is_kept : (new : S) (why : EndFault) (put is : Option Held) (b : ℕ) (w : Option (List ℕ)) (hasher : Sha256) → IsFileCause why → G.IsKept service why new → b ≡ number → put ≡ mid → is ≡ put → ((bytes : List ℕ) → journal ≡ Some bytes → Holds256 hasher bytes) → Knows put old_name hasher w →
       IsKept G folder why (moment_of service was number journal) (moment_of new is b w)
-  is_kept new why put is b w hasher goes same kept stays hashes known =
+  is_kept new why put is b w hasher cause goes same kept stays hashes known =
       subst (λ (i : Option Held). IsKept G folder why (moment_of service was number journal) (moment_of new i b w)) (sym (stays ∙ kept)) (record {
         kept = goes;
         number = same;
         file = inr (
+          cause,
           settled_here,
           kept_known was mid old_name journal hasher w settled hashes (subst (λ (i : Option Held). Knows i old_name hasher w) kept known),
         );

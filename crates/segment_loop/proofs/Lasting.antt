@@ -16,6 +16,7 @@ use Rattle.segment_loop.specs.Segmenting.{Segmenting}
 use Rattle.segment_loop.specs.Segments.{Moment, IsReady}
 use Rattle.segment_loop.specs.Lasting.{LeavesSegment}
 use Rattle.segment_loop.proofs.Hashing.{is_hashed}
+use Rattle.segment_loop.proofs.Changing.{kept_file}
 
 -- ---- a journal that is known, and all of which lasts
 
@@ -92,7 +93,7 @@ ready_knows G folder None a b (inr h) some m e =
       G.text b.service b.number f.behind,
       if_some f.between (b.journal ≡ Some (G.text b.service b.number f.behind)) between h.1.journal,
     )
-ready_knows G folder (Some why) a b h some m e = kept_knows a b (segment_file folder a.number) h.1.file some m e
+ready_knows G folder (Some why) a b h some m e = kept_knows a b (segment_file folder a.number) (kept_file G folder why a b h.1) some m e
 
 -- ---- what a loss of power leaves
 
@@ -110,13 +111,18 @@ front_kept (Some was) (Some is) name (Some x) None k h = absurd k
 front_kept (Some was) (Some is) name (Some x) (Some y) k h = subst (λ (z : List ℕ). ChangesOnly was is name (λ (has : Option (List ℕ)). BeginsWith has (Some z))) k h
 
 -- a file that is left with just these bytes begins with them
-begins_all : (has : Option (List ℕ)) (bytes : List ℕ) → has ≡ Some bytes → BeginsWith has (Some bytes)
+pub begins_all : (has : Option (List ℕ)) (bytes : List ℕ) → has ≡ Some bytes → BeginsWith has (Some bytes)
 begins_all has bytes e = ([], e ∙ ap (λ (x : List ℕ). Some x) (sym (append-nil bytes)))
 
 just_has : (was is : Option Held) (name bytes : List ℕ) → Leaves was is name (Some bytes) → IfSome is (λ (held : Held). HasFront held name (Some bytes))
 just_has None is name bytes e = subst (λ (x : Option Held). IfSome x (λ (held : Held). HasFront held name (Some bytes))) (sym e) tt
 just_has (Some was) None name bytes h = absurd h
 just_has (Some was) (Some is) name bytes h = begins_all (bytes_of is name) bytes (h.here name refl)
+
+just_front : (was is : Option Held) (name bytes : List ℕ) → Leaves was is name (Some bytes) → LeavesFront was is name (Some bytes)
+just_front None is name bytes e = e
+just_front (Some was) None name bytes h = absurd h
+just_front (Some was) (Some is) name bytes h = record { places = h.places; here = λ other one. begins_all (bytes_of is other) bytes (h.here other one); others = h.others }
 
 -- ---- a segment's writer, for whoever begins and closes the segment
 
@@ -132,6 +138,13 @@ whole_has was is name c l h left all =
     let k = known_is (hashed c h) l all in
     subst (λ (x : Option (List ℕ)). IfSome is (λ (held : Held). HasFront held name x)) (sym (last_is (hashed c h) l all ∙ k.1))
     (just_has was is name k.0 (subst (λ (x : Option (List ℕ)). Leaves was is name x) (is_hashed c h k.0 k.1).0 left))
+
+-- the same of what is left then
+pub whole_leaves : (was is : Option Held) (name : List ℕ) (c l : Option (List ℕ)) (h : Sha256) → Leaves was is name c → AllLasts (hashed c h) l → LeavesFront was is name l
+whole_leaves was is name c l h left all =
+    let k = known_is (hashed c h) l all in
+    subst (λ (x : Option (List ℕ)). LeavesFront was is name x) (sym (last_is (hashed c h) l all ∙ k.1))
+    (just_front was is name k.0 (subst (λ (x : Option (List ℕ)). Leaves was is name x) (is_hashed c h k.0 k.1).0 left))
 
 -- ---- the segment, or the next one
 

@@ -3,3 +3,4 @@ pub mod Changing
 pub mod Parts
 pub mod Noting
 pub mod Lasting
+pub mod Earlier

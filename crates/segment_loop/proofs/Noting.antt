@@ -1,11 +1,11 @@
 -- The file of the last segment has the notes of its parts.
-use Rattle.std.proofs.Common.{◌≡◌, ℕ, List, [], ◌∷◌, ◌++◌, Option, None, Some, refl, sym, ap, subst, ◌∙◌, ◌⊎◌, inl, inr, append_assoc, arith}
+use Rattle.std.proofs.Common.{◌≡◌, ℕ, ◌+◌, List, [], ◌∷◌, ◌++◌, Option, None, Some, refl, sym, ap, subst, ◌∙◌, ◌⊎◌, inl, inr, append_assoc, arith}
 use Rattle.std.specs.Prelude.{IfSome, IsSome}
 use Rattle.std.specs.Io.KnownBytes.{Appends, Consumes}
 use Rattle.std.proofs.lemmas.List.{append-nil}
 use Rattle.std.proofs.lemmas.Bool.{false≢true}
 use Rattle.disks.specs.Held.{Held, Replaces}
-use Rattle.disks.specs.Lasting.{HasFront}
+use Rattle.disks.specs.Lasting.{BeginsWith, HasFront}
 use Rattle.text_lines.proofs.Writing.{appends_then, appends_nil}
 use Rattle.segment_folder.specs.Names.{segment_file}
 use Rattle.line_loop.specs.Answering.{Answers, AreAnswered, joined_lines}
@@ -17,9 +17,11 @@ use Rattle.segment_loop.specs.Segmenting.{Segmenting, KeepsKnown}
 use Rattle.segment_loop.specs.Segments.{Moment, moment_of, stand_of, IsReady}
 use Rattle.segment_loop.specs.Service.{Part, IsPart, AreParts, all_lines, all_said}
 use Rattle.segment_loop.specs.Notes.{all_noted, AreIn, KeepsLast, ToldLinesAreNoted}
-use Rattle.segment_loop.specs.Lasting.{LeavesSegment, ToldLinesLast}
+use Rattle.segment_loop.specs.Lasting.{LeavesSegment, ToldLinesLast, LeavesFile, LeavesEarlier, EachSegmentLasts}
+use Rattle.segment_loop.proofs.Changing.{kept_file}
 use Rattle.segment_loop.proofs.Lasting.{front_leaves}
 use Rattle.segment_loop.proofs.Parts.{Served, parts_more, lines_more, said_more}
+use Rattle.segment_loop.proofs.Earlier.{LeavesWhole, whole_keeps, whole_then, each_of}
 
 -- ---- within a segment
 
@@ -54,7 +56,7 @@ kept_goes m b name (inr k) = λ held e. (still_held m.files b.files name m.journ
 ready_goes : {S : Type 0} (G : Segmenting S) (folder : List ℕ) (kept : Option EndFault) (m b : Moment S) → IsReady G folder kept m b → b.number ≡ m.number → Goes m b []
 ready_goes G folder None m b (inl h) same = subst (λ (x : Moment _). Goes m x []) (sym h.1) (goes_none m)
 ready_goes G folder None m b (inr h) same = let up = h.1.number in absurd (omega (arith, up, same))
-ready_goes G folder (Some why) m b h same = kept_goes m b (segment_file folder m.number) h.1.file
+ready_goes G folder (Some why) m b h same = kept_goes m b (segment_file folder m.number) (kept_file G folder why m b h.1)
 
 is_held : (files : Option Held) → IsSome files → (h : Held) × (files ≡ Some h)
 is_held None some = absurd (false≢true some)
@@ -98,7 +100,7 @@ keeps_last A law G folder a mid parts more journal served got earlier first othe
 
 -- ---- wherever serving ends
 
--- all that was answered was told
+-- all that was answered was delivered
 module _ {S : Type 0} (A : AnsweringWith S) (law : KeepsKnown A) (G : Segmenting S) (folder : List ℕ) (a b : Moment S) (unread line : List ℕ) (input rest out after : Option (List ℕ)) (new : S) (d : Served A G folder a b unread line input rest out after) (same : new ≡ b.service) where
   -- with the journal, or another value that it is
   told_with : (journal : Option (List ℕ)) → b.journal ≡ journal → ToldLinesAreNoted A G folder a new input rest out after journal
@@ -134,6 +136,15 @@ module _ {S : Type 0} (A : AnsweringWith S) (law : KeepsKnown A) (G : Segmenting
     journal = journal;
     noted = told_with (Some journal) e;
     left_is = l;
+  }
+
+  -- and the segments before it, whole
+  pub all_each : (journal : List ℕ) → (e : b.journal ≡ Some journal) → (left : Option Held) → (l : LeavesSegment G folder b journal left) → LeavesWhole folder a d.parts left → LeavesFile folder b.number left (λ (has : Option (List ℕ)). BeginsWith has (Some journal)) →
+      EachSegmentLasts A G folder a new input rest out after left
+  unfolding all_last told_with
+  all_each journal e left l whole front = record {
+    told = all_last journal e left l;
+    each = each_of A G folder a d.parts b.number journal left whole front;
   }
 
 -- ---- where a part stopped
@@ -198,3 +209,20 @@ module _ {S : Type 0} (A : AnsweringWith S) (law : KeepsKnown A) (G : Segmenting
     noted = some_told new files (Some journal) rest after read consumed st;
     left_is = front_leaves G folder (moment_of st.mid.service st.mid.files from.number (after_notes from.journal st.noted)) left name journal named l;
   }
+
+  -- and the segments before it, whole
+  pub some_each : (new : S) (files : Option Held) (journal : List ℕ) (rest after : Option (List ℕ)) → (read : List ℕ) → (consumed : Consumes input rest (d.read ++ read)) →
+      (st : Stops (by_stand A) (stand_of from) (record { journal = from.journal; out = before }) (record { journal = Some journal; out = after }) (d.begun ++ (unread ++ read)) (stand new files)) →
+      (was mid left : Option Held) (name : List ℕ) → (named : name ≡ segment_file folder from.number) → (l : IfSome left (λ (held : Held). HasFront held name (Some journal))) →
+      LeavesWhole folder a d.parts was → LeavesEarlier folder b.number was mid → (from.number ≡ b.number + 1 → LeavesFile folder b.number mid (λ (has : Option (List ℕ)). has ≡ b.journal)) →
+      LeavesEarlier folder from.number mid left → LeavesFile folder from.number left (λ (has : Option (List ℕ)). BeginsWith has (Some journal)) → EachSegmentLasts A G folder a new input rest out after left
+  unfolding some_last some_told
+  some_each new files journal rest after read consumed st was mid left name named l whole keeps ended others front =
+      let part : Part S = record { kept = kept; from = from; to = moment_of st.mid.service st.mid.files from.number (after_notes from.journal st.noted); lines = st.told.lines; said = st.said; noted = st.noted } in
+      let parts : List (Part S) = d.parts ++ part ∷ [] in
+      let served : AreParts A G folder a parts part.to = parts_more A G folder a b d.parts part d.served ready (record { number = refl; each = st.told.each; answers = st.told.answers; wrote = with_notes from.journal st.noted }) in
+      let begun : LeavesWhole folder a parts mid = whole_then A G folder a b d.parts part d.served mid ended (whole_keeps A G folder a b d.parts d.served was mid keeps whole) in
+      record {
+        told = some_last new files journal rest after read consumed st left name named l;
+        each = each_of A G folder a parts from.number journal left (whole_keeps A G folder a part.to parts served mid left others begun) front;
+      }

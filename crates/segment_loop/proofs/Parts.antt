@@ -46,7 +46,7 @@ pub record Served {S : Type 0} (A : AnsweringWith S) (G : Segmenting S) (folder 
   pub keeps : HasBegun begun line
   pub wrote : Appends out after (all_said parts)
 
--- so many parts were served: for a byte that was read, and for one that was taken, one at most
+-- n parts were served: at most one for each byte that was read, and one for each that was taken
 abbrev pub IsCounted : {S : Type 0} {A : AnsweringWith S} {G : Segmenting S} {folder : List ℕ} {a b : Moment S} {unread line : List ℕ} {input rest out after : Option (List ℕ)} → ℕ → Served A G folder a b unread line input rest out after → Type 0
 IsCounted n d = n ≤ length d.read + length (all_lines d.parts)
 
@@ -73,7 +73,7 @@ more_some A over end old new once low (inr is) ends p =
     let some : 1 ≤ length p.read = subst (λ (e : Ending). HasRead e p.read) is p.reads in
     omega (arith, some)
 
-pub none_served : {S : Type 0} (A : AnsweringWith S) (G : Segmenting S) (folder : List ℕ) (a : Moment S) (unread line : List ℕ) (input out : Option (List ℕ)) → unread ≡ [] → line ≡ [] → Served A G folder a a unread line input input out out
+unfoldable pub none_served : {S : Type 0} (A : AnsweringWith S) (G : Segmenting S) (folder : List ℕ) (a : Moment S) (unread line : List ℕ) (input out : Option (List ℕ)) → unread ≡ [] → line ≡ [] → Served A G folder a a unread line input input out out
 none_served A G folder a unread line input out none empty = record {
   parts = [];
   read = [];
@@ -86,7 +86,7 @@ none_served A G folder a unread line input out none empty = record {
 }
 
 module _ {S : Type 0} (A : AnsweringWith S) (G : Segmenting S) (folder : List ℕ) (a b from : Moment S) (kept : Option EndFault) (unread line : List ℕ) (input middle out before : Option (List ℕ)) (d : Served A G folder a b unread line input middle out before) (ready : IsReady G folder kept b from) where
-  pub one_served : (end : Ending) (new : S) (files : Option Held) (journal : Option (List ℕ)) (number : ℕ) (left line' : List ℕ) (rest after : Option (List ℕ)) → number ≡ from.number →
+  unfoldable pub one_served : (end : Ending) (new : S) (files : Option Held) (journal : Option (List ℕ)) (number : ℕ) (left line' : List ℕ) (rest after : Option (List ℕ)) → number ≡ from.number →
       ServesPart end (by_stand A) (stand_of from) (stand new files) d.begun unread left line' middle rest (record { journal = from.journal; out = before }) (record { journal = journal; out = after }) →
       Served A G folder a (moment_of new files number journal) left line' input rest out after
   one_served end new files journal number left line' rest after same p =

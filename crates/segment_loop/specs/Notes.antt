@@ -1,4 +1,4 @@
--- The notes of told lines in the file of the last segment (this project's own).
+-- The notes of delivered lines in the file of the last segment (this project's own).
 use Rattle.std.specs.Prelude.{◌≡◌, ℕ, List, [], ◌∷◌, ◌++◌, Option, IfSome}
 use Rattle.std.specs.List.{AllByRecursion}
 use Rattle.std.specs.Io.KnownBytes.{Appends, Consumes}
@@ -19,7 +19,7 @@ all_noted (p ∷ ps) = p.noted ++ all_noted ps
 abbrev pub AreIn : {S : Type 0} → ℕ → List (Part S) → Type 0
 AreIn number parts = AllByRecursion (λ p. p.from.number ≡ number) parts
 
--- The file of the last segment has the notes of its parts, and then these, behind what it held when
+-- The file of the last segment has the notes of its parts, and then these, after what it held when
 -- the first of them began.
 abbrev pub KeepsLast : {S : Type 0} → List (Part S) → List ℕ → Option (List ℕ) → Type 0
 KeepsLast parts more journal =
@@ -28,9 +28,9 @@ KeepsLast parts more journal =
     → IfSome first.from.files
     (λ _. Appends first.from.journal journal (all_noted (first ∷ others) ++ more))
 
--- Wherever serving ended: these parts were told, the output has a prefix of their answers and
--- nothing else, and the file of the last segment has their notes. Of the lines behind them some
--- were answered, and the file has a prefix of their notes.
+-- Wherever serving ended: these parts were delivered, the output has a prefix of their answers and
+-- nothing else, and the file of the last segment has their notes. Of the lines after them some were
+-- answered, and the file has a prefix of their notes.
 pub record ToldLinesAreNoted {S : Type 0} (A : AnsweringWith S) (G : Segmenting S) (folder : List ℕ)
     (a : Moment S) (new : S) (input rest out after journal : Option (List ℕ)) : Type 0 where
   pub parts : List (Part S)

@@ -1,11 +1,12 @@
 -- How a segment ends and the next begins, in files (this project's own).
-use Rattle.std.specs.Prelude.{◌≡◌, ℕ, ◌+◌, true, false, List, Option, None, Some, IfSome, ◌⊎◌, string_bytes}
+use Rattle.std.specs.Prelude.{◌≡◌, ℕ, ◌+◌, ◌≤◌, ◌^◌, true, false, List, Option, None, Some, IfSome, ◌⊎◌, string_bytes}
 use Rattle.disks.specs.Held.{Held, Replaces}
 use Rattle.segment_folder.specs.Names.{segment_file}
 use Rattle.sha2.specs.Hashers.{Holds256}
 use Rattle.ring_segments.specs.Spelling.{digest_of}
 use Rattle.line_loop.specs.Stands.{Stand, stand}
 use Rattle.segment_loop.specs.declared.segmented.EndFault.{EndFault}
+use Rattle.segment_loop.specs.declared.segmented.EndFault.TheVariants as end
 use Rattle.segment_loop.specs.declared.segments.OpenSegment.{OpenSegment}
 use Rattle.segment_loop.specs.declared.ending.NextSegment.{NextSegment}
 use Rattle.segment_loop.specs.Segmenting.{Segmenting}
@@ -71,17 +72,33 @@ pub record HasEnded {S : Type 0} (G : Segmenting S) (folder : List ℕ) (a b : M
   pub number : b.number ≡ a.number + 1
   pub journal : IfSome file.between (λ _. b.journal ≡ Some (G.text b.service b.number file.behind))
 
--- It goes on, for this reason: its file holds what it held, settled or not.
+-- There is nothing to begin the segment after this one with, for this reason: the service has no
+-- next one, or that has no text; no number is left; or there is no memory.
+abbrev pub IsUnprepared : {S : Type 0} → Segmenting S → S → ℕ → EndFault → Type 0
+IsUnprepared {S} G service number why =
+    G.HasNoNext service why
+    ⊎ (((next : S) × G.IsNext service next × G.HasNoText next why)
+    ⊎ (((why ≡ end.Full) × (2 ^ 64 ≤ number + 1)) ⊎ (why ≡ end.OutOfMemory)))
+
+-- a file could not be made, written, put there or opened, or there was no memory for it
+abbrev pub IsFileCause : EndFault → Type 0
+IsFileCause why = (why ≡ end.File) ⊎ (why ≡ end.OutOfMemory)
+
+-- It continues, for this reason, and its file holds what it held: no file was touched, since there
+-- is nothing to begin the next one with; or it was settled, and that of the next one was not made.
 pub record IsKept {S : Type 0} (G : Segmenting S) (folder : List ℕ) (why : EndFault)
     (a b : Moment S) : Type 0 where
   pub kept : G.IsKept a.service why b.service
   pub number : b.number ≡ a.number
-  pub file : ((b.files ≡ a.files) × (b.journal ≡ a.journal))
-      ⊎ (Replaces a.files b.files (segment_file folder a.number) a.journal
+  pub file : (IsUnprepared G a.service a.number why
+      × (b.files ≡ a.files)
+      × (b.journal ≡ a.journal))
+      ⊎ (IsFileCause why
+      × Replaces a.files b.files (segment_file folder a.number) a.journal
       × IfSome a.files (λ _. IfSome a.journal (λ bytes. b.journal ≡ Some bytes)))
 
--- Before lines are answered: a segment that is due has ended, or it goes on for a reason. One that
--- is not due stays.
+-- Before lines are answered: a segment that is due has ended, or it continues for a reason. One
+-- that is not due stays.
 abbrev pub IsReady : {S : Type 0} → Segmenting S → List ℕ → Option EndFault → Moment S → Moment S
     → Type 0
 IsReady G folder None a b =
@@ -89,8 +106,8 @@ IsReady G folder None a b =
     ⊎ ((G.is_due a.service ≡ true) × HasEnded G folder a b)
 IsReady G folder (Some why) a b = (G.is_due a.service ≡ true) × IsKept G folder why a b
 
--- What the disk has where it could be neither ended nor go on: the files as they were; or the file
--- of the segment is settled; and then perhaps that of the next one was put there.
+-- What the disk has where it could neither be ended nor continue: the files as they were; or the
+-- file of the segment is settled; and then perhaps that of the next one was put there.
 abbrev pub IsLeft : {S : Type 0} → Segmenting S → List ℕ → Moment S → Option Held → Type 0
 IsLeft {S} G folder a is =
     (is ≡ a.files)

@@ -14,7 +14,7 @@ use Rattle.segment_loop.specs.Segmenting.{Segmenting}
 use Rattle.segment_loop.specs.Segments.{Moment, stand_of, IsReady, IsLeft}
 
 -- lines that are served in one segment: from which moment to which, their text, the answers and
--- the notes; and why the segment goes on, if it was due
+-- the notes; and why the segment continues, if it was due
 pub record Part (S : Type 0) : Type 0 where
   pub kept : Option EndFault
   pub from : Moment S
@@ -60,7 +60,7 @@ pub record ServesSegments {S : Type 0} (A : AnsweringWith S) (G : Segmenting S) 
   pub ended : IsAtEnd rest
   pub wrote : Appends out after (all_said parts)
 
--- After some parts no more was answered, and this is what the disk has; or some of the lines behind
+-- After some parts no more was answered, and this is what the disk has; or some of the lines after
 -- them were answered, as the serving of a part stops.
 abbrev pub IsStopped : {S : Type 0} → AnsweringWith S → Segmenting S → List ℕ → Moment S → S
     → Option Held → Option (List ℕ) → Option (List ℕ) → List ℕ → Type 0
@@ -73,13 +73,13 @@ IsStopped A G folder mid new is before after behind =
     × Stops (by_stand A) (stand_of from) (record { journal = from.journal; out = before })
     (record { journal = journal; out = after }) behind (stand new is))
 
--- why a part ended, as it is told: in a segment that goes on since the next file could not be
--- written it is that, and not memory
+-- the reported reason why a part ended: in a segment that continues since the next file could not
+-- be written it is `Journal`, and not memory
 abbrev pub told_of : LoopFault → Option EndFault → LoopFault
 told_of fault.OutOfMemory (Some end.File) = fault.Journal
 told_of why kept = why
 
--- only of an input of so many bytes it is said that it is too long: for a byte two parts may end
+-- `TooLong` is only reported of an input of 2^63 bytes or more: for a byte two parts may end
 abbrev pub IsFaultOf : LoopFault → Option (List ℕ) → Option (List ℕ) → Type 0
 IsFaultOf fault.TooLong input rest =
     (bytes : List ℕ) × Consumes input rest bytes × (2 ^ 63 ≤ length bytes)

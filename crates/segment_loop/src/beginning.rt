@@ -1,9 +1,9 @@
 //! The first segment that is written.
 
-ghost use Rattle.std.specs.Prelude.{◌≡◌, ◌<◌, true, IfOk, OnErr};
+ghost use Rattle.std.specs.Prelude.{◌≡◌, ◌<◌, ◌⊎◌, true, IfOk, IfErr, OnErr};
 ghost use Rattle.ring_segments.specs.Spelling.{DigestFits};
 ghost use Rattle.segment_loop.specs.Digested.{hashed};
-ghost use Rattle.segment_loop.specs.Segments.{HasBegun, IsBegun, IsLeftUnbegun, IsNamed, moment_of};
+ghost use Rattle.segment_loop.specs.Segments.{HasBegun, IsBegun, IsFileCause, IsLeftUnbegun, IsNamed, moment_of};
 
 use crate::ending::{Beginning, cause_of, open_segment};
 use crate::segmented::{EndFault, Segmented};
@@ -32,6 +32,7 @@ pub fn begin_file<D: Disk>(
         (hashed (D.Grown.contents segment.writer.inner) segment.writer.hasher)) }
     ensures number { IfOk result (λ segment. segment.number ≡ number) }
     ensures named { IfOk result (λ segment. IsNamed rules.entry.folder.now segment) }
+    ensures err { IfErr result (λ e. IsFileCause e) }
     ensures left { OnErr result (IsLeftUnbegun rules.entry.folder.now number text.now
         (D.holds disk.old) (D.holds disk.new)) }
     ensures lasts { IfOk result (λ segment. rules.entry.synced ≡ true
@@ -52,7 +53,7 @@ pub fn begin_file<D: Disk>(
     }
 }
 
-/// Begins the segment of this number with the text of the service as it stands, after a file of this digest, as [`begin_file`] does.
+/// Begins the segment of this number with the text of the service as it is, after a file of this digest, as [`begin_file`] does.
 ///
 /// # Errors
 ///
@@ -72,6 +73,8 @@ pub fn begin_segment<S: Segmented, D: Disk>(
         (moment_of service.now (D.holds disk.new) segment.number
         (hashed (D.Grown.contents segment.writer.inner) segment.writer.hasher))) }
     ensures named { IfOk result (λ segment. IsNamed rules.entry.folder.now segment) }
+    ensures err { IfErr result
+        (λ e. S.segmenting.HasNoText service.now e ⊎ IsFileCause e) }
     ensures left { OnErr result (IsLeftUnbegun rules.entry.folder.now number
         (S.segmenting.text service.now number behind) (D.holds disk.old) (D.holds disk.new)) }
     ensures lasts { IfOk result (λ segment. rules.entry.synced ≡ true

@@ -3,12 +3,12 @@
 ghost use Rattle.std.specs.Prelude.{◌≡◌, ◌+◌, ◌<◌, ℕ, List, true, false, IfOk, IfErr, IfSome, OnOk, OnErr, IsSome, Some, string_bytes};
 ghost use Rattle.std.specs.Io.KnownBytes.{Keeps};
 ghost use Rattle.disks.specs.Held.{Replaces, bytes_of};
-ghost use Rattle.disks.specs.Lasting.{bytes_in, Leaves, MayLeave, LeavesFront};
+ghost use Rattle.disks.specs.Lasting.{bytes_in, BeginsWith, Leaves, MayLeave, LeavesFront};
 ghost use Rattle.sha2.specs.Hashers.{Holds256};
 ghost use Rattle.line_loop.specs.declared.faults.LoopFault.TheVariants as fault;
 ghost use Rattle.segment_loop.specs.Digested.{hashed};
-ghost use Rattle.segment_loop.specs.Segments.{IsPrepared, IsNamed, IsReady, IsLeft, moment_of};
-ghost use Rattle.segment_loop.specs.Lasting.{LeavesSegment};
+ghost use Rattle.segment_loop.specs.Segments.{IsPrepared, IsUnprepared, IsFileCause, IsNamed, IsReady, IsLeft, moment_of};
+ghost use Rattle.segment_loop.specs.Lasting.{LeavesSegment, LeavesFile, LeavesEarlier};
 
 use crate::digested::Digested;
 use crate::segmented::{EndFault, Segmented};
@@ -31,7 +31,7 @@ pub struct NextSegment<S> {
     hasher: Sha256,
 }
 
-/// Where lines are served next: the segment, and why it goes on, if it is due and could not be ended.
+/// Where lines are served next: the segment, and why it continues, if it is due and could not be ended.
 #[derive(Drop)]
 pub struct Ready<W> {
     pub(crate) segment: OpenSegment<W>,
@@ -48,6 +48,8 @@ fn prepare<S: Segmented, W: Grow>(
     ensures ok { IfOk result (λ next. IsPrepared S.segmenting service.now segment.now.number
         (hashed (W.contents segment.now.writer.inner) segment.now.writer.hasher) folder.now next) }
     ensures open { IfOk result (λ next. S.is_over next.service ≡ false) }
+    ensures err { IfErr result
+        (λ e. IsUnprepared S.segmenting service.now segment.now.number e) }
 {
     let next = match service.next(alloc) {
         Ok(next) => next,
@@ -119,8 +121,10 @@ fn settle<D: Disk>(disk: &mut D, writer: Digested<D::Grown>, name: &str) -> Resu
     }
 }
 
-/// Why a segment goes on, where the next file was not made.
-pub(crate) fn cause_of(fault: ReplaceFault) -> EndFault {
+/// Why a segment continues, where the next file was not made.
+pub(crate) fn cause_of(fault: ReplaceFault) -> EndFault
+    ensures { IsFileCause result }
+{
     match fault {
         ReplaceFault::OutOfMemory => EndFault::OutOfMemory,
         _ => EndFault::File,
@@ -237,6 +241,18 @@ fn change<S: Segmented, D: Disk>(
         (moment_of service.old (D.holds disk.old) segment.number
         (hashed (D.Grown.contents segment.writer.inner) segment.writer.hasher)) bytes
         (D.leaves disk.new)) }
+    ensures earlier { IsSome (D.holds disk.old) → LeavesEarlier rules.entry.folder.now segment.number
+        (D.leaves disk.old) (D.leaves disk.new) }
+    ensures ended { IfOk result (λ ready. IsSome (D.holds disk.old) → (bytes : List ℕ)
+        → hashed (D.Grown.contents segment.writer.inner) segment.writer.hasher ≡ Some bytes
+        → ready.segment.number ≡ segment.number + 1
+        → LeavesFile rules.entry.folder.now segment.number (D.leaves disk.new)
+        (λ has. has ≡ Some bytes)) }
+    ensures front { OnErr result (IsSome (D.holds disk.old) → (bytes : List ℕ)
+        → hashed (D.Grown.contents segment.writer.inner) segment.writer.hasher ≡ Some bytes
+        → D.Grown.lasting segment.writer.inner ≡ Some bytes
+        → LeavesFile rules.entry.folder.now segment.number (D.leaves disk.new)
+        (λ has. BeginsWith has (Some bytes))) }
 {
     let OpenSegment {
         number,
@@ -278,11 +294,12 @@ fn change<S: Segmented, D: Disk>(
     }
 }
 
-/// Before lines are answered: ends the segment if it is due, and begins the next one. If it cannot be ended, it goes on.
+/// Before lines are answered: ends the segment if it is due, and begins the next one. If it cannot be ended, it continues.
 ///
 /// # Errors
 ///
 /// `Journal` if the file of the segment cannot be settled, or that file or the next one not be opened.
+#[tactic(auto, using(crate::proofs::Earlier::same_left))]
 pub(crate) fn make_ready<S: Segmented, D: Disk>(
     alloc: Global,
     service: &mut S,
@@ -314,6 +331,18 @@ pub(crate) fn make_ready<S: Segmented, D: Disk>(
         (moment_of service.old (D.holds disk.old) segment.number
         (hashed (D.Grown.contents segment.writer.inner) segment.writer.hasher)) bytes
         (D.leaves disk.new)) }
+    ensures earlier { IsSome (D.holds disk.old) → LeavesEarlier rules.entry.folder.now segment.number
+        (D.leaves disk.old) (D.leaves disk.new) }
+    ensures ended { IfOk result (λ ready. IsSome (D.holds disk.old) → (bytes : List ℕ)
+        → hashed (D.Grown.contents segment.writer.inner) segment.writer.hasher ≡ Some bytes
+        → ready.segment.number ≡ segment.number + 1
+        → LeavesFile rules.entry.folder.now segment.number (D.leaves disk.new)
+        (λ has. has ≡ Some bytes)) }
+    ensures front { OnErr result (IsSome (D.holds disk.old) → (bytes : List ℕ)
+        → hashed (D.Grown.contents segment.writer.inner) segment.writer.hasher ≡ Some bytes
+        → D.Grown.lasting segment.writer.inner ≡ Some bytes
+        → LeavesFile rules.entry.folder.now segment.number (D.leaves disk.new)
+        (λ has. BeginsWith has (Some bytes))) }
 {
     if !service.is_due() {
         return Ok(Ready {

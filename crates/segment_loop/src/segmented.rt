@@ -1,6 +1,6 @@
 //! What answers lines in segments.
 
-ghost use Rattle.std.specs.Prelude.{◌≡◌, ◌<◌, ℕ, true, false, IfOk};
+ghost use Rattle.std.specs.Prelude.{◌≡◌, ◌<◌, ℕ, true, false, IfOk, IfErr};
 ghost use Rattle.ring_segments.specs.Spelling.{DigestFits};
 ghost use Rattle.segment_loop.specs.Segmenting.{Segmenting, KeepsKnown};
 
@@ -20,9 +20,9 @@ pub enum EndFault {
 
 /// What answers lines, segment by segment: the journal of each is a file of its own, which begins with a text of the service.
 ///
-/// It is over ([`AnswersLines::is_over`]) once its segment is due, unless it was told to keep on.
+/// It is over ([`AnswersLines::is_over`]) once its segment is due, unless it was asked to keep on.
 pub trait Segmented: AnswersLines + Drop {
-    /// The text of a segment, when it is due, what is next and what is kept.
+    /// The text of a segment, when it is due, what is next, why there is no next one or no text, and what is kept.
     ghost segmenting: { Segmenting Self };
 
     /// Whether the segment is to end.
@@ -33,16 +33,17 @@ pub trait Segmented: AnswersLines + Drop {
     ///
     /// # Errors
     ///
-    /// `OutOfMemory`, and `Full`.
+    /// Why there is no next one.
     fn next(&self, alloc: Global) -> Result<Self, EndFault>
         ensures next { IfOk result (λ next. segmenting.IsNext self.now next) }
-        ensures open { IfOk result (λ next. Self.is_over next ≡ false) };
+        ensures open { IfOk result (λ next. Self.is_over next ≡ false) }
+        ensures why { IfErr result (λ e. segmenting.HasNoNext self.now e) };
 
     /// The text with which the file of the segment of this number begins, after a file of this digest.
     ///
     /// # Errors
     ///
-    /// `OutOfMemory`, and `File` if it has no such text.
+    /// Why it has no such text.
     fn text(
         &self,
         alloc: Global,
@@ -51,9 +52,10 @@ pub trait Segmented: AnswersLines + Drop {
     ) -> Result<Vec<u8>, EndFault>
         requires number { 0 < number }
         requires digits { DigestFits behind }
-        ensures { IfOk result (λ text. text.items ≡ segmenting.text self.now number behind) };
+        ensures text { IfOk result (λ text. text.items ≡ segmenting.text self.now number behind) }
+        ensures why { IfErr result (λ e. segmenting.HasNoText self.now e) };
 
-    /// The segment goes on although it is due, for this reason: lines are answered again.
+    /// The segment continues although it is due, for this reason: lines are answered again.
     fn keep_on(&mut self, why: EndFault)
         requires { segmenting.is_due self.old ≡ true }
         ensures kept { segmenting.IsKept self.old why self.new }

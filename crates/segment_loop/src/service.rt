@@ -1,8 +1,8 @@
 //! Lines that are served in segments.
 
-ghost use Rattle.std.specs.Prelude.{◌≡◌, ℕ, List, Option, true, false, IfOk, IfErr, IfSome, IsSome, OnErr, MatchResult, is_some, string_bytes};
+ghost use Rattle.std.specs.Prelude.{◌≡◌, ℕ, List, Option, true, false, IfOk, IfErr, IfSome, IsSome, OnOk, OnErr, MatchResult, is_some, string_bytes, ⊤};
 ghost use Rattle.disks.specs.Held.{Held};
-ghost use Rattle.disks.specs.Lasting.{HasFront};
+ghost use Rattle.disks.specs.Lasting.{Changes, HasFront, LeavesFront};
 ghost use Rattle.line_loop.specs.Answering.{HasBegun};
 ghost use Rattle.line_loop.specs.Stands.{by_stand, stand};
 ghost use Rattle.line_loop.specs.declared.faults.LoopFault.{LoopFault};
@@ -11,7 +11,7 @@ ghost use Rattle.segment_loop.specs.Digested.{hashed};
 ghost use Rattle.segment_loop.specs.Segments.{IsNamed, moment_of};
 ghost use Rattle.segment_loop.specs.Service.{told_of, ServesSegments, ServesSomeSegments, IsFaultOf};
 ghost use Rattle.segment_loop.specs.Notes.{ToldLinesAreNoted};
-ghost use Rattle.segment_loop.specs.Lasting.{ToldLinesLast};
+ghost use Rattle.segment_loop.specs.Lasting.{ToldLinesLast, EachSegmentLasts};
 
 use crate::digested::Digested;
 use crate::ending::{Ready, abandon_segment, make_ready};
@@ -29,8 +29,8 @@ pub struct PartEnd<W> {
     pub(crate) segment: OpenSegment<W>,
 }
 
-/// Why a part ended, as it is told: memory is not short where the segment goes on since no file could be written, and a service
-/// answers no line there.
+/// The reported reason why a part ended. In a segment that continues since no file could be written, a service that answers no line
+/// is not out of memory: `Journal` is reported.
 fn told_of(fault: LoopFault, kept: Option<EndFault>) -> LoopFault
     ensures { result ≡ told_of fault kept }
 {
@@ -40,7 +40,7 @@ fn told_of(fault: LoopFault, kept: Option<EndFault>) -> LoopFault
     }
 }
 
-/// Serves a part of the lines: in a segment that goes on although it is due, up to the next block.
+/// Serves a part of the lines: in a segment that continues although it is due, up to the next block.
 fn serve_in<S: AnswersLines, D: Disk, I: Read, W: Write>(
     alloc: Global,
     service: &mut S,
@@ -98,6 +98,10 @@ fn serve_in<S: AnswersLines, D: Disk, I: Read, W: Write>(
         (record { journal = journal; out = W.contents out.new })
         × IfSome (D.leaves disk.new)
         (λ held. HasFront held (string_bytes ready.segment.name) journal)) }
+    ensures unchanged { OnOk result
+        (S.changes_files ≡ false → D.leaves disk.new ≡ D.leaves disk.old) }
+    ensures others { OnErr result (S.changes_files ≡ false → Changes (D.leaves disk.old)
+        (D.leaves disk.new) (string_bytes ready.segment.name) (λ _. ⊤)) }
 {
     let Ready { segment, kept } = ready;
     let OpenSegment {
@@ -143,17 +147,17 @@ fn serve_in<S: AnswersLines, D: Disk, I: Read, W: Write>(
 ///
 /// Between two lines, a segment that is due ends ([`Segmented::is_due`]). All answers have left then. Its file is settled, the file
 /// of the next one is put into the folder and opened, and the service is the next one. If the segment cannot be ended, since there
-/// is no memory or no file can be written, it goes on: its lines are answered, and this is tried again when the next block has been
+/// is no memory or no file can be written, it continues: its lines are answered, and this is tried again when the next block has been
 /// read.
 ///
-/// The last segment's file has the notes of all told lines in this segment, behind what it held before.
+/// The last segment's file has the notes of all lines that were delivered in this segment, after what it held before.
 ///
 /// # Errors
 ///
-/// Those of [`serve_part`], but `TooLong` only behind 2 to the power 63 bytes, and `Journal` for `OutOfMemory` in a segment that goes
-/// on since the next file could not be written; `Journal` too if the file of a segment that is due cannot be settled, or if that
-/// file, or the next one, cannot be opened. The folder then has the segment that was written, with all that was told, or the next
-/// one as the last, which tells the same.
+/// Those of [`serve_part`], but `TooLong` only after 2 to the power 63 bytes, and `Journal` for `OutOfMemory` in a segment that
+/// continues since the next file could not be written; `Journal` too if the file of a segment that is due cannot be settled, or if
+/// that file, or the next one, cannot be opened. The folder then has the segment that was written, with all that was delivered; or
+/// it has the next one as the last, whose text says the same.
 pub fn serve_segments<S: Segmented, D: Disk, I: Read, W: Write>(
     alloc: Global,
     service: &mut S,
@@ -193,7 +197,7 @@ pub fn serve_segments<S: Segmented, D: Disk, I: Read, W: Write>(
         (I.remaining input.old) (I.remaining input.new) (W.contents out.old) (W.contents out.new)
         journal) }
 
-    // Where each note is put on the disk, and the content of files is known: what was told is there whenever the power fails.
+    // Where each note is put on the disk, and the content of files is known: what was delivered is there whenever the power fails.
     ensures lasts { rules.entry.synced ≡ true → IsSome (D.holds disk.old)
         → AllLasts (hashed (D.Grown.contents first.writer.inner) first.writer.hasher)
         (D.Grown.lasting first.writer.inner)
@@ -215,6 +219,24 @@ pub fn serve_segments<S: Segmented, D: Disk, I: Read, W: Write>(
         (D.Grown.lasting first.writer.inner)
         → AllLasts (hashed (D.Grown.contents end.writer.inner) end.writer.hasher)
         (D.Grown.lasting end.writer.inner)) }
+
+    // Where answers change no file, the segments before the last are there too, whole.
+    ensures earlier { S.changes_files ≡ false → rules.entry.synced ≡ true → IsSome (D.holds disk.old)
+        → AllLasts (hashed (D.Grown.contents first.writer.inner) first.writer.hasher)
+        (D.Grown.lasting first.writer.inner)
+        → MatchResult result
+        (λ end. (left : Option Held) → LeavesFront (D.leaves disk.new) left (string_bytes end.name)
+        (D.Grown.lasting end.writer.inner)
+        → EachSegmentLasts S.is_answered S.segmenting rules.entry.folder.now
+        (moment_of service.old (D.holds disk.old) first.number
+        (hashed (D.Grown.contents first.writer.inner) first.writer.hasher)) service.new
+        (I.remaining input.old) (I.remaining input.new) (W.contents out.old) (W.contents out.new)
+        left)
+        (λ _. EachSegmentLasts S.is_answered S.segmenting rules.entry.folder.now
+        (moment_of service.old (D.holds disk.old) first.number
+        (hashed (D.Grown.contents first.writer.inner) first.writer.hasher)) service.new
+        (I.remaining input.old) (I.remaining input.new) (W.contents out.old) (W.contents out.new)
+        (D.leaves disk.new)) }
 {
     let mut segment = first;
     let mut line = Vec::new(alloc);

@@ -3,3 +3,4 @@ pub mod Making
 pub mod ServeRefusals
 pub mod StillThere
 mod LastingJournals
+mod UnderLock

@@ -22,7 +22,7 @@ unrecovered bytes c none r =
     let first : 0 ≡ 114 = ap (λ (x : List ℕ). get_or x 0 0) (sym none ∙ r.lines.spelled) in
     omega (arith, first)
 
--- where the rings begin is told by the files before, too
+-- where the rings begin follows from the files before, too
 pub noted_before : (before there : Option Held) (name : List ℕ) (made : Bool) (given : Option Saved) (from : Saved) → Creates before there name made → IsNoted there name given from → IsNoted before name given from
 noted_before None there name made given from c h = subst (λ (x : Option Held). IsNoted x name given from) c h
 noted_before (Some was) there name false given from c h = subst (λ (x : Option Held). IsNoted x name given from) c.0 h
@@ -37,6 +37,7 @@ put_before : (was there begun : Held) (name bytes : List ℕ) → IsReplaced was
 put_before was there begun name bytes made put = record {
   places = λ other. put.places other ∙ made.places other;
   folders = λ other. put.folders other ∙ made.folders other;
+  locks = λ place. put.locks place ∙ made.locks place;
   here = λ other same. put.here other (made.places name ∙ same ∙ sym (made.places other));
   others = λ other differs. put.others other (λ same. differs (sym (made.places name) ∙ same ∙ made.places other)) ∙ made.others other differs;
 }

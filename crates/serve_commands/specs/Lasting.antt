@@ -22,9 +22,9 @@ use Rattle.serve_commands.specs.ServedFolder.{Place, StandsIn, AreRules}
 
 -- ---- in a folder of segments
 
--- From a place on: nothing was told; or the first segment has begun, and this is left of the folder,
--- with the notes of all lines that were told, and the call of each is in the rings that are recovered
--- of it.
+-- From a place on: no line was served; or the first segment has begun, and this is left of the
+-- folder, with the notes of all lines that were delivered, and the call of each is in the rings
+-- that are recovered of it.
 abbrev pub RunLasts : SegmentRules → Place → Option Held → Option (List ℕ) → Option (List ℕ)
     → Option (List ℕ) → Option (List ℕ) → Option Held → Type 0
 RunLasts s start files was is old new left =
@@ -34,8 +34,8 @@ RunLasts s start files was is old new left =
     × HasBegun s start.rings start.number start.behind files first
     × AnsweredCallsLast s first end was is old new left)
 
--- In a folder: nothing was told; or it was locked, the rings began where they stand in it, and what
--- was told lasts.
+-- In a folder: no line was served; or it was locked, the rings began at their place in it, and what
+-- was delivered lasts.
 abbrev pub FolderLasts : ServeWords → List ℕ → Option Saved → Option Held → Option (List ℕ)
     → Option (List ℕ) → Option (List ℕ) → Option (List ℕ) → Option Held → Type 0
 FolderLasts words folder saved before was is old new left =
@@ -50,9 +50,10 @@ FolderLasts words folder saved before was is old new left =
 
 -- ---- in a file
 
--- Some of the lines were told, or all of them, from where the rings began and the journal's file had
--- these bytes. Where it is known what a loss of power leaves, the file begins with them and with the
--- notes of each told line behind them, and the rings that are recovered of it have its call.
+-- Some of the lines were delivered, or all of them, from where the rings began and the journal's
+-- file had these bytes. Where it is known what a loss of power leaves, the file begins with them
+-- and with the notes of each delivered line after them, and the rings that are recovered of it have
+-- its call.
 pub record JournalLasts (permits : Permits) (name : List ℕ) (start : List Standing)
     (begun : Option Held) (first : List ℕ) (was is old new : Option (List ℕ))
     (left : Option Held) : Type 0 where
@@ -63,8 +64,8 @@ pub record JournalLasts (permits : Permits) (name : List ℕ) (start : List Stan
       (record { journal = Some first; out = old }) (record { journal = Some last; out = new })
   pub left_is : IfSome left (λ held. HasFront held name (Some last))
 
--- In a file: nothing was told; or the rings began where the history or the journal has them, the
--- journal was begun anew with them, and what was told lasts.
+-- In a file: no line was served; or the rings began where the history or the journal has them, the
+-- journal was begun anew with them, and what was delivered lasts.
 abbrev pub FileLasts : Permits → List ℕ → Option Saved → Option Held → Option (List ℕ)
     → Option (List ℕ) → Option (List ℕ) → Option (List ℕ) → Option Held → Type 0
 FileLasts permits name saved before was is old new left =
@@ -79,7 +80,7 @@ FileLasts permits name saved before was is old new left =
 
 -- ---- either
 
--- what was told lasts, in a folder, if the journal's name was one's, or in a file
+-- what was delivered lasts, in a folder, if the journal's name was one's, or in a file
 abbrev pub KeptLasts : ServeWords → List ℕ → Option Saved → Option Held → Option (List ℕ)
     → Option (List ℕ) → Option (List ℕ) → Option (List ℕ) → Option Held → Type 0
 KeptLasts words name saved before was is old new left =
@@ -93,8 +94,8 @@ CallsLast words None saved before was is old new left = ⊤
 CallsLast words (Some name) saved before was is old new left =
     KeptLasts words name saved before was is old new left
 
--- Whenever the power fails behind the call: nothing was told; or the journal, if one is kept, is left
--- with the notes of all lines whose answers the output got, from where the rings began.
+-- Whenever the power fails after the call: no line was served; or the journal, if one is kept, is
+-- left with the notes of all lines whose answers the output got, from where the rings began.
 abbrev pub ToldCallsLast : ServeWords → World → World → Option Held → Type 0
 ToldCallsLast words was is left =
     IsUnserved was.input is.input was.out is.out

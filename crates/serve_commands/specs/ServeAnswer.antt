@@ -15,7 +15,7 @@ use Rattle.ring_requests.specs.declared.requests.ServeWords.{ServeWords}
 use Rattle.tool_parts.specs.declared.faults.ToolError.{ToolError}
 use Rattle.tool_parts.specs.declared.faults.ToolError.TheVariants as tool
 
--- All lines were served: without a journal; with one in a file, if its name was no folder's
+-- All lines were served: without a journal; with one in a file, if its name was not a folder's
 -- (`IsNoted`); or with one in segments, if it was a folder's.
 abbrev pub IsServedTo : ServeWords → Option Saved → List Standing → Option Held → Option Held
     → Option (List ℕ) → Option (List ℕ) → Option (List ℕ) → Option (List ℕ) → Type 0
@@ -48,9 +48,9 @@ IsRefusedTo words before after saved was is old new e =
     × LeadsToFolder before folder
     × IsRefusedIn words folder saved before after was is old new e)
 
--- All lines were served, and what adds up over the rings is not told: there are 2^32 rings or more,
--- or one of the sums has more than 64 bits, and nothing is told; or standard error failed, and got
--- a prefix of the line.
+-- All lines were served, and what adds up over the rings is not reported: there are 2^32 rings or
+-- more, or one of the sums has more than 64 bits, and nothing is written; or standard error failed,
+-- and got a prefix of the line.
 abbrev pub IsUntold : List Standing → Option (List ℕ) → Option (List ℕ) → ToolError → Type 0
 IsUntold end early late tool.TotalsTooLarge =
     (late ≡ early) × ((2 ^ 32 ≤ length end) ⊎ AreTooLarge (totals_of end))

@@ -75,8 +75,8 @@ abbrev pub HoldsNothing : Option Held → List ℕ → Type 0
 HoldsNothing None name = ⊤
 HoldsNothing (Some held) name = IfSome (bytes_of held name) (λ bytes. bytes ≡ [])
 
--- where the rings begin if a journal is kept in a file, the name of which is no folder's: with the
--- given value if that file held nothing or was not there, else at the journal's end
+-- where the rings begin if a journal is kept in a file, the name of which is not a folder's: with
+-- the given value if that file held nothing or was not there, else at the journal's end
 abbrev pub IsNoted : Option Held → List ℕ → Option Saved → Saved → Type 0
 IsNoted files name saved from =
     LeadsToNoFolder files name
@@ -157,7 +157,7 @@ AreAsBefore (Some was) (Some is) = IsSame was is
 abbrev pub IsUntouched : Option Held → Option Held → List ℕ → Type 0
 IsUntouched before after name = AreAsBefore before after ⊎ Creates before after name true
 
--- no history is given, and no journal tells where the rings stand
+-- no history is given, and no journal says where the rings are
 abbrev pub IsUngiven : Option Saved → ToolError → Type 0
 IsUngiven saved tool.NoHistory = saved ≡ None
 IsUngiven saved _ = ⊥
@@ -231,9 +231,9 @@ IsServingFault journal tool.Write = Unit {0}
 IsServingFault journal tool.OutOfMemory = Unit {0}
 IsServingFault journal _ = ⊥
 
--- Some of the lines were told, or all of them, from where the rings began and the journal's writer
--- had so much. If a journal is kept, its writer has the notes of each told line behind that, and
--- the rings that are recovered of it have its call.
+-- Some of the lines were delivered, or all of them, from where the rings began and the journal's
+-- writer held this. If a journal is kept, its writer has the notes of each delivered line after
+-- that, and the rings that are recovered of it have its call.
 pub record IsServedPart (terms : Terms) (start : List Standing) (before after : Option Held)
     (first was is old new : Option (List ℕ)) : Type 0 where
   pub end : List Standing

@@ -1,5 +1,6 @@
 -- `serve` with a journal that is a folder of segments.
-use Rattle.std.specs.Prelude.{◌≡◌, ◌≢◌, ℕ, ◌⊎◌, max, List, Bool, true, false, Option, None, Some, IfSome, Ok, Err, codes}
+use Rattle.std.specs.Prelude.{◌≡◌, ◌≢◌, ℕ, ◌⊎◌, max, List, Bool, true, false, Option, None, Some, IfSome, IsSome, Ok, Err, codes}
+use Rattle.std.specs.List.{AllByRecursion}
 use Rattle.disks.specs.Held.{Held, IsOneFile, Creates}
 use Rattle.disks.specs.Folders.{Lists, is_among, names_of, path_in}
 use Rattle.disks.specs.declared.disk.FolderEntry.{FolderEntry}
@@ -10,15 +11,15 @@ use Rattle.segment_folder.specs.declared.errors.FolderError.TheVariants as names
 use Rattle.segment_folder.specs.declared.numbers.SegmentNumbers.{SegmentNumbers}
 use Rattle.ring_saved.specs.declared.saved.Saved.{Saved}
 use Rattle.ring_segments.specs.Spelling.{no_digest}
-use Rattle.ring_segments.specs.Last.{IsRightLast}
 use Rattle.ring_segments.specs.declared.last.LastSegment.{LastSegment}
 use Rattle.ring_segments.specs.declared.errors.SegmentError.TheVariants as segment
+use Rattle.torn_ends.specs.Torn.{IsRightEnd}
 use Rattle.ring_serve.specs.Standings.{Standing}
 use Rattle.ring_serve.specs.Starting.{AreResumed, AreResumedAfter}
 use Rattle.chain_serve.specs.declared.segments.SegmentRules.{SegmentRules}
 use Rattle.chain_serve.specs.Segments.{Moment}
 use Rattle.chain_serve.specs.Beginning.{HasBegun, IsLeftUnbegun, IsSettled}
-use Rattle.chain_serve.specs.Service.{ServesSegments, ServesSomeSegments}
+use Rattle.chain_serve.specs.Service.{Part, ServesSegments, ServesSomeSegments}
 use Rattle.chain_serve.specs.Recovered.{AnsweredCallsAreRecovered}
 use Rattle.ring_requests.specs.declared.requests.ServeWords.{ServeWords}
 use Rattle.serve_commands.specs.declared.serve_folder.Start.{Start}
@@ -27,10 +28,10 @@ use Rattle.tool_parts.specs.declared.faults.ToolError.TheVariants as tool
 use Rattle.tool_parts.specs.Named.{IsHeld}
 use Rattle.tool_parts.specs.Chained.{IsUnreadSegment, IsFolderFault}
 use Rattle.serve_commands.specs.Served.{IsFirstRefusal, IsServingFault, permits_of}
-use Rattle.tool_parts.specs.Locking.{IsLocked, IsLockLeft, IsUnkeptFolder}
+use Rattle.tool_parts.specs.Locking.{IsLocked, StandsLocked, IsLockLeft, IsUnkeptFolder}
 use Rattle.tool_parts.specs.Worlds.{IsUnserved}
 
--- ---- where the rings stand
+-- ---- where the rings are
 
 -- where served rings are when they begin: the rings, the number of the segment that they are in, and
 -- the digest of the file before it
@@ -51,12 +52,12 @@ pub record IsFirst (saved : Option Saved) (p : Place) : Type 0 where
   pub number : p.number ≡ 1
   pub behind : p.behind ≡ no_digest
 
--- where the segment of this number ends, whose file says that number
+-- where the segment of this number ends, whose file says that number; its end may be torn
 pub record IsLast (files : Option Held) (folder : List ℕ) (last : ℕ) (p : Place) : Type 0 where
   pub bytes : List ℕ
   pub held : IsHeld files (segment_file folder last) bytes
   pub segment : LastSegment
-  pub right : IsRightLast bytes (Ok segment)
+  pub right : IsRightEnd bytes (Ok segment)
   pub named : segment.head.number ≡ last
   pub resumed : AreResumedAfter segment.head.bases.items p.rings segment.saved.rings.items
   pub number : p.number ≡ last
@@ -105,7 +106,14 @@ SavesApart words folder files =
     IfSome words.saves
     (λ saves. IfSome files (λ held. IsOneFile held folder saves.now → ⊥))
 
--- The lines were served from where the rings stand, behind the lock.
+-- The folder is locked when the first line of each part is read, and when its last one is answered; a
+-- file that a line saves changes no lock.
+abbrev pub AreUnderLock : List ℕ → List Part → Type 0
+AreUnderLock folder parts =
+    AllByRecursion (λ p. StandsLocked p.from.files folder × StandsLocked p.to.files folder) parts
+
+-- The folder was locked, and the lines were served from where the rings were. Where the content of
+-- files is known, it is locked as long as lines are served.
 pub record IsServedIn (words : ServeWords) (folder : List ℕ) (saved : Option Saved)
     (end : List Standing) (before after : Option Held) (was is old new : Option (List ℕ)) : Type 0
   where
@@ -119,17 +127,18 @@ pub record IsServedIn (words : ServeWords) (folder : List ℕ) (saved : Option S
     pub first : Moment
     pub last : Moment
     pub run : IsRun rules start first last end there after was is old new
+    pub held : IsSome before → AreUnderLock folder run.served.parts
 
 -- ---- refusals
 
--- these bytes are no segment to go on from, or not the one of this number
+-- these bytes are not a segment that can be resumed, or not the one of this number
 abbrev pub IsLastFault : List ℕ → ℕ → List ℕ → ToolError → Type 0
 IsLastFault folder last bytes (tool.Segment named number error) =
     (named.now ≡ folder)
     × (number ≡ last)
-    × (IsRightLast bytes (Err error)
+    × (IsRightEnd bytes (Err error)
     ⊎ ((error ≡ segment.Number)
-    × ((s : LastSegment) × IsRightLast bytes (Ok s) × (s.head.number ≢ last))))
+    × ((s : LastSegment) × IsRightEnd bytes (Ok s) × (s.head.number ≢ last))))
 IsLastFault folder last bytes tool.OutOfMemory = Unit {0}
 IsLastFault folder last bytes _ = ⊥
 
@@ -141,7 +150,7 @@ IsLastRefusal files folder last e =
     × IsHeld files (segment_file folder last) bytes
     × IsLastFault folder last bytes e)
 
--- it is not known where the rings stand: a name among these in the folder is refused, the last
+-- it is not known where the rings are: a name among these in the folder is refused, the last
 -- segment is, or, where there is none, the history
 abbrev pub IsUnknownAmong : Option Held → List ℕ → List FolderEntry → Option Saved → ToolError
     → Type 0
@@ -177,9 +186,9 @@ IsUnlocked words folder before after e =
     ((after ≡ before) × IsSavesRefusal words e)
     ⊎ (IsLockLeft before after folder × IsUnkeptFolder folder e)
 
--- From a place on some lines were told, or all of them. The file of the segment that was being
--- written has the notes of each told line in it, and the rings that are recovered of it have its
--- call.
+-- From a place on some lines were delivered, or all of them. The file of the segment that was being
+-- written has the notes of each delivered line in it, and the rings that are recovered of it have
+-- its call.
 pub record IsRunPart (s : SegmentRules) (start : Place) (before after : Option Held)
     (was is old new : Option (List ℕ)) : Type 0 where
   pub first : Moment
@@ -201,7 +210,7 @@ IsRunRefused s start before after was is old new e =
     ⊎ (IsServingFault (Some s.folder.now) e × IsRunPart s start before after was is old new)
 
 -- The folder is not locked, and no line is read. Or it is, no line is read, and no other file has
--- changed, since it is not known where the rings stand. Or the rings began where they stand, and
+-- changed, since it is not known where the rings are. Or the rings began at their place in it, and
 -- that was broken off.
 abbrev pub IsRefusedIn : ServeWords → List ℕ → Option Saved → Option Held → Option Held
     → Option (List ℕ) → Option (List ℕ) → Option (List ℕ) → Option (List ℕ) → ToolError → Type 0

@@ -130,7 +130,7 @@ fn take_back<D: Disk>(disk: &mut D, name: &str, made: bool, refused: bool)
 /// # Errors
 ///
 /// `InUse` if another process has the journal, `Save` if its file cannot be made, opened or begun; those of reading it; `NoHistory`
-/// if it tells nothing and no history is given, `Journal` if nothing is recovered of it; `Full` and `OutOfMemory`.
+/// if it holds nothing and no history is given, `Journal` if nothing is recovered of it; `Full` and `OutOfMemory`.
 pub(crate) fn begin_journal<'a, D: Disk>(
     alloc: Global,
     disk: &mut D,

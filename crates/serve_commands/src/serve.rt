@@ -407,15 +407,16 @@ fn run_on<'a, D: Disk, I: Read, W: Write>(
     }
 }
 
-/// `serve`, from its words: the rings of the history, or of the journal if that tells something, answer the lines of `input` on
+/// `serve`, from its words: the rings of the history, or of the journal if that holds something, answer the lines of `input` on
 /// `out`; when all have been, the sums over the rings are reported on `err`.
 ///
 /// # Errors
 ///
-/// Those of reading the history, and its faults; `NoHistory` if none is given and no journal tells something; `InUse` if the journal is kept by another process, `Save` if it
-/// cannot be opened, begun or written, `Journal` if nothing is recovered of it; `Full`, `OutOfMemory`: no line was read then,
-/// unless memory or the journal's file failed while lines were served. `Read` if standard input fails, `Write` if standard output
-/// does. `Write` if standard error fails, and `TotalsTooLarge`, when all lines have been served.
+/// Those of reading the history, and its faults; `NoHistory` if none is given and no journal holds something; `InUse` if the
+/// journal is kept by another process, `Save` if it cannot be opened, begun or written, `Journal` if nothing is recovered of it;
+/// `Full`, `OutOfMemory`: no line was read then, unless memory or the journal's file failed while lines were served. `Read` if
+/// standard input fails, `Write` if standard output does. `Write` if standard error fails, and `TotalsTooLarge`, when all lines
+/// have been served.
 pub fn run<'a, D: Disk, I: Read, W: Write, E: Write>(
     alloc: Global,
     disk: &mut D,
@@ -434,7 +435,7 @@ pub fn run<'a, D: Disk, I: Read, W: Write, E: Write>(
         (world (D.holds disk.new) (I.remaining input.new) (W.contents out.new)
         (E.contents err.new)) e) }
 
-    // Where each note is put on the disk, and the content of files is known: what was told is there whenever the power fails.
+    // Where each note is put on the disk, and the content of files is known: what was delivered is there whenever the power fails.
     ensures lasts { words.now.synced ≡ true → IsSome (D.holds disk.old) → ToldCallsLast words.now
         (world (D.holds disk.old) (I.remaining input.old) (W.contents out.old) (E.contents err.old))
         (world (D.holds disk.new) (I.remaining input.new) (W.contents out.new)

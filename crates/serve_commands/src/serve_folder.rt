@@ -6,7 +6,7 @@ ghost use Rattle.disks.specs.Folders.{path_in};
 ghost use Rattle.segment_folder.specs.declared.errors.FolderError.{FolderError};
 ghost use Rattle.segment_folder.specs.Numbers.{IsRightNumbers};
 ghost use Rattle.ring_segments.specs.Spelling.{DigestFits};
-ghost use Rattle.ring_segments.specs.Last.{IsRightLast};
+ghost use Rattle.torn_ends.specs.Torn.{IsRightEnd};
 ghost use Rattle.ring_chains.specs.Bases.{IsBase};
 ghost use Rattle.ring_serve.specs.Starting.{AreResumedAfter};
 ghost use Rattle.chain_serve.specs.Segments.{Moment};
@@ -23,7 +23,7 @@ use disks::{Disk, FolderEntry};
 use lock_folder::has_list;
 use ring_requests::ServeWords;
 use ring_saved::Saved;
-use ring_segments::{DIGEST_DIGITS, LastSegment, SegmentError, read_last};
+use ring_segments::{DIGEST_DIGITS, LastSegment, SegmentError};
 use ring_serve::{Refusal, Served};
 use segment_folder::{SegmentNumbers, list_name};
 use segment_loop::close_segment;
@@ -32,6 +32,7 @@ use std::io::{Read, Write};
 use tool_parts::chain::{folder_numbers, segment_bytes};
 use tool_parts::faults::ToolError;
 use tool_parts::locking::lock_folder;
+use torn_ends::read_end;
 
 /// Where served rings are when they begin.
 #[derive(Drop)]
@@ -68,7 +69,7 @@ fn first_place(alloc: Global, saved: Option<Saved>) -> Result<Start, ToolError<'
     }
 }
 
-/// The last segment, if a chain can end with it, and its file says the number of its name.
+/// The last segment, without a torn end, if a chain can end with it, and its file says the number of its name.
 ///
 /// # Errors
 ///
@@ -79,14 +80,14 @@ fn last_segment<'a>(
     number: u64,
     bytes: &[u8],
 ) -> Result<LastSegment, ToolError<'a>>
-    ensures ok { IfOk result (λ last. IsRightLast bytes.now (Ok last)) }
+    ensures ok { IfOk result (λ last. IsRightEnd bytes.now (Ok last)) }
     ensures named { IfOk result (λ last. last.head.number ≡ number) }
     ensures many { IfOk result
         (λ last. length last.head.bases.items ≡ length last.saved.rings.items) }
     ensures bases { IfOk result (λ last. All IsBase last.head.bases.items) }
     ensures err { IfErr result (λ e. IsLastFault folder.now number bytes.now e) }
 {
-    match read_last(alloc, bytes) {
+    match read_end(alloc, bytes) {
         Ok(last) => {
             if last.head.number == number {
                 Ok(last)
@@ -103,7 +104,7 @@ fn last_segment<'a>(
 ///
 /// # Errors
 ///
-/// `OutOfMemory` alone: no ring of such a segment has too many events.
+/// Only `OutOfMemory`: no ring of such a segment has too many events.
 fn resume_last(alloc: Global, last: &LastSegment) -> Result<Served, ToolError<'static>>
     requires many { length last.now.head.bases.items ≡ length last.now.saved.rings.items }
     requires bases { All IsBase last.now.head.bases.items }
@@ -174,7 +175,7 @@ fn range_among<'a>(
     }
 }
 
-/// Where the rings stand, by these entries of the folder.
+/// Where the rings are, by these entries of the folder.
 fn place_among<'a, D: Disk>(
     alloc: Global,
     disk: &D,
@@ -202,7 +203,7 @@ fn place_among<'a, D: Disk>(
     }
 }
 
-/// Where the rings stand: at the end of the last segment in the folder, or, if there is none, as the history has them.
+/// Where the rings are: at the end of the last segment in the folder, or, if there is none, as the history has them.
 ///
 /// # Errors
 ///
@@ -224,7 +225,7 @@ fn place_in<'a, D: Disk>(
         return Err(ToolError::Read(folder));
     };
     if has_list(entries.as_slice()) {
-        // the calls of `serve` are no holds
+        // the calls of `serve` are not holds
         return Err(ToolError::Foreign(folder, list_name()));
     }
     match place_among(alloc, disk, folder, entries.as_slice(), saved) {
@@ -308,7 +309,7 @@ fn serve_from<'a, D: Disk, I: Read, W: Write>(
 }
 
 /// The rings that are served with a journal in the segments of a folder, when all lines have been. The folder is locked from before
-/// it is listed.
+/// it is listed, and stays so.
 pub(crate) fn run_in_folder<'a, D: Disk, I: Read, W: Write>(
     alloc: Global,
     disk: &mut D,
@@ -333,10 +334,10 @@ pub(crate) fn run_in_folder<'a, D: Disk, I: Read, W: Write>(
         Ok(()) => {}
         Err(fault) => return Err(fault),
     }
-    let lock = match lock_folder(alloc, disk, folder) {
-        Ok(lock) => lock,
+    match lock_folder(alloc, disk, folder) {
+        Ok(()) => {}
         Err(fault) => return Err(fault),
-    };
+    }
     let place = match place_in(alloc, disk, folder, saved) {
         Ok(place) => place,
         Err(fault) => return Err(fault),
@@ -347,7 +348,8 @@ pub(crate) fn run_in_folder<'a, D: Disk, I: Read, W: Write>(
         synced: words.synced,
         permits: permits_of(words),
     };
-    let end = serve_from(alloc, disk, place, rules, input, out);
-    drop(lock);
-    end
+    match serve_from(alloc, disk, place, rules, input, out) {
+        Ok(end) => Ok(end),
+        Err(fault) => Err(fault),
+    }
 }

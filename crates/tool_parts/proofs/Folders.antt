@@ -9,7 +9,7 @@ use Rattle.disks.specs.declared.disk.FolderEntry.{FolderEntry}
 use Rattle.tool_parts.specs.Chained.{IsFolder}
 use Rattle.tool_parts.specs.Named.{IsHeld}
 
--- what has bytes is no folder
+-- what has bytes is not a folder
 no_folder : (t : Thing) (bytes : List ℕ) → file_bytes t ≡ Some bytes → is_a_folder t ≡ false
 no_folder Nothing bytes h = refl
 no_folder (File b) bytes h = refl

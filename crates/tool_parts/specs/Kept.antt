@@ -1,4 +1,4 @@
--- What `recover` keeps of a journal, and how it tells what is left out.
+-- What `recover` keeps of a journal, and how it reports what is left out.
 use Rattle.std.specs.Prelude.{◌≡◌, ℕ, ◌+◌, ◌-◌, Bool, true, false, List, [], ◌++◌, length, codes, decimal, Option, None, Some, Err, ◌⊎◌}
 use Rattle.text_lines.specs.Texts.{Spells, IsCutShort}
 use Rattle.ring_saved.specs.Content.{Content}
@@ -17,8 +17,8 @@ use Rattle.tool_parts.specs.LastPlace.{last_place, kept_lines}
 
 -- ---- a journal
 
--- The history that is kept of the bytes of a journal. If it is not to be salvaged, it is recovered of
--- all of them; else of so many, in front of a bad line.
+-- The history that is kept of the bytes of a journal. If it is not to be salvaged, it is recovered
+-- from all of them; else from those before a bad line, or from all if no line is bad.
 abbrev pub IsKept : Bool → List ℕ → Content → ℕ → Option RecoverError → Type 0
 IsKept false bytes c kept bad = IsRecovered bytes c × (kept ≡ length bytes) × (bad ≡ None)
 IsKept true bytes c kept bad = IsSalvaged bytes kept bad c
@@ -28,7 +28,7 @@ abbrev pub IsUnkept : Bool → List ℕ → RecoverError → Type 0
 IsUnkept false bytes e = IsRightRecovery bytes (Err e)
 IsUnkept true bytes e = IsRightSalvage bytes (Err e)
 
--- ---- the line that tells what is left out
+-- ---- the line that reports what is left out
 
 -- a refusal, after the line that it names
 abbrev pub named_fault : RecoverError → List ℕ
@@ -66,13 +66,13 @@ pub record IsFileKept (salvage : Bool) (f : File) : Type 0 where
   pub bad : Option RecoverError
   pub kept : IsKept salvage (without_remarks rest) f.content many bad
 
--- the line that tells what of the file is left out: its remarks count as lines, not as bytes
+-- the line that reports what of the file is left out: its remarks count as lines, not as bytes
 abbrev pub file_left : {salvage : Bool} {f : File} → IsFileKept salvage f → List ℕ
 file_left {salvage} {f} k =
     left_line (length (without_remarks k.rest) - k.many)
     (bad_in (head_lines f.head) (lines_in k.rest) k.bad)
 
--- the last place that is told in front of what is left out
+-- the last place that a remark gives before what is left out
 abbrev pub file_place : {salvage : Bool} {f : File} → IsFileKept salvage f → List ℕ
 file_place k = last_place (kept_lines (lines_in k.rest) k.bad)
 

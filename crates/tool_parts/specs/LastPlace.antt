@@ -1,4 +1,4 @@
--- The last place in a log that the remarks of a file tell (this project's own).
+-- The last place in a log that the remarks of a file give (this project's own).
 use Rattle.std.specs.Prelude.{ℕ, ◌-◌, ◌==◌, ◌&&◌, cond, Bool, List, [], take, codes, Option, None, Some}
 use Rattle.std.specs.List.{fold, starts_with, ends_with}
 use Rattle.ring_journal.specs.declared.errors.RecoverError.{RecoverError}
@@ -20,7 +20,7 @@ place_after found lines =
 abbrev pub last_place : List (List ℕ) → List ℕ
 last_place lines = place_after [] lines
 
--- the lines in front of the one that a refusal names, where remarks have no number; else all
+-- the lines before the one that a refusal names, where remarks have no number; else all
 abbrev pub kept_lines : List (List ℕ) → Option RecoverError → List (List ℕ)
 kept_lines lines None = lines
 kept_lines lines (Some e) = take (line_among lines (line_in e) - 1) lines

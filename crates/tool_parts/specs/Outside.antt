@@ -1,15 +1,15 @@
 -- A file that is to be made lies outside of a folder.
-use Rattle.std.specs.Prelude.{◌≡◌, ◌==◌, if◌then◌else◌, ℕ, List, length, codes, Option, None, Some, string_bytes, ⊤}
+use Rattle.std.specs.Prelude.{◌≡◌, ◌==◌, if◌then◌else◌, ℕ, List, length, codes, Option, None, Some, string_bytes, ◌⊎◌, ⊤}
 use Rattle.std.specs.List.{All}
 use Rattle.std.specs.Path.{rsplit_once}
 use Rattle.disks.specs.Held.{Held, IsOneFile}
-use Rattle.disks.specs.Folders.{path_in}
+use Rattle.disks.specs.Folders.{path_in, LeadsInto, LeadsToNoNew}
 use Rattle.disks.specs.declared.disk.FolderEntry.{FolderEntry}
 use Rattle.tool_parts.specs.Named.{IsApart}
 use Rattle.tool_parts.specs.declared.faults.ToolError.{ToolError}
 use Rattle.tool_parts.specs.declared.faults.ToolError.TheVariants as tool
 
--- what stands before a slash, as the name of a folder
+-- what is before a slash, as the name of a folder
 abbrev pub before_slash : List ℕ → List ℕ
 before_slash front = if length front == 0 then codes "/" else front
 
@@ -38,17 +38,25 @@ abbrev pub IsNoneOf : Option Held → List ℕ → List FolderEntry → Option (
 IsNoneOf files folder entries made =
     All (λ (e : FolderEntry). IsApart files (path_in folder (string_bytes e.name)) made) entries
 
--- it does not lie in the folder, by its name or by those of the files there, if one is named
+-- no links lead from its name to a new one in the folder, if one is named
+abbrev pub IsNotNewIn : Option Held → List ℕ → Option (List ℕ) → Type 0
+IsNotNewIn files folder None = ⊤
+IsNotNewIn files folder (Some made) = LeadsToNoNew files folder made
+
+-- It does not lie in the folder, by its name or by those of the files there, and it would not be a new
+-- file there, if one is named.
 abbrev pub IsOutside : Option Held → List ℕ → List FolderEntry → Option (List ℕ) → Type 0
 IsOutside files folder entries made =
-    LiesElsewhere files folder made × IsNoneOf files folder entries made
+    LiesElsewhere files folder made
+    × IsNoneOf files folder entries made
+    × IsNotNewIn files folder made
 
--- By its name it lies in the folder; or it is one of the files there by another name, or that of a
--- standard descriptor; or it cannot be looked at or made; or a file there cannot be looked at; or
--- there is no memory.
+-- By its name it lies in the folder, or links lead into it from there; or it is one of the files there
+-- by another name, or that of a standard descriptor; or it cannot be looked at or made; or a file
+-- there cannot be looked at; or there is no memory.
 abbrev pub IsOutsideRefusal : Option Held → List ℕ → Option (List ℕ) → ToolError → Type 0
 IsOutsideRefusal files folder made (tool.InFolder named) =
-    (Some named.now ≡ made) × LiesIn files folder named.now
+    (Some named.now ≡ made) × (LiesIn files folder named.now ⊎ LeadsInto files folder named.now)
 IsOutsideRefusal files folder made (tool.SameFile named) = Some named.now ≡ made
 IsOutsideRefusal files folder made (tool.Stream named) = Some named.now ≡ made
 IsOutsideRefusal files folder made (tool.Save named) = Some named.now ≡ made

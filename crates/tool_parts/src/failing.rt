@@ -7,7 +7,7 @@ use crate::reading::{ReadFault, read_limited};
 use std::alloc::Global;
 use std::io::{self, ErrorKind, Read};
 
-/// A reader that gives the bytes that are left, and fails at the one behind them each time.
+/// A reader that gives the bytes that are left, and fails at the one after them each time.
 #[derive(Drop)]
 pub struct FailingReader<'a> {
     pub bytes: &'a [u8],

@@ -69,7 +69,7 @@ pub enum ToolError<'a> {
     NoPlace(u32),
     /// More events are to be drawn than a picture may have.
     ManyDrawn,
-    /// No history is given, and no journal tells where the rings stand.
+    /// No history is given, and no journal says where the rings are.
     NoHistory,
     /// A journal's file is kept by another process.
     InUse(&'a str),
@@ -85,7 +85,7 @@ pub enum ToolError<'a> {
     NoSegment(&'a str),
     /// A name in a folder of segments has no place there.
     Foreign(&'a str, EntryName),
-    /// The segment of this number in a folder is no regular file.
+    /// The segment of this number in a folder is not a regular file.
     Irregular(&'a str, u64),
     /// The segment of this number is missing in a folder, between two that are there.
     Missing(&'a str, u64),

@@ -1,4 +1,4 @@
-//! What of a journal is left out of what is recovered, and the line that tells it.
+//! What of a journal is left out of what is recovered, and the line that reports it.
 
 ghost use Rattle.std.specs.Prelude.{◌≡◌, ◌<◌, ◌^◌, ◌++◌, None, Some, IfSome, codes, decimal};
 ghost use Rattle.text_lines.specs.Writing.{Writes};
@@ -37,7 +37,7 @@ impl LeftOut {
     }
 }
 
-/// A refusal of the journal in a text behind so many lines of a file, by its line in the file.
+/// A refusal of the journal in a text that follows `before` lines of a file, by its line in the file.
 fn fault_in(before: u64, text: &[u8], fault: RecoverError) -> RecoverError
     requires { line_among (lines_in text.now) (line_in fault) < 2 ^ 64 }
     ensures { result ≡ fault_in before (lines_in text.now) fault }

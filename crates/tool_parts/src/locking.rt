@@ -1,9 +1,8 @@
 //! The lock of a folder, and files that one process at a time writes at their end.
 
-ghost use Rattle.std.specs.Prelude.{◌≡◌, true, OnOk, OnErr, IfOk, IfErr, string_bytes, codes};
+ghost use Rattle.std.specs.Prelude.{◌≡◌, true, OnOk, OnErr, IfOk, IfErr, string_bytes};
 ghost use Rattle.disks.specs.Held.{Grows};
-ghost use Rattle.disks.specs.Folders.{path_in};
-ghost use Rattle.tool_parts.specs.Locking.{IsUnopenedJournal, IsLocked, IsLockLeft, IsUnkeptFolder};
+ghost use Rattle.tool_parts.specs.Locking.{lock_of, IsUnopenedJournal, IsLocked, IsLockLeft, IsUnkeptFolder};
 
 use crate::faults::ToolError;
 use disks::Disk;
@@ -47,16 +46,16 @@ fn leads_nowhere<D: Disk>(disk: &D, folder: &str, lock: &str) -> bool {
     disk.is_one_file(lock, lock).is_err() && has_irregular(disk, folder, "lock")
 }
 
-/// The lock of a folder, which one process has at a time. Its file is made, if it is not there.
+/// Locks a folder, as one process at a time can, for as long as the disk is there. The lock's file is made, if it is not there.
 ///
 /// # Errors
 ///
-/// `InUse` if another has it, `Save` if it cannot be had, as if its name is that of a link that leads to no file, and `OutOfMemory`.
+/// `InUse` if another has it locked, `Save` if it cannot be, as if its name is that of a link that leads to no file, and `OutOfMemory`.
 pub fn lock_folder<'a, D: Disk>(
     alloc: Global,
     disk: &mut D,
     folder: &'a str,
-) -> Result<D::Grown, ToolError<'a>>
+) -> Result<(), ToolError<'a>>
     ensures locked { OnOk result (IsLocked (D.holds disk.old) (D.holds disk.new) folder.now) }
     ensures left { OnErr result (IsLockLeft (D.holds disk.old) (D.holds disk.new) folder.now) }
     ensures err { IfErr result (λ e. IsUnkeptFolder folder.now e) }
@@ -70,16 +69,18 @@ pub fn lock_folder<'a, D: Disk>(
     let Ok(_) = disk.create(name.as_str()) else {
         return Err(ToolError::Save(folder));
     };
-    match open_journal(disk, name.as_str(), false) {
-        Ok(lock) => Ok(lock),
-        Err(ToolError::InUse(_)) => Err(ToolError::InUse(folder)),
-        Err(_) => Err(ToolError::Save(folder)),
+    match disk.lock(name.as_str()) {
+        Ok(()) => Ok(()),
+        Err(error) => match error.kind() {
+            ErrorKind::WouldBlock => Err(ToolError::InUse(folder)),
+            _ => Err(ToolError::Save(folder)),
+        },
     }
 }
 
 /// The name of the lock of a folder.
 fn lock_file(alloc: Global, folder: &str) -> Result<String, AllocError>
-    ensures { IfOk result (λ name. string_bytes name ≡ path_in folder.now (codes "lock")) }
+    ensures { IfOk result (λ name. string_bytes name ≡ lock_of folder.now) }
 {
     let mut name = String::from_str(alloc, folder)?;
     name.push_str("/lock")?;

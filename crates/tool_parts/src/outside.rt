@@ -4,7 +4,7 @@ ghost use Rattle.std.specs.Prelude.{◌≡◌, Some, OnOk, IfOk, IfErr, string_b
 ghost use Rattle.disks.specs.Held.{LeadsToFolder};
 ghost use Rattle.disks.specs.Folders.{path_in};
 ghost use Rattle.tool_parts.specs.Named.{IsApart};
-ghost use Rattle.tool_parts.specs.Outside.{before_slash, parent_of, LiesElsewhere, IsNoneOf, IsOutside, IsOutsideRefusal};
+ghost use Rattle.tool_parts.specs.Outside.{before_slash, parent_of, LiesElsewhere, IsNoneOf, IsNotNewIn, IsOutside, IsOutsideRefusal};
 ghost use Rattle.tool_parts.specs.Handed.{file_of};
 
 use crate::faults::ToolError;
@@ -12,7 +12,7 @@ use crate::reading::names_stream;
 use disks::{Disk, FolderEntry};
 use std::alloc::{AllocError, Global};
 
-/// The name of a file in a folder: a slash stands between the two.
+/// The name of a file in a folder: a slash is between the two.
 fn path_of(alloc: Global, folder: &str, name: &str) -> Result<String, AllocError>
     ensures { IfOk result (λ path. string_bytes path ≡ path_in folder.now name.now) }
 {
@@ -22,7 +22,7 @@ fn path_of(alloc: Global, folder: &str, name: &str) -> Result<String, AllocError
     Ok(path)
 }
 
-/// What stands before a slash, as the name of a folder.
+/// What is before a slash, as the name of a folder.
 fn before_slash(front: &str) -> &str
     ensures { result.now ≡ before_slash front.now }
 {
@@ -69,6 +69,19 @@ fn keep_stream_apart<'a, D: Disk>(
     match disk.is_standard(made) {
         Ok(false) => Ok(()),
         Ok(true) => Err(ToolError::Stream(made)),
+        Err(_) => Err(ToolError::Save(made)),
+    }
+}
+
+/// Checks that no links lead from the name of a file that is to be made into a folder.
+fn keep_links_apart<'a, D: Disk>(disk: &D, folder: &str, made: &'a str) -> Result<(), ToolError<'a>>
+    ensures ok { OnOk result (IsNotNewIn (D.holds disk.now) folder.now (Some made.now)) }
+    ensures err { IfErr result
+        (λ e. IsOutsideRefusal (D.holds disk.now) folder.now (Some made.now) e) }
+{
+    match disk.leads_into(folder, made) {
+        Ok(false) => Ok(()),
+        Ok(true) => Err(ToolError::InFolder(made)),
         Err(_) => Err(ToolError::Save(made)),
     }
 }
@@ -123,9 +136,9 @@ fn keep_entries_apart<'a, D: Disk>(
 ///
 /// # Errors
 ///
-/// `InFolder` with the name if it lies there by its own name, `Stream` with it if it is the file of a standard descriptor, `SameFile`
-/// with it if it is one of the files there by another name, and `Save` with it if it cannot be looked at or made; `Read` with the folder
-/// if a file there cannot be looked at, and `OutOfMemory`.
+/// `InFolder` with the name if it lies there by its own name or links lead from it to a new name there, `Stream` with it if it is the
+/// file of a standard descriptor, `SameFile` with it if it is one of the files there by another name, and `Save` with it if it cannot
+/// be looked at or made; `Read` with the folder if a file there cannot be looked at, and `OutOfMemory`.
 pub fn keep_outside<'a, D: Disk>(
     alloc: Global,
     disk: &D,
@@ -151,6 +164,10 @@ pub fn keep_outside<'a, D: Disk>(
         Err(fault) => return Err(fault),
     }
     match keep_entries_apart(alloc, disk, folder, entries, word) {
+        Ok(()) => {}
+        Err(fault) => return Err(fault),
+    }
+    match keep_links_apart(disk, folder, word) {
         Ok(()) => Ok(()),
         Err(fault) => Err(fault),
     }

@@ -10,6 +10,7 @@ use Rattle.segment_folder.specs.declared.numbers.SegmentNumbers.{SegmentNumbers}
 use Rattle.tool_parts.specs.Chained.{IsFolderFault, AreNamesRefused}
 use Rattle.tool_parts.specs.Handed.{IsHandRefusal}
 use Rattle.folder_commands.specs.JoinedFolder.{AreUnjoined, IsJoinRefusal}
+use Rattle.disks.specs.Folders.{LeadsInto}
 use Rattle.tool_parts.specs.Outside.{LiesIn, LiesElsewhere, IsOutsideRefusal}
 use Rattle.tool_parts.specs.Handed.{file_of}
 use Rattle.tool_parts.specs.Reading.{names_stream}
@@ -31,9 +32,10 @@ module _ (made : Bor (List ℕ)) where
   of_folder folder entries (inl h) = of_names folder h.0 h.2
   of_folder folder entries (inr h) = h.1
 
-  of_place : (files : Option Held) (folder : List ℕ) → IsSome files → LiesElsewhere files folder (Some made.now) → LiesIn files folder made.now → ⊥
-  of_place None folder known apart h = false≢true known
-  of_place (Some held) folder known apart h = apart h
+  of_place : (files : Option Held) (folder : List ℕ) → IsSome files → LiesElsewhere files folder (Some made.now) → (LeadsInto files folder made.now → ⊥) → LiesIn files folder made.now ⊎ LeadsInto files folder made.now → ⊥
+  of_place None folder known apart no h = false≢true known
+  of_place (Some held) folder known apart no (inl h) = apart h
+  of_place (Some held) folder known apart no (inr h) = no h
 
   of_files : (files : Option Held) (folder : List ℕ) (r : SegmentNumbers) → AreUnjoined files folder r (tool.InFolder made) → ⊥
   of_files files folder r (inl h) = h.5
@@ -47,10 +49,10 @@ module _ (made : Bor (List ℕ)) where
   of_word false word text line was is e h = h.to_file e
   of_word true word text line was is e h = h.to_output e
 
-  pub not_in_folder : (words : JoinWords) (was is : World) → IsSome was.files → LiesElsewhere was.files words.folder.now (Some made.now) → IsJoinRefusal words was is (tool.InFolder made) → ⊥
-  not_in_folder words was is known apart (inl h) = h
-  not_in_folder words was is known apart (inr (entries, folder, inl h)) = of_folder words.folder.now entries h
-  not_in_folder words was is known apart (inr (entries, folder, inr (r, right, inl h))) = h
-  not_in_folder words was is known apart (inr (entries, folder, inr (r, right, inr (inl h)))) = of_place was.files words.folder.now known apart h.1
-  not_in_folder words was is known apart (inr (entries, folder, inr (r, right, inr (inr (inl h))))) = of_files was.files words.folder.now r h
-  not_in_folder words was is known apart (inr (entries, folder, inr (r, right, inr (inr (inr (fs, chain, h)))))) = of_word (names_stream words.new.now) words.new.now _ _ was is refl h
+  pub not_in_folder : (words : JoinWords) (was is : World) → IsSome was.files → LiesElsewhere was.files words.folder.now (Some made.now) → (LeadsInto was.files words.folder.now made.now → ⊥) → IsJoinRefusal words was is (tool.InFolder made) → ⊥
+  not_in_folder words was is known apart no (inl h) = h
+  not_in_folder words was is known apart no (inr (entries, folder, inl h)) = of_folder words.folder.now entries h
+  not_in_folder words was is known apart no (inr (entries, folder, inr (r, right, inl h))) = h
+  not_in_folder words was is known apart no (inr (entries, folder, inr (r, right, inr (inl h)))) = of_place was.files words.folder.now known apart no h.1
+  not_in_folder words was is known apart no (inr (entries, folder, inr (r, right, inr (inr (inl h))))) = of_files was.files words.folder.now r h
+  not_in_folder words was is known apart no (inr (entries, folder, inr (r, right, inr (inr (inr (fs, chain, h)))))) = of_word (names_stream words.new.now) words.new.now _ _ was is refl h

@@ -15,3 +15,4 @@ pub mod Cuts
 pub mod Places
 pub mod Elsewhere
 pub mod OneReport
+pub mod Unlocked

@@ -4,8 +4,7 @@ use Rattle.std.specs.Prelude.{IsSome, IfSome, ◌⊎◌}
 use Rattle.std.specs.Option.{is_some}
 use Rattle.std.specs.Io.KnownBytes.{Appends}
 use Rattle.std.proofs.lemmas.Bool.{false≢true, true≢false}
-use Rattle.disks.specs.Held.{Held, Thing, Nothing, Folder, File, file_bytes, is_a_folder, is_a_thing, bytes_of, is_folder, is_there, LeadsToFolder, IsOneFile, IsReplaced, Grows, Creates, Replaces}
-use Rattle.disks.specs.Folders.{path_in}
+use Rattle.disks.specs.Held.{Held, Thing, Nothing, Folder, File, file_bytes, is_a_folder, is_a_thing, bytes_of, is_folder, is_there, LeadsToFolder, IsOneFile, IsReplaced, Grows, Creates, Locks, Replaces}
 use Rattle.segment_folder.specs.Names.{segment_file}
 use Rattle.ring_saved.specs.declared.saved.Saved.{Saved}
 use Rattle.ring_serve.specs.declared.answers.Answer.{Answer}
@@ -23,7 +22,7 @@ use Rattle.chain_serve.specs.Beginning.{HasBegun}
 use Rattle.ring_requests.specs.declared.requests.ServeWords.{ServeWords}
 use Rattle.serve_commands.specs.Served.{journal_of, permits_of, IsNoted, BeginsAt, IsServedNoted, IsServed, IsServedFrom}
 use Rattle.serve_commands.specs.ServedFolder.{Place, IsRun, IsServedIn}
-use Rattle.tool_parts.specs.Locking.{IsLocked}
+use Rattle.tool_parts.specs.Locking.{lock_of}
 use Rattle.serve_commands.specs.ServeAnswer.{IsServedTo}
 use Rattle.wrong_commands.proofs.Cuts.{known_after, if_some}
 
@@ -148,11 +147,19 @@ created_known was is name made k c = go made (subst (λ (x : Option Held). Creat
     go true c = replaced_known (Some k.0) is name [] (k.0, refl) c.1
     go false c = (k.0, c.0)
 
+locking_known : (was is : Option Held) (name : List ℕ) → Known was → Locks was is name → Known is
+locking_known was is name k l = go is (subst (λ (x : Option Held). Locks x is name) k.1 l)
+  where
+    go : (is : Option Held) → Locks (Some k.0) is name → Known is
+    go None l = absurd l
+    go (Some h) l = (h, refl)
+
 -- some segment's file is there
 segments_there : (words : ServeWords) (folder : List ℕ) (saved : Option Saved) (end : List Standing) (before after : Option Held) (was is old new : Option (List ℕ)) → Known before → IsServedIn words folder saved end before after was is old new
     → (n : ℕ) × Holds after (segment_file folder n)
 segments_there words folder saved end before after was is old new k h =
-    let there = created_known before h.there (path_in folder _) h.locked.0 k h.locked.1 in
+    let made = created_known before h.locked.0 (lock_of folder) h.locked.1.0 k h.locked.1.1 in
+    let there = locking_known h.locked.0 h.there (lock_of folder) made h.locked.2 in
     (h.last.number, subst (λ (f : List ℕ). Holds after (segment_file f h.last.number)) h.by_words.0 (run_there h.rules h.start h.first h.last end h.there after was is old new there h.run))
 
 -- ---- neither

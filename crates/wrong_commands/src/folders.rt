@@ -1,12 +1,16 @@
-//! Wrong answers for a folder of segments: each accepts one that is refused, leaves a file out, or refuses what is allowed.
+//! Wrong answers for a folder of segments: each accepts one that is refused, leaves a file out, refuses what is allowed, or lets the
+//! folder's lock go.
 
-ghost use Rattle.std.specs.Prelude.{◌≡◌, ◌≤◌, ◌+◌, ℕ, List, Option, Some, IsSome, IfSome, IfOk, IfErr};
+ghost use Rattle.std.specs.Prelude.{◌≡◌, ◌≤◌, ◌+◌, ℕ, List, Option, Some, IsSome, IfSome, IfOk, IfErr, OnOk, false};
 ghost use Rattle.ring_segments.specs.Spelling.{no_digest};
 ghost use Rattle.ring_segments.specs.Files.{File};
 ghost use Rattle.segment_folder.specs.Numbers.{IsRightNumbers};
 ghost use Rattle.tool_parts.specs.Chained.{IsChainIn, sums_of, last_digest};
 ghost use Rattle.folder_commands.specs.JoinedFolder.{IsJoinRefusal};
+ghost use Rattle.disks.specs.Folders.{LeadsInto};
 ghost use Rattle.tool_parts.specs.Outside.{LiesElsewhere};
+ghost use Rattle.disks.specs.Held.{is_locked};
+ghost use Rattle.tool_parts.specs.Locking.{lock_of, IsLocked};
 ghost use Rattle.tool_parts.specs.Worlds.{world};
 
 use disks::{Disk, FolderEntry};
@@ -16,6 +20,7 @@ use segment_folder::{FolderError, SegmentNumbers, numbers_among};
 use std::alloc::Global;
 use tool_parts::chain::chain_in;
 use tool_parts::faults::ToolError;
+use tool_parts::locking::open_journal;
 
 /// Between two segments none is missing: here a gap is accepted, whichever the first and the last are said to be.
 pub fn accepts_a_gap(
@@ -76,9 +81,33 @@ pub fn refuses_a_file_elsewhere<'a, D: Disk>(
     requires known { IsSome (D.holds _disk.now) }
     requires elsewhere { LiesElsewhere (D.holds _disk.now) words.now.folder.now
         (Some words.now.new.now) }
+    requires apart { LeadsInto (D.holds _disk.now) words.now.folder.now words.now.new.now → ⊥ }
     ensures wrong { IfErr result (λ e. (input out err : Option (List ℕ))
         → IsJoinRefusal words.now (world (D.holds _disk.now) input out err)
         (world (D.holds _disk.now) input out err) e → ⊥) }
 {
     Err(ToolError::InFolder(words.new))
+}
+
+/// A folder that is locked stays so: here its lock is let go at once.
+pub fn lets_the_lock_go<'a, D: Disk>(
+    disk: &mut D,
+    name: &'a str,
+    _folder: &str,
+) -> Result<(), ToolError<'a>>
+    requires named { name.now ≡ lock_of _folder.now }
+    requires known { IsSome (D.holds disk.old) }
+    requires free { IfSome (D.holds disk.old) (λ held. is_locked held name.now ≡ false) }
+    ensures wrong { OnOk result (IsLocked (D.holds disk.old) (D.holds disk.new) _folder.now → ⊥) }
+{
+    let Ok(_made) = disk.create(name) else {
+        return Err(ToolError::Save(name));
+    };
+    match open_journal(disk, name, false) {
+        Ok(lock) => {
+            drop(lock);
+            Ok(())
+        }
+        Err(fault) => Err(fault),
+    }
 }

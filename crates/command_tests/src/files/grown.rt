@@ -15,6 +15,14 @@ fn expect_refused<D: Disk>(rt: &impl Abort, disk: &mut D, name: &str, kind: Erro
     assert!(rt; fault.kind() == kind);
 }
 
+/// A file of this name cannot be locked, for this reason.
+fn expect_unlocked<D: Disk>(rt: &impl Abort, disk: &mut D, name: &str, kind: ErrorKind) {
+    let Err(fault) = disk.lock(name) else {
+        panic!(rt; "locked");
+    };
+    assert!(rt; fault.kind() == kind);
+}
+
 /// Adds these bytes to a file.
 pub fn add<G: Grow>(rt: &impl Abort, grown: &mut G, bytes: &[u8]) {
     assert!(rt; grown.add(bytes).is_ok());
@@ -44,6 +52,27 @@ fn a_file_grows_by_one_hand_alone(rt: HostRuntime) -> Result<(), Fail> {
     expect_refused(&rt, &mut disk, &folder, ErrorKind::IsADirectory);
     expect_refused(&rt, &mut disk, "/dev/null", ErrorKind::InvalidInput);
     expect_count(&rt, &folder, 1)?;
+    Ok(())
+}
+
+#[test]
+fn a_file_is_locked_as_long_as_its_disk_is_there(rt: HostRuntime) -> Result<(), Fail> {
+    let folder = folder_of(&rt, "locked")?;
+    let name = within(&rt, &folder, "lock")?;
+    let mut first = SystemDisk::new(&rt);
+    let mut second = SystemDisk::new(&rt);
+    expect_unlocked(&rt, &mut first, &name, ErrorKind::NotFound);
+    assert!(rt; first.create(&name)?);
+    assert!(rt; first.lock(&name).is_ok());
+    expect_unlocked(&rt, &mut second, &name, ErrorKind::WouldBlock);
+    expect_refused(&rt, &mut second, &name, ErrorKind::WouldBlock);
+    // No lock is let go for another.
+    let other = within(&rt, &folder, "other")?;
+    assert!(rt; first.create(&other)?);
+    expect_unlocked(&rt, &mut first, &other, ErrorKind::WouldBlock);
+    expect_unlocked(&rt, &mut second, &name, ErrorKind::WouldBlock);
+    drop(first);
+    assert!(rt; second.lock(&name).is_ok());
     Ok(())
 }
 

@@ -37,8 +37,11 @@ fn no_file_of_the_folder_is_written_by_another_name(rt: HostRuntime) -> Result<(
     assert_eq!(rt; lies_in(&rt, &folder, &hard), Some(false));
     let link = within(&rt, &elsewhere, "link")?;
     assert_eq!(rt; lies_in(&rt, &folder, &link), Some(false));
+    link_in(&rt, &elsewhere, "new", &within(&rt, &folder, "other.txt")?)?;
+    let new = within(&rt, &elsewhere, "new")?;
+    assert_eq!(rt; lies_in(&rt, &folder, &new), Some(true));
     expect(&rt, &folder, "0000000001.ring", Some(FIRST))?;
     expect_count(&rt, &folder, 1)?;
-    expect_count(&rt, &elsewhere, 2)?;
+    expect_count(&rt, &elsewhere, 3)?;
     Ok(())
 }

@@ -30,6 +30,10 @@ impl Disk for Streams {
         Ok(self.is_one_file && one == "/dev/stdin")
     }
 
+    fn leads_into(&self, folder: &str, name: &str) -> io::Result<bool> {
+        self.files.leads_into(folder, name)
+    }
+
     fn is_standard(&self, _name: &str) -> io::Result<bool> {
         match self.is_standard {
             Some(is_standard) => Ok(is_standard),
@@ -55,6 +59,10 @@ impl Disk for Streams {
 
     fn discard(&mut self, name: &str) -> io::Result<bool> {
         self.files.discard(name)
+    }
+
+    fn lock(&mut self, name: &str) -> io::Result<()> {
+        self.files.lock(name)
     }
 
     fn grow(&mut self, name: &str, synced: bool) -> io::Result<Vec<u8>> {

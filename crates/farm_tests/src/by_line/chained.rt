@@ -71,6 +71,10 @@ impl Disk for Full {
         self.files.is_one_file(one, other)
     }
 
+    fn leads_into(&self, folder: &str, name: &str) -> io::Result<bool> {
+        self.files.leads_into(folder, name)
+    }
+
     fn list(&self, folder: &str) -> io::Result<Vec<FolderEntry>> {
         self.files.list(folder)
     }
@@ -96,6 +100,10 @@ impl Disk for Full {
 
     fn discard(&mut self, name: &str) -> io::Result<bool> {
         self.files.discard(name)
+    }
+
+    fn lock(&mut self, name: &str) -> io::Result<()> {
+        self.files.lock(name)
     }
 
     fn grow(&mut self, name: &str, synced: bool) -> io::Result<Vec<u8>> {

@@ -27,6 +27,10 @@ impl Disk for Stuck {
         Err(io::Error::from(ErrorKind::PermissionDenied))
     }
 
+    fn leads_into(&self, _folder: &str, _name: &str) -> io::Result<bool> {
+        Err(io::Error::from(ErrorKind::PermissionDenied))
+    }
+
     fn list(&self, _folder: &str) -> io::Result<Vec<FolderEntry>> {
         Err(io::Error::from(ErrorKind::PermissionDenied))
     }
@@ -44,6 +48,10 @@ impl Disk for Stuck {
     }
 
     fn discard(&mut self, _name: &str) -> io::Result<bool> {
+        Err(io::Error::from(ErrorKind::PermissionDenied))
+    }
+
+    fn lock(&mut self, _name: &str) -> io::Result<()> {
         Err(io::Error::from(ErrorKind::PermissionDenied))
     }
 

@@ -3,7 +3,40 @@ use Rattle.lock_folder.specs.Folders.{place_of}
 use Rattle.tool_parts.proofs.LockedFolders.{locked_known}
 use Rattle.lock_commands.specs.Locks.{folder_of, list_of}
 use Rattle.lock_commands.proofs.StartedLocks.{started_known}
+use Rattle.lock_commands.proofs.UnderLock.{under_lock}
 use Rattle.lock_commands.proofs.locks.run_in_folder.Goals as goal
+
+pub returns-in-Ok-serve_from-clause-ok : goal.returns-in-Ok-serve_from-clause-ok
+returns-in-Ok-serve_from-clause-ok g c =
+    let words = c.args.words.now in
+    let before = g.D.Disk.holds c.args.disk.now in
+    let there = g.D.Disk.holds c.lock_folder.new.disk in
+    let listed = g.D.Disk.holds c.start_locks.new.disk in
+    let start = place_of c.in-Ok-start_locks.start in
+    let locked = c.in-Ok.ensures.locked in
+    let started = c.in-Ok-start_locks.ensures.ok in
+    let run = c.in-Ok-serve_from.ensures.ok in record {
+      there = there;
+      locked = locked;
+      listed = listed;
+      start = start;
+      started = started;
+      run = run;
+      held = under_lock words c.args.holders.now start c.in-Ok-serve_from.end before there listed _ _ _ _ _ locked started run;
+    }
+
+-- ---- what a loss of power leaves
+
+pub returns-in-Ok-serve_from-clause-lasts : goal.returns-in-Ok-serve_from-clause-lasts
+returns-in-Ok-serve_from-clause-lasts g c = λ synced some.
+    let words = c.args.words.now in
+    let there = g.D.Disk.holds c.lock_folder.new.disk in
+    let listed = g.D.Disk.holds c.start_locks.new.disk in
+    let start = place_of c.in-Ok-start_locks.start in
+    let locked = c.in-Ok.ensures.locked in
+    let started = c.in-Ok-start_locks.ensures.ok in
+    let known = started_known (folder_of words) (list_of words) c.args.holders.now there listed start started (locked_known (g.D.Disk.holds c.args.disk.now) there (folder_of words) locked some) in
+    inr (there, listed, start, locked, started, c.serve_from.ensures.lasts synced known)
 
 pub returns-clause-lasts : goal.returns-clause-lasts
 returns-clause-lasts g c = λ synced some.
@@ -14,4 +47,4 @@ returns-clause-lasts g c = λ synced some.
     let locked = c.in-Ok.ensures.locked in
     let started = c.in-Ok-start_locks.ensures.ok in
     let known = started_known (folder_of words) (list_of words) c.args.holders.now there listed start started (locked_known (g.D.Disk.holds c.args.disk.now) there (folder_of words) locked some) in
-    inr (there, listed, start, locked, started, c.serve_from-end.ensures.lasts synced known)
+    inr (there, listed, start, locked, started, c.serve_from.ensures.lasts synced known)

@@ -4,7 +4,7 @@ use Rattle.ring_locks.specs.Kept.{LockView}
 use Rattle.lock_serve.specs.State.{wait_lines}
 use Rattle.lock_serve.proofs.stating.put_line.Given as goal
 
--- the lines of those behind this place are still to be added
+-- the lines of those after this place are still to be added
 abbrev pub invariant-loop-place : goal.invariant-loop-place
 invariant-loop-place l =
     (v : LockView) → slice_get l.locks l.lock ≡ Some v → l.text.items ++ joined_lines (wait_lines l.lock (drop l.place v.line)) ≡ l.initial.text.items ++ joined_lines (wait_lines l.lock v.line)

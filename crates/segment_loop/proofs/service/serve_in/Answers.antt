@@ -1,6 +1,7 @@
 use Rattle.std.proofs.Common.{◌++◌, ℕ, List, Option, None, Some, subst, sym}
-use Rattle.std.specs.Prelude.{string_bytes}
+use Rattle.std.specs.Prelude.{string_bytes, ⊤}
 use Rattle.disks.specs.Held.{Held}
+use Rattle.disks.specs.Lasting.{BeginsWith, Changes}
 use Rattle.line_loop.specs.declared.faults.LoopFault.{LoopFault}
 use Rattle.line_loop.specs.declared.faults.LoopFault.TheVariants as fault
 use Rattle.line_loop.specs.Loop.{Stops, held_by, IsFaultOf as IsPartFault}
@@ -9,6 +10,7 @@ use Rattle.segment_loop.specs.declared.segmented.EndFault.{EndFault}
 use Rattle.segment_loop.specs.declared.segmented.EndFault.TheVariants as end
 use Rattle.segment_loop.specs.Service.{told_of}
 use Rattle.segment_loop.proofs.Lasting.{front_has}
+use Rattle.segment_loop.proofs.Earlier.{changes_any}
 use Rattle.segment_loop.proofs.service.serve_in.Goals as goal
 
 pub returns-in-Err-clause-spared : goal.returns-in-Err-clause-spared
@@ -25,7 +27,7 @@ returns-in-Err-clause-spared g c = λ begun h.
     let stops = subst (λ (f : Option Held). Stops (by_stand g.S.AnswersLines.is_answered) old (record { journal = before; out = out }) (record { journal = journal; out = after }) bytes (stand c.serve_part-served.new.service f)) (sym c.abandon.ensures.kept) told in
     (journal, (p.0, p.1, stops), front_has (g.D.Disk.leaves c.serve_part-served.new.disk) (g.D.Disk.leaves c.abandon.new.self) (string_bytes c.args.ready.segment.name) journal c.abandon.ensures.left)
 
--- only an input that is too long is told to be so
+-- `TooLong` is only reported of an input that is too long
 told_long : (e : LoopFault) (kept : Option EndFault) (input rest : Option (List ℕ)) → IsPartFault e input rest → IsPartFault (told_of e kept) input rest
 told_long fault.Read kept input rest h = h
 told_long fault.Journal kept input rest h = h
@@ -44,3 +46,11 @@ returns-in-Err-clause-long g c =
 
 pub returns-in-Err-clause-told : goal.returns-in-Err-clause-told
 returns-in-Err-clause-told g c = (c.in-Err.fault, c.told_of.ensures)
+
+pub returns-in-Err-clause-others : goal.returns-in-Err-clause-others
+returns-in-Err-clause-others g c = λ none.
+    let name = string_bytes c.args.ready.segment.name in
+    let left = g.D.Disk.leaves c.abandon.new.self in
+    let lasting = g.D.Grown.Grow.lasting c.in-Some.writer.inner in
+    subst (λ (was : Option Held). Changes was left name (λ (_ : Option (List ℕ)). ⊤)) (c.serve_part-served.ensures.unchanged none)
+    (changes_any (g.D.Disk.leaves c.serve_part-served.new.disk) left name (λ (has : Option (List ℕ)). BeginsWith has lasting) c.abandon.ensures.left)

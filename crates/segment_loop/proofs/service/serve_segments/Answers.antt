@@ -1,5 +1,5 @@
-use Rattle.std.proofs.Common.{ℕ, List, ◌++◌, Option, ap, refl, sym, subst, ◌∙◌, inl, arith}
-use Rattle.std.specs.Prelude.{is_some, IfSome, string_bytes}
+use Rattle.std.proofs.Common.{◌≡◌, ℕ, ◌+◌, List, ◌++◌, Option, Some, ap, refl, sym, subst, ◌∙◌, inl, arith}
+use Rattle.std.specs.Prelude.{is_some, IfSome, string_bytes, ⊤}
 use Rattle.segment_folder.specs.Names.{segment_file}
 use Rattle.line_loop.specs.declared.faults.Ending.{Ending}
 use Rattle.line_loop.specs.Loop.{IsEnding, Stops}
@@ -8,17 +8,18 @@ use Rattle.line_loop.proofs.Telling.{consumes_then}
 use Rattle.segment_loop.specs.Digested.{hashed}
 use Rattle.segment_loop.specs.Segments.{Moment, moment_of, stand_of}
 use Rattle.disks.specs.Held.{Held}
-use Rattle.disks.specs.Lasting.{HasFront}
+use Rattle.disks.specs.Lasting.{BeginsWith, HasFront}
 use Rattle.segment_loop.proofs.Parts.{long_part, no_long, none_served, one_served, one_counted, one_stops, many_long, parts_end, parts_stop}
 use Rattle.segment_loop.proofs.Lasting.{last_is, known_is, appended_known, opened_lasts, ready_knows, front_has, front_leaves}
-use Rattle.segment_loop.proofs.Noting.{lines_known, all_told, some_told, all_last, some_last}
+use Rattle.segment_loop.proofs.Noting.{lines_known, all_told, some_told, all_last, some_last, all_each, some_each}
+use Rattle.segment_loop.proofs.Earlier.{LeavesWhole, changes_left, front_file, file_map, none_whole, one_whole, whole_keeps}
 use Rattle.segment_loop.proofs.service.serve_segments.Goals as goal
 
 pub parts-init : goal.parts-init
 parts-init g c =
     let u = c.args.first.writer in
     let start : Moment _ = moment_of c.args.service.now (g.D.Disk.holds c.args.disk.now) c.args.first.number (hashed (g.D.Grown.Grow.contents u.inner) u.hasher) in
-    (c.requires, none_served g.S.AnswersLines.is_answered g.S.Segmented.segmenting c.args.rules.folder.now start c.none-unread.result c.new-line.result.items (g.I.Read.remaining c.args.input.now) (g.W.Write.contents c.args.out.now) c.none-unread.ensures c.new-line.ensures.items, omega arith, λ synced some all. (some, all))
+    (c.requires, none_served g.S.AnswersLines.is_answered g.S.Segmented.segmenting c.args.rules.folder.now start c.none-unread.result c.new-line.result.items (g.I.Read.remaining c.args.input.now) (g.W.Write.contents c.args.out.now) c.none-unread.ensures c.new-line.ensures.items, omega arith, λ synced some all. (some, all), λ none synced some all. none_whole g.S.AnswersLines.is_answered g.S.Segmented.segmenting c.args.rules.folder.now start c.none-unread.result c.new-line.result.items (g.I.Read.remaining c.args.input.now) (g.W.Write.contents c.args.out.now) c.none-unread.ensures c.new-line.ensures.items (g.D.Disk.leaves c.args.disk.now))
 
 pub returns-in-Err-clause-err : goal.returns-in-Err-clause-err
 returns-in-Err-clause-err g c =
@@ -137,6 +138,16 @@ parts-preserved g c =
             lines_known g.S.AnswersLines.is_answered g.met.S.Segmented.knows (stand_of from) (stand c.serve_in.new.service (g.D.Disk.holds c.serve_in.new.disk)) told.answered.lines told.said told.noted told.answered.answers knows.0,
             c.in-Ok-serve_in.ensures.whole opened,
           ),
+      λ none synced some all.
+          let now = c.parts.invariant.3 synced some all in
+          let known = known_is at.journal (g.D.Grown.Grow.lasting w.inner) now.1 in
+          let ended = λ (up : c.in-Ok.ready.segment.number ≡ c.parts.segment.number + 1). file_map c.args.rules.folder.now at.number (g.D.Disk.leaves c.make_ready.new.disk) (λ (has : Option (List ℕ)). has ≡ Some known.0) (λ (has : Option (List ℕ)). has ≡ at.journal) (λ has e. e ∙ sym known.1) (c.in-Ok.ensures.ended now.0 known.0 known.1 up) in
+          let parts = (one_served g.S.AnswersLines.is_answered g.S.Segmented.segmenting c.args.rules.folder.now start at from c.in-Ok.ready.kept c.parts.unread c.parts.line.items (g.I.Read.remaining c.args.input.now) (g.I.Read.remaining c.parts.input) (g.W.Write.contents c.args.out.now) (g.W.Write.contents c.parts.out) d c.in-Ok.ensures.ok
+          c.in-Ok-serve_in.end.ending c.serve_in.new.service (g.D.Disk.holds c.serve_in.new.disk) journal x.number c.serve_in.new.unread c.serve_in.new.line.items (g.I.Read.remaining c.serve_in.new.input) (g.W.Write.contents c.serve_in.new.out) same.0 part).parts in
+          subst (λ (left : Option Held). LeavesWhole c.args.rules.folder.now start parts left) (sym (c.in-Ok-serve_in.ensures.unchanged none))
+          (one_whole g.S.AnswersLines.is_answered g.S.Segmented.segmenting c.args.rules.folder.now start at from c.in-Ok.ready.kept c.parts.unread c.parts.line.items (g.I.Read.remaining c.args.input.now) (g.I.Read.remaining c.parts.input) (g.W.Write.contents c.args.out.now) (g.W.Write.contents c.parts.out) d c.in-Ok.ensures.ok
+          c.in-Ok-serve_in.end.ending c.serve_in.new.service (g.D.Disk.holds c.serve_in.new.disk) journal x.number c.serve_in.new.unread c.serve_in.new.line.items (g.I.Read.remaining c.serve_in.new.input) (g.W.Write.contents c.serve_in.new.out) same.0 part
+          (g.D.Disk.leaves c.parts.disk) (g.D.Disk.leaves c.make_ready.new.disk) (c.make_ready.ensures.earlier now.0) ended (c.parts.invariant.4 none synced some all)),
     )
 
 pub returns-clause-long : goal.returns-clause-long
@@ -258,3 +269,110 @@ returns-clause-lasts g c = λ synced some all.
     (front_has (g.D.Disk.leaves c.parts.disk) left name lasting c.abandon_segment.ensures.left) in
     all_last g.S.AnswersLines.is_answered g.met.S.Segmented.knows g.S.Segmented.segmenting c.args.rules.folder.now start at c.parts.unread c.parts.line.items (g.I.Read.remaining c.args.input.now) (g.I.Read.remaining c.parts.input) (g.W.Write.contents c.args.out.now) (g.W.Write.contents c.parts.out) c.parts.service d refl has.0 has.1 left
     (front_leaves g.S.Segmented.segmenting c.args.rules.folder.now at left name has.0 c.parts.invariant.0 front)
+
+-- ---- the segments before
+
+pub returns-in-Err-clause-earlier : goal.returns-in-Err-clause-earlier
+returns-in-Err-clause-earlier g c = λ none synced some all.
+    let u = c.args.first.writer in
+    let start : Moment _ = moment_of c.args.service.now (g.D.Disk.holds c.args.disk.now) c.args.first.number (hashed (g.D.Grown.Grow.contents u.inner) u.hasher) in
+    let w = c.parts.segment.writer in
+    let at : Moment _ = moment_of c.parts.service (g.D.Disk.holds c.parts.disk) c.parts.segment.number (hashed (g.D.Grown.Grow.contents w.inner) w.hasher) in
+    let d = c.parts.invariant.1 in
+    let now = c.parts.invariant.3 synced some all in
+    let lasting = g.D.Grown.Grow.lasting w.inner in
+    let known = known_is at.journal lasting now.1 in
+    let whole_is = last_is at.journal lasting now.1 ∙ known.1 in
+    let left = g.D.Disk.leaves c.make_ready.new.disk in
+    all_each g.S.AnswersLines.is_answered g.met.S.Segmented.knows g.S.Segmented.segmenting c.args.rules.folder.now start at c.parts.unread c.parts.line.items (g.I.Read.remaining c.args.input.now) (g.I.Read.remaining c.parts.input) (g.W.Write.contents c.args.out.now) (g.W.Write.contents c.parts.out) c.make_ready.new.service d c.in-Err.ensures.err.1 known.0 known.1 left
+    (c.in-Err.ensures.spared now.0 known.0 known.1 whole_is)
+    (whole_keeps g.S.AnswersLines.is_answered g.S.Segmented.segmenting c.args.rules.folder.now start at d.parts d.served (g.D.Disk.leaves c.parts.disk) left (c.make_ready.ensures.earlier now.0) (c.parts.invariant.4 none synced some all))
+    (c.in-Err.ensures.front now.0 known.0 known.1 whole_is)
+
+pub returns-in-Err-serve_in-clause-earlier : goal.returns-in-Err-serve_in-clause-earlier
+returns-in-Err-serve_in-clause-earlier g c = λ none synced some all.
+    let u = c.args.first.writer in
+    let start : Moment _ = moment_of c.args.service.now (g.D.Disk.holds c.args.disk.now) c.args.first.number (hashed (g.D.Grown.Grow.contents u.inner) u.hasher) in
+    let w = c.parts.segment.writer in
+    let at : Moment _ = moment_of c.parts.service (g.D.Disk.holds c.parts.disk) c.parts.segment.number (hashed (g.D.Grown.Grow.contents w.inner) w.hasher) in
+    let d = c.parts.invariant.1 in
+    let now = c.parts.invariant.3 synced some all in
+    let v = c.in-Ok.ready.segment.writer in
+    let from : Moment _ = moment_of c.make_ready.new.service (g.D.Disk.holds c.make_ready.new.disk) c.in-Ok.ready.segment.number (hashed (g.D.Grown.Grow.contents v.inner) v.hasher) in
+    let known = known_is at.journal (g.D.Grown.Grow.lasting w.inner) now.1 in
+    let knows = ready_knows g.S.Segmented.segmenting c.args.rules.folder.now c.in-Ok.ready.kept at from c.in-Ok.ensures.ok now.0 known.0 known.1 in
+    let opened = opened_lasts (g.D.Grown.Grow.contents w.inner) (g.D.Grown.Grow.lasting w.inner) (g.D.Grown.Grow.contents v.inner) (g.D.Grown.Grow.lasting v.inner) w.hasher v.hasher now.1 (c.in-Ok.ensures.lasts synced) knows.1 knows.2 in
+    let p = c.in-Err-serve_in.ensures.spared d.begun d.keeps in
+    let out = g.W.Write.contents c.parts.out in
+    let after = g.W.Write.contents c.serve_in.new.out in
+    let bytes = d.begun ++ (c.parts.unread ++ p.1.0) in
+    let new = stand c.serve_in.new.service (g.D.Disk.holds c.serve_in.new.disk) in
+    let stopped = subst (λ (j : Option (List ℕ)). Stops (by_stand g.S.AnswersLines.is_answered) (stand_of from) (record { journal = j; out = out }) (record { journal = p.0; out = after }) bytes new) (last_is from.journal (g.D.Grown.Grow.lasting v.inner) opened) p.1.2 in
+    let has = appended_known from.journal p.0 knows.1 (stopped.noted ++ stopped.front) knows.2 stopped.wrote_notes in
+    let stops = subst (λ (j : Option (List ℕ)). Stops (by_stand g.S.AnswersLines.is_answered) (stand_of from) (record { journal = from.journal; out = out }) (record { journal = j; out = after }) bytes new) has.1 stopped in
+    let left = g.D.Disk.leaves c.serve_in.new.disk in
+    let name = string_bytes c.in-Ok.ready.segment.name in
+    let front = subst (λ (j : Option (List ℕ)). IfSome left (λ (held : Held). HasFront held name j)) has.1 p.2 in
+    let ended = λ (up : c.in-Ok.ready.segment.number ≡ c.parts.segment.number + 1). file_map c.args.rules.folder.now at.number (g.D.Disk.leaves c.make_ready.new.disk) (λ (has : Option (List ℕ)). has ≡ Some known.0) (λ (has : Option (List ℕ)). has ≡ at.journal) (λ has e. e ∙ sym known.1) (c.in-Ok.ensures.ended now.0 known.0 known.1 up) in
+    let ready_left = g.D.Disk.leaves c.make_ready.new.disk in
+    some_each g.S.AnswersLines.is_answered g.met.S.Segmented.knows g.S.Segmented.segmenting c.args.rules.folder.now start at from c.in-Ok.ready.kept c.parts.unread c.parts.line.items (g.I.Read.remaining c.args.input.now) (g.I.Read.remaining c.parts.input) (g.W.Write.contents c.args.out.now) out d c.in-Ok.ensures.ok c.serve_in.new.service (g.D.Disk.holds c.serve_in.new.disk) has.0 (g.I.Read.remaining c.serve_in.new.input) after p.1.0 (consumes_then (g.I.Read.remaining c.args.input.now) (g.I.Read.remaining c.parts.input) (g.I.Read.remaining c.serve_in.new.input) d.read p.1.0 d.consumed p.1.1) stops
+    (g.D.Disk.leaves c.parts.disk) ready_left left name c.in-Ok.ensures.named front (c.parts.invariant.4 none synced some all) (c.make_ready.ensures.earlier now.0) ended
+    (changes_left c.args.rules.folder.now from.number from.number ready_left left name (λ (_ : Option (List ℕ)). ⊤) c.in-Ok.ensures.named (omega arith) (c.in-Err-serve_in.ensures.others none))
+    (front_file c.args.rules.folder.now from.number left name (Some has.0) c.in-Ok.ensures.named front)
+
+pub returns-in-End-clause-earlier : goal.returns-in-End-clause-earlier
+returns-in-End-clause-earlier g c = λ none synced some all left l.
+    let u = c.args.first.writer in
+    let start : Moment _ = moment_of c.args.service.now (g.D.Disk.holds c.args.disk.now) c.args.first.number (hashed (g.D.Grown.Grow.contents u.inner) u.hasher) in
+    let w = c.parts.segment.writer in
+    let at : Moment _ = moment_of c.parts.service (g.D.Disk.holds c.parts.disk) c.parts.segment.number (hashed (g.D.Grown.Grow.contents w.inner) w.hasher) in
+    let d = c.parts.invariant.1 in
+    let now = c.parts.invariant.3 synced some all in
+    let v = c.in-Ok.ready.segment.writer in
+    let from : Moment _ = moment_of c.make_ready.new.service (g.D.Disk.holds c.make_ready.new.disk) c.in-Ok.ready.segment.number (hashed (g.D.Grown.Grow.contents v.inner) v.hasher) in
+    let known = known_is at.journal (g.D.Grown.Grow.lasting w.inner) now.1 in
+    let knows = ready_knows g.S.Segmented.segmenting c.args.rules.folder.now c.in-Ok.ready.kept at from c.in-Ok.ensures.ok now.0 known.0 known.1 in
+    let opened = opened_lasts (g.D.Grown.Grow.contents w.inner) (g.D.Grown.Grow.lasting w.inner) (g.D.Grown.Grow.contents v.inner) (g.D.Grown.Grow.lasting v.inner) w.hasher v.hasher now.1 (c.in-Ok.ensures.lasts synced) knows.1 knows.2 in
+    let x = c.in-Ok-serve_in.end.segment in
+    let journal = hashed (g.D.Grown.Grow.contents x.writer.inner) x.writer.hasher in
+    let to : Moment _ = moment_of c.serve_in.new.service (g.D.Disk.holds c.serve_in.new.disk) x.number journal in
+    let more = one_served g.S.AnswersLines.is_answered g.S.Segmented.segmenting c.args.rules.folder.now start at from c.in-Ok.ready.kept c.parts.unread c.parts.line.items (g.I.Read.remaining c.args.input.now) (g.I.Read.remaining c.parts.input) (g.W.Write.contents c.args.out.now) (g.W.Write.contents c.parts.out) d c.in-Ok.ensures.ok
+    c.in-Ok-serve_in.end.ending c.serve_in.new.service (g.D.Disk.holds c.serve_in.new.disk) journal x.number c.serve_in.new.unread c.serve_in.new.line.items (g.I.Read.remaining c.serve_in.new.input) (g.W.Write.contents c.serve_in.new.out) c.in-Ok-serve_in.ensures.same.0 (c.in-Ok-serve_in.ensures.ok d.begun d.keeps) in
+    let same = c.in-Ok-serve_in.ensures.same in
+    let named = same.1 ∙ (c.in-Ok.ensures.named ∙ ap (λ (n : ℕ). segment_file c.args.rules.folder.now n) (sym same.0)) in
+    let lasting = g.D.Grown.Grow.lasting x.writer.inner in
+    let whole = c.in-Ok-serve_in.ensures.whole opened in
+    let has = known_is journal lasting whole in
+    let name = string_bytes x.name in
+    let then = g.D.Disk.leaves c.serve_in.new.disk in
+    let h = front_has then left name lasting l in
+    let ended = λ (up : c.in-Ok.ready.segment.number ≡ c.parts.segment.number + 1). file_map c.args.rules.folder.now at.number (g.D.Disk.leaves c.make_ready.new.disk) (λ (has : Option (List ℕ)). has ≡ Some known.0) (λ (has : Option (List ℕ)). has ≡ at.journal) (λ has e. e ∙ sym known.1) (c.in-Ok.ensures.ended now.0 known.0 known.1 up) in
+    let begun = one_whole g.S.AnswersLines.is_answered g.S.Segmented.segmenting c.args.rules.folder.now start at from c.in-Ok.ready.kept c.parts.unread c.parts.line.items (g.I.Read.remaining c.args.input.now) (g.I.Read.remaining c.parts.input) (g.W.Write.contents c.args.out.now) (g.W.Write.contents c.parts.out) d c.in-Ok.ensures.ok
+    c.in-Ok-serve_in.end.ending c.serve_in.new.service (g.D.Disk.holds c.serve_in.new.disk) journal x.number c.serve_in.new.unread c.serve_in.new.line.items (g.I.Read.remaining c.serve_in.new.input) (g.W.Write.contents c.serve_in.new.out) c.in-Ok-serve_in.ensures.same.0 (c.in-Ok-serve_in.ensures.ok d.begun d.keeps)
+    (g.D.Disk.leaves c.parts.disk) (g.D.Disk.leaves c.make_ready.new.disk) (c.make_ready.ensures.earlier now.0) ended (c.parts.invariant.4 none synced some all) in
+    let whole_then = subst (λ (f : Option Held). LeavesWhole c.args.rules.folder.now start more.parts f) (sym (c.in-Ok-serve_in.ensures.unchanged none)) begun in
+    let front = subst (λ (j : Option (List ℕ)). IfSome left (λ (held : Held). HasFront held name j)) (last_is journal lasting whole ∙ has.1) h in
+    all_each g.S.AnswersLines.is_answered g.met.S.Segmented.knows g.S.Segmented.segmenting c.args.rules.folder.now start to c.serve_in.new.unread c.serve_in.new.line.items (g.I.Read.remaining c.args.input.now) (g.I.Read.remaining c.serve_in.new.input) (g.W.Write.contents c.args.out.now) (g.W.Write.contents c.serve_in.new.out) c.serve_in.new.service more refl has.0 has.1 left
+    (front_leaves g.S.Segmented.segmenting c.args.rules.folder.now to left name has.0 named front)
+    (whole_keeps g.S.AnswersLines.is_answered g.S.Segmented.segmenting c.args.rules.folder.now start to more.parts more.served then left (changes_left c.args.rules.folder.now to.number to.number then left name (λ (has : Option (List ℕ)). BeginsWith has lasting) named (omega arith) l) whole_then)
+    (front_file c.args.rules.folder.now to.number left name (Some has.0) named front)
+
+pub returns-clause-earlier : goal.returns-clause-earlier
+returns-clause-earlier g c = λ none synced some all.
+    let u = c.args.first.writer in
+    let start : Moment _ = moment_of c.args.service.now (g.D.Disk.holds c.args.disk.now) c.args.first.number (hashed (g.D.Grown.Grow.contents u.inner) u.hasher) in
+    let w = c.parts.segment.writer in
+    let at : Moment _ = moment_of c.parts.service (g.D.Disk.holds c.parts.disk) c.parts.segment.number (hashed (g.D.Grown.Grow.contents w.inner) w.hasher) in
+    let d = c.parts.invariant.1 in
+    let now = c.parts.invariant.3 synced some all in
+    let lasting = g.D.Grown.Grow.lasting w.inner in
+    let has = known_is at.journal lasting now.1 in
+    let name = string_bytes c.parts.segment.name in
+    let then = g.D.Disk.leaves c.parts.disk in
+    let left = g.D.Disk.leaves c.abandon_segment.new.disk in
+    let front = subst (λ (j : Option (List ℕ)). IfSome left (λ (held : Held). HasFront held name j)) (last_is at.journal lasting now.1 ∙ has.1)
+    (front_has then left name lasting c.abandon_segment.ensures.left) in
+    all_each g.S.AnswersLines.is_answered g.met.S.Segmented.knows g.S.Segmented.segmenting c.args.rules.folder.now start at c.parts.unread c.parts.line.items (g.I.Read.remaining c.args.input.now) (g.I.Read.remaining c.parts.input) (g.W.Write.contents c.args.out.now) (g.W.Write.contents c.parts.out) c.parts.service d refl has.0 has.1 left
+    (front_leaves g.S.Segmented.segmenting c.args.rules.folder.now at left name has.0 c.parts.invariant.0 front)
+    (whole_keeps g.S.AnswersLines.is_answered g.S.Segmented.segmenting c.args.rules.folder.now start at d.parts d.served then left (changes_left c.args.rules.folder.now at.number at.number then left name (λ (has : Option (List ℕ)). BeginsWith has lasting) c.parts.invariant.0 (omega arith) c.abandon_segment.ensures.left) (c.parts.invariant.4 none synced some all))
+    (front_file c.args.rules.folder.now at.number left name (Some has.0) c.parts.invariant.0 front)

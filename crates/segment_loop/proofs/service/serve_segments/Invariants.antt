@@ -1,9 +1,10 @@
-use Rattle.std.proofs.Common.{◌≡◌, true}
+use Rattle.std.proofs.Common.{◌≡◌, true, false}
 use Rattle.std.specs.Prelude.{IsSome}
 use Rattle.line_loop.specs.Loop.{AllLasts}
 use Rattle.segment_loop.specs.Digested.{hashed}
 use Rattle.segment_loop.specs.Segments.{moment_of, IsNamed}
 use Rattle.segment_loop.proofs.Parts.{Served, IsCounted}
+use Rattle.segment_loop.proofs.Earlier.{LeavesWhole}
 use Rattle.segment_loop.proofs.service.serve_segments.Given as goal
 
 abbrev pub invariant-parts : goal.invariant-parts
@@ -13,3 +14,5 @@ invariant-parts g l =
     × IsCounted l.part d
     × (l.fn.rules.synced ≡ true → IsSome (g.D.Disk.holds l.initial.disk) → AllLasts (hashed (g.D.Grown.Grow.contents l.initial.segment.writer.inner) l.initial.segment.writer.hasher) (g.D.Grown.Grow.lasting l.initial.segment.writer.inner) →
     IsSome (g.D.Disk.holds l.disk) × AllLasts (hashed (g.D.Grown.Grow.contents l.segment.writer.inner) l.segment.writer.hasher) (g.D.Grown.Grow.lasting l.segment.writer.inner))
+    × (g.S.AnswersLines.changes_files ≡ false → l.fn.rules.synced ≡ true → IsSome (g.D.Disk.holds l.initial.disk) → AllLasts (hashed (g.D.Grown.Grow.contents l.initial.segment.writer.inner) l.initial.segment.writer.hasher) (g.D.Grown.Grow.lasting l.initial.segment.writer.inner) →
+    LeavesWhole l.fn.rules.folder.now (moment_of l.initial.service (g.D.Disk.holds l.initial.disk) l.initial.segment.number (hashed (g.D.Grown.Grow.contents l.initial.segment.writer.inner) l.initial.segment.writer.hasher)) d.parts (g.D.Disk.leaves l.disk))

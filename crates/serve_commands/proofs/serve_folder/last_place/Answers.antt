@@ -1,5 +1,5 @@
 use Rattle.std.proofs.Common.{ℕ, List, Ok, refl, subst}
-use Rattle.ring_segments.specs.Last.{IsRightLast}
+use Rattle.torn_ends.specs.Torn.{IsRightEnd}
 use Rattle.serve_commands.proofs.serve_folder.last_place.Goals as goal
 
 pub returns-in-Ok-resume_last-clause-ok : goal.returns-in-Ok-resume_last-clause-ok
@@ -7,7 +7,7 @@ returns-in-Ok-resume_last-clause-ok g c = record {
   bytes = c.in-Ok.bytes.items;
   held = c.in-Ok.ensures.ok;
   segment = c.in-Ok-last_segment.last;
-  right = subst (λ (b : List ℕ). IsRightLast b (Ok c.in-Ok-last_segment.last)) c.as_slice.ensures.value c.in-Ok-last_segment.ensures.ok;
+  right = subst (λ (b : List ℕ). IsRightEnd b (Ok c.in-Ok-last_segment.last)) c.as_slice.ensures.value c.in-Ok-last_segment.ensures.ok;
   named = c.in-Ok-last_segment.ensures.named;
   resumed = c.in-Ok-resume_last.ensures.ok;
   number = refl;

@@ -10,7 +10,7 @@ invariant_of-self c =
 pub returns-clause-kept : goal.returns-clause-kept
 returns-clause-kept c =
     let s = c.self.inside in
-    kept_is s.rules s.served s.number s.refusing c.args.self.now c.refusal_of.result c.args.why c.self.view_is c.refusal_of.ensures.refusal
+    kept_is s.rules s.served s.number s.refusing c.args.self.now c.refusal_of.result c.args.why c.self.view_is c.refusal_of.ensures
 
 pub returns-clause-open : goal.returns-clause-open
 returns-clause-open c = let s = c.self.inside in kept_open s.rules s.served s.number c.refusal_of.result

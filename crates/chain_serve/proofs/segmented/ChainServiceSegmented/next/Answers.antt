@@ -1,8 +1,18 @@
-use Rattle.std.proofs.Common.{◌+◌}
-use Rattle.chain_serve.proofs.Known.{next_open}
+use Rattle.std.proofs.Common.{◌+◌, arith}
+use Rattle.chain_serve.proofs.Known.{next_open, no_next, no_number}
 use Rattle.chain_serve.proofs.segmented.ChainServiceSegmented.next.Goals as goal
 
 pub returns-clause-open : goal.returns-clause-open
 returns-clause-open c =
     let s = c.self.inside in
-    next_open s.rules s.served c.in-Ok.served (s.number + 1) c.new.result c.new.ensures c.self.invariant.limit c.in-Ok.ensures.0
+    next_open s.rules s.served c.in-Ok.served (s.number + 1) c.new.result c.new.ensures c.self.invariant.limit c.in-Ok.ensures.next.0
+
+pub returns-in-Err-clause-why : goal.returns-in-Err-clause-why
+returns-in-Err-clause-why c =
+    let s = c.self.inside in
+    no_next s.rules s.served s.number s.refusing c.args.self.now c.in-Err.why c.self.view_is c.in-Err.ensures.why
+
+pub returns-then-self-clause-why : goal.returns-then-self-clause-why
+returns-then-self-clause-why c =
+    let s = c.self.inside in
+    no_number s.rules s.served s.number s.refusing c.args.self.now c.self.view_is (omega (arith, c.if-self.true))

@@ -1,5 +1,6 @@
-use Rattle.std.proofs.Common.{◌≡◌, ℕ, List, ap, ◌∙◌}
+use Rattle.std.proofs.Common.{◌≡◌, ℕ, List, sym, ap, ◌∙◌}
 use Rattle.std.specs.Prelude.{string_bytes}
+use Rattle.std.proofs.lemmas.Bool.{false≢true}
 use Rattle.ring_serve.specs.Permits.{Terms, terms_by}
 use Rattle.ring_serve.specs.Standings.{Standing}
 use Rattle.ring_serve.specs.Serving.{IsAnswered}
@@ -45,3 +46,6 @@ returns-clause-err g c =
     let new : ServiceView = service_of s.rules rings s.number s.refusing in
     made_err c.answer_by-told.result ((rings ≡ s.served) × (is ≡ was)) ((new ≡ c.args.self.now) × (is ≡ was)) (λ say note. IsAnswered terms s.served was c.args.line.now say note rings is) (λ (say note : List ℕ). IsServed c.args.self.now was c.args.line.now say note new is)
     c.args.pending.now c.answer_by-told.new.pending (λ e. (ap (λ (x : List Standing). service_of s.rules x s.number s.refusing) e.0 ∙ c.self.view_is, e.1)) (λ say note a. served_known s.rules s.served rings s.number s.refusing c.answer_by-told.new.shut terms c.args.self.now was is c.args.line.now say note known c.self.view_is a c.answer_by-told.ensures.tied c.are_right.ensures) c.answer_by-told.ensures.answered
+
+pub returns-clause-unchanged : goal.returns-clause-unchanged
+returns-clause-unchanged g c = λ none. absurd (false≢true (sym none))

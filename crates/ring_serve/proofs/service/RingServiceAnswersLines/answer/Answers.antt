@@ -1,4 +1,5 @@
 use Rattle.std.proofs.Common.{◌≡◌, ℕ, List, false, sym, ap, ◌∙◌, subst}
+use Rattle.std.proofs.lemmas.Bool.{false≢true}
 use Rattle.ring_serve.specs.Permits.{terms_by, is_shut}
 use Rattle.ring_serve.specs.Standings.{Standing}
 use Rattle.ring_serve.specs.Serving.{IsAnswered}
@@ -30,3 +31,6 @@ returns-clause-err g c =
     let is = g.D.Disk.holds c.answer_by.new.disk in
     made_err c.answer_by.result ((c.answer_by.new.served ≡ s.served) × (is ≡ was)) ((new ≡ c.args.self.now) × (is ≡ was)) (λ say note. IsAnswered (terms_by s.rules) s.served was c.args.line.now say note c.answer_by.new.served is) (λ (say note : List ℕ). IsServed c.args.self.now was c.args.line.now say note new is)
     c.args.pending.now c.answer_by.new.pending (λ e. (ap (λ (x : List Standing). service_of x (terms_by s.rules)) e.0 ∙ c.self.view_is, e.1)) (λ say note a. served_by c.args.self.now s.served c.answer_by.new.served (terms_by s.rules) was is c.args.line.now say note c.self.view_is a) c.answer_by.ensures.answered
+
+pub returns-clause-unchanged : goal.returns-clause-unchanged
+returns-clause-unchanged g c = λ none. absurd (false≢true (sym none))

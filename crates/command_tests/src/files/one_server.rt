@@ -1,0 +1,93 @@
+//! Two servers of one folder at once.
+
+use crate::files::system::{expect, expect_count, folder_of};
+use crate::power::LENT;
+use disks::{Disk, SystemDisk};
+use lock_commands::locks;
+use ring_requests::LocksWords;
+use std::alloc::Global;
+use std::io::{self, Read};
+use std::test::Fail;
+use tool_parts::faults::ToolError;
+
+/// Serves the locks of a folder for these lines.
+fn lend<'a, D: Disk, I: Read>(
+    alloc: Global,
+    disk: &mut D,
+    folder: &'a str,
+    input: &mut I,
+    out: &mut Vec<u8>,
+) -> Result<(), ToolError<'a>> {
+    let words = LocksWords {
+        journal: folder,
+        locks: Some("deploy:3"),
+        holders: None,
+        segment: 100,
+        synced: false,
+        faults: false,
+        strict: false,
+    };
+    let mut err = Vec::new(alloc);
+    locks::run(alloc, disk, &words, input, out, &mut err)
+}
+
+/// Whether one more server of a folder is refused: it reads no line, and answers nothing.
+fn is_refused(rt: &HostRuntime, folder: &str) -> bool {
+    let alloc = rt.alloc();
+    let mut disk = SystemDisk::new(rt);
+    let mut input: &[u8] = b"2 acquire 0 78\n";
+    let mut out = Vec::new(alloc);
+    match lend(alloc, &mut disk, folder, &mut input, &mut out) {
+        Err(ToolError::InUse(name)) => name == folder && input.len() == 15 && out.is_empty(),
+        _ => false,
+    }
+}
+
+/// The lines of a server. Before they are read another server begins in its folder.
+#[derive(Drop)]
+struct Beside<'a> {
+    rt: &'a HostRuntime,
+    folder: &'a str,
+    lines: &'a [u8],
+    /// How many others were refused.
+    refused: u32,
+}
+
+impl<'a> Read for Beside<'a> {
+    fn read(&mut self, buf: &mut [u8]) -> io::Result<usize> {
+        if is_refused(self.rt, self.folder) {
+            self.refused = self.refused.saturating_add(1);
+        }
+        self.lines.read(buf)
+    }
+}
+
+#[test]
+fn a_folder_has_one_server_at_a_time(rt: HostRuntime) -> Result<(), Fail> {
+    let alloc = rt.alloc();
+    let folder = folder_of(&rt, "one_server")?;
+    let mut disk = SystemDisk::new(&rt);
+    let mut input = Beside {
+        rt: &rt,
+        folder: folder.as_str(),
+        lines: b"1 acquire 0 77\n",
+        refused: 0,
+    };
+    let mut out = Vec::new(alloc);
+    assert!(rt; lend(alloc, &mut disk, folder.as_str(), &mut input, &mut out).is_ok());
+    assert!(rt; out.as_slice() == b"1 granted 0 1\n".as_slice());
+    // One began before the line was read, and one before the end was.
+    assert!(rt; input.refused == 2);
+    expect(&rt, &folder, "0000000001.ring", Some(LENT))?;
+    // The folder is locked as long as the first one's disk is there.
+    assert!(rt; is_refused(&rt, folder.as_str()));
+    drop(disk);
+    let mut disk = SystemDisk::new(&rt);
+    let mut input: &[u8] = b"1 acquire 0 79\n";
+    let mut out = Vec::new(alloc);
+    assert!(rt; lend(alloc, &mut disk, folder.as_str(), &mut input, &mut out).is_ok());
+    assert!(rt; out.as_slice() == b"1 waiting 0 0\n".as_slice());
+    // The list of locks, the lock of the folder, and two segments.
+    expect_count(&rt, &folder, 4)?;
+    Ok(())
+}
