@@ -32,7 +32,7 @@ use Rattle.chain_serve.specs.declared.segments.SegmentRules.{SegmentRules}
 use Rattle.chain_serve.specs.Segments.{Moment, file_of, moment_of, IsPut, HasEnded, IsCause, IsReady, IsLeft}
 use Rattle.chain_serve.specs.Texts.{HaveNoText}
 use Rattle.chain_serve.specs.Service.{part_terms, Part, AreParts, all_lines, all_said, IsStopped, ServesSegments, ServesSomeSegments}
-use Rattle.chain_serve.specs.Recovered.{AnsweredCallsAreRecovered, LeavesSegment, AnsweredCallsLast}
+use Rattle.chain_serve.specs.Recovered.{AnsweredCallsAreRecovered, LeavesSegment, AnsweredCallsLast, AreWhole, EachSegmentLasts}
 use Rattle.chain_serve.specs.Services.{ServiceView, service_of, terms_of, IsServed, IsNext, HasNoNext, refusal_of, segmenting}
 use Rattle.chain_serve.proofs.Recovering.{AreRight, keeps_last}
 
@@ -307,6 +307,24 @@ last_in s a new input rest out after left sound t = record {
   left_is = leaves_in s t.noted.mid t.journal left t.left_is;
 }
 
+-- and of the segments before
+whole_in : (s : SegmentRules) (a : at.Moment ServiceView) (ps : List (loop.Part ServiceView)) (held : Held) → lasting.AreWhole s.folder.now a ps held → AreWhole s (moment_in a) (map part_in ps) held
+whole_in s a [] held h = tt
+whole_in s a (p ∷ ps) held h = (h.0, whole_in s p.to ps held h.1)
+
+each_left : (s : SegmentRules) (a : at.Moment ServiceView) (ps : List (loop.Part ServiceView)) (front : Held → Type 0) (left : Option Held) → IfSome left (λ (held : Held). lasting.AreApart s.folder.now held → lasting.AreWhole s.folder.now a ps held × front held) →
+    IfSome left (λ (held : Held). lasting.AreApart s.folder.now held → AreWhole s (moment_in a) (map part_in ps) held × front held)
+each_left s a ps front None h = tt
+each_left s a ps front (Some held) h = λ apart. let one = h apart in (whole_in s a ps held one.0, one.1)
+
+pub each_in : (s : SegmentRules) (a : at.Moment ServiceView) (new : ServiceView) (input rest out after : Option (List ℕ)) (left : Option Held) → IsSound s a.number a.service → lasting.EachSegmentLasts IsServed segmenting s.folder.now a new input rest out after left →
+    EachSegmentLasts s (moment_in a) new.rings input rest out after left
+unfolding recovered_in last_in
+each_in s a new input rest out after left sound t = record {
+  told = last_in s a new input rest out after left sound t.told;
+  each = each_left s a t.told.noted.parts (λ (held : Held). HasFront held (file_of s t.told.noted.mid.number) (Some t.told.journal)) left t.each;
+}
+
 -- ---- from the service with which lines are served first
 
 module _ (s : SegmentRules) (v new : ServiceView) (rings others : List Standing) (files : Option Held) (number : ℕ) (journal input rest out after : Option (List ℕ)) (e : v ≡ service_of s rings number None) (right : AllByRecursion IsRight rings) (same : new.rings ≡ others) where
@@ -336,6 +354,13 @@ module _ (s : SegmentRules) (v new : ServiceView) (rings others : List Standing)
       let all = last_in s (at.moment_of v files number journal) new input rest out after left (first_sound s rings number v e right) t in
       subst (λ (x : List Standing). AnsweredCallsLast s (moment_of rings files number journal) x input rest out after left) same
       (subst (λ (x : List Standing). AnsweredCallsLast s (moment_of x files number journal) new.rings input rest out after left) (ap (λ (y : ServiceView). y.rings) e) all)
+
+  pub each_from : (left : Option Held) → lasting.EachSegmentLasts IsServed segmenting s.folder.now (at.moment_of v files number journal) new input rest out after left →
+      EachSegmentLasts s (moment_of rings files number journal) others input rest out after left
+  each_from left t =
+      let all = each_in s (at.moment_of v files number journal) new input rest out after left (first_sound s rings number v e right) t in
+      subst (λ (x : List Standing). EachSegmentLasts s (moment_of rings files number journal) x input rest out after left) same
+      (subst (λ (x : List Standing). EachSegmentLasts s (moment_of x files number journal) new.rings input rest out after left) (ap (λ (y : ServiceView). y.rings) e) all)
 
 -- no line was answered
 pub none_in : (s : SegmentRules) (rings : List Standing) (files : Option Held) (number : ℕ) (journal : Option (List ℕ)) (input out : Option (List ℕ)) → ServesSomeSegments s (moment_of rings files number journal) rings files input input out out × AnsweredCallsAreRecovered s (moment_of rings files number journal) rings input input out out journal
@@ -389,3 +414,25 @@ none_last s rings files number journal kept input out was left name e all h =
     let front = subst (λ (j : Option (List ℕ)). IfSome left (λ (held : Held). HasFront held name j)) (last_is journal kept all ∙ k.1) (front_has was left name kept h) in
     subst (λ (j : Option (List ℕ)). AnsweredCallsLast s (moment_of rings files number j) rings input input out out left) (sym k.1)
     (none_last_of s rings files number k.0 input out left (front_segment s (moment_of rings files number (Some k.0)) left name k.0 e front))
+
+only_front : (s : SegmentRules) (a : Moment) (front : Held → Type 0) (left : Option Held) → IfSome left front → IfSome left (λ (held : Held). lasting.AreApart s.folder.now held → AreWhole s a [] held × front held)
+only_front s a front None h = tt
+only_front s a front (Some held) h = λ apart. (tt, h)
+
+none_each_of : (s : SegmentRules) (rings : List Standing) (files : Option Held) (number : ℕ) (bytes : List ℕ) (input out : Option (List ℕ)) (left : Option Held) → IfSome left (λ (held : Held). HasFront held (file_of s number) (Some bytes)) →
+    EachSegmentLasts s (moment_of rings files number (Some bytes)) rings input input out out left
+unfolding none_in none_last_of
+none_each_of s rings files number bytes input out left h =
+    let a = moment_of rings files number (Some bytes) in
+    record {
+      told = none_last_of s rings files number bytes input out left (front_segment s a left (file_of s number) bytes refl h);
+      each = only_front s a (λ (held : Held). HasFront held (file_of s number) (Some bytes)) left h;
+    }
+
+pub none_each : (s : SegmentRules) (rings : List Standing) (files : Option Held) (number : ℕ) (journal kept : Option (List ℕ)) (input out : Option (List ℕ)) (was left : Option Held) (name : List ℕ) → name ≡ file_of s number → AllLasts journal kept → LeavesFront was left name kept →
+    EachSegmentLasts s (moment_of rings files number journal) rings input input out out left
+none_each s rings files number journal kept input out was left name e all h =
+    let k = known_is journal kept all in
+    let front = subst (λ (j : Option (List ℕ)). IfSome left (λ (held : Held). HasFront held name j)) (last_is journal kept all ∙ k.1) (front_has was left name kept h) in
+    subst (λ (j : Option (List ℕ)). EachSegmentLasts s (moment_of rings files number j) rings input input out out left) (sym k.1)
+    (none_each_of s rings files number k.0 input out left (subst (λ (n : List ℕ). IfSome left (λ (held : Held). HasFront held n (Some k.0))) e front))

@@ -6,6 +6,7 @@ use Rattle.text_lines.specs.Writing.{Wrote}
 use Rattle.disks.specs.Held.{Held, bytes_of}
 use Rattle.disks.specs.Lasting.{HasFront}
 use Rattle.ring_segments.specs.Spelling.{digest_of}
+use Rattle.segment_loop.specs.Lasting.{AreApart}
 use Rattle.ring_saved.specs.Spelling.{Fits}
 use Rattle.ring_journal.specs.Spelling.{head_text as journal_text}
 use Rattle.ring_journal.specs.Recovery.{IsRecovered}
@@ -94,3 +95,23 @@ pub record AnsweredCallsLast (s : SegmentRules) (a : Moment) (new : List Standin
   pub journal : List ℕ
   pub recovered : AnsweredCallsAreRecovered s a new input rest out after (Some journal)
   pub left_is : LeavesSegment s recovered.mid journal left
+
+-- ---- each segment of the run
+
+-- Where the next part is in the next segment, that of the moment before has ended: its file is left
+-- whole, with all that was written to it.
+abbrev pub AreWhole : SegmentRules → Moment → List Part → Held → Type 0
+AreWhole s a [] held = Unit {0}
+AreWhole s a (p ∷ ps) held =
+    (p.from.number ≡ a.number + 1 → bytes_of held (file_of s a.number) ≡ a.journal)
+    × AreWhole s p.to ps held
+
+-- The answers to the lines of the last segment last; and if each segment has a file of its own, those
+-- that have ended are left whole, and that of the last one begins with these bytes.
+pub record EachSegmentLasts (s : SegmentRules) (a : Moment) (new : List Standing)
+    (input rest out after : Option (List ℕ)) (left : Option Held) : Type 0 where
+  pub told : AnsweredCallsLast s a new input rest out after left
+  pub each : IfSome left
+      (λ held. AreApart s.folder.now held
+      → AreWhole s a told.recovered.parts held
+      × HasFront held (file_of s told.recovered.mid.number) (Some told.journal))

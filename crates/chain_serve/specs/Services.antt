@@ -41,6 +41,10 @@ terms_of s = part_terms s.rules s.number s.refusing
 abbrev pub is_over : ServiceView → Bool
 is_over s = is_shut (terms_of s) s.rings
 
+-- whether a line may save, and so change a file
+abbrev pub may_save : ServiceView → Bool
+may_save s = is_some s.rules.permits.saves
+
 -- what is known of the fields: a segment may have a line, the name is that of its file, and lines
 -- are refused only while it is due
 pub record IsKnown (rules : SegmentRules) (rings : List Standing) (number : ℕ)

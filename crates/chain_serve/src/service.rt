@@ -72,12 +72,14 @@ impl<'n> ChainService<'n> {
 }
 
 impl AnswersLines for ChainService<'_> {
-    ghost use Rattle.chain_serve.specs.Services.{IsServed, is_over};
+    ghost use Rattle.chain_serve.specs.Services.{IsServed, is_over, may_save};
     ghost use Rattle.chain_serve.specs.Starts.{by_start};
 
     ghost is_answered = { IsServed };
 
     ghost is_over = { is_over };
+
+    ghost changes_files = { may_save };
 
     ghost by_start = { by_start };
 

@@ -1,14 +1,14 @@
 //! Lines that are served in segments.
 
-ghost use Rattle.std.specs.Prelude.{◌≡◌, ◌≤◌, ℕ, List, Option, true, IfOk, IfErr, IfSome, IsSome, OnErr, MatchResult, string_bytes};
+ghost use Rattle.std.specs.Prelude.{◌≡◌, ◌≤◌, ℕ, List, Option, None, true, IfOk, IfErr, IfSome, IsSome, OnErr, MatchResult, string_bytes};
 ghost use Rattle.disks.specs.Held.{Held};
-ghost use Rattle.disks.specs.Lasting.{HasFront};
+ghost use Rattle.disks.specs.Lasting.{HasFront, LeavesFront};
 ghost use Rattle.line_loop.specs.Loop.{AllLasts};
 ghost use Rattle.segment_loop.specs.Digested.{hashed};
 ghost use Rattle.segment_loop.specs.Segments.{IsNamed};
 ghost use Rattle.segment_loop.specs.Service.{IsFaultOf};
 ghost use Rattle.chain_serve.specs.Segments.{moment_of};
-ghost use Rattle.chain_serve.specs.Recovered.{AnsweredCallsAreRecovered, AnsweredCallsLast};
+ghost use Rattle.chain_serve.specs.Recovered.{AnsweredCallsAreRecovered, AnsweredCallsLast, EachSegmentLasts};
 ghost use Rattle.chain_serve.specs.Service.{ServesSegments, ServesSomeSegments};
 
 use crate::segments::SegmentRules;
@@ -98,6 +98,25 @@ pub fn serve_segments<D: Disk, I: Read, W: Write>(
         (D.Grown.lasting first.writer.inner)
         → AllLasts (hashed (D.Grown.contents end.writer.inner) end.writer.hasher)
         (D.Grown.lasting end.writer.inner)) }
+
+    // Where no line may save, the segments before the last are there too, whole.
+    ensures earlier { rules.entry.permits.saves ≡ None → rules.entry.synced ≡ true
+        → IsSome (D.holds disk.old)
+        → AllLasts (hashed (D.Grown.contents first.writer.inner) first.writer.hasher)
+        (D.Grown.lasting first.writer.inner)
+        → MatchResult result
+        (λ end. (left : Option Held) → LeavesFront (D.leaves disk.new) left (string_bytes end.name)
+        (D.Grown.lasting end.writer.inner)
+        → EachSegmentLasts rules.entry
+        (moment_of served.old (D.holds disk.old) first.number
+        (hashed (D.Grown.contents first.writer.inner) first.writer.hasher)) served.new
+        (I.remaining input.old) (I.remaining input.new) (W.contents out.old) (W.contents out.new)
+        left)
+        (λ _. EachSegmentLasts rules.entry
+        (moment_of served.old (D.holds disk.old) first.number
+        (hashed (D.Grown.contents first.writer.inner) first.writer.hasher)) served.new
+        (I.remaining input.old) (I.remaining input.new) (W.contents out.old) (W.contents out.new)
+        (D.leaves disk.new)) }
 {
     let Ok(name) = segment_file(alloc, rules.folder, first.number) else {
         abandon_segment(disk, first);

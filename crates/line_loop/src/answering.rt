@@ -19,8 +19,8 @@ pub trait AnswersLines {
     /// No line is answered any more until something else is done.
     ghost is_over: { Self → Bool };
 
-    /// Whether an answer may change what a loss of power leaves of files.
-    ghost changes_files: { Bool } = { true };
+    /// Whether an answer may change what a loss of power leaves of files. Where none does, none does later.
+    ghost changes_files: { Self → Bool } = { λ _. true };
 
     /// Answers a line, which has its LF: its answer and its notes are pending then.
     ///
@@ -45,7 +45,8 @@ pub trait AnswersLines {
             × (noted : List ℕ)
             × is_answered self.old (D.holds disk.old) line.now said noted self.new
             (D.holds disk.new))) }
-        ensures unchanged { changes_files ≡ false → D.leaves disk.new ≡ D.leaves disk.old };
+        ensures unchanged { changes_files self.old ≡ false
+            → (D.leaves disk.new ≡ D.leaves disk.old) × (changes_files self.new ≡ false) };
 
     /// Whether no line is answered any more until something else is done.
     fn is_over(&self) -> bool

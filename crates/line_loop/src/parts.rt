@@ -34,7 +34,8 @@ fn take_block<S: AnswersLines, D: Disk>(
         (stand service.new (D.holds disk.new)) line.new.items pending.new))
         (λ _. Stops (by_stand S.is_answered) old before after (bytes ++ unread.old)
         (stand service.new (D.holds disk.new))) }
-    ensures unchanged { S.changes_files ≡ false → D.leaves disk.new ≡ D.leaves disk.old }
+    ensures unchanged { S.changes_files service.old ≡ false
+        → (D.leaves disk.new ≡ D.leaves disk.old) × (S.changes_files service.new ≡ false) }
 {
     match take_bytes(service, disk, line, unread.bytes(), pending) {
         Ok(taken) => {
@@ -88,7 +89,8 @@ fn serve_block<S: AnswersLines, D: Disk, J: Grow, W: Write>(
     ensures whole { OnOk result
         (AllLasts (held_by J.contents journal.old) (held_by J.lasting journal.old)
         → AllLasts (held_by J.contents journal.new) (held_by J.lasting journal.new)) }
-    ensures unchanged { S.changes_files ≡ false → D.leaves disk.new ≡ D.leaves disk.old }
+    ensures unchanged { S.changes_files service.old ≡ false
+        → (D.leaves disk.new ≡ D.leaves disk.old) × (S.changes_files service.new ≡ false) }
 {
     let over = match take_block(service, disk, line, unread, pending) {
         Ok(over) => over,
@@ -159,7 +161,8 @@ pub fn serve_part<S: AnswersLines, D: Disk, I: Read, J: Grow, W: Write>(
     ensures whole { OnOk result
         (AllLasts (held_by J.contents journal.old) (held_by J.lasting journal.old)
         → AllLasts (held_by J.contents journal.new) (held_by J.lasting journal.new)) }
-    ensures unchanged { S.changes_files ≡ false → D.leaves disk.new ≡ D.leaves disk.old }
+    ensures unchanged { S.changes_files service.old ≡ false
+        → (D.leaves disk.new ≡ D.leaves disk.old) × (S.changes_files service.new ≡ false) }
 {
     let mut pending = Pending {
         answers: Vec::new(alloc),

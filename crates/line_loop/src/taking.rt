@@ -38,7 +38,8 @@ fn take_byte<S: AnswersLines, D: Disk>(
         (stand service.old (D.holds disk.old)) line.old.items pending.old
         → Serves result (by_stand S.is_answered) old before after (bytes ++ byte ∷ [])
         (stand service.new (D.holds disk.new)) line.new.items pending.new }
-    ensures unchanged { S.changes_files ≡ false → D.leaves disk.new ≡ D.leaves disk.old }
+    ensures unchanged { S.changes_files service.old ≡ false
+        → (D.leaves disk.new ≡ D.leaves disk.old) × (S.changes_files service.new ≡ false) }
 {
     keep(line, byte)?;
     if byte != b'\n' {
@@ -76,7 +77,8 @@ pub(crate) fn take_bytes<S: AnswersLines, D: Disk>(
         line.new.items pending.new)
         (λ _. Stops (by_stand S.is_answered) old before after (bytes ++ block.now)
         (stand service.new (D.holds disk.new))) }
-    ensures unchanged { S.changes_files ≡ false → D.leaves disk.new ≡ D.leaves disk.old }
+    ensures unchanged { S.changes_files service.old ≡ false
+        → (D.leaves disk.new ≡ D.leaves disk.old) × (S.changes_files service.new ≡ false) }
 {
     for (i, byte) in block.iter().enumerate() {
         match take_byte(service, disk, line, *byte, pending) {

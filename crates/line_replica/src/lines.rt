@@ -29,7 +29,9 @@ fn answer_untagged<S: AnswersLines, D: Disk>(
         (input_of (of_place (place_at line.now) line.now) line.now)
         noted replica.new.numbered.inner (D.holds disk.new)) }
     ensures lost { replica.new.lost ≡ replica.old.lost }
-    ensures unchanged { S.changes_files ≡ false → D.leaves disk.new ≡ D.leaves disk.old }
+    ensures unchanged { S.changes_files replica.old.numbered.inner ≡ false
+        → (D.leaves disk.new ≡ D.leaves disk.old)
+        × (S.changes_files replica.new.numbered.inner ≡ false) }
 {
     match place(line) {
         Some(place) => tell_place(replica, place, pending),
@@ -58,7 +60,9 @@ fn answer_heard<S: AnswersLines, D: Disk>(
         (input_of (heard line.now) line.now) noted replica.new.numbered.inner
         (D.holds disk.new)) }
     ensures lost { replica.new.lost ≡ replica.old.lost }
-    ensures unchanged { S.changes_files ≡ false → D.leaves disk.new ≡ D.leaves disk.old }
+    ensures unchanged { S.changes_files replica.old.numbered.inner ≡ false
+        → (D.leaves disk.new ≡ D.leaves disk.old)
+        × (S.changes_files replica.new.numbered.inner ≡ false) }
 {
     if line.len() > LINE_LIMIT {
         return answer_plain(replica, disk, line, pending);
@@ -77,7 +81,7 @@ impl<S: AnswersLines> AnswersLines for Replica<S> {
 
     ghost is_over = { λ r. S.is_over r.numbered.inner };
 
-    ghost changes_files = { S.changes_files };
+    ghost changes_files = { λ r. S.changes_files r.numbered.inner };
 
     ghost by_start = { by_start S.is_answered S.by_start };
 

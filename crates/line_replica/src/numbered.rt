@@ -60,7 +60,9 @@ pub(crate) fn answer_inside<S: AnswersLines, D: Disk>(
     ensures err { OnErr result ((noted : List ℕ)
         × IsAnsweredOrNot S.is_answered numbered.old.inner (D.holds disk.old) line.now noted
         numbered.new.inner (D.holds disk.new)) }
-    ensures unchanged { S.changes_files ≡ false → D.leaves disk.new ≡ D.leaves disk.old }
+    ensures unchanged { S.changes_files numbered.old.inner ≡ false
+        → (D.leaves disk.new ≡ D.leaves disk.old)
+        × (S.changes_files numbered.new.inner ≡ false) }
 {
     numbered.inner.answer(disk, line, pending)
 }
@@ -82,7 +84,9 @@ fn answer_fresh<S: AnswersLines, D: Disk>(
     ensures err { OnErr result ((noted : List ℕ)
         × IsAnsweredOrNot S.is_answered numbered.old.inner (D.holds disk.old) input.now noted
         numbered.new.inner (D.holds disk.new)) }
-    ensures unchanged { S.changes_files ≡ false → D.leaves disk.new ≡ D.leaves disk.old }
+    ensures unchanged { S.changes_files numbered.old.inner ≡ false
+        → (D.leaves disk.new ≡ D.leaves disk.old)
+        × (S.changes_files numbered.new.inner ≡ false) }
 {
     let place = pending.answers.len();
     match answer_inside(numbered, disk, input, pending) {
@@ -110,7 +114,9 @@ fn answer_once<S: AnswersLines, D: Disk>(
     ensures err { OnErr result ((noted : List ℕ)
         × IsAnsweredOrNot S.is_answered numbered.old.inner (D.holds disk.old) input.now noted
         numbered.new.inner (D.holds disk.new)) }
-    ensures unchanged { S.changes_files ≡ false → D.leaves disk.new ≡ D.leaves disk.old }
+    ensures unchanged { S.changes_files numbered.old.inner ≡ false
+        → (D.leaves disk.new ≡ D.leaves disk.old)
+        × (S.changes_files numbered.new.inner ≡ false) }
 {
     match numbered.keys.turn(tag) {
         Turn::Fresh => answer_fresh(numbered, disk, tag, input, pending),
@@ -136,7 +142,9 @@ pub(crate) fn answer_tagged<S: AnswersLines, D: Disk>(
     ensures err { OnErr result ((noted : List ℕ)
         × IsAnsweredOrNot S.is_answered numbered.old.inner (D.holds disk.old) rest.now noted
         numbered.new.inner (D.holds disk.new)) }
-    ensures unchanged { S.changes_files ≡ false → D.leaves disk.new ≡ D.leaves disk.old }
+    ensures unchanged { S.changes_files numbered.old.inner ≡ false
+        → (D.leaves disk.new ≡ D.leaves disk.old)
+        × (S.changes_files numbered.new.inner ≡ false) }
 {
     if let Some(text) = did(rest) {
         return numbered.keys.keep(tag, kept_text(text), &mut pending.notes);

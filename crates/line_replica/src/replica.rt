@@ -41,7 +41,9 @@ pub(crate) fn answer_plain<S: AnswersLines, D: Disk>(
         × IsAnsweredOrNot S.is_answered replica.old.numbered.inner (D.holds disk.old) line.now
         noted replica.new.numbered.inner (D.holds disk.new)) }
     ensures lost { replica.new.lost ≡ replica.old.lost }
-    ensures unchanged { S.changes_files ≡ false → D.leaves disk.new ≡ D.leaves disk.old }
+    ensures unchanged { S.changes_files replica.old.numbered.inner ≡ false
+        → (D.leaves disk.new ≡ D.leaves disk.old)
+        × (S.changes_files replica.new.numbered.inner ≡ false) }
 {
     let place = pending.answers.len();
     match answer_inside(&mut replica.numbered, disk, line, pending) {
@@ -68,7 +70,9 @@ pub(crate) fn answer_numbered<S: AnswersLines, D: Disk>(
         × IsAnsweredOrNot S.is_answered replica.old.numbered.inner (D.holds disk.old) rest.now
         noted replica.new.numbered.inner (D.holds disk.new)) }
     ensures lost { replica.new.lost ≡ replica.old.lost }
-    ensures unchanged { S.changes_files ≡ false → D.leaves disk.new ≡ D.leaves disk.old }
+    ensures unchanged { S.changes_files replica.old.numbered.inner ≡ false
+        → (D.leaves disk.new ≡ D.leaves disk.old)
+        × (S.changes_files replica.new.numbered.inner ≡ false) }
 {
     let place = pending.answers.len();
     match answer_tagged(&mut replica.numbered, disk, tag, rest, pending) {

@@ -66,7 +66,7 @@ impl<S: HasState> AnswersLines for Restorable<S> {
 
     ghost is_over = { λ r. S.is_over r.inner };
 
-    ghost changes_files = { S.changes_files };
+    ghost changes_files = { λ r. S.changes_files r.inner };
 
     ghost by_start = { by_start S.is_answered S.state_lines S.by_start };
 

@@ -120,7 +120,13 @@ pub record IsServedIn (words : LocksWords) (holders : List Handover) (end : Serv
   pub run : IsRun words start end listed after was is old new
   pub held : IsSome before → AreUnderLock (folder_of words) run.served.parts
 
--- The same, and the sums over the locks are reported on standard error.
+-- No line was read or answered; or the folder is locked still, however serving ended.
+abbrev pub StaysLocked : LocksWords → Option Held → Option (List ℕ) → Option (List ℕ)
+    → Option (List ℕ) → Option (List ℕ) → Type 0
+StaysLocked words after was is old new =
+    IsUnserved was is old new ⊎ StandsLocked after (folder_of words)
+
+-- All lines were served so, and the sums over the locks are reported on standard error.
 pub record IsLocksAnswer (words : LocksWords) (was is : World) : Type 0 where
   pub holders : List Handover
   pub given : AreHoldersOf was.files (holders_word words) holders

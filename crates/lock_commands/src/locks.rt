@@ -6,7 +6,7 @@ ghost use Rattle.ring_segments.specs.Spelling.{DigestFits};
 ghost use Rattle.lock_folder.specs.Folders.{place_of};
 ghost use Rattle.tool_parts.specs.Worlds.{world};
 ghost use Rattle.lock_commands.specs.Refusals.{IsListIf, IsNoListFor};
-ghost use Rattle.lock_commands.specs.Locks.{terms_of, BeginsWith, IsRun, IsServedIn, IsLocksAnswer, IsRunRefused, IsRefusedIn, IsLocksRefusal};
+ghost use Rattle.lock_commands.specs.Locks.{terms_of, BeginsWith, IsRun, IsServedIn, StaysLocked, IsLocksAnswer, IsRunRefused, IsRefusedIn, IsLocksRefusal};
 ghost use Rattle.lock_commands.specs.Lasting.{RunLasts, FolderLasts, ToldLocksLast};
 
 use crate::holders::{holders_of, name_of};
@@ -121,6 +121,8 @@ fn run_in_folder<'a, D: Disk, I: Read, W: Write>(
     ensures lasts { words.now.synced ≡ true → IsSome (D.holds disk.old)
         → FolderLasts words.now holders.now (D.holds disk.old) (I.remaining input.old)
         (I.remaining input.new) (W.contents out.old) (W.contents out.new) (D.leaves disk.new) }
+    ensures held { IsSome (D.holds disk.old) → StaysLocked words.now (D.holds disk.new)
+        (I.remaining input.old) (I.remaining input.new) (W.contents out.old) (W.contents out.new) }
 {
     match lock_folder(alloc, disk, words.journal) {
         Ok(()) => {}
@@ -178,6 +180,10 @@ pub fn run<'a, D: Disk, I: Read, W: Write, E: Write>(
         (world (D.holds disk.new) (I.remaining input.new) (W.contents out.new)
         (E.contents err.new))
         (D.leaves disk.new) }
+
+    // Where the content of files is known: the folder stays locked, also where serving ends with a fault.
+    ensures held { IsSome (D.holds disk.old) → StaysLocked words.now (D.holds disk.new)
+        (I.remaining input.old) (I.remaining input.new) (W.contents out.old) (W.contents out.new) }
 {
     match check_named(alloc, words.locks) {
         Ok(()) => {}

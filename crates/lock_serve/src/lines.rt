@@ -19,7 +19,7 @@ impl AnswersLines for LockService {
 
     ghost is_over = { λ s. is_over s.stage };
 
-    ghost changes_files = { false };
+    ghost changes_files = { λ _. false };
 
     ghost by_start = { by_start };
 

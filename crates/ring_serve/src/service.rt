@@ -55,6 +55,7 @@ impl<'j, 'p> RingService<'j, 'p> {
 }
 
 impl AnswersLines for RingService<'_, '_> {
+    ghost use Rattle.std.specs.Prelude.{is_some};
     ghost use Rattle.ring_serve.specs.Permits.{is_shut};
     ghost use Rattle.ring_serve.specs.Services.{IsServed};
     ghost use Rattle.ring_serve.specs.Starts.{by_start};
@@ -62,6 +63,8 @@ impl AnswersLines for RingService<'_, '_> {
     ghost is_answered = { IsServed };
 
     ghost is_over = { λ s. is_shut s.terms s.rings };
+
+    ghost changes_files = { λ s. is_some s.terms.saves };
 
     ghost by_start = { by_start };
 

@@ -1,6 +1,6 @@
 //! Lines that are served: how each is answered, with files and with notes for a journal, and all those of a reader.
 
-ghost use Rattle.std.specs.Prelude.{◌≡◌, ℕ, List, Option, [], ◌++◌, false, OnOk, OnErr, IfErr, Some, IsFalse, cond, is_some};
+ghost use Rattle.std.specs.Prelude.{◌≡◌, ℕ, List, Option, [], ◌++◌, false, OnOk, OnErr, IfErr, None, Some, IsFalse, cond, is_some};
 ghost use Rattle.std.specs.List.{AllByRecursion};
 ghost use Rattle.std.specs.Option.{option_map};
 ghost use Rattle.text_lines.specs.Writing.{Writes};
@@ -146,9 +146,11 @@ fn save<D: Disk>(
     rules: Rules<'_, '_>,
     name: &[u8],
 ) -> Answer
-    ensures { IsSaveGiven (terms_by rules.entry).journal (terms_by rules.entry).history
+    ensures gives { IsSaveGiven (terms_by rules.entry).journal (terms_by rules.entry).history
         (terms_by rules.entry).saves (D.holds disk.old) (D.holds disk.new) name.now served.now
         result }
+    ensures unchanged { (terms_by rules.entry).saves ≡ None
+        → D.leaves disk.new ≡ D.leaves disk.old }
 {
     let Some(folder) = rules.permits.saves else {
         return Answer::Refused(Refusal::Off);
@@ -173,8 +175,11 @@ fn give<D: Disk>(
     line: &[u8],
     asked: Answer,
 ) -> Answer
-    ensures { IsGiven (terms_by rules.entry).journal (terms_by rules.entry).history
-        (terms_by rules.entry).saves (D.holds disk.old) (D.holds disk.new) (name_in line.now) served.now asked result }
+    ensures gives { IsGiven (terms_by rules.entry).journal (terms_by rules.entry).history
+        (terms_by rules.entry).saves (D.holds disk.old) (D.holds disk.new) (name_in line.now)
+        served.now asked result }
+    ensures unchanged { (terms_by rules.entry).saves ≡ None
+        → D.leaves disk.new ≡ D.leaves disk.old }
 {
     match asked {
         Answer::Saved => save(alloc, served, disk, rules, name_of(line)),
@@ -259,6 +264,8 @@ pub fn answer_by<D: Disk>(
     ensures answered { IsMade result ((served.new ≡ served.old) × (D.holds disk.new ≡ D.holds disk.old))
         (λ said noted. IsAnswered (terms_by rules.entry) served.old (D.holds disk.old) line.now said
         noted served.new (D.holds disk.new)) pending.old pending.new }
+    ensures unchanged { (terms_by rules.entry).saves ≡ None
+        → D.leaves disk.new ≡ D.leaves disk.old }
 {
     let turn = turn_on(alloc, served, rules, line);
     if is_stop(rules, turn.call.answer) {

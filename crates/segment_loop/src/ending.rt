@@ -48,6 +48,8 @@ fn prepare<S: Segmented, W: Grow>(
     ensures ok { IfOk result (λ next. IsPrepared S.segmenting service.now segment.now.number
         (hashed (W.contents segment.now.writer.inner) segment.now.writer.hasher) folder.now next) }
     ensures open { IfOk result (λ next. S.is_over next.service ≡ false) }
+    ensures files { IfOk result
+        (λ next. S.changes_files next.service ≡ S.changes_files service.now) }
     ensures err { IfErr result
         (λ e. IsUnprepared S.segmenting service.now segment.now.number e) }
 {
@@ -218,12 +220,14 @@ fn change<S: Segmented, D: Disk>(
         (hashed (D.Grown.contents segment.writer.inner) segment.writer.hasher) rules.folder.now
         next }
     requires open { S.is_over next.service ≡ false }
+    requires files { S.changes_files next.service ≡ S.changes_files service.old }
     ensures ok { IfOk result (λ ready. IsReady S.segmenting rules.entry.folder.now ready.kept
         (moment_of service.old (D.holds disk.old) segment.number
         (hashed (D.Grown.contents segment.writer.inner) segment.writer.hasher))
         (moment_of service.new (D.holds disk.new) ready.segment.number
         (hashed (D.Grown.contents ready.segment.writer.inner) ready.segment.writer.hasher))) }
     ensures open { OnOk result (S.is_over service.new ≡ false) }
+    ensures files { S.changes_files service.new ≡ S.changes_files service.old }
     ensures named { IfOk result (λ ready. IsNamed rules.entry.folder.now ready.segment) }
     ensures err { IfErr result (λ e. (e ≡ fault.Journal) × (service.new ≡ service.old)) }
     ensures left { OnErr result (IsLeft S.segmenting rules.entry.folder.now
@@ -314,6 +318,7 @@ pub(crate) fn make_ready<S: Segmented, D: Disk>(
         (moment_of service.new (D.holds disk.new) ready.segment.number
         (hashed (D.Grown.contents ready.segment.writer.inner) ready.segment.writer.hasher))) }
     ensures open { OnOk result (S.is_over service.new ≡ false) }
+    ensures files { S.changes_files service.new ≡ S.changes_files service.old }
     ensures named { IfOk result (λ ready. IsNamed rules.entry.folder.now ready.segment) }
     ensures err { IfErr result (λ e. (e ≡ fault.Journal) × (service.new ≡ service.old)) }
     ensures left { OnErr result (IsLeft S.segmenting rules.entry.folder.now

@@ -37,6 +37,7 @@ pub trait Segmented: AnswersLines + Drop {
     fn next(&self, alloc: Global) -> Result<Self, EndFault>
         ensures next { IfOk result (λ next. segmenting.IsNext self.now next) }
         ensures open { IfOk result (λ next. Self.is_over next ≡ false) }
+        ensures files { IfOk result (λ next. Self.changes_files next ≡ Self.changes_files self.now) }
         ensures why { IfErr result (λ e. segmenting.HasNoNext self.now e) };
 
     /// The text with which the file of the segment of this number begins, after a file of this digest.
@@ -59,7 +60,8 @@ pub trait Segmented: AnswersLines + Drop {
     fn keep_on(&mut self, why: EndFault)
         requires { segmenting.is_due self.old ≡ true }
         ensures kept { segmenting.IsKept self.old why self.new }
-        ensures open { Self.is_over self.new ≡ false };
+        ensures open { Self.is_over self.new ≡ false }
+        ensures files { Self.changes_files self.new ≡ Self.changes_files self.old };
 
     /// Where the content of files is known before a line it is known after it.
     ghost knows: { KeepsKnown Self.is_answered };

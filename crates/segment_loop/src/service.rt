@@ -98,10 +98,10 @@ fn serve_in<S: AnswersLines, D: Disk, I: Read, W: Write>(
         (record { journal = journal; out = W.contents out.new })
         × IfSome (D.leaves disk.new)
         (λ held. HasFront held (string_bytes ready.segment.name) journal)) }
-    ensures unchanged { OnOk result
-        (S.changes_files ≡ false → D.leaves disk.new ≡ D.leaves disk.old) }
-    ensures others { OnErr result (S.changes_files ≡ false → Changes (D.leaves disk.old)
-        (D.leaves disk.new) (string_bytes ready.segment.name) (λ _. ⊤)) }
+    ensures unchanged { OnOk result (S.changes_files service.old ≡ false
+        → (D.leaves disk.new ≡ D.leaves disk.old) × (S.changes_files service.new ≡ false)) }
+    ensures others { OnErr result (S.changes_files service.old ≡ false → Changes
+        (D.leaves disk.old) (D.leaves disk.new) (string_bytes ready.segment.name) (λ _. ⊤)) }
 {
     let Ready { segment, kept } = ready;
     let OpenSegment {
@@ -221,7 +221,8 @@ pub fn serve_segments<S: Segmented, D: Disk, I: Read, W: Write>(
         (D.Grown.lasting end.writer.inner)) }
 
     // Where answers change no file, the segments before the last are there too, whole.
-    ensures earlier { S.changes_files ≡ false → rules.entry.synced ≡ true → IsSome (D.holds disk.old)
+    ensures earlier { S.changes_files service.old ≡ false → rules.entry.synced ≡ true
+        → IsSome (D.holds disk.old)
         → AllLasts (hashed (D.Grown.contents first.writer.inner) first.writer.hasher)
         (D.Grown.lasting first.writer.inner)
         → MatchResult result

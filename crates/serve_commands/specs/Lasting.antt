@@ -13,7 +13,7 @@ use Rattle.ring_serve.specs.Starting.{AreResumed}
 use Rattle.chain_serve.specs.declared.segments.SegmentRules.{SegmentRules}
 use Rattle.chain_serve.specs.Segments.{Moment}
 use Rattle.chain_serve.specs.Beginning.{HasBegun}
-use Rattle.chain_serve.specs.Recovered.{AnsweredCallsLast}
+use Rattle.chain_serve.specs.Recovered.{AnsweredCallsLast, EachSegmentLasts}
 use Rattle.ring_requests.specs.declared.requests.ServeWords.{ServeWords}
 use Rattle.tool_parts.specs.Locking.{IsLocked}
 use Rattle.tool_parts.specs.Worlds.{World, IsUnserved}
@@ -24,7 +24,7 @@ use Rattle.serve_commands.specs.ServedFolder.{Place, StandsIn, AreRules}
 
 -- From a place on: no line was served; or the first segment has begun, and this is left of the
 -- folder, with the notes of all lines that were delivered, and the call of each is in the rings
--- that are recovered of it.
+-- that are recovered of it. Where no line may save, each segment that has ended since is left whole.
 abbrev pub RunLasts : SegmentRules → Place → Option Held → Option (List ℕ) → Option (List ℕ)
     → Option (List ℕ) → Option (List ℕ) → Option Held → Type 0
 RunLasts s start files was is old new left =
@@ -32,7 +32,8 @@ RunLasts s start files was is old new left =
     ⊎ ((first : Moment)
     × (end : List Standing)
     × HasBegun s start.rings start.number start.behind files first
-    × AnsweredCallsLast s first end was is old new left)
+    × AnsweredCallsLast s first end was is old new left
+    × (s.permits.saves ≡ None → EachSegmentLasts s first end was is old new left))
 
 -- In a folder: no line was served; or it was locked, the rings began at their place in it, and what
 -- was delivered lasts.

@@ -1,12 +1,13 @@
-use Rattle.std.proofs.Common.{List, Option, None, sym, ap, subst, ◌∙◌}
-use Rattle.std.specs.Prelude.{string_bytes}
+use Rattle.std.proofs.Common.{◌≡◌, ℕ, List, Option, None, false, sym, ap, subst, ◌∙◌}
+use Rattle.std.specs.Prelude.{string_bytes, is_some}
+use Rattle.std.specs.Borrow.{Bor}
 use Rattle.disks.specs.Held.{Held}
 use Rattle.ring_serve.specs.Standings.{Standing}
 use Rattle.segment_loop.specs.Digested.{hashed}
-use Rattle.chain_serve.specs.Services.{service_of}
+use Rattle.chain_serve.specs.Services.{ServiceView, service_of, may_save}
 use Rattle.chain_serve.specs.Segments.{moment_of}
 use Rattle.chain_serve.specs.Service.{ServesSomeSegments}
-use Rattle.chain_serve.proofs.Parts.{serves_from, some_from, recovered_from, last_from, none_in, none_last}
+use Rattle.chain_serve.proofs.Parts.{serves_from, some_from, recovered_from, last_from, each_from, none_in, none_last, none_each}
 use Rattle.chain_serve.proofs.serving.serve_segments.Goals as goal
 
 -- there is no memory for a name
@@ -140,3 +141,47 @@ returns-in_default-clause-lasts g c = λ synced some all.
     let journal = hashed (g.D.Grown.Grow.contents u.inner) u.hasher in
     let lasting = g.D.Grown.Grow.lasting u.inner in
     none_last c.args.rules c.args.served.now (g.D.Disk.holds c.args.disk.now) c.args.first.number journal lasting (g.I.Read.remaining c.args.input.now) (g.W.Write.contents c.args.out.now) (g.D.Disk.leaves c.args.disk.now) (g.D.Disk.leaves c.abandon_segment.new.disk) (string_bytes c.args.first.name) c.requires.named all c.abandon_segment.ensures.left
+
+-- ---- the segments before
+
+pub returns-in-Ok-ended-clause-earlier : goal.returns-in-Ok-ended-clause-earlier
+returns-in-Ok-ended-clause-earlier g c = λ none synced some all left h.
+    let s = c.args.rules in
+    let n = c.args.first.number in
+    let u = c.args.first.writer in
+    let v = c.new-service.result in
+    let new = c.serve_segments-ended.new.service in
+    let files = g.D.Disk.holds c.args.disk.now in
+    let journal = hashed (g.D.Grown.Grow.contents u.inner) u.hasher in
+    let input = g.I.Read.remaining c.args.input.now in
+    let rest = g.I.Read.remaining c.serve_segments-ended.new.input in
+    let out = g.W.Write.contents c.args.out.now in
+    let after = g.W.Write.contents c.serve_segments-ended.new.out in
+    let e = c.new-service.ensures ∙ ap (λ (r : List Standing). service_of s r n None) c.replace-rings.ensures.value in
+    let off : may_save v ≡ false = ap may_save e ∙ ap (λ (x : Option (Bor (List ℕ))). is_some x) none in
+    each_from s v new c.args.served.now c.into_rings.result files n journal input rest out after e c.are_right.ensures (sym c.into_rings.ensures) left (c.in-Ok-ended.ensures.earlier off synced some all left h)
+
+pub returns-in-Err-clause-earlier : goal.returns-in-Err-clause-earlier
+returns-in-Err-clause-earlier g c = λ none synced some all.
+    let s = c.args.rules in
+    let n = c.args.first.number in
+    let u = c.args.first.writer in
+    let v = c.new-service.result in
+    let new = c.serve_segments-ended.new.service in
+    let files = g.D.Disk.holds c.args.disk.now in
+    let journal = hashed (g.D.Grown.Grow.contents u.inner) u.hasher in
+    let input = g.I.Read.remaining c.args.input.now in
+    let rest = g.I.Read.remaining c.serve_segments-ended.new.input in
+    let out = g.W.Write.contents c.args.out.now in
+    let after = g.W.Write.contents c.serve_segments-ended.new.out in
+    let e = c.new-service.ensures ∙ ap (λ (r : List Standing). service_of s r n None) c.replace-rings.ensures.value in
+    let off : may_save v ≡ false = ap may_save e ∙ ap (λ (x : Option (Bor (List ℕ))). is_some x) none in
+    each_from s v new c.args.served.now c.into_rings.result files n journal input rest out after e c.are_right.ensures (sym c.into_rings.ensures)
+    (g.D.Disk.leaves c.serve_segments-ended.new.disk) (c.in-Err.ensures.earlier off synced some all)
+
+pub returns-in_default-clause-earlier : goal.returns-in_default-clause-earlier
+returns-in_default-clause-earlier g c = λ none synced some all.
+    let u = c.args.first.writer in
+    let journal = hashed (g.D.Grown.Grow.contents u.inner) u.hasher in
+    let lasting = g.D.Grown.Grow.lasting u.inner in
+    none_each c.args.rules c.args.served.now (g.D.Disk.holds c.args.disk.now) c.args.first.number journal lasting (g.I.Read.remaining c.args.input.now) (g.W.Write.contents c.args.out.now) (g.D.Disk.leaves c.args.disk.now) (g.D.Disk.leaves c.abandon_segment.new.disk) (string_bytes c.args.first.name) c.requires.named all c.abandon_segment.ensures.left

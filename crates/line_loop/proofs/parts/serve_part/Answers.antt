@@ -19,7 +19,7 @@ rounds-init g c =
       λ begun h. going_begins (by_stand g.S.AnswersLines.is_answered) (stand c.args.service.now (g.D.Disk.holds c.args.disk.now)) begun c.args.unread.now c.args.line.now.items before h,
       λ begun h. going_begins (by_stand g.S.AnswersLines.is_answered) (stand c.args.service.now (g.D.Disk.holds c.args.disk.now)) begun c.args.unread.now c.args.line.now.items lasting h,
       λ all. all,
-      λ none. refl,
+      λ none. (refl, none),
     )
 
 pub returns-in-Err-clause-err : goal.returns-in-Err-clause-err
@@ -127,7 +127,10 @@ rounds-preserved g c =
           let taken = c.in-Ok.ensures.lasts (stand c.args.service.now (g.D.Disk.holds c.args.disk.now)) lasting (begun ++ going.taken) going.rests in
           going_filled c.fill.new.self (taken.2 c.if-over.false) (going_block c.in-Ok.over going taken),
       λ all. c.in-Ok.ensures.whole (inv.9 all),
-      λ none. c.serve_block.ensures.unchanged none ∙ inv.10 none,
+      λ none.
+          let was = inv.10 none in
+          let is = c.serve_block.ensures.unchanged was.1 in
+          (is.0 ∙ was.0, is.1),
     )
 
 pub returns-clause-err : goal.returns-clause-err

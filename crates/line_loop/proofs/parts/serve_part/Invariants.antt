@@ -17,4 +17,4 @@ invariant-rounds g l =
     × ((begun : List ℕ) → HasBegun begun l.initial.line.items →
     Going (by_stand g.S.AnswersLines.is_answered) (stand l.initial.service (g.D.Disk.holds l.initial.disk)) begun l.initial.unread read l.unread l.line.items (record { journal = held_by g.J.Grow.lasting l.initial.journal; out = g.W.Write.contents l.initial.out }) (record { journal = held_by g.J.Grow.lasting l.journal; out = g.W.Write.contents l.out }) (stand l.service (g.D.Disk.holds l.disk)))
     × (AllLasts (held_by g.J.Grow.contents l.initial.journal) (held_by g.J.Grow.lasting l.initial.journal) → AllLasts (held_by g.J.Grow.contents l.journal) (held_by g.J.Grow.lasting l.journal))
-    × (g.S.AnswersLines.changes_files ≡ false → g.D.Disk.leaves l.disk ≡ g.D.Disk.leaves l.initial.disk)
+    × (g.S.AnswersLines.changes_files l.initial.service ≡ false → (g.D.Disk.leaves l.disk ≡ g.D.Disk.leaves l.initial.disk) × (g.S.AnswersLines.changes_files l.service ≡ false))

@@ -27,7 +27,10 @@ loop-i-preserved g c = (
       let block = c.args.block.now in
       subst (λ (bs : List ℕ). GoesOn (by_stand g.S.AnswersLines.is_answered) old before after bs (stand c.take_byte.new.service (g.D.Disk.holds c.take_byte.new.disk)) c.take_byte.new.line.items c.take_byte.new.pending) (block_more bytes block i c.loop-i-test.true)
       (c.in-Ok-false.ensures.serves old before after (bytes ++ take i block) (c.loop-i.invariant.1 old before after bytes h)),
-  λ none. c.take_byte.ensures.unchanged none ∙ c.loop-i.invariant.2 none,
+  λ none.
+      let was = c.loop-i.invariant.2 none in
+      let is = c.take_byte.ensures.unchanged was.1 in
+      (is.0 ∙ was.0, is.1),
 )
 
 pub returns-clause-serves : goal.returns-clause-serves

@@ -3,7 +3,7 @@ use Rattle.lock_folder.specs.Folders.{place_of}
 use Rattle.tool_parts.proofs.LockedFolders.{locked_known}
 use Rattle.lock_commands.specs.Locks.{folder_of, list_of}
 use Rattle.lock_commands.proofs.StartedLocks.{started_known}
-use Rattle.lock_commands.proofs.UnderLock.{under_lock}
+use Rattle.lock_commands.proofs.UnderLock.{under_lock, still_locked, refused_locked}
 use Rattle.lock_commands.proofs.locks.run_in_folder.Goals as goal
 
 pub returns-in-Ok-serve_from-clause-ok : goal.returns-in-Ok-serve_from-clause-ok
@@ -48,3 +48,15 @@ returns-clause-lasts g c = λ synced some.
     let started = c.in-Ok-start_locks.ensures.ok in
     let known = started_known (folder_of words) (list_of words) c.args.holders.now there listed start started (locked_known (g.D.Disk.holds c.args.disk.now) there (folder_of words) locked some) in
     inr (there, listed, start, locked, started, c.serve_from.ensures.lasts synced known)
+
+-- ---- the folder stays locked
+
+pub returns-in-Ok-serve_from-clause-held : goal.returns-in-Ok-serve_from-clause-held
+returns-in-Ok-serve_from-clause-held g c = λ some.
+    let listed = g.D.Disk.holds c.start_locks.new.disk in
+    inr (still_locked c.args.words.now c.args.holders.now (place_of c.in-Ok-start_locks.start) c.in-Ok-serve_from.end (g.D.Disk.holds c.args.disk.now) (g.D.Disk.holds c.lock_folder.new.disk) listed _ _ _ _ _ c.in-Ok.ensures.locked c.in-Ok-start_locks.ensures.ok c.in-Ok-serve_from.ensures.ok some)
+
+pub returns-clause-held : goal.returns-clause-held
+returns-clause-held g c = λ some.
+    let listed = g.D.Disk.holds c.start_locks.new.disk in
+    refused_locked c.args.words.now c.args.holders.now (place_of c.in-Ok-start_locks.start) (g.D.Disk.holds c.args.disk.now) (g.D.Disk.holds c.lock_folder.new.disk) listed _ _ _ _ _ _ c.in-Ok.ensures.locked c.in-Ok-start_locks.ensures.ok some c.in-Err-serve_from.ensures.err

@@ -51,5 +51,5 @@ returns-clause-answered g c =
     let notes = subst (λ (k : Bool). OnOk c.add_pending.result (pending.notes.items ≡ old.notes.items ++ cond k all [])) c.is_some.ensures c.add_pending.ensures.notes in
     made_by c.add_pending.result ((new ≡ c.args.served.now) × (is ≡ was)) (λ said noted. IsAnswered (terms_by c.args.rules) c.args.served.now was c.args.line.now said noted new is) old pending
     (answer_line given) (cond (is_some c.args.rules.journal) all [])
-    (record { turn = turn_seen_among t.ring new t.call; given = given; goes = c.requires; of_line = c.turn_on-turn.ensures.turn; heeded = sym c.is_stop.ensures ∙ c.if-is_stop.false; gives = c.give-given.ensures; says = refl; notes = ap (λ (k : Bool). cond k all []) (named c.args.rules.journal); leaves = refl })
+    (record { turn = turn_seen_among t.ring new t.call; given = given; goes = c.requires; of_line = c.turn_on-turn.ensures.turn; heeded = sym c.is_stop.ensures ∙ c.if-is_stop.false; gives = c.give-given.ensures.gives; says = refl; notes = ap (λ (k : Bool). cond k all []) (named c.args.rules.journal); leaves = refl })
     (both_ok c.add_pending.result (pending.answers.items ≡ old.answers.items ++ answer_line given) (pending.notes.items ≡ old.notes.items ++ cond (is_some c.args.rules.journal) all []) c.add_pending.ensures.answers notes)

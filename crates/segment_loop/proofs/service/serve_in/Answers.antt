@@ -52,5 +52,5 @@ returns-in-Err-clause-others g c = λ none.
     let name = string_bytes c.args.ready.segment.name in
     let left = g.D.Disk.leaves c.abandon.new.self in
     let lasting = g.D.Grown.Grow.lasting c.in-Some.writer.inner in
-    subst (λ (was : Option Held). Changes was left name (λ (_ : Option (List ℕ)). ⊤)) (c.serve_part-served.ensures.unchanged none)
+    subst (λ (was : Option Held). Changes was left name (λ (_ : Option (List ℕ)). ⊤)) (c.serve_part-served.ensures.unchanged none).0
     (changes_any (g.D.Disk.leaves c.serve_part-served.new.disk) left name (λ (has : Option (List ℕ)). BeginsWith has lasting) c.abandon.ensures.left)

@@ -19,7 +19,7 @@ pub parts-init : goal.parts-init
 parts-init g c =
     let u = c.args.first.writer in
     let start : Moment _ = moment_of c.args.service.now (g.D.Disk.holds c.args.disk.now) c.args.first.number (hashed (g.D.Grown.Grow.contents u.inner) u.hasher) in
-    (c.requires, none_served g.S.AnswersLines.is_answered g.S.Segmented.segmenting c.args.rules.folder.now start c.none-unread.result c.new-line.result.items (g.I.Read.remaining c.args.input.now) (g.W.Write.contents c.args.out.now) c.none-unread.ensures c.new-line.ensures.items, omega arith, λ synced some all. (some, all), λ none synced some all. none_whole g.S.AnswersLines.is_answered g.S.Segmented.segmenting c.args.rules.folder.now start c.none-unread.result c.new-line.result.items (g.I.Read.remaining c.args.input.now) (g.W.Write.contents c.args.out.now) c.none-unread.ensures c.new-line.ensures.items (g.D.Disk.leaves c.args.disk.now))
+    (c.requires, none_served g.S.AnswersLines.is_answered g.S.Segmented.segmenting c.args.rules.folder.now start c.none-unread.result c.new-line.result.items (g.I.Read.remaining c.args.input.now) (g.W.Write.contents c.args.out.now) c.none-unread.ensures c.new-line.ensures.items, omega arith, λ synced some all. (some, all), λ none synced some all. none_whole g.S.AnswersLines.is_answered g.S.Segmented.segmenting c.args.rules.folder.now start c.none-unread.result c.new-line.result.items (g.I.Read.remaining c.args.input.now) (g.W.Write.contents c.args.out.now) c.none-unread.ensures c.new-line.ensures.items (g.D.Disk.leaves c.args.disk.now), λ none. none)
 
 pub returns-in-Err-clause-err : goal.returns-in-Err-clause-err
 returns-in-Err-clause-err g c =
@@ -144,10 +144,11 @@ parts-preserved g c =
           let ended = λ (up : c.in-Ok.ready.segment.number ≡ c.parts.segment.number + 1). file_map c.args.rules.folder.now at.number (g.D.Disk.leaves c.make_ready.new.disk) (λ (has : Option (List ℕ)). has ≡ Some known.0) (λ (has : Option (List ℕ)). has ≡ at.journal) (λ has e. e ∙ sym known.1) (c.in-Ok.ensures.ended now.0 known.0 known.1 up) in
           let parts = (one_served g.S.AnswersLines.is_answered g.S.Segmented.segmenting c.args.rules.folder.now start at from c.in-Ok.ready.kept c.parts.unread c.parts.line.items (g.I.Read.remaining c.args.input.now) (g.I.Read.remaining c.parts.input) (g.W.Write.contents c.args.out.now) (g.W.Write.contents c.parts.out) d c.in-Ok.ensures.ok
           c.in-Ok-serve_in.end.ending c.serve_in.new.service (g.D.Disk.holds c.serve_in.new.disk) journal x.number c.serve_in.new.unread c.serve_in.new.line.items (g.I.Read.remaining c.serve_in.new.input) (g.W.Write.contents c.serve_in.new.out) same.0 part).parts in
-          subst (λ (left : Option Held). LeavesWhole c.args.rules.folder.now start parts left) (sym (c.in-Ok-serve_in.ensures.unchanged none))
+          subst (λ (left : Option Held). LeavesWhole c.args.rules.folder.now start parts left) (sym (c.in-Ok-serve_in.ensures.unchanged (c.make_ready.ensures.files ∙ c.parts.invariant.5 none)).0)
           (one_whole g.S.AnswersLines.is_answered g.S.Segmented.segmenting c.args.rules.folder.now start at from c.in-Ok.ready.kept c.parts.unread c.parts.line.items (g.I.Read.remaining c.args.input.now) (g.I.Read.remaining c.parts.input) (g.W.Write.contents c.args.out.now) (g.W.Write.contents c.parts.out) d c.in-Ok.ensures.ok
           c.in-Ok-serve_in.end.ending c.serve_in.new.service (g.D.Disk.holds c.serve_in.new.disk) journal x.number c.serve_in.new.unread c.serve_in.new.line.items (g.I.Read.remaining c.serve_in.new.input) (g.W.Write.contents c.serve_in.new.out) same.0 part
           (g.D.Disk.leaves c.parts.disk) (g.D.Disk.leaves c.make_ready.new.disk) (c.make_ready.ensures.earlier now.0) ended (c.parts.invariant.4 none synced some all)),
+      λ none. (c.in-Ok-serve_in.ensures.unchanged (c.make_ready.ensures.files ∙ c.parts.invariant.5 none)).1,
     )
 
 pub returns-clause-long : goal.returns-clause-long
@@ -317,7 +318,7 @@ returns-in-Err-serve_in-clause-earlier g c = λ none synced some all.
     let ready_left = g.D.Disk.leaves c.make_ready.new.disk in
     some_each g.S.AnswersLines.is_answered g.met.S.Segmented.knows g.S.Segmented.segmenting c.args.rules.folder.now start at from c.in-Ok.ready.kept c.parts.unread c.parts.line.items (g.I.Read.remaining c.args.input.now) (g.I.Read.remaining c.parts.input) (g.W.Write.contents c.args.out.now) out d c.in-Ok.ensures.ok c.serve_in.new.service (g.D.Disk.holds c.serve_in.new.disk) has.0 (g.I.Read.remaining c.serve_in.new.input) after p.1.0 (consumes_then (g.I.Read.remaining c.args.input.now) (g.I.Read.remaining c.parts.input) (g.I.Read.remaining c.serve_in.new.input) d.read p.1.0 d.consumed p.1.1) stops
     (g.D.Disk.leaves c.parts.disk) ready_left left name c.in-Ok.ensures.named front (c.parts.invariant.4 none synced some all) (c.make_ready.ensures.earlier now.0) ended
-    (changes_left c.args.rules.folder.now from.number from.number ready_left left name (λ (_ : Option (List ℕ)). ⊤) c.in-Ok.ensures.named (omega arith) (c.in-Err-serve_in.ensures.others none))
+    (changes_left c.args.rules.folder.now from.number from.number ready_left left name (λ (_ : Option (List ℕ)). ⊤) c.in-Ok.ensures.named (omega arith) (c.in-Err-serve_in.ensures.others (c.make_ready.ensures.files ∙ c.parts.invariant.5 none)))
     (front_file c.args.rules.folder.now from.number left name (Some has.0) c.in-Ok.ensures.named front)
 
 pub returns-in-End-clause-earlier : goal.returns-in-End-clause-earlier
@@ -350,7 +351,7 @@ returns-in-End-clause-earlier g c = λ none synced some all left l.
     let begun = one_whole g.S.AnswersLines.is_answered g.S.Segmented.segmenting c.args.rules.folder.now start at from c.in-Ok.ready.kept c.parts.unread c.parts.line.items (g.I.Read.remaining c.args.input.now) (g.I.Read.remaining c.parts.input) (g.W.Write.contents c.args.out.now) (g.W.Write.contents c.parts.out) d c.in-Ok.ensures.ok
     c.in-Ok-serve_in.end.ending c.serve_in.new.service (g.D.Disk.holds c.serve_in.new.disk) journal x.number c.serve_in.new.unread c.serve_in.new.line.items (g.I.Read.remaining c.serve_in.new.input) (g.W.Write.contents c.serve_in.new.out) c.in-Ok-serve_in.ensures.same.0 (c.in-Ok-serve_in.ensures.ok d.begun d.keeps)
     (g.D.Disk.leaves c.parts.disk) (g.D.Disk.leaves c.make_ready.new.disk) (c.make_ready.ensures.earlier now.0) ended (c.parts.invariant.4 none synced some all) in
-    let whole_then = subst (λ (f : Option Held). LeavesWhole c.args.rules.folder.now start more.parts f) (sym (c.in-Ok-serve_in.ensures.unchanged none)) begun in
+    let whole_then = subst (λ (f : Option Held). LeavesWhole c.args.rules.folder.now start more.parts f) (sym (c.in-Ok-serve_in.ensures.unchanged (c.make_ready.ensures.files ∙ c.parts.invariant.5 none)).0) begun in
     let front = subst (λ (j : Option (List ℕ)). IfSome left (λ (held : Held). HasFront held name j)) (last_is journal lasting whole ∙ has.1) h in
     all_each g.S.AnswersLines.is_answered g.met.S.Segmented.knows g.S.Segmented.segmenting c.args.rules.folder.now start to c.serve_in.new.unread c.serve_in.new.line.items (g.I.Read.remaining c.args.input.now) (g.I.Read.remaining c.serve_in.new.input) (g.W.Write.contents c.args.out.now) (g.W.Write.contents c.serve_in.new.out) c.serve_in.new.service more refl has.0 has.1 left
     (front_leaves g.S.Segmented.segmenting c.args.rules.folder.now to left name has.0 named front)

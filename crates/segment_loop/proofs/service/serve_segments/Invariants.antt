@@ -14,5 +14,6 @@ invariant-parts g l =
     × IsCounted l.part d
     × (l.fn.rules.synced ≡ true → IsSome (g.D.Disk.holds l.initial.disk) → AllLasts (hashed (g.D.Grown.Grow.contents l.initial.segment.writer.inner) l.initial.segment.writer.hasher) (g.D.Grown.Grow.lasting l.initial.segment.writer.inner) →
     IsSome (g.D.Disk.holds l.disk) × AllLasts (hashed (g.D.Grown.Grow.contents l.segment.writer.inner) l.segment.writer.hasher) (g.D.Grown.Grow.lasting l.segment.writer.inner))
-    × (g.S.AnswersLines.changes_files ≡ false → l.fn.rules.synced ≡ true → IsSome (g.D.Disk.holds l.initial.disk) → AllLasts (hashed (g.D.Grown.Grow.contents l.initial.segment.writer.inner) l.initial.segment.writer.hasher) (g.D.Grown.Grow.lasting l.initial.segment.writer.inner) →
+    × (g.S.AnswersLines.changes_files l.initial.service ≡ false → l.fn.rules.synced ≡ true → IsSome (g.D.Disk.holds l.initial.disk) → AllLasts (hashed (g.D.Grown.Grow.contents l.initial.segment.writer.inner) l.initial.segment.writer.hasher) (g.D.Grown.Grow.lasting l.initial.segment.writer.inner) →
     LeavesWhole l.fn.rules.folder.now (moment_of l.initial.service (g.D.Disk.holds l.initial.disk) l.initial.segment.number (hashed (g.D.Grown.Grow.contents l.initial.segment.writer.inner) l.initial.segment.writer.hasher)) d.parts (g.D.Disk.leaves l.disk))
+    × (g.S.AnswersLines.changes_files l.initial.service ≡ false → g.S.AnswersLines.changes_files l.service ≡ false)

@@ -1,4 +1,6 @@
+use Rattle.std.proofs.Common.{ap}
 use Rattle.std.specs.Prelude.{string_bytes}
+use Rattle.chain_serve.specs.Services.{may_save}
 use Rattle.chain_serve.proofs.Known.{due_known, known_kept, kept_is, kept_open}
 use Rattle.chain_serve.proofs.segmented.ChainServiceSegmented.keep_on.Goals as goal
 
@@ -14,3 +16,6 @@ returns-clause-kept c =
 
 pub returns-clause-open : goal.returns-clause-open
 returns-clause-open c = let s = c.self.inside in kept_open s.rules s.served s.number c.refusal_of.result
+
+pub returns-clause-files : goal.returns-clause-files
+returns-clause-files c = ap may_save c.self.view_is

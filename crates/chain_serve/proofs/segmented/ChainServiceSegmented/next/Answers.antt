@@ -1,4 +1,5 @@
-use Rattle.std.proofs.Common.{◌+◌, arith}
+use Rattle.std.proofs.Common.{◌+◌, ap, ◌∙◌, arith}
+use Rattle.chain_serve.specs.Services.{may_save}
 use Rattle.chain_serve.proofs.Known.{next_open, no_next, no_number}
 use Rattle.chain_serve.proofs.segmented.ChainServiceSegmented.next.Goals as goal
 
@@ -6,6 +7,9 @@ pub returns-clause-open : goal.returns-clause-open
 returns-clause-open c =
     let s = c.self.inside in
     next_open s.rules s.served c.in-Ok.served (s.number + 1) c.new.result c.new.ensures c.self.invariant.limit c.in-Ok.ensures.next.0
+
+pub returns-clause-files : goal.returns-clause-files
+returns-clause-files c = ap may_save c.new.ensures ∙ ap may_save c.self.view_is
 
 pub returns-in-Err-clause-why : goal.returns-in-Err-clause-why
 returns-in-Err-clause-why c =

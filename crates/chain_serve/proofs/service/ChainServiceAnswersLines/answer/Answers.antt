@@ -1,11 +1,11 @@
-use Rattle.std.proofs.Common.{◌≡◌, ℕ, List, sym, ap, ◌∙◌}
+use Rattle.std.proofs.Common.{◌≡◌, ℕ, List, false, sym, ap, subst, ◌∙◌}
 use Rattle.std.specs.Prelude.{string_bytes}
-use Rattle.std.proofs.lemmas.Bool.{false≢true}
 use Rattle.ring_serve.specs.Permits.{Terms, terms_by}
 use Rattle.ring_serve.specs.Standings.{Standing}
 use Rattle.ring_serve.specs.Serving.{IsAnswered}
 use Rattle.ring_serve.proofs.Heeding.{made_ok, made_err}
-use Rattle.chain_serve.specs.Services.{ServiceView, service_of, IsServed}
+use Rattle.ring_serve.proofs.Sparing.{no_folder}
+use Rattle.chain_serve.specs.Services.{ServiceView, service_of, may_save, IsServed}
 use Rattle.chain_serve.proofs.Known.{terms_known, open_known, known_after, served_known}
 use Rattle.chain_serve.proofs.service.ChainServiceAnswersLines.answer.Goals as goal
 
@@ -48,4 +48,9 @@ returns-clause-err g c =
     c.args.pending.now c.answer_by-told.new.pending (λ e. (ap (λ (x : List Standing). service_of s.rules x s.number s.refusing) e.0 ∙ c.self.view_is, e.1)) (λ say note a. served_known s.rules s.served rings s.number s.refusing c.answer_by-told.new.shut terms c.args.self.now was is c.args.line.now say note known c.self.view_is a c.answer_by-told.ensures.tied c.are_right.ensures) c.answer_by-told.ensures.answered
 
 pub returns-clause-unchanged : goal.returns-clause-unchanged
-returns-clause-unchanged g c = λ none. absurd (false≢true (sym none))
+returns-clause-unchanged g c = λ none.
+    let s = c.self.inside in
+    let terms : Terms = terms_by c.rules_in-rules.result in
+    let known = terms_known s.rules s.number s.refusing c.as_str.result.now (string_bytes s.name) terms c.rules_in-rules.ensures c.as_str.ensures.value c.self.invariant.named in
+    let off : may_save (service_of s.rules s.served s.number s.refusing) ≡ false = subst (λ (x : ServiceView). may_save x ≡ false) (sym c.self.view_is) none in
+    (c.answer_by-told.ensures.unchanged (ap (λ (t : Terms). t.saves) known ∙ no_folder s.rules.permits.saves off), off)

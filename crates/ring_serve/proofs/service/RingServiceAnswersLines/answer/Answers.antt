@@ -1,5 +1,5 @@
 use Rattle.std.proofs.Common.{◌≡◌, ℕ, List, false, sym, ap, ◌∙◌, subst}
-use Rattle.std.proofs.lemmas.Bool.{false≢true}
+use Rattle.std.specs.Prelude.{is_some}
 use Rattle.ring_serve.specs.Permits.{terms_by, is_shut}
 use Rattle.ring_serve.specs.Standings.{Standing}
 use Rattle.ring_serve.specs.Serving.{IsAnswered}
@@ -7,6 +7,7 @@ use Rattle.ring_serve.specs.Services.{ServiceView, IsServed, service_of}
 use Rattle.ring_serve.proofs.Shutting.{tied_open}
 use Rattle.ring_serve.proofs.Looped.{served_by}
 use Rattle.ring_serve.proofs.Heeding.{made_ok, made_err}
+use Rattle.ring_serve.proofs.Sparing.{no_saves}
 use Rattle.ring_serve.proofs.service.RingServiceAnswersLines.answer.Goals as goal
 
 pub answer_by-requires : goal.answer_by-requires
@@ -33,4 +34,7 @@ returns-clause-err g c =
     c.args.pending.now c.answer_by.new.pending (λ e. (ap (λ (x : List Standing). service_of x (terms_by s.rules)) e.0 ∙ c.self.view_is, e.1)) (λ say note a. served_by c.args.self.now s.served c.answer_by.new.served (terms_by s.rules) was is c.args.line.now say note c.self.view_is a) c.answer_by.ensures.answered
 
 pub returns-clause-unchanged : goal.returns-clause-unchanged
-returns-clause-unchanged g c = λ none. absurd (false≢true (sym none))
+returns-clause-unchanged g c = λ none.
+    let s = c.self.inside in
+    let off : is_some (terms_by s.rules).saves ≡ false = subst (λ (x : ServiceView). is_some x.terms.saves ≡ false) (sym c.self.view_is) none in
+    (c.answer_by.ensures.unchanged (no_saves (terms_by s.rules).saves off), off)
