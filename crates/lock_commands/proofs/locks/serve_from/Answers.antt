@@ -1,7 +1,7 @@
 use Rattle.std.proofs.Common.{Some, refl, inl, inr}
 use Rattle.std.specs.Prelude.{string_bytes}
-use Rattle.segment_folder.specs.Names.{segment_file}
-use Rattle.segment_loop.proofs.Lasting.{begun_lasts, replaced_known, whole_leaves}
+use Rattle.line_service.specs.SegmentNames.{segment_file}
+use Rattle.line_service.proofs.SegmentLasting.{begun_lasts, replaced_known, whole_leaves}
 use Rattle.lock_commands.specs.Locks.{folder_of, by_segments}
 use Rattle.lock_commands.proofs.locks.serve_from.Goals as goal
 

@@ -1,8 +1,0 @@
-pub mod Telling
-pub mod Short
-pub mod Wants
-pub mod Unchanged
-pub mod NeverFull
-pub mod Places
-pub mod Counts
-pub mod StateLines

@@ -1,0 +1,5 @@
+use Rattle.lock_service.proofs.Stages.{parts_are_stages, runs_follow}
+use Rattle.lock_service.proofs.laws.parts_are_stages.Goals as goal
+
+pub returns : goal.returns
+returns c = record { parts = parts_are_stages; runs = runs_follow }
