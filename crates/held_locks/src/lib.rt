@@ -1,4 +1,4 @@
-//! Locks that programs hold, over rings: the clients that wait for a lock are its line, and the first privileged machine of its
+//! Locks that programs hold, over rings: the clients that wait for a lock are its queue, and the first privileged machine of its
 //! ring passes for the client that is granted it.
 #![tactic(auto)]
 
