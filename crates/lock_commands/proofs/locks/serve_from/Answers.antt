@@ -2,7 +2,8 @@ use Rattle.std.proofs.Common.{Some, refl, inl, inr}
 use Rattle.std.specs.Prelude.{string_bytes}
 use Rattle.line_service.specs.SegmentNames.{segment_file}
 use Rattle.line_service.proofs.SegmentLasting.{begun_lasts, replaced_known, whole_leaves}
-use Rattle.lock_commands.specs.Locks.{folder_of, by_segments}
+use Rattle.lock_service.specs.Runs.{by_segments}
+use Rattle.lock_commands.specs.Locks.{folder_of}
 use Rattle.lock_commands.proofs.locks.serve_from.Goals as goal
 
 pub returns-in-Err-serve_segments-clause-err : goal.returns-in-Err-serve_segments-clause-err
