@@ -16,7 +16,8 @@ use Rattle.ring_locks.proofs.Rings.{grant_grants, fault_is}
 use Rattle.ring_locks.proofs.Moves.{Move, Stays, Waits, Gets, Ends, Drops, Faults, move_of}
 use Rattle.ring_locks.proofs.Standing.{get_set_same, get_set}
 use Rattle.ring_locks.proofs.Right.{right_asked, right_restarted}
-use Rattle.ring_locks.proofs.Tokens.{Passes, NoPass, Repaired, OnePass, passes_move}
+use Rattle.ring_locks.proofs.Tokens.{Passes, NoPass, Repaired, OnePass}
+use Rattle.lock_names.proofs.Passing.{passes_turn}
 use Rattle.lock_names.specs.Names.{Bound, Named, NamedInput, Of, Again, Said, NamedStep, token_in, of_ring, said_of, found, free, grants_at, total, fresh, kept, stays, at_ring, given, at_none, at_name, restarted_named, step_named, named_after}
 use Rattle.lock_names.specs.Promises.{IsRightBound, IsRightName, IsNamed, NamedStays}
 use Rattle.lock_names.proofs.Found.{some_same, none_some, there_is, found_at, unlike, free_at}
@@ -63,9 +64,9 @@ pub at_ring_is : (s : Named) (c i : ℕ) (b : Bound) (ask : Ask) (l : Lock) → 
 at_ring_is s c i b ask l e =
     let t : Turn = turn s.locks l c (of_ring b ask) in
     let there : stays s.fixed i (slice_set s.locks i t.lock) ≡ (nat_lt i s.fixed || is_some (client_of t.lock.holder)) =
-        ap (λ (o : Option Lock). nat_lt i s.fixed || is_some (holder_of o)) (get_set_same s.locks i t.lock l e) in
+    ap (λ (o : Option Lock). nat_lt i s.fixed || is_some (holder_of o)) (get_set_same s.locks i t.lock l e) in
     let more : s.top + (total (slice_set s.locks i t.lock) - total s.locks) ≡ top_after s.top l t =
-        ap (λ (n : ℕ). s.top + n) (more_of (total (slice_set s.locks i t.lock)) (total s.locks) t.lock.ring.grants l.ring.grants (total_set s.locks i l t.lock e)) in
+    ap (λ (n : ℕ). s.top + n) (more_of (total (slice_set s.locks i t.lock)) (total s.locks) t.lock.ring.grants l.ring.grants (total_set s.locks i l t.lock e)) in
     ap (λ (o : Option Lock). asked_at s c i b (of_ring b ask) o) e
     ∙ ap (λ (q : Bool). made s i b (slice_set s.locks i t.lock) t.answers q (s.top + (total (slice_set s.locks i t.lock) - total s.locks))) there
     ∙ ap (λ (n : ℕ). made s i b (slice_set s.locks i t.lock) t.answers (nat_lt i s.fixed || is_some (client_of t.lock.holder)) n) more
@@ -102,7 +103,7 @@ held_next ls l c ask t g (Faults i v a lt lk e) = subst (λ (x : Turn). HeldNext
 pub moved : (ls : List Lock) (l : Lock) (c : ℕ) (ask : Ask) → IsRing l.ring.ring → IsMoved l (turn ls l c ask).lock
 moved ls l c ask g =
     let m = move_of ls l c ask in record {
-      more = grew l (turn ls l c ask).lock (breaks 0 (Asked c 0 ask)) (turn ls l c ask).answers (passes_move ls 0 l c ask (turn ls l c ask) g m);
+      more = grew l (turn ls l c ask).lock true (turn ls l c ask).answers (passes_turn ls l c ask g);
       held = held_next ls l c ask (turn ls l c ask) g m;
     }
 
@@ -268,16 +269,19 @@ was_lock [] i l e = absurd (none_some l e)
 was_lock (m ∷ ls) zero l e = (m, refl, sym (some_same (restarted m) l e))
 was_lock (m ∷ ls) (suc i) l e = was_lock ls i l e
 
-still_none : (o : Option Holder) → o ≡ None → option_map (λ (h : Holder). record { client = 0; token = h.token }) o ≡ None
-still_none o e = ap (λ (x : Option Holder). option_map (λ (h : Holder). record { client = 0; token = h.token }) x) e
+abbrev pub zeroth : Holder → Holder
+zeroth h = record { client = 0; token = h.token }
 
-still_some : (o : Option Holder) → is_some o ≡ true → is_some (option_map (λ (h : Holder). record { client = 0; token = h.token }) o) ≡ true
+pub still_none : (o : Option Holder) → o ≡ None → option_map zeroth o ≡ None
+still_none o e = ap (λ (x : Option Holder). option_map zeroth x) e
+
+still_some : (o : Option Holder) → is_some o ≡ true → is_some (option_map zeroth o) ≡ true
 still_some None e = e
 still_some (Some h) e = refl
 
-still_held : (o : Option Holder) (h : Holder) → option_map (λ (h : Holder). record { client = 0; token = h.token }) o ≡ Some h → (k : Holder) × (o ≡ Some k) × (h.token ≡ k.token)
+pub still_held : (o : Option Holder) (h : Holder) → option_map zeroth o ≡ Some h → (k : Holder) × (o ≡ Some k) × (h.token ≡ k.token)
 still_held None h e = absurd (none_some h e)
-still_held (Some k) h e = (k, refl, ap (λ (x : Holder). x.token) (sym (some_same (record { client = 0; token = k.token }) h e)))
+still_held (Some k) h e = (k, refl, ap (λ (x : Holder). x.token) (sym (some_same (zeroth k) h e)))
 
 name_restarted : (fixed top i : ℕ) (m : Lock) (o : Option Bound) → IsRightName fixed top i m o → IsRightName fixed top i (restarted m) o
 name_restarted fixed top i m None r = (r.0, still_none m.holder r.1)
@@ -293,19 +297,19 @@ name_restarted fixed top i m (Some b) r = (
   λ le. still_some m.holder (r.1 le),
 )
 
+pub length_restarted : (ls : List Lock) → length (map restarted ls) ≡ length ls
+length_restarted [] = refl
+length_restarted (l ∷ ls) = ap (λ (n : ℕ). suc n) (length_restarted ls)
+
 pub named_restarted : (s : Named) → IsNamed s → IsNamed (restarted_named s)
 named_restarted s n = record {
   right = right_restarted s.locks n.right;
-  many = n.many ∙ sym (same_length s.locks);
+  many = n.many ∙ sym (length_restarted s.locks);
   each = λ i l o e f.
       let w = was_lock s.locks i l e in
       subst (λ (x : Lock). IsRightName s.fixed s.top i x o) (sym w.2) (name_restarted s.fixed s.top i w.0 o (n.each i w.0 o w.1 f));
   once = n.once;
 }
-  where
-    same_length : (ls : List Lock) → length (map restarted ls) ≡ length ls
-    same_length [] = refl
-    same_length (l ∷ ls) = let e : length (map restarted ls) ≡ length ls = same_length ls in omega arith
 
 -- ---- all
 

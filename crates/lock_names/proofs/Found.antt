@@ -88,11 +88,11 @@ found_there x os i b e n only = there_by x os i b e n only (found x os) refl
 
 -- nowhere, so not found
 none_by : (x : List ℕ) (os : List (Option Bound)) → ((i : ℕ) (b : Bound) → slice_get os i ≡ Some (Some b) → b.name ≡ x → ⊥) → (f : Option (ℕ × Bound)) → found x os ≡ f → f ≡ None
-none_by x os no None q = refl
-none_by x os no (Some p) q = let h = found_at x os p q in absurd (no p.0 p.1 h.slot (sym h.name))
+none_by x os nope None q = refl
+none_by x os nope (Some p) q = let h = found_at x os p q in absurd (nope p.0 p.1 h.slot (sym h.name))
 
 pub found_nowhere : (x : List ℕ) (os : List (Option Bound)) → ((i : ℕ) (b : Bound) → slice_get os i ≡ Some (Some b) → b.name ≡ x → ⊥) → found x os ≡ None
-found_nowhere x os no = none_by x os no (found x os) refl
+found_nowhere x os nope = none_by x os nope (found x os) refl
 
 -- ---- free rings
 

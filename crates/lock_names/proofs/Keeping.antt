@@ -14,7 +14,7 @@ use Rattle.lock_names.proofs.Fitting.{named_step, named_stays}
 abbrev Keeps : Named → Named → ℕ → Bound → Type 0
 Keeps s z i b = is_some (holder_of (slice_get z.locks i)) ≡ true → slice_get z.names i ≡ Some (Some b)
 
-kept_stays : (q : Bool) (b : Bound) → q ≡ true → kept q b ≡ Some b
+pub kept_stays : (q : Bool) (b : Bound) → q ≡ true → kept q b ≡ Some b
 kept_stays q b e = ap (λ (r : Bool). kept r b) e
 
 keeps_asked : (s : Named) (c i k : ℕ) (b d : Bound) (ask : Ask) → slice_get s.names i ≡ Some (Some b) → (k ≡ i → d ≡ b) → Keeps s (at_ring s c k d ask).named i b
@@ -71,8 +71,36 @@ used_by : (fixed top i : ℕ) (l : Lock) (o : Option Bound) → IsRightName fixe
 used_by fixed top i l None r = (λ e. r, λ le e. refl)
 used_by fixed top i l (Some b) r = (λ e. absurd (none_some b (sym e)), λ le e. absurd (true≢false (sym (r.1 le) ∙ ap (λ (h : Option Holder). is_some h) e)))
 
+fixed_given : (s : Named) (c : ℕ) (x : List ℕ) (ask : Ask) (o : Option ℕ) → (given s c x ask o).named.fixed ≡ s.fixed
+fixed_given s c x ask None = refl
+fixed_given s c x ask (Some i) = refl
+
+fixed_none : (s : Named) (c : ℕ) (x : List ℕ) (ask : Ask) → (at_none s c x ask).named.fixed ≡ s.fixed
+fixed_none s c x (Acquire label) = fixed_given s c x (Acquire label) (free s.names)
+fixed_none s c x (Try label) = fixed_given s c x (Try label) (free s.names)
+fixed_none s c x (Release token) = refl
+fixed_none s c x Cancel = refl
+fixed_none s c x Leave = refl
+fixed_none s c x (Corrupt i v) = refl
+fixed_none s c x Stats = refl
+
+fixed_name : (s : Named) (c : ℕ) (x : List ℕ) (ask : Ask) (o : Option (ℕ × Bound)) → (at_name s c x ask o).named.fixed ≡ s.fixed
+fixed_name s c x ask None = fixed_none s c x ask
+fixed_name s c x ask (Some p) = refl
+
+fixed_step : (s : Named) (i : NamedInput) → (step_named s i).named.fixed ≡ s.fixed
+fixed_step s (Of c x ask) = fixed_name s c x ask (found x s.names)
+fixed_step s Again = refl
+
+fixed_after : (s : Named) (is : List NamedInput) → (named_after s is).fixed ≡ s.fixed
+fixed_after s [] = refl
+fixed_after s (i ∷ is) = fixed_after (step_named s i).named is ∙ fixed_step s i
+
 pub used_are_held : UsedAreHeld
-used_are_held s is i l o n e f = let m = named_stays s is n in used_by (named_after s is).fixed (named_after s is).top i l o (m.each i l o e f)
+used_are_held s is i l o n e f =
+    let m = named_stays s is n in
+    subst (λ (k : ℕ). (o ≡ None → (k ≤ i) × (l.holder ≡ None)) × (k ≤ i → l.holder ≡ None → o ≡ None)) (fixed_after s is)
+    (used_by (named_after s is).fixed (named_after s is).top i l o (m.each i l o e f))
 
 nothing_by : (s : Named) (c : ℕ) (x : List ℕ) (ask : Ask) → ¬ IsForHold ask → (at_none s c x ask).named ≡ s
 nothing_by s c x (Acquire label) n = absurd (n tt)

@@ -1,4 +1,5 @@
 pub mod Found
+pub mod Passing
 pub mod Fitting
 pub mod Rising
 pub mod Keeping

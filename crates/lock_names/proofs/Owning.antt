@@ -3,7 +3,7 @@ use Rattle.std.proofs.Common.{◌≡◌, ◌≢◌, ℕ, zero, suc, ◌+◌, ◌
 use Rattle.std.specs.Prelude.{◌||◌, nat_le, nat_lt, if◌then◌else◌, slice_get, slice_set, is_some, option_map}
 use Rattle.std.specs.Str.{bytes_eq}
 use Rattle.std.proofs.lemmas.Bool.{cases_Bool, cases_eq, or_parts, both_ways, true≢false}
-use Rattle.std.proofs.lemmas.List.{append-nil, length-set, length-map}
+use Rattle.std.proofs.lemmas.List.{append-nil, length-set}
 use Rattle.std.proofs.lemmas.Option.{slice_get_within}
 use Rattle.ring_locks.specs.declared.answers.Waiter.{Waiter}
 use Rattle.ring_locks.specs.declared.answers.Holder.{Holder}
@@ -21,7 +21,7 @@ use Rattle.lock_names.specs.Names.{Bound, Named, NamedInput, Of, Again, NamedSte
 use Rattle.lock_names.specs.Promises.{IsNamed, IsForHold}
 use Rattle.lock_names.specs.Alike.{said_aside, answer_aside, place, told_at, told_now, own_token, own_ask, own_of, own_inputs, AreOwn, IsRefused, IsExcused, IsAnsweredAlike, AreAnsweredAlike, AreAmong, NamesAreLocks}
 use Rattle.lock_names.proofs.Found.{same_name, own_name, some_same, none_some, there_is, found_at, unlike, found_nowhere, free_at, none_free}
-use Rattle.lock_names.proofs.Fitting.{turned, name_after, at_ring_is, IsMoved, moved, Fits, kept_some, lock_at, fits_found, fits_free, was_lock, still_none, still_held, named_step}
+use Rattle.lock_names.proofs.Fitting.{turned, name_after, at_ring_is, IsMoved, moved, Fits, kept_some, lock_at, fits_found, fits_free, was_lock, zeroth, still_none, still_held, length_restarted, named_step}
 use Rattle.lock_names.proofs.Keeping.{kept_stays}
 use Rattle.lock_names.proofs.Twins.{Same, TurnsAlike, IsPlain, AreEqualWaits, turn_alike, release_alike, held_with_alike, whom, circle_alike, said_alike}
 
@@ -107,13 +107,16 @@ changed_turn s i b t x v f own same empty = record {
     ]
     | inr q ↦
         let other : y ≢ x = λ e. both_ways (bytes_eq y x) q (own_name y x e) in
-        inr (other, found_nowhere y s.names (λ j d e n. elim (cases_eq j i) [
-          | inl p ↦ elim f.which [
-            | inl a ↦ other (sym n ∙ ap (λ (k : Bound). k.name) (some_same d b (was_is j d p e ∙ a)) ∙ own)
-            | inr a ↦ none_some d (sym a.0 ∙ sym (was_is j d p e))
-          ]
-          | inr p ↦ unlike y (slice_set s.names i o) j d g (get_set_other s.names i j o p ∙ e) n
-        ]))
+        inr (
+          other,
+          found_nowhere y s.names (λ j d e n. elim (cases_eq j i) [
+            | inl p ↦ elim f.which [
+              | inl a ↦ other (sym n ∙ ap (λ (k : Bound). k.name) (some_same d b (was_is j d p e ∙ a)) ∙ own)
+              | inr a ↦ none_some d (sym a.0 ∙ sym (was_is j d p e))
+            ]
+            | inr p ↦ unlike y (slice_set s.names i o) j d g (get_set_other s.names i j o p ∙ e) n
+          ]),
+        )
   ];
   known = λ j d e. elim (get_set s.names i j o f.was (Some d) f.slot e) [
     | inl p ↦ inl (mine d p.1)
@@ -242,7 +245,7 @@ module _ (ns : List (List ℕ)) (s : Named) (ls : List Lock) (n : IsNamed s) (w 
   turned_steps i b f a u own alike = (
     said_alike b (turn s.locks f.lock c a).answers ∙ alike.answers ∙ ap (λ (y : List (ℕ × Answer)). map answer_aside y) (sym (own_answers ls c k u m there)),
     subst (λ (y : List Lock). AreOwn ns (turned s i b f.lock (turn s.locks f.lock c a)).named y) (sym (own_locks ls c k u m there))
-    (own_turn (turned s i b f.lock (turn s.locks f.lock c a)).named u (changed_turn s i b (turn s.locks f.lock c a) x (turn ls m c u).lock f own alike.lock (own_empty u))),
+        (own_turn (turned s i b f.lock (turn s.locks f.lock c a)).named u (changed_turn s i b (turn s.locks f.lock c a) x (turn ls m c u).lock f own alike.lock (own_empty u))),
   )
 
   ring_steps : (i : ℕ) (b : Bound) (f : Fits s i b) (ask u v : Ask) → b.name ≡ x → u ≡ v → TurnsAlike (turn s.locks f.lock c (of_ring b ask)) (turn ls m c u) → StepsAlike ns (at_ring s c i b ask) ls (Asked c k v ∷ [])
@@ -306,16 +309,16 @@ module _ (ns : List (List ℕ)) (s : Named) (ls : List Lock) (n : IsNamed s) (w 
       let h = same_found p e in
       let u : Ask = Release (own_token token (option_map (λ (y : Holder). token_in p.1 y.token) f.lock.holder) m.holder) in
       let is : u ≡ own_ask (Release token) (told_at p.1 (slice_get s.locks p.0)) (slice_get ls k) =
-          ap (λ (o : Option Lock). own_ask (Release token) (told_at p.1 o) (Some m)) (sym f.there) ∙ ap (λ (o : Option Lock). own_ask (Release token) (told_at p.1 (slice_get s.locks p.0)) o) (sym there) in
+      ap (λ (o : Option Lock). own_ask (Release token) (told_at p.1 o) (Some m)) (sym f.there) ∙ ap (λ (o : Option Lock). own_ask (Release token) (told_at p.1 (slice_get s.locks p.0)) o) (sym there) in
       let r = ring_steps p.0 p.1 f (Release token) u (own_ask (Release token) (told_at p.1 (slice_get s.locks p.0)) (slice_get ls k)) (sym (found_at x s.names p e).name) is
-          (release_alike s.locks ls f.lock m c (number_in p.1 token) (own_token token (option_map (λ (y : Holder). token_in p.1 y.token) f.lock.holder) m.holder) h
-          (held_with_alike c token p.1 f.lock.holder m.holder h.held (λ y q. (f.right.held y q).0) (λ y q. w.tokens k m y there q))) in
+      (release_alike s.locks ls f.lock m c (number_in p.1 token) (own_token token (option_map (λ (y : Holder). token_in p.1 y.token) f.lock.holder) m.holder) h
+      (held_with_alike c token p.1 f.lock.holder m.holder h.held (λ y q. (f.right.held y q).0) (λ y q. w.tokens k m y there q))) in
       (inl r.0, r.1)
 
   -- ---- a name that no ring has
 
   -- a lock that nobody holds, and for which nobody waits
-  none : Lock
+  abbrev none : Lock
   none = record { ring = m.ring; line = []; holder = None }
 
   quiet_steps : (u v : Ask) (z : NamedStep) → found x s.names ≡ None → v ≡ u → z.named ≡ s → map said_aside z.said ≡ map answer_aside (turn ls none c u).answers → (turn ls none c u).lock.holder ≡ None → (turn ls none c u).lock.line ≡ [] →
@@ -325,8 +328,8 @@ module _ (ns : List (List ℕ)) (s : Named) (ls : List Lock) (n : IsNamed s) (w 
       subst (λ (y : Ask). StepsAlike ns z ls (Asked c k y ∷ [])) (sym q) (
         said ∙ alike.answers ∙ ap (λ (y : List (ℕ × Answer)). map answer_aside y) (sym (own_answers ls c k u m there)),
         subst (λ (y : List Lock). AreOwn ns z.named y) (sym (own_locks ls c k u m there))
-        (subst (λ (y : Named). AreOwn ns y (slice_set ls k (turn ls m c u).lock)) (sym same)
-        (own_turn s u (changed_none s x (turn ls m c u).lock e nobody (sym alike.lock.line ∙ line)))),
+            (subst (λ (y : Named). AreOwn ns y (slice_set ls k (turn ls m c u).lock)) (sym same)
+            (own_turn s u (changed_none s x (turn ls m c u).lock e nobody (sym alike.lock.line ∙ line)))),
       )
 
   none_same : found x s.names ≡ None → Same none m
@@ -382,7 +385,7 @@ module _ (ns : List (List ℕ)) (s : Named) (ls : List Lock) (n : IsNamed s) (w 
   ]
   none_steps (Release token) e =
       let r = quiet_steps (Release 0) (own_ask (Release token) None (slice_get ls k)) (at_none s c x (Release token)) e (ap (λ (o : Option Lock). own_ask (Release token) None o) there) refl refl refl refl
-          (release_alike ls ls none m c 0 0 (none_same e) (ap (λ (h : Option Holder). is_held_with c 0 h) (sym (w.unused k x m at there e).0))) in
+      (release_alike ls ls none m c 0 0 (none_same e) (ap (λ (h : Option Holder). is_held_with c 0 h) (sym (w.unused k x m at there e).0))) in
       (inl r.0, r.1)
   none_steps Cancel e = let r = quiet_steps Cancel Cancel (at_none s c x Cancel) e refl refl refl refl refl (turn_alike ls ls none m c Cancel (none_same e) (none_waits e) tt) in (inl r.0, r.1)
   none_steps Leave e = let r = quiet_steps Leave Leave (at_none s c x Leave) e refl refl refl refl refl (turn_alike ls ls none m c Leave (none_same e) (none_waits e) tt) in (inl r.0, r.1)
@@ -395,7 +398,7 @@ module _ (ns : List (List ℕ)) (s : Named) (ls : List Lock) (n : IsNamed s) (w 
 
 -- ---- a restart
 
-zeroed_alike : (h k : Option Holder) → client_of h ≡ client_of k → client_of (option_map (λ (y : Holder). record { client = 0; token = y.token }) h) ≡ client_of (option_map (λ (y : Holder). record { client = 0; token = y.token }) k)
+zeroed_alike : (h k : Option Holder) → client_of h ≡ client_of k → client_of (option_map zeroth h) ≡ client_of (option_map zeroth k)
 zeroed_alike None None e = refl
 zeroed_alike (Some h) (Some k) e = refl
 zeroed_alike None (Some k) e = absurd (none_some k.client e)
@@ -404,7 +407,7 @@ zeroed_alike (Some h) None e = absurd (none_some h.client (sym e))
 own_restarted : (ns : List (List ℕ)) (s : Named) (ls : List Lock) → AreOwn ns s ls → AreOwn ns (restarted_named s) (map restarted ls)
 own_restarted ns s ls w = record {
   right = right_restarted ls w.right;
-  many = length-map restarted ls ∙ w.many;
+  many = length_restarted ls ∙ w.many;
   apart = w.apart;
   tokens = λ j m h e q.
       let a = was_lock ls j m e in
@@ -426,16 +429,20 @@ own_restarted ns s ls w = record {
 
 -- ---- all
 
-placed : (x : List ℕ) (ns : List (List ℕ)) (j : ℕ) → slice_get ns j ≡ Some x → (k : ℕ) × (place x ns ≡ Some k) × (slice_get ns k ≡ Some x)
+abbrev Placed : List ℕ → List (List ℕ) → Option ℕ → Type 0
+Placed x ns o = (k : ℕ) × (o ≡ Some k) × (slice_get ns k ≡ Some x)
+
+placed_on : (x y : List ℕ) (ns : List (List ℕ)) (j : ℕ) → ((i : ℕ) → slice_get ns i ≡ Some x → Placed x ns (place x ns)) → slice_get (y ∷ ns) j ≡ Some x →
+    (q : Bool) → bytes_eq x y ≡ q → Placed x (y ∷ ns) (if q then Some zero else option_map suc (place x ns))
+placed_on x y ns j rest e true q = (zero, refl, ap (λ (z : List ℕ). Some z) (sym (same_name x y q)))
+placed_on x y ns zero rest e false q = absurd (both_ways (bytes_eq x y) q (own_name x y (sym (some_same y x e))))
+placed_on x y ns (suc j) rest e false q =
+    let r = rest j e in
+    (suc r.0, ap (λ (o : Option ℕ). option_map suc o) r.1, r.2)
+
+placed : (x : List ℕ) (ns : List (List ℕ)) (j : ℕ) → slice_get ns j ≡ Some x → Placed x ns (place x ns)
 placed x [] j e = absurd (none_some x e)
-placed x (y ∷ ns) j e = by j e (bytes_eq x y) refl
-  where
-    by : (j : ℕ) → slice_get (y ∷ ns) j ≡ Some x → (q : Bool) → bytes_eq x y ≡ q → (k : ℕ) × ((if q then Some zero else option_map suc (place x ns)) ≡ Some k) × (slice_get (y ∷ ns) k ≡ Some x)
-    by j e true q = (zero, refl, ap (λ (z : List ℕ). Some z) (sym (same_name x y q)))
-    by zero e false q = absurd (both_ways (bytes_eq x y) q (own_name x y (sym (some_same y x e))))
-    by (suc j) e false q =
-        let r = placed x ns j e in
-        (suc r.0, ap (λ (o : Option ℕ). option_map suc o) r.1, r.2)
+placed x (y ∷ ns) j e = placed_on x y ns j (λ i. placed x ns i) e (bytes_eq x y) refl
 
 abbrev Step : List (List ℕ) → Named → List Lock → NamedInput → Type 0
 Step ns s ls i = IsAnsweredAlike ns s ls i × AreOwn ns (step_named s i).named (locks_after ls (own_inputs ns s ls i))

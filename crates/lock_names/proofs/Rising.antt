@@ -7,15 +7,17 @@ use Rattle.std.proofs.lemmas.Bool.{cases_Bool, both_ways}
 use Rattle.ring_locks.specs.declared.answers.Holder.{Holder}
 use Rattle.ring_locks.specs.declared.answers.Answer.{Answer}
 use Rattle.ring_locks.specs.declared.answers.Answer.TheVariants as answer
+use Rattle.ring_locks.specs.declared.answers.Refusal.TheVariants as refusal
 use Rattle.ring_locks.specs.Lines.{Lock}
-use Rattle.ring_locks.specs.Locks.{Ask, Acquire, Try, Release, Cancel, Leave, Corrupt, Stats, Turn, turn, Asked, restarted}
-use Rattle.ring_locks.specs.Promises.{grants_in, breaks}
-use Rattle.ring_locks.proofs.Moves.{move_of}
+use Rattle.ring_locks.specs.Locks.{Ask, Acquire, Try, Release, Cancel, Leave, Corrupt, Stats, Turn, turn}
+use Rattle.ring_locks.specs.Promises.{grants_in}
 use Rattle.ring_locks.proofs.Standing.{get_set}
-use Rattle.ring_locks.proofs.Tokens.{Passes, NoPass, Repaired, OnePass, passes_move, token_next}
+use Rattle.ring_locks.proofs.Tokens.{Passes, NoPass, Repaired, OnePass}
 use Rattle.lock_names.specs.declared.replies.Reply.{Reply}
+use Rattle.lock_names.specs.declared.replies.Reply.TheVariants as reply
 use Rattle.lock_names.specs.Names.{Bound, Named, NamedInput, Of, Again, Said, NamedStep, token_in, of_ring, as_told, said_of, found, free, fresh, at_ring, replied, given, at_none, at_name, restarted_named, step_named}
 use Rattle.lock_names.specs.Promises.{IsRightBound, IsNamed, token_of, token_in_reply, token_said, tokens_said, tokens_of, Rise, IsBelow, TokensOfNamesRise}
+use Rattle.lock_names.proofs.Passing.{passes_turn}
 use Rattle.lock_names.proofs.Found.{some_same, none_some, same_name, own_name}
 use Rattle.lock_names.proofs.Fitting.{Fits, turned, top_after, name_after, at_ring_is, kept_some, IsMoved, moved, fits_found, fits_free, was_lock, named_step}
 
@@ -24,11 +26,11 @@ use Rattle.lock_names.proofs.Fitting.{Fits, turned, top_after, name_after, at_ri
 abbrev told_tokens : Bound → List Holder → List ℕ
 told_tokens b hs = map (λ (h : Holder). token_in b h.token) hs
 
-told_one : (f : Said → Option ℕ) (b : Bound) (c : ℕ) (a : Answer) (as : List (ℕ × Answer)) → f (said_of b (c, a)) ≡ token_of (as_told b a) →
-    filter_map f (map (said_of b) as) ≡ told_tokens b (grants_in as) → cons_option (f (said_of b (c, a))) (filter_map f (map (said_of b) as)) ≡ told_tokens b (grants_in ((c, a) ∷ as))
-told_one f b c a as e rest = ap (λ (o : Option ℕ). cons_option o (filter_map f (map (said_of b) as))) e ∙ by a
+told_one : (f : Said → Option ℕ) (b : Bound) (c : ℕ) (a : Answer) (list : List (ℕ × Answer)) → f (said_of b (c, a)) ≡ token_of (as_told b a) →
+    filter_map f (map (said_of b) list) ≡ told_tokens b (grants_in list) → cons_option (f (said_of b (c, a))) (filter_map f (map (said_of b) list)) ≡ told_tokens b (grants_in ((c, a) ∷ list))
+told_one f b c a list e rest = ap (λ (o : Option ℕ). cons_option o (filter_map f (map (said_of b) list))) e ∙ by a
   where
-    by : (a : Answer) → cons_option (token_of (as_told b a)) (filter_map f (map (said_of b) as)) ≡ told_tokens b (grants_in ((c, a) ∷ as))
+    by : (a : Answer) → cons_option (token_of (as_told b a)) (filter_map f (map (said_of b) list)) ≡ told_tokens b (grants_in ((c, a) ∷ list))
     by (answer.Granted n) = ap (λ (ts : List ℕ). token_in b n ∷ ts) rest
     by (answer.Waiting n) = rest
     by answer.Busy = rest
@@ -38,19 +40,19 @@ told_one f b c a as e rest = ap (λ (o : Option ℕ). cons_option o (filter_map 
     by (answer.Stats stats) = rest
     by (answer.Refused why) = rest
 
-told_all : (f : Said → Option ℕ) (b : Bound) → ((a : ℕ × Answer) → f (said_of b a) ≡ token_of (as_told b a.1)) → (as : List (ℕ × Answer)) → filter_map f (map (said_of b) as) ≡ told_tokens b (grants_in as)
+told_all : (f : Said → Option ℕ) (b : Bound) → ((a : ℕ × Answer) → f (said_of b a) ≡ token_of (as_told b a.1)) → (list : List (ℕ × Answer)) → filter_map f (map (said_of b) list) ≡ told_tokens b (grants_in list)
 told_all f b h [] = refl
-told_all f b h (a ∷ as) = told_one f b a.0 a.1 as (h a) (told_all f b h as)
+told_all f b h (a ∷ list) = told_one f b a.0 a.1 list (h a) (told_all f b h list)
 
-told_none : (f : Said → Option ℕ) (b : Bound) → ((a : ℕ × Answer) → f (said_of b a) ≡ None) → (as : List (ℕ × Answer)) → filter_map f (map (said_of b) as) ≡ []
+told_none : (f : Said → Option ℕ) (b : Bound) → ((a : ℕ × Answer) → f (said_of b a) ≡ None) → (list : List (ℕ × Answer)) → filter_map f (map (said_of b) list) ≡ []
 told_none f b h [] = refl
-told_none f b h (a ∷ as) = ap (λ (o : Option ℕ). cons_option o (filter_map f (map (said_of b) as))) (h a) ∙ told_none f b h as
+told_none f b h (a ∷ list) = ap (λ (o : Option ℕ). cons_option o (filter_map f (map (said_of b) list))) (h a) ∙ told_none f b h list
 
-own_tokens : (x : List ℕ) (b : Bound) (as : List (ℕ × Answer)) → bytes_eq x b.name ≡ true → tokens_said x (map (said_of b) as) ≡ told_tokens b (grants_in as)
-own_tokens x b as e = told_all (token_said x) b (λ a. ap (λ (q : Bool). if q then token_of (as_told b a.1) else None) e) as
+own_tokens : (x : List ℕ) (b : Bound) (list : List (ℕ × Answer)) → bytes_eq x b.name ≡ true → tokens_said x (map (said_of b) list) ≡ told_tokens b (grants_in list)
+own_tokens x b list e = told_all (token_said x) b (λ a. ap (λ (q : Bool). if q then token_of (as_told b a.1) else None) e) list
 
-no_tokens : (x : List ℕ) (b : Bound) (as : List (ℕ × Answer)) → bytes_eq x b.name ≡ false → tokens_said x (map (said_of b) as) ≡ []
-no_tokens x b as e = told_none (token_said x) b (λ a. ap (λ (q : Bool). if q then token_of (as_told b a.1) else None) e) as
+no_tokens : (x : List ℕ) (b : Bound) (list : List (ℕ × Answer)) → bytes_eq x b.name ≡ false → tokens_said x (map (said_of b) list) ≡ []
+no_tokens x b list e = told_none (token_said x) b (λ a. ap (λ (q : Bool). if q then token_of (as_told b a.1) else None) e) list
 
 none_if : (q : Bool) (o : Option ℕ) → o ≡ None → (if q then o else None) ≡ None
 none_if true o e = e
@@ -102,7 +104,7 @@ reached x low s i b f w same = elim f.which [
 ]
 
 goes_by : (x : List ℕ) (low : ℕ) (s : Named) (c i : ℕ) (b : Bound) (ask : Ask) (f : Fits s i b) → IsBelow low x s → IsMoved f.lock (turn s.locks f.lock c ask).lock → b.name ≡ x →
-    Passes f.lock (turn s.locks f.lock c ask).lock (breaks 0 (Asked c 0 ask)) (turn s.locks f.lock c ask).answers →
+    Passes f.lock (turn s.locks f.lock c ask).lock true (turn s.locks f.lock c ask).answers →
     Goes x low (turned s i b f.lock (turn s.locks f.lock c ask)).named (told_tokens b (grants_in (turn s.locks f.lock c ask).answers))
 goes_by x low s c i b ask f w g same (NoPass none k) =
     let r : low ≤ token_in b f.lock.ring.grants = reached x low s i b f w same in
@@ -133,7 +135,7 @@ goes_turn x low s c i b ask f n w =
     let g : IsMoved f.lock t.lock = moved s.locks f.lock c ask ring in
     elim (cases_Bool (bytes_eq x b.name)) [
       | inl q ↦ subst (λ (ts : List ℕ). Goes x low (turned s i b f.lock t).named ts) (sym (own_tokens x b t.answers q))
-          (goes_by x low s c i b ask f w g (sym (same_name x b.name q)) (passes_move s.locks 0 f.lock c ask t ring (move_of s.locks f.lock c ask)))
+          (goes_by x low s c i b ask f w g (sym (same_name x b.name q)) (passes_turn s.locks f.lock c ask ring))
       | inr q ↦
           let top : low ≤ s.top = w.0 in
           subst (λ (ts : List ℕ). Goes x low (turned s i b f.lock t).named ts) (sym (no_tokens x b t.answers q))
@@ -152,18 +154,18 @@ goes_quiet x low s ts e w = subst (λ (z : List ℕ). Goes x low s z) (sym e) (t
 
 goes_given : (x : List ℕ) (low : ℕ) (s : Named) (c : ℕ) (y : List ℕ) (ask : Ask) (o : Option ℕ) → IsNamed s → IsBelow low x s → found y s.names ≡ None → free s.names ≡ o →
     Goes x low (given s c y ask o).named (tokens_said x (given s c y ask o).said)
-goes_given x low s c y ask None n w e f = goes_quiet x low s _ (quiet x s c y _ refl) w
+goes_given x low s c y ask None n w e f = goes_quiet x low s (tokens_said x (given s c y ask None).said) (quiet x s c y reply.Names refl) w
 goes_given x low s c y ask (Some i) n w e f = goes_asked x low s c i (fresh s y i) ask (fits_free s y i n e f) n w
 
 goes_none : (x : List ℕ) (low : ℕ) (s : Named) (c : ℕ) (y : List ℕ) (ask : Ask) → IsNamed s → IsBelow low x s → found y s.names ≡ None →
     Goes x low (at_none s c y ask).named (tokens_said x (at_none s c y ask).said)
 goes_none x low s c y (Acquire label) n w e = goes_given x low s c y (Acquire label) (free s.names) n w e refl
 goes_none x low s c y (Try label) n w e = goes_given x low s c y (Try label) (free s.names) n w e refl
-goes_none x low s c y (Release token) n w e = goes_quiet x low s _ (quiet x s c y _ refl) w
-goes_none x low s c y Cancel n w e = goes_quiet x low s _ (quiet x s c y _ refl) w
+goes_none x low s c y (Release token) n w e = goes_quiet x low s (tokens_said x (at_none s c y (Release token)).said) (quiet x s c y (reply.Lock (answer.Refused refusal.Holder)) refl) w
+goes_none x low s c y Cancel n w e = goes_quiet x low s (tokens_said x (at_none s c y Cancel).said) (quiet x s c y (reply.Lock (answer.Refused refusal.Waiter)) refl) w
 goes_none x low s c y Leave n w e = (tt, w)
-goes_none x low s c y (Corrupt i v) n w e = goes_quiet x low s _ (quiet x s c y _ refl) w
-goes_none x low s c y Stats n w e = goes_quiet x low s _ (quiet x s c y _ refl) w
+goes_none x low s c y (Corrupt i v) n w e = goes_quiet x low s (tokens_said x (at_none s c y (Corrupt i v)).said) (quiet x s c y (reply.Lock (answer.Refused refusal.Lock)) refl) w
+goes_none x low s c y Stats n w e = goes_quiet x low s (tokens_said x (at_none s c y Stats).said) (quiet x s c y (reply.Lock (answer.Stats (record { machines = 0; waiters = 0; passes = 0; holder = None }))) refl) w
 
 goes_name : (x : List ℕ) (low : ℕ) (s : Named) (c : ℕ) (y : List ℕ) (ask : Ask) (o : Option (ℕ × Bound)) → IsNamed s → IsBelow low x s → found y s.names ≡ o →
     Goes x low (at_name s c y ask o).named (tokens_said x (at_name s c y ask o).said)
@@ -172,9 +174,15 @@ goes_name x low s c y ask (Some p) n w e = goes_asked x low s c p.0 p.1 ask (fit
 
 goes : (x : List ℕ) (low : ℕ) (s : Named) (i : NamedInput) → IsNamed s → IsBelow low x s → Goes x low (step_named s i).named (tokens_said x (step_named s i).said)
 goes x low s (Of c y ask) n w = goes_name x low s c y ask (found y s.names) n w refl
-goes x low s Again n w = (tt, (w.0, λ i l b e f same.
-    let k = was_lock s.locks i l e in
-    subst (λ (z : Lock). low ≤ token_in b z.ring.grants) (sym k.2) (w.1 i k.0 b k.1 f same)))
+goes x low s Again n w = (
+  tt,
+  (
+    w.0,
+    λ i l b e f same.
+        let k = was_lock s.locks i l e in
+        subst (λ (z : Lock). low ≤ token_in b z.ring.grants) (sym k.2) (w.1 i k.0 b k.1 f same),
+  ),
+)
 
 rise_append : (low : ℕ) (ts us : List ℕ) → Rise low ts → Rise (last low ts) us → Rise low (ts ++ us)
 rise_append low [] us r q = q

@@ -46,9 +46,9 @@ advanced_alike : (a b : State ℕ) (line : List Waiter) → TurnsAlike (advanced
 advanced_alike a b [] = record { lock = record { held = refl; line = refl }; answers = refl }
 advanced_alike a b (w ∷ line) = granted_alike a b line line w refl
 
-before_alike : (front as bs : List (ℕ × Answer)) → map answer_aside as ≡ map answer_aside bs → map answer_aside (front ++ as) ≡ map answer_aside (front ++ bs)
-before_alike [] as bs e = e
-before_alike (x ∷ front) as bs e = ap (λ (y : List (ℕ × Reply)). answer_aside x ∷ y) (before_alike front as bs e)
+before_alike : (front list bs : List (ℕ × Answer)) → map answer_aside list ≡ map answer_aside bs → map answer_aside (front ++ list) ≡ map answer_aside (front ++ bs)
+before_alike [] list bs e = e
+before_alike (x ∷ front) list bs e = ap (λ (y : List (ℕ × Reply)). answer_aside x ∷ y) (before_alike front list bs e)
 
 ended_same : (a b : State ℕ) (line : List Waiter) (seat : ℕ) (front : List (ℕ × Answer)) → TurnsAlike (ended a line seat front) (ended b line seat front)
 ended_same a b line seat front =
@@ -175,35 +175,35 @@ no_hold : (c t : ℕ) (o : Option Holder) → o ≡ None → is_held_with c t o 
 no_hold c t o e = ap (λ (x : Option Holder). is_held_with c t x) e
 
 -- the token of the hold, and no other, is that of the hold of the other machine
-same_token : (b : Bound) (t n k : ℕ) → b.before < n → 0 < k → (number_in b t == n) ≡ ((if t == token_in b n then k else 0) == k)
+same_token : (b : Bound) (t n k : ℕ) → b.before < n → 0 < k → (n == number_in b t) ≡ (k == (if t == token_in b n then k else 0))
 same_token b t n k lo pos = elim (cases_eq t (token_in b n)) [
   | inl q ↦ own q
   | inr q ↦ other q
 ]
   where
-    turned_back : (far : Bool) → nat_le t b.floor ≡ far → t ≡ token_in b n → (if far then 0 else ((t - b.floor) + b.before)) ≡ n
+    turned_back : (far : Bool) → nat_le t b.floor ≡ far → t ≡ token_in b n → n ≡ (if far then 0 else ((t - b.floor) + b.before))
     turned_back true far e = let le : t ≤ b.floor = leb-true t b.floor far in absurd (omega arith)
     turned_back false far e = omega arith
 
-    own : t ≡ token_in b n → (number_in b t == n) ≡ ((if t == token_in b n then k else 0) == k)
+    own : t ≡ token_in b n → (n == number_in b t) ≡ (k == (if t == token_in b n then k else 0))
     own q =
-        eq-eqb (number_in b t) n (turned_back (nat_le t b.floor) refl q)
-        ∙ sym (ap (λ (x : Bool). (if x then k else 0) == k) (eq-eqb t (token_in b n) q) ∙ eq-eqb k k refl)
+        eq-eqb n (number_in b t) (turned_back (nat_le t b.floor) refl q)
+        ∙ sym (ap (λ (x : Bool). k == (if x then k else 0)) (eq-eqb t (token_in b n) q) ∙ eq-eqb k k refl)
 
-    not_back : (far : Bool) → nat_le t b.floor ≡ far → t ≢ token_in b n → (if far then 0 else ((t - b.floor) + b.before)) ≢ n
+    not_back : (far : Bool) → nat_le t b.floor ≡ far → t ≢ token_in b n → n ≢ (if far then 0 else ((t - b.floor) + b.before))
     not_back true far ne e = omega arith
     not_back false far ne e = let lt : b.floor < t = leb-false t b.floor far in ne (omega arith)
 
-    other : t ≢ token_in b n → (number_in b t == n) ≡ ((if t == token_in b n then k else 0) == k)
+    other : t ≢ token_in b n → (n == number_in b t) ≡ (k == (if t == token_in b n then k else 0))
     other q =
-        ne_eqb (number_in b t) n (not_back (nat_le t b.floor) refl q)
-        ∙ sym (ap (λ (x : Bool). (if x then k else 0) == k) (ne_eqb t (token_in b n) q) ∙ ne_eqb 0 k (λ (e : 0 ≡ k). absurd (omega arith)))
+        ne_eqb n (number_in b t) (not_back (nat_le t b.floor) refl q)
+        ∙ sym (ap (λ (x : Bool). k == (if x then k else 0)) (ne_eqb t (token_in b n) q) ∙ ne_eqb k 0 (λ (e : k ≡ 0). absurd (omega arith)))
 
 pub held_with_alike : (c t : ℕ) (b : Bound) (h k : Option Holder) → client_of h ≡ client_of k → ((x : Holder) → h ≡ Some x → b.before < x.token) → ((x : Holder) → k ≡ Some x → 0 < x.token) →
     is_held_with c (number_in b t) h ≡ is_held_with c (own_token t (option_map (λ (x : Holder). token_in b x.token) h) k) k
 held_with_alike c t b None None e lo pos = refl
 held_with_alike c t b (Some h) (Some k) e lo pos =
-    ap (λ (n : ℕ). (n == c) && (number_in b t == h.token)) (some_same h.client k.client e)
+    ap (λ (n : ℕ). (n == c) && (h.token == number_in b t)) (some_same h.client k.client e)
     ∙ ap (λ (q : Bool). (k.client == c) && q) (same_token b t h.token k.token (lo h refl) (pos k refl))
 held_with_alike c t b None (Some k) e lo pos = absurd (none_some k.client e)
 held_with_alike c t b (Some h) None e lo pos = absurd (none_some h.client (sym e))
@@ -262,8 +262,8 @@ aside_told b (answer.Corrupted old) = refl
 aside_told b (answer.Stats s) = ap (λ (h : Option Holder). answer.Stats (record { machines = 0; waiters = s.waiters; passes = 0; holder = h })) (aside_holder b s.holder)
 aside_told b (answer.Refused why) = refl
 
-pub said_alike : (b : Bound) (as : List (ℕ × Answer)) → map said_aside (map (said_of b) as) ≡ map answer_aside as
+pub said_alike : (b : Bound) (list : List (ℕ × Answer)) → map said_aside (map (said_of b) list) ≡ map answer_aside list
 said_alike b [] = refl
-said_alike b (a ∷ as) =
-    ap (λ (x : Answer). (a.0, reply.Lock x) ∷ map said_aside (map (said_of b) as)) (aside_told b a.1)
-    ∙ ap (λ (x : List (ℕ × Reply)). answer_aside a ∷ x) (said_alike b as)
+said_alike b (a ∷ list) =
+    ap (λ (x : Answer). (a.0, reply.Lock x) ∷ map said_aside (map (said_of b) list)) (aside_told b a.1)
+    ∙ ap (λ (x : List (ℕ × Reply)). answer_aside a ∷ x) (said_alike b list)
