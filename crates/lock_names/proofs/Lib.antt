@@ -5,3 +5,5 @@ pub mod Rising
 pub mod Keeping
 pub mod Twins
 pub mod Owning
+pub mod Tabled
+pub mod Beginning

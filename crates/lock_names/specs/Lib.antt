@@ -1,3 +1,4 @@
 pub mod Names
 pub mod Promises
 pub mod Alike
+pub mod Table
