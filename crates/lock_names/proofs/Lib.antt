@@ -5,3 +5,4 @@ pub mod Rising
 pub mod Keeping
 pub mod Twins
 pub mod Owning
+pub mod Beginning

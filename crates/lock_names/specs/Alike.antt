@@ -10,7 +10,7 @@ use Rattle.ring_locks.specs.Promises.{AreRight, locks_after, answers_after}
 use Rattle.lock_names.specs.declared.replies.Reply.{Reply}
 use Rattle.lock_names.specs.declared.replies.Reply.TheVariants as reply
 use Rattle.lock_names.specs.Names.{Bound, Named, NamedInput, Of, Again, Said, token_in, found, free, replied, step_named}
-use Rattle.lock_names.specs.Promises.{IsNamed, IsForHold}
+use Rattle.lock_names.specs.Promises.{IsNamed, IsForHold, NoneHeld, AreDistinct, beginning}
 
 -- ---- tokens aside
 
@@ -63,14 +63,14 @@ own_ask (Release token) told None = Release 0
 own_ask (Release token) told (Some m) = Release (own_token token told m.holder)
 own_ask ask told m = ask
 
--- a fault of a ring does not reach the locks of their own, nor does what is refused for lack of names
+-- a fault of a ring does not reach the locks of their own, nor what is refused for lack of names
 abbrev pub reaches : Ask → Option (ℕ × Bound) → Option ℕ → Bool
 reaches (Corrupt i v) f o = false
 reaches (Acquire label) None None = false
 reaches (Try label) None None = false
 reaches _ _ _ = true
 
--- what the locks of their own are asked, by the ring of the name, the free ring and the name's place
+-- what the locks of their own are asked, by the ring of the name, the free ring and the place
 abbrev pub own_of : Named → List Lock → ℕ → Ask → Option (ℕ × Bound) → Option ℕ → Option ℕ
     → List Input
 own_of s ls c ask f free None = []
@@ -89,7 +89,7 @@ own_inputs ns s ls Again = Restart ∷ []
 pub record AreOwn (ns : List (List ℕ)) (s : Named) (ls : List Lock) : Type 0 where
   pub right : AreRight ls
   pub many : length ls ≡ length ns
-  pub apart : (i j : ℕ) (x : List ℕ) → slice_get ns i ≡ Some x → slice_get ns j ≡ Some x → i ≡ j
+  pub apart : AreDistinct ns
   pub tokens : (j : ℕ) (m : Lock) (h : Holder) → slice_get ls j ≡ Some m → m.holder ≡ Some h
       → 0 < h.token
   pub known : (i : ℕ) (b : Bound) → slice_get s.names i ≡ Some (Some b)
@@ -101,7 +101,16 @@ pub record AreOwn (ns : List (List ℕ)) (s : Named) (ls : List Lock) : Type 0 w
   pub unused : (j : ℕ) (x : List ℕ) (m : Lock) → slice_get ns j ≡ Some x
       → slice_get ls j ≡ Some m → found x s.names ≡ None → (m.holder ≡ None) × (m.line ≡ [])
 
--- as many names are held as may be, and not this one: an ask for a hold is refused, and nothing changes
+-- so it is in a beginning in which no client holds a lock, of either kind
+abbrev pub OwnBegin : Type 0
+OwnBegin =
+    (fixed ns : List (List ℕ)) (ls own : List Lock) → AreRight ls → AreRight own → NoneHeld ls
+    → NoneHeld own → AreDistinct ns → length own ≡ length ns
+    → ((i : ℕ) (x : List ℕ) → slice_get fixed i ≡ Some x → (j : ℕ) × (slice_get ns j ≡ Some x))
+    → AreOwn ns (beginning fixed ls) own
+
+-- All rings of the pool are held, and the name has none: an ask for a hold is refused, and nothing
+-- changes.
 pub record IsRefused (s : Named) (c : ℕ) (x : List ℕ) (ask : Ask) : Type 0 where
   pub for_hold : IsForHold ask
   pub unused : found x s.names ≡ None
@@ -117,7 +126,8 @@ IsExcused s Again = ⊥
 
 abbrev pub IsAnsweredAlike : List (List ℕ) → Named → List Lock → NamedInput → Type 0
 IsAnsweredAlike ns s ls i =
-    (map said_aside (step_named s i).said ≡ map answer_aside (answers_after ls (own_inputs ns s ls i)))
+    (map said_aside (step_named s i).said
+    ≡ map answer_aside (answers_after ls (own_inputs ns s ls i)))
     ⊎ ((own_inputs ns s ls i ≡ []) × IsExcused s i)
 
 -- so are all of them
@@ -133,8 +143,8 @@ AreAmong ns [] = Unit {0}
 AreAmong ns (Of c x ask ∷ is) = ((j : ℕ) × (slice_get ns j ≡ Some x)) × AreAmong ns is
 AreAmong ns (Again ∷ is) = AreAmong ns is
 
--- The answers are those of locks of their own, one for each name, for ever, tokens aside; or `names`,
--- where as many names are held as may be.
+-- The answers are those of locks of their own, one for each name, for ever, tokens aside; or `names`
+-- if as many names are held as may be.
 abbrev pub NamesAreLocks : Type 0
 NamesAreLocks =
     (ns : List (List ℕ)) (s : Named) (ls : List Lock) (is : List NamedInput) → IsNamed s

@@ -11,7 +11,7 @@ use Rattle.ring_locks.specs.Locks.{Ask, Acquire, Try, Release, Cancel, Leave, Co
 use Rattle.lock_names.specs.declared.replies.Reply.{Reply}
 use Rattle.lock_names.specs.declared.replies.Reply.TheVariants as reply
 
--- a name; how many grants its ring had when it was bound to it, and how many there were of all rings
+-- a name, with the numbers of grants that its ring, and all rings, had when it was bound
 pub record Bound : Type 0 where
   pub name : List ℕ
   pub before : ℕ
@@ -131,7 +131,7 @@ at_ring s c i b ask =
 abbrev pub replied : Named → ℕ → List ℕ → Reply → NamedStep
 replied s c x r = record { named = s; said = record { client = c; name = x; reply = r } ∷ [] }
 
--- an ask for a hold of a name that no ring has: it is bound to the lowest free ring, if there is one
+-- an ask for a hold of a name that no ring has binds it to the lowest free ring, if there is one
 abbrev pub given : Named → ℕ → List ℕ → Ask → Option ℕ → NamedStep
 given s c x ask None = replied s c x reply.Names
 given s c x ask (Some i) = at_ring s c i (fresh s x i) ask

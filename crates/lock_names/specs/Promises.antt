@@ -9,7 +9,7 @@ use Rattle.ring_locks.specs.Locks.{Ask, Acquire, Try}
 use Rattle.ring_locks.specs.Promises.{AreRight}
 use Rattle.lock_names.specs.declared.replies.Reply.{Reply}
 use Rattle.lock_names.specs.declared.replies.Reply.TheVariants as reply
-use Rattle.lock_names.specs.Names.{Bound, Named, NamedInput, Of, Again, Said, NamedStep, token_in, found, step_named, named_after}
+use Rattle.lock_names.specs.Names.{Bound, Named, NamedInput, Of, Again, Said, token_in, total, found, step_named, named_after}
 
 -- ---- what is true at every moment
 
@@ -39,9 +39,39 @@ pub record IsNamed (s : Named) : Type 0 where
 abbrev pub NamedStays : Type 0
 NamedStays = (s : Named) (is : List NamedInput) → IsNamed s → IsNamed (named_after s is)
 
+-- no client holds one of the locks
+abbrev pub NoneHeld : List Lock → Type 0
+NoneHeld ls = (i : ℕ) (l : Lock) → slice_get ls i ≡ Some l → l.holder ≡ None
+
+-- no name is twice in the list
+abbrev pub AreDistinct : List (List ℕ) → Type 0
+AreDistinct ns =
+    (i j : ℕ) (x : List ℕ) → slice_get ns i ≡ Some x → slice_get ns j ≡ Some x → i ≡ j
+
+-- the first rings have the names of fixed locks, whose tokens are the numbers of their grants; the
+-- others are free
+abbrev pub begun : List (List ℕ) → List Lock → List (Option Bound)
+begun ns [] = []
+begun [] (l ∷ ls) = None ∷ begun [] ls
+begun (n ∷ ns) (l ∷ ls) = Some (record { name = n; before = 0; floor = 0 }) ∷ begun ns ls
+
+abbrev pub beginning : List (List ℕ) → List Lock → Named
+beginning ns ls = record {
+  locks = ls;
+  names = begun ns ls;
+  fixed = length ns;
+  top = total ls;
+}
+
+-- so it is in a beginning in which no client holds a lock
+abbrev pub NamesBegin : Type 0
+NamesBegin =
+    (ns : List (List ℕ)) (ls : List Lock) → AreRight ls → NoneHeld ls → AreDistinct ns
+    → IsNamed (beginning ns ls)
+
 -- ---- tokens
 
--- the tokens that are told of a name
+-- the tokens among what is said of a name
 abbrev pub token_of : Answer → Option ℕ
 token_of (answer.Granted token) = Some token
 token_of _ = None
@@ -66,7 +96,7 @@ abbrev pub Rise : ℕ → List ℕ → Type 0
 Rise low [] = Unit {0}
 Rise low (t ∷ ts) = (low < t) × Rise t ts
 
--- at most so many grants were told of the name: no more than there were, and than its ring has told
+-- the number is no more than there were grants, nor than the last token of the name's ring
 abbrev pub IsBelow : ℕ → List ℕ → Named → Type 0
 IsBelow low x s =
     (low ≤ s.top)
@@ -88,15 +118,15 @@ StaysHeld i s (n ∷ is) =
     (is_some (holder_of (slice_get (step_named s n).named.locks i)) ≡ true)
     × StaysHeld i (step_named s n).named is
 
--- A name that a ring has, which is held or for which a client waits, keeps this ring and its binding
--- as long as the ring is held, by whichever client.
+-- A name that a ring has keeps this ring and its binding as long as the ring is held, by whichever
+-- client.
 abbrev pub WaitedIsKept : Type 0
 WaitedIsKept =
     (s : Named) (is : List NamedInput) (i : ℕ) (b : Bound) → IsNamed s
     → slice_get s.names i ≡ Some (Some b) → StaysHeld i s is
     → found b.name (named_after s is).names ≡ Some (i, b)
 
--- ... and of a ring for which a client waits some client holds it
+-- If a client waits for a ring, some client holds it.
 abbrev pub WaitedIsHeld : Type 0
 WaitedIsHeld =
     (s : Named) (i : ℕ) (l : Lock) → IsNamed s → slice_get s.locks i ≡ Some l → l.holder ≡ None

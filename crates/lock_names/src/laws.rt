@@ -1,12 +1,14 @@
 //! What locks by name promise, over every list of inputs. Each law is the contract of a function that does nothing; the
 //! statements are in `specs/Promises.antt` and `specs/Alike.antt`, of the machine in `specs/Names.antt`.
 
-ghost use Rattle.lock_names.specs.Promises.{NamedStays, TokensOfNamesRise, WaitedIsKept, WaitedIsHeld, UsedAreHeld, UnusedCostsNothing};
-ghost use Rattle.lock_names.specs.Alike.{NamesAreLocks};
+ghost use Rattle.lock_names.specs.Promises.{NamedStays, NamesBegin, TokensOfNamesRise, WaitedIsKept, WaitedIsHeld, UsedAreHeld, UnusedCostsNothing};
+ghost use Rattle.lock_names.specs.Alike.{OwnBegin, NamesAreLocks};
 
-/// The rings stay named right, whatever is asked: of the pool, those that are held have a name, and no two have the same.
+/// The rings are named right in a beginning, and stay so, whatever is asked: of the pool those that are held have a name, and
+/// no two rings have the same.
 pub fn names_stay_right()
-    ensures { NamedStays }
+    ensures begin { NamesBegin }
+    ensures stay { NamedStays }
 {}
 
 /// The tokens that are told of a name rise with each grant, over all rings that it ever has, restarts or not.
@@ -30,5 +32,6 @@ pub fn unused_costs_nothing()
 /// Each name is answered as a lock of its own would be, one for each name, for ever; only the tokens differ, and an ask for a
 /// hold may be refused because as many names are held as may be.
 pub fn names_are_locks()
-    ensures { NamesAreLocks }
+    ensures begin { OwnBegin }
+    ensures alike { NamesAreLocks }
 {}
