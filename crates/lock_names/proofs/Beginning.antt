@@ -1,14 +1,13 @@
 -- A beginning in which no client holds a lock.
-use Rattle.std.proofs.Common.{◌≡◌, ℕ, zero, suc, ◌+◌, ◌-◌, ◌<◌, ◌≤◌, List, [], ◌∷◌, length, Option, None, Some, ◌⊎◌, inl, inr, refl, sym, ◌∙◌, ap, subst, arith}
+use Rattle.std.proofs.Common.{◌≡◌, ℕ, zero, suc, ◌-◌, ◌<◌, ◌≤◌, List, [], ◌∷◌, length, Option, None, Some, refl, sym, ◌∙◌, ap, subst, arith}
 use Rattle.std.specs.Prelude.{slice_get}
 use Rattle.std.proofs.lemmas.Option.{slice_get_within}
 use Rattle.ring_locks.specs.declared.answers.Holder.{Holder}
 use Rattle.ring_locks.specs.Lines.{Lock, client_of}
-use Rattle.ring_locks.specs.Promises.{AreRight}
-use Rattle.lock_names.specs.Names.{Bound, Named, token_in, total, found}
-use Rattle.lock_names.specs.Promises.{IsRightBound, IsRightName, IsNamed, NoneHeld, AreDistinct, begun, beginning, NamesBegin}
-use Rattle.lock_names.specs.Alike.{AreOwn, OwnBegin}
-use Rattle.lock_names.proofs.Found.{some_same, none_some, there_is}
+use Rattle.lock_names.specs.Names.{Bound, total}
+use Rattle.lock_names.specs.Promises.{IsRightName, begun, beginning, NamesBegin}
+use Rattle.lock_names.specs.Alike.{OwnBegin}
+use Rattle.lock_names.proofs.Found.{some_same, none_some}
 
 abbrev fixed_name : List ℕ → Bound
 fixed_name x = record { name = x; before = 0; floor = 0 }

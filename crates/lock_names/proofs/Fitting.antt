@@ -1,24 +1,22 @@
 -- A ring that is asked under a name: what is named right stays so.
-use Rattle.std.proofs.Common.{◌≡◌, ◌≢◌, ℕ, zero, suc, ◌+◌, ◌-◌, ◌<◌, ◌≤◌, Bool, true, false, List, [], ◌∷◌, ◌++◌, map, length, Option, None, Some, ◌⊎◌, inl, inr, refl, sym, ◌∙◌, ap, subst, arith}
+use Rattle.std.proofs.Common.{◌≡◌, ◌≢◌, ℕ, zero, suc, ◌+◌, ◌-◌, ◌<◌, ◌≤◌, Bool, true, false, List, [], ◌∷◌, map, length, Option, None, Some, ◌⊎◌, inl, inr, refl, sym, ◌∙◌, ap, subst, arith}
 use Rattle.std.specs.Prelude.{slice_get, slice_set, is_some, option_map, nat_lt, ◌||◌}
 use Rattle.std.proofs.lemmas.Bool.{ltb-true, ltb-false, true≢false}
 use Rattle.std.proofs.lemmas.List.{length-set}
 use Rattle.std.proofs.lemmas.Option.{slice_get_within}
 use Rattle.ring_model.specs.Ring.{IsRing}
-use Rattle.ring_model.specs.History.{State}
 use Rattle.ring_locks.specs.declared.answers.Waiter.{Waiter}
 use Rattle.ring_locks.specs.declared.answers.Holder.{Holder}
 use Rattle.ring_locks.specs.declared.answers.Answer.{Answer}
 use Rattle.ring_locks.specs.Lines.{Lock, client_of, holder_of}
-use Rattle.ring_locks.specs.Locks.{Ask, Acquire, Try, Release, Cancel, Leave, Corrupt, Stats, Turn, turn, advanced, Asked, Restart, Step, step, step_at, restarted}
-use Rattle.ring_locks.specs.Promises.{AreRight, breaks}
-use Rattle.ring_locks.proofs.Rings.{grant_grants, fault_is}
+use Rattle.ring_locks.specs.Locks.{Ask, Acquire, Try, Release, Cancel, Leave, Corrupt, Stats, Turn, turn, advanced, step, step_at, restarted}
+use Rattle.ring_locks.proofs.Rings.{grant_grants}
 use Rattle.ring_locks.proofs.Moves.{Move, Stays, Waits, Gets, Ends, Drops, Faults, move_of}
 use Rattle.ring_locks.proofs.Standing.{get_set_same, get_set}
 use Rattle.ring_locks.proofs.Right.{right_asked, right_restarted}
 use Rattle.ring_locks.proofs.Tokens.{Passes, NoPass, Repaired, OnePass}
 use Rattle.lock_names.proofs.Passing.{passes_turn}
-use Rattle.lock_names.specs.Names.{Bound, Named, NamedInput, Of, Again, Said, NamedStep, token_in, of_ring, said_of, found, free, grants_at, total, fresh, kept, stays, at_ring, given, at_none, at_name, restarted_named, step_named, named_after}
+use Rattle.lock_names.specs.Names.{Bound, Named, NamedInput, Of, Again, NamedStep, token_in, of_ring, said_of, found, free, grants_at, total, fresh, kept, stays, at_ring, given, at_none, at_name, restarted_named, step_named}
 use Rattle.lock_names.specs.Promises.{IsRightBound, IsRightName, IsNamed, NamedStays}
 use Rattle.lock_names.proofs.Found.{some_same, none_some, there_is, found_at, unlike, free_at}
 

@@ -1,15 +1,15 @@
 -- What a name keeps, and what an unused one costs.
 use Rattle.std.proofs.Common.{◌≡◌, ◌≢◌, ℕ, ◌≤◌, Bool, true, false, List, [], ◌∷◌, Option, None, Some, inl, inr, refl, sym, ◌∙◌, ap, subst}
-use Rattle.std.specs.Prelude.{slice_get, slice_set, is_some, ◌||◌, nat_lt}
+use Rattle.std.specs.Prelude.{slice_get, slice_set, is_some, nat_lt}
 use Rattle.std.proofs.lemmas.Bool.{cases_eq, or_right, true≢false}
 use Rattle.ring_locks.specs.declared.answers.Holder.{Holder}
 use Rattle.ring_locks.specs.Lines.{Lock, holder_of}
 use Rattle.ring_locks.specs.Locks.{Ask, Acquire, Try, Release, Cancel, Leave, Corrupt, Stats, Asked, step}
 use Rattle.ring_locks.proofs.Standing.{get_set_same, get_set_other}
 use Rattle.lock_names.specs.Names.{Bound, Named, NamedInput, Of, Again, of_ring, found, free, fresh, kept, stays, at_ring, given, at_none, at_name, step_named, named_after}
-use Rattle.lock_names.specs.Promises.{IsRightName, IsNamed, StaysHeld, WaitedIsKept, WaitedIsHeld, UsedAreHeld, IsForHold, UnusedCostsNothing}
+use Rattle.lock_names.specs.Promises.{IsRightName, StaysHeld, WaitedIsKept, WaitedIsHeld, UsedAreHeld, IsForHold, UnusedCostsNothing}
 use Rattle.lock_names.proofs.Found.{some_same, none_some, found_at, found_there, free_at}
-use Rattle.lock_names.proofs.Fitting.{named_step, named_stays}
+use Rattle.lock_names.proofs.Fitting.{named_stays}
 
 abbrev Keeps : Named → Named → ℕ → Bound → Type 0
 Keeps s z i b = is_some (holder_of (slice_get z.locks i)) ≡ true → slice_get z.names i ≡ Some (Some b)

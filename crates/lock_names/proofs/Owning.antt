@@ -11,19 +11,18 @@ use Rattle.ring_locks.specs.declared.answers.Answer.{Answer}
 use Rattle.ring_locks.specs.declared.answers.Answer.TheVariants as answer
 use Rattle.ring_locks.specs.declared.answers.Refusal.TheVariants as refusal
 use Rattle.ring_locks.specs.Lines.{Lock, stands, is_held_with, waits_for, client_of, holder_of, comes_to}
-use Rattle.ring_locks.specs.Locks.{Ask, Acquire, Try, Release, Cancel, Leave, Corrupt, Stats, Turn, told, faulted, turn, Input, Asked, Restart, step, step_at, restarted}
+use Rattle.ring_locks.specs.Locks.{Ask, Acquire, Try, Release, Cancel, Leave, Corrupt, Stats, Turn, told, faulted, turn, Input, Asked, step_at, restarted}
 use Rattle.ring_locks.specs.Promises.{AreRight, locks_after, answers_after}
 use Rattle.ring_locks.proofs.Standing.{get_set_same, get_set_other, get_set, waits_at, waits_nowhere, waits_there}
 use Rattle.ring_locks.proofs.Right.{right_asked, right_restarted}
-use Rattle.lock_names.specs.declared.replies.Reply.{Reply}
 use Rattle.lock_names.specs.declared.replies.Reply.TheVariants as reply
-use Rattle.lock_names.specs.Names.{Bound, Named, NamedInput, Of, Again, NamedStep, token_in, number_in, of_ring, said_of, found, free, fresh, kept, at_ring, replied, given, at_none, at_name, restarted_named, step_named}
+use Rattle.lock_names.specs.Names.{Bound, Named, NamedInput, Of, Again, NamedStep, token_in, number_in, of_ring, found, free, fresh, at_ring, given, at_none, at_name, restarted_named, step_named}
 use Rattle.lock_names.specs.Promises.{IsNamed, IsForHold}
-use Rattle.lock_names.specs.Alike.{said_aside, answer_aside, place, told_at, told_now, own_token, own_ask, own_of, own_inputs, AreOwn, IsRefused, IsExcused, IsAnsweredAlike, AreAnsweredAlike, AreAmong, NamesAreLocks}
+use Rattle.lock_names.specs.Alike.{said_aside, answer_aside, place, told_at, own_token, own_ask, own_of, own_inputs, AreOwn, IsRefused, IsExcused, IsAnsweredAlike, NamesAreLocks}
 use Rattle.lock_names.proofs.Found.{same_name, own_name, some_same, none_some, there_is, found_at, unlike, found_nowhere, free_at, none_free}
 use Rattle.lock_names.proofs.Fitting.{turned, name_after, at_ring_is, IsMoved, moved, Fits, kept_some, lock_at, fits_found, fits_free, was_lock, zeroth, still_none, still_held, length_restarted, named_step}
 use Rattle.lock_names.proofs.Keeping.{kept_stays}
-use Rattle.lock_names.proofs.Twins.{Same, TurnsAlike, IsPlain, AreEqualWaits, turn_alike, release_alike, held_with_alike, whom, circle_alike, said_alike}
+use Rattle.lock_names.proofs.Twins.{Same, TurnsAlike, IsPlain, AreEqualWaits, turn_alike, release_alike, held_with_alike, circle_alike, said_alike}
 
 -- ---- one name changes
 

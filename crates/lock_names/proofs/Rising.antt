@@ -1,6 +1,6 @@
 -- The tokens of a name rise.
-use Rattle.std.proofs.Common.{◌≡◌, ◌≢◌, ℕ, ◌+◌, ◌-◌, ◌<◌, ◌≤◌, Bool, true, false, List, [], ◌∷◌, ◌++◌, map, Option, None, Some, ◌⊎◌, inl, inr, refl, sym, ◌∙◌, ap, subst, arith}
-use Rattle.std.specs.Prelude.{slice_get, slice_set, filter_map, if◌then◌else◌}
+use Rattle.std.proofs.Common.{◌≡◌, ℕ, ◌+◌, ◌-◌, ◌<◌, ◌≤◌, Bool, true, false, List, [], ◌∷◌, ◌++◌, map, Option, None, Some, ◌⊎◌, inl, inr, refl, sym, ◌∙◌, ap, subst, arith}
+use Rattle.std.specs.Prelude.{filter_map, if◌then◌else◌}
 use Rattle.std.specs.List.{cons_option}
 use Rattle.std.specs.Str.{bytes_eq}
 use Rattle.std.proofs.lemmas.Bool.{cases_Bool, both_ways}
@@ -15,10 +15,10 @@ use Rattle.ring_locks.proofs.Standing.{get_set}
 use Rattle.ring_locks.proofs.Tokens.{Passes, NoPass, Repaired, OnePass}
 use Rattle.lock_names.specs.declared.replies.Reply.{Reply}
 use Rattle.lock_names.specs.declared.replies.Reply.TheVariants as reply
-use Rattle.lock_names.specs.Names.{Bound, Named, NamedInput, Of, Again, Said, NamedStep, token_in, of_ring, as_told, said_of, found, free, fresh, at_ring, replied, given, at_none, at_name, restarted_named, step_named}
-use Rattle.lock_names.specs.Promises.{IsRightBound, IsNamed, token_of, token_in_reply, token_said, tokens_said, tokens_of, Rise, IsBelow, TokensOfNamesRise}
+use Rattle.lock_names.specs.Names.{Bound, Named, NamedInput, Of, Again, Said, NamedStep, token_in, of_ring, as_told, said_of, found, free, fresh, at_ring, replied, given, at_none, at_name, step_named}
+use Rattle.lock_names.specs.Promises.{IsNamed, token_of, token_in_reply, token_said, tokens_said, tokens_of, Rise, IsBelow, TokensOfNamesRise}
 use Rattle.lock_names.proofs.Passing.{passes_turn}
-use Rattle.lock_names.proofs.Found.{some_same, none_some, same_name, own_name}
+use Rattle.lock_names.proofs.Found.{same_name, own_name}
 use Rattle.lock_names.proofs.Fitting.{Fits, turned, top_after, name_after, at_ring_is, kept_some, IsMoved, moved, fits_found, fits_free, was_lock, named_step}
 
 -- ---- the tokens among what is said

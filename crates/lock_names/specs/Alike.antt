@@ -1,5 +1,5 @@
 -- The machine with names, beside locks of their own for each name (this project's own).
-use Rattle.std.specs.Prelude.{◌≡◌, ◌≢◌, ◌⊎◌, ℕ, zero, suc, ◌<◌, ◌≤◌, ◌==◌, Bool, true, false, if◌then◌else◌, List, [], ◌∷◌, map, length, slice_get, Option, Some, None, is_some, option_map}
+use Rattle.std.specs.Prelude.{◌≡◌, ◌⊎◌, ℕ, zero, suc, ◌<◌, ◌≤◌, ◌==◌, Bool, true, false, if◌then◌else◌, List, [], ◌∷◌, map, length, slice_get, Option, Some, None, is_some, option_map}
 use Rattle.std.specs.Str.{bytes_eq}
 use Rattle.ring_locks.specs.declared.answers.Holder.{Holder}
 use Rattle.ring_locks.specs.declared.answers.Answer.{Answer}

@@ -1,5 +1,5 @@
 -- What the machine with names promises, over every list of inputs (this project's own).
-use Rattle.std.specs.Prelude.{◌≡◌, ◌≢◌, ℕ, ◌+◌, ◌<◌, ◌≤◌, true, List, [], ◌∷◌, ◌++◌, length, slice_get, filter_map, Option, Some, None, is_some, if◌then◌else◌}
+use Rattle.std.specs.Prelude.{◌≡◌, ℕ, ◌+◌, ◌<◌, ◌≤◌, true, List, [], ◌∷◌, ◌++◌, length, slice_get, filter_map, Option, Some, None, is_some, if◌then◌else◌}
 use Rattle.std.specs.Str.{bytes_eq}
 use Rattle.ring_locks.specs.declared.answers.Holder.{Holder}
 use Rattle.ring_locks.specs.declared.answers.Answer.{Answer}
@@ -9,7 +9,7 @@ use Rattle.ring_locks.specs.Locks.{Ask, Acquire, Try}
 use Rattle.ring_locks.specs.Promises.{AreRight}
 use Rattle.lock_names.specs.declared.replies.Reply.{Reply}
 use Rattle.lock_names.specs.declared.replies.Reply.TheVariants as reply
-use Rattle.lock_names.specs.Names.{Bound, Named, NamedInput, Of, Again, Said, token_in, total, found, step_named, named_after}
+use Rattle.lock_names.specs.Names.{Bound, Named, NamedInput, Of, Said, token_in, total, found, step_named, named_after}
 
 -- ---- what is true at every moment
 

@@ -2,7 +2,9 @@
 #![tactic(auto)]
 
 pub mod laws;
+mod named;
 mod replies;
 mod table;
 
-pub use replies::Reply;
+pub use named::{NamedLocks, TOP_LIMIT};
+pub use replies::{NameAnswers, NameAsk, Reply};
