@@ -66,14 +66,13 @@ weighs_none f at (Some b ∷ os) (suc i) z e = sym (further_on f at i) ∙ weigh
 -- one that weighs something
 pub weighs_some : (f : ℕ → ℕ) (at : ℕ) (os : List (Option Bound)) → 0 < free_sum f at os → (i : ℕ) × (slice_get os i ≡ Some None) × (0 < f (at + i))
 weighs_some f at [] lt = absurd (omega arith)
-weighs_some f at (None ∷ os) lt = by (cases_Bool (nat_lt 0 (f at)))
-  where
-    by : (nat_lt 0 (f at) ≡ true) ⊎ (nat_lt 0 (f at) ≡ false) → (i : ℕ) × (slice_get (None ∷ os) i ≡ Some None) × (0 < f (at + i))
-    by (inl p) = (zero, refl, subst (λ (n : ℕ). 0 < n) (here_on f at) (ltb-true 0 (f at) p))
-    by (inr p) =
-        let no : f at ≤ 0 = ltb-false 0 (f at) p in
-        let r = weighs_some f (suc at) os (omega arith) in
-        (suc r.0, r.1, subst (λ (n : ℕ). 0 < n) (further_on f at r.0) r.2)
+weighs_some f at (None ∷ os) lt = elim (cases_Bool (nat_lt 0 (f at))) [
+  | inl p ↦ (zero, refl, subst (λ (n : ℕ). 0 < n) (here_on f at) (ltb-true 0 (f at) p))
+  | inr p ↦
+      let nothing : f at ≤ 0 = ltb-false 0 (f at) p in
+      let r = weighs_some f (suc at) os (omega arith) in
+      (suc r.0, r.1, subst (λ (n : ℕ). 0 < n) (further_on f at r.0) r.2)
+]
 weighs_some f at (Some b ∷ os) lt =
     let r = weighs_some f (suc at) os lt in
     (suc r.0, r.1, subst (λ (n : ℕ). 0 < n) (further_on f at r.0) r.2)
@@ -88,9 +87,9 @@ lowest (Some b ∷ os) zero e low = absurd (none_some b (sym (some_same (Some b)
 lowest (Some b ∷ os) (suc x) e low = ap (λ (o : Option ℕ). option_map suc o) (lowest os x e (λ i f. let le : suc x ≤ suc i = low (suc i) f in omega arith))
 
 none_lowest : (os : List (Option Bound)) → ((i : ℕ) → slice_get os i ≡ Some None → ⊥) → free os ≡ None
-none_lowest [] no = refl
-none_lowest (None ∷ os) no = absurd (no 0 refl)
-none_lowest (Some b ∷ os) no = ap (λ (o : Option ℕ). option_map suc o) (none_lowest os (λ i e. no (suc i) e))
+none_lowest [] nope = refl
+none_lowest (None ∷ os) nope = absurd (nope 0 refl)
+none_lowest (Some b ∷ os) nope = ap (λ (o : Option ℕ). option_map suc o) (none_lowest os (λ i e. nope (suc i) e))
 
 abbrev below : ℕ → ℕ → ℕ
 below x j = if nat_lt j x then 1 else 0
@@ -105,15 +104,17 @@ AtLeast x (y ∷ ys) = (x ≤ y) × AtLeast x ys
 
 none_below : (x : ℕ) (ys : List ℕ) → AtLeast x ys → sum_by (below x) ys ≡ 0
 none_below x [] h = refl
-none_below x (y ∷ ys) h = by (nat_lt y x) refl
-  where
-    by : (q : Bool) → nat_lt y x ≡ q → sum_by (below x) (y ∷ ys) ≡ 0
-    by true q = let lt : y < x = ltb-true y x q in let le : x ≤ y = h.0 in absurd (omega arith)
-    by false q =
-        let rest : sum_by (below x) ys ≡ 0 = none_below x ys h.1 in
-        let none : below x y ≡ 0 = ap (λ (r : Bool). if r then 1 else 0) q in
-        let sum : sum_by (below x) (y ∷ ys) ≡ below x y + sum_by (below x) ys = sum_by-cons (below x) y ys in
-        omega arith
+none_below x (y ∷ ys) h = elim (cases_Bool (nat_lt y x)) [
+  | inl q ↦
+      let lt : y < x = ltb-true y x q in
+      let le : x ≤ y = h.0 in
+      absurd (omega arith)
+  | inr q ↦
+      let rest : sum_by (below x) ys ≡ 0 = none_below x ys h.1 in
+      let none : below x y ≡ 0 = ap (λ (r : Bool). if r then 1 else 0) q in
+      let sum : sum_by (below x) (y ∷ ys) ≡ below x y + sum_by (below x) ys = sum_by-cons (below x) y ys in
+      omega arith
+]
 
 not_it : (x j : ℕ) → 0 < is_it x j → j ≡ x
 not_it x j lt = by (j == x) refl
@@ -219,7 +220,7 @@ once_bound os i b slot none once j k d e f g same = elim (get_set os i j (Some b
 pub bound_table : (os : List (Option Bound)) (look more : List ℕ → Option ℕ) (ring : ℕ) (ys : List ℕ) (b : Bound) → IsTable os look (ring ∷ ys) → slice_get os ring ≡ Some None → found b.name os ≡ None →
     ((y : List ℕ) → more y ≡ cond (bytes_eq b.name y) (Some ring) (look y)) → IsTable (slice_set os ring (Some b)) more ys
 bound_table os look more ring ys b t slot none new = record {
-  found = λ y. new y ∙ ap (λ (o : Option ℕ). cond (bytes_eq b.name y) (Some ring) o) (t.found y) ∙ sym (found_bound os ring b y slot none);
+  looks = λ y. new y ∙ ap (λ (o : Option ℕ). cond (bytes_eq b.name y) (Some ring) o) (t.looks y) ∙ sym (found_bound os ring b y slot none);
   free = λ f.
       let sum : sum_by f (ring ∷ ys) ≡ free_sum f 0 os = t.free f in
       let first : sum_by f (ring ∷ ys) ≡ f ring + sum_by f ys = sum_by-cons f ring ys in
@@ -244,7 +245,7 @@ once_forgot os i b slot once j k d e f g same = elim (get_set os i j None (Some 
 pub forgot_table : (os : List (Option Bound)) (look less : List ℕ → Option ℕ) (ring : ℕ) (ys zs : List ℕ) (b : Bound) → IsTable os look ys → slice_get os ring ≡ Some (Some b) →
     ((y : List ℕ) → less y ≡ cond (bytes_eq b.name y) None (look y)) → ((f : ℕ → ℕ) → sum_by f zs ≡ f ring + sum_by f ys) → IsTable (slice_set os ring None) less zs
 forgot_table os look less ring ys zs b t slot new sums = record {
-  found = λ y. new y ∙ ap (λ (o : Option ℕ). cond (bytes_eq b.name y) None o) (t.found y) ∙ sym (found_forgot os ring b y slot (λ j d f same. t.once j ring d b f slot same));
+  looks = λ y. new y ∙ ap (λ (o : Option ℕ). cond (bytes_eq b.name y) None o) (t.looks y) ∙ sym (found_forgot os ring b y slot (λ j d f same. t.once j ring d b f slot same));
   free = λ f.
       let sum : sum_by f ys ≡ free_sum f 0 os = t.free f in
       let all : sum_by f zs ≡ f ring + sum_by f ys = sums f in
@@ -265,7 +266,7 @@ sum_numbers f (r ∷ rs) =
 -- in another order
 pub permuted_table : (os : List (Option Bound)) (look : List ℕ → Option ℕ) (rs qs : List (Reverse ℕ)) → IsPermutation rs qs → IsTable os look (numbers rs) → IsTable os look (numbers qs)
 permuted_table os look rs qs p t = record {
-  found = t.found;
+  looks = t.looks;
   free = λ f. sum_numbers f qs ∙ sum_by-IsPermutation (λ (r : Reverse ℕ). f r.0) rs qs p ∙ sym (sum_numbers f rs) ∙ t.free f;
   once = t.once;
 }

@@ -24,9 +24,9 @@ free_sum f at (Some b ∷ os) = free_sum f (suc at) os
 
 -- The look-up finds the ring of each name, and the list has each free ring once, in any order: what
 -- its elements weigh, however they are weighed, is what the free rings weigh.
-pub record IsTable (os : List (Option Bound)) (look : List ℕ → Option ℕ) (free : List ℕ) : Type 0
+pub record IsTable (os : List (Option Bound)) (look : List ℕ → Option ℕ) (listed : List ℕ) : Type 0
   where
-    pub found : (x : List ℕ) → look x ≡ option_map (λ (p : ℕ × Bound). p.0) (found x os)
-    pub free : (f : ℕ → ℕ) → sum_by f free ≡ free_sum f 0 os
+    pub looks : (x : List ℕ) → look x ≡ option_map (λ (p : ℕ × Bound). p.0) (found x os)
+    pub free : (f : ℕ → ℕ) → sum_by f listed ≡ free_sum f 0 os
     pub once : (i j : ℕ) (b d : Bound) → slice_get os i ≡ Some (Some b)
         → slice_get os j ≡ Some (Some d) → b.name ≡ d.name → i ≡ j
