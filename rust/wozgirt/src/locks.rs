@@ -7,7 +7,7 @@ use wozgirt_sys as sys;
 /// The answer to a client that acquires a lock.
 #[derive(Clone, Copy, Debug, PartialEq, Eq, Hash)]
 pub enum Acquired {
-    /// It holds the lock, with this token, which is greater than that of every hold of the lock before.
+    /// It holds the lock, with this token, which is greater than all earlier tokens of the lock.
     Held(u64),
     /// It waits, and this many clients wait before it.
     Waits(u64),
