@@ -2,7 +2,9 @@
 of the test there, `scp` copies from another one, and what only root may do is left out. Of what is no command: its words are known."""
 
 import glob
+import grp
 import os
+import pwd
 import re
 import shutil
 import subprocess
@@ -10,7 +12,7 @@ import sys
 import tempfile
 import unittest
 
-from harness import FOLDER, PATIENCE, SERVER, TOP, needs_programs
+from harness import FOLDER, PATIENCE, SERVER, TOP, Server, needs_programs, say
 
 sys.path.insert(0, os.path.join(TOP, "bench"))
 
@@ -91,6 +93,17 @@ class Blocks(unittest.TestCase):
         named = set(re.findall(r"--[a-z-]+", block("### etcd and the server", "WOZGIRT_OPTIONS=")))
         self.assertGreater(len(named), 5)
         self.assertEqual([it for it in sorted(named) if f"{it} " not in known and f"{it}\n" not in known], [])
+
+    @needs_programs
+    def test_rules(self):
+        """Those of the page, for the user and the group that there are here."""
+        rules = block("## Who may connect", "lock deploy:")
+        for name, own in (("alice", pwd.getpwuid(os.getuid()).pw_name), ("%ops", "%" + grp.getgrgid(os.getgid()).gr_name)):
+            self.assertIn(name, rules)
+            rules = rules.replace(name, own)
+        write(f"{self.folder}/rules", rules)
+        with Server("--rules", f"{self.folder}/rules", locks="deploy,other") as server, server.raw() as sock:
+            self.assertEqual(say(sock, "try deploy 1\ntry other 1\n", 2), ["granted deploy 1", "granted other 1"])
 
 
 if __name__ == "__main__":
