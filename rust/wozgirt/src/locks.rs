@@ -65,7 +65,7 @@ impl Iterator for Grants<'_> {
 }
 
 impl Locks {
-    /// Opens `count` locks, from 0, that nobody holds, each over a ring of `machines` machines.
+    /// Opens `count` locks, from 0, that no client holds, each over a ring of `machines` machines.
     ///
     /// # Errors
     ///
@@ -96,7 +96,7 @@ impl Locks {
         }
     }
 
-    /// A client acquires a lock if nobody holds it, and does not wait: the token, or none.
+    /// A client acquires a lock if no client holds it, and does not wait: the token, or none.
     ///
     /// # Errors
     ///

@@ -53,7 +53,7 @@ fn print(text: &str) -> ExitCode {
 }
 
 /// Says why on standard error, in one write: the engine and `wozgirt-log` write there too, and nothing gets between its words. If
-/// nobody takes it, the program ends all the same.
+/// no program takes it, this one ends all the same.
 fn complain(why: fmt::Arguments<'_>) {
     let (text, (tell, told)) = (format!("wozgirt-server: {why}\n"), channel());
     // (if it cannot be written, there is no other place to report it)
