@@ -33,9 +33,9 @@ module _ (made : Bor (List ℕ)) where
   of_folder folder entries (inr h) = h.1
 
   of_place : (files : Option Held) (folder : List ℕ) → IsSome files → LiesElsewhere files folder (Some made.now) → (LeadsInto files folder made.now → ⊥) → LiesIn files folder made.now ⊎ LeadsInto files folder made.now → ⊥
-  of_place None folder known apart no h = false≢true known
-  of_place (Some held) folder known apart no (inl h) = apart h
-  of_place (Some held) folder known apart no (inr h) = no h
+  of_place None folder known apart unlinked h = false≢true known
+  of_place (Some held) folder known apart unlinked (inl h) = apart h
+  of_place (Some held) folder known apart unlinked (inr h) = unlinked h
 
   of_files : (files : Option Held) (folder : List ℕ) (r : SegmentNumbers) → AreUnjoined files folder r (tool.InFolder made) → ⊥
   of_files files folder r (inl h) = h.5
@@ -50,9 +50,9 @@ module _ (made : Bor (List ℕ)) where
   of_word true word text line was is e h = h.to_output e
 
   pub not_in_folder : (words : JoinWords) (was is : World) → IsSome was.files → LiesElsewhere was.files words.folder.now (Some made.now) → (LeadsInto was.files words.folder.now made.now → ⊥) → IsJoinRefusal words was is (tool.InFolder made) → ⊥
-  not_in_folder words was is known apart no (inl h) = h
-  not_in_folder words was is known apart no (inr (entries, folder, inl h)) = of_folder words.folder.now entries h
-  not_in_folder words was is known apart no (inr (entries, folder, inr (r, right, inl h))) = h
-  not_in_folder words was is known apart no (inr (entries, folder, inr (r, right, inr (inl h)))) = of_place was.files words.folder.now known apart no h.1
-  not_in_folder words was is known apart no (inr (entries, folder, inr (r, right, inr (inr (inl h))))) = of_files was.files words.folder.now r h
-  not_in_folder words was is known apart no (inr (entries, folder, inr (r, right, inr (inr (inr (fs, chain, h)))))) = of_word (names_stream words.new.now) words.new.now _ _ was is refl h
+  not_in_folder words was is known apart unlinked (inl h) = h
+  not_in_folder words was is known apart unlinked (inr (entries, folder, inl h)) = of_folder words.folder.now entries h
+  not_in_folder words was is known apart unlinked (inr (entries, folder, inr (r, right, inl h))) = h
+  not_in_folder words was is known apart unlinked (inr (entries, folder, inr (r, right, inr (inl h)))) = of_place was.files words.folder.now known apart unlinked h.1
+  not_in_folder words was is known apart unlinked (inr (entries, folder, inr (r, right, inr (inr (inl h))))) = of_files was.files words.folder.now r h
+  not_in_folder words was is known apart unlinked (inr (entries, folder, inr (r, right, inr (inr (inr (fs, chain, h)))))) = of_word (names_stream words.new.now) words.new.now _ _ was is refl h
