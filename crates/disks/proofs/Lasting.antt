@@ -5,7 +5,7 @@ use Rattle.std.specs.Str.{bytes_eq}
 use Rattle.std.proofs.lemmas.Slice.Eq.{bytes_eq-Decides}
 use Rattle.std.proofs.lemmas.Bool.{false_from_ne_true, false≢true}
 use Rattle.disks.specs.Held.{Held, File, file_bytes, bytes_of, Grows}
-use Rattle.disks.specs.Lasting.{HasJust, BeginsWith, bytes_in, ChangesOnly, Changes, MayChange, Leaves, MayLeave, LeavesFront}
+use Rattle.disks.specs.Lasting.{HasJust, BeginsWith, bytes_in, ChangesOnly, Changes, MayChange, Leaves, MayLeave, LeavesFront, outlives}
 use Rattle.disks.specs.declared.losing.Left.{Left}
 use Rattle.disks.specs.Left.{left_at, held_left}
 use Rattle.disks.proofs.Finding.{pick, pass}
@@ -68,6 +68,16 @@ pub leaves_synced : (synced : Bool) (was is : Option Held) (name : List ℕ) (on
     → LeavesFront was is name (if synced then on_disk else None)
 leaves_synced synced was is name on_disk leaves =
     changes_less was is name (λ has. BeginsWith has on_disk) (λ has. BeginsWith has (if synced then on_disk else None)) (front_of_synced synced on_disk) leaves
+
+-- what is synced is left at either end
+pub outlives_synced : (keeps synced : Bool) → synced ≡ true → outlives keeps synced ≡ true
+outlives_synced true synced is = refl
+outlives_synced false synced is = is
+
+-- what is not synced is left where all that is written is
+pub outlives_unsynced : (keeps synced : Bool) → synced ≡ false → outlives keeps synced ≡ true → keeps ≡ true
+outlives_unsynced true synced not is = refl
+outlives_unsynced false synced not is = absurd (false≢true (sym not ∙ is))
 
 -- all that is known to be on the disk lasts of a synced file
 pub all_lasts : (synced : Bool) (on_disk written : Option (List ℕ)) → synced ≡ true → on_disk ≡ written → (if synced then on_disk else None) ≡ written

@@ -96,11 +96,13 @@ pub trait FileCalls {
         ensures kept { OnErr result (holds self.new ≡ holds self.old) }
         ensures left { MayRemove (leaves self.old) (leaves self.new) name.now };
 
-    /// Opens the regular file of this name to be written at its end, and locks it.
+    /// Opens the regular file of this name to be written at its end, and locks it. An end of the process leaves it so.
     fn open_end(&mut self, name: &str) -> io::Result<Self::End>
         ensures opened { IfOk result
             (λ end. Grows (holds self.old) name.now (Self.End.written end)) }
         ensures sound { IfOk result (λ end. Self.End.is_sound end ≡ true) }
+        ensures there { IfOk result (λ end. Self.End.keeps_written ≡ true
+            → Leaves (leaves self.old) (leaves self.new) name.now (Self.End.written end)) }
         ensures kept { holds self.new ≡ holds self.old }
         ensures left { leaves self.new ≡ leaves self.old };
 

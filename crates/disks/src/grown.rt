@@ -4,8 +4,8 @@ ghost use Rattle.std.specs.Prelude.{◌≡◌, ℕ, List, Option, None, Bool, tr
 ghost use Rattle.std.specs.Io.{WritesAtMost};
 ghost use Rattle.std.specs.Io.KnownBytes.{WriteAppends, Keeps};
 ghost use Rattle.std.proofs.Props.{props};
-ghost use Rattle.disks.specs.Calls.{Syncs};
-ghost use Rattle.disks.specs.Lasting.{Adds};
+ghost use Rattle.disks.specs.Calls.{Syncs, Settles};
+ghost use Rattle.disks.specs.Lasting.{Adds, outlives};
 
 use crate::grow::Grow;
 use crate::same_file::leads_to;
@@ -25,6 +25,9 @@ pub trait EndFile {
     /// Those that a loss of power leaves at its beginning, whenever it comes from now on, where they are known.
     ghost on_disk: { Self → Option (List ℕ) } = { λ _. None };
 
+    /// Whether `on_disk` speaks of an end of the process instead of a loss of power.
+    ghost keeps_written: { Bool } = { false };
+
     /// No sync has failed. After one has, what was written may be lost with no further error.
     ghost is_sound: { Self → Bool } = { λ _. true };
 
@@ -35,14 +38,14 @@ pub trait EndFile {
         ensures on_disk { on_disk self.new ≡ on_disk self.old }
         ensures sound { is_sound self.new ≡ is_sound self.old };
 
-    /// Puts the bytes on the disk.
-    fn sync(&mut self) -> io::Result<()>
-        ensures synced { Syncs result (is_sound self.old) (written self.old) (on_disk self.old)
-            (on_disk self.new) }
+    /// Has the bytes outlive the process and, if `synced`, a loss of power: puts them on the disk then.
+    fn keep(&mut self, synced: bool) -> io::Result<()>
+        ensures synced { Settles (outlives keeps_written synced) result (is_sound self.old)
+            (written self.old) (on_disk self.old) (on_disk self.new) }
         ensures written { written self.new ≡ written self.old }
         ensures sound { OnOk result (is_sound self.new ≡ is_sound self.old) };
 
-    /// The same with all that is known of the file.
+    /// Puts the bytes on the disk, with all that is known of the file.
     fn sync_whole(&mut self) -> io::Result<()>
         ensures synced { Syncs result (is_sound self.old) (written self.old) (on_disk self.old)
             (on_disk self.new) }
@@ -56,7 +59,10 @@ impl EndFile for File {
         self.write(bytes)
     }
 
-    fn sync(&mut self) -> io::Result<()> {
+    fn keep(&mut self, synced: bool) -> io::Result<()> {
+        if !synced {
+            return Ok(());
+        }
         self.sync_data()
     }
 
@@ -76,7 +82,7 @@ pub struct GrownFile<F: EndFile> {
     /// A call has failed: nothing more is added.
     failed: bool,
     ghost sound: { failed ≡ false → F.EndFile.is_sound file ≡ true } by { Prim.hlevel props },
-    ghost settled: { failed ≡ false → synced ≡ true
+    ghost settled: { failed ≡ false → outlives F.EndFile.keeps_written synced ≡ true
         → F.EndFile.on_disk file ≡ F.EndFile.written file } by { Prim.hlevel props },
 }
 
@@ -101,27 +107,16 @@ fn put_all<F: EndFile>(file: &mut F, bytes: &[u8]) -> Result<(), usize>
     Ok(())
 }
 
-/// Puts the bytes of a file that is not synced on the disk, once this many are not there. Answers how many are not there then.
-fn sync_ahead<F: EndFile>(file: &mut F, behind: u64) -> io::Result<u64>
-    ensures written { F.EndFile.written file.new ≡ F.EndFile.written file.old }
-    ensures sound { OnOk result (F.EndFile.is_sound file.new ≡ F.EndFile.is_sound file.old) }
-{
-    if behind <= AHEAD {
-        return Ok(behind);
-    }
-    file.sync()?;
-    Ok(0)
-}
-
-/// Puts a file on the disk, if that is asked.
+/// Puts a file that was opened on the disk, if that is asked.
 fn sync_asked<F: EndFile>(file: &mut F, synced: bool) -> io::Result<()>
     ensures written { F.EndFile.written file.new ≡ F.EndFile.written file.old }
     ensures sound { OnOk result (F.EndFile.is_sound file.new ≡ F.EndFile.is_sound file.old) }
-    ensures synced { OnOk result (synced ≡ true → F.EndFile.is_sound file.old ≡ true
+    ensures synced { OnOk result (outlives F.EndFile.keeps_written synced ≡ true
+        → F.EndFile.is_sound file.old ≡ true
         → F.EndFile.on_disk file.new ≡ F.EndFile.written file.new) }
 {
     if !synced {
-        return Ok(());
+        return file.keep(false);
     }
     file.sync_whole()
 }
@@ -129,7 +124,8 @@ fn sync_asked<F: EndFile>(file: &mut F, synced: bool) -> io::Result<()>
 impl<F: EndFile> Grow for GrownFile<F> {
     ghost contents = { λ g. F.EndFile.written g.file };
 
-    ghost lasting = { λ g. if g.synced then F.EndFile.on_disk g.file else None };
+    ghost lasting = { λ g. if outlives F.EndFile.keeps_written g.synced
+        then F.EndFile.on_disk g.file else None };
 
     fn add(&mut self, bytes: &[u8]) -> Result<(), usize> {
         if self.failed {
@@ -137,17 +133,12 @@ impl<F: EndFile> Grow for GrownFile<F> {
         }
         self.failed = true;
         put_all(&mut self.file, bytes)?;
-        if self.synced {
-            if self.file.sync().is_err() {
-                return Err(bytes.len());
-            }
-        } else {
-            let behind = self.behind.saturating_add(bytes.len() as u64);
-            let Ok(after) = sync_ahead(&mut self.file, behind) else {
-                return Err(bytes.len());
-            };
-            self.behind = after;
+        let behind = self.behind.saturating_add(bytes.len() as u64);
+        let synced = self.synced || behind > AHEAD;
+        if self.file.keep(synced).is_err() {
+            return Err(bytes.len());
         }
+        self.behind = if synced { 0 } else { behind };
         self.failed = false;
         Ok(())
     }
@@ -164,7 +155,7 @@ impl<F: EndFile> GrownFile<F> {
         ensures written { IfOk result (λ grown.
             F.EndFile.written (file_of grown) ≡ F.EndFile.written file) }
         ensures mode { IfOk result (λ grown. is_synced grown ≡ synced) }
-        ensures settled { IfOk result (λ grown. synced ≡ true
+        ensures settled { IfOk result (λ grown. outlives F.EndFile.keeps_written synced ≡ true
             → F.EndFile.on_disk (file_of grown) ≡ F.EndFile.written file) }
     {
         sync_asked(&mut file, synced)?;
@@ -198,8 +189,10 @@ impl<F: EndFile> GrownFile<F> {
         ensures written { F.EndFile.written (file_of self.new)
             ≡ F.EndFile.written (file_of self.old) }
         ensures lasting { Keeps
-            (if is_synced self.old then F.EndFile.on_disk (file_of self.old) else None)
-            (if is_synced self.new then F.EndFile.on_disk (file_of self.new) else None) }
+            (if outlives F.EndFile.keeps_written (is_synced self.old)
+            then F.EndFile.on_disk (file_of self.old) else None)
+            (if outlives F.EndFile.keeps_written (is_synced self.new)
+            then F.EndFile.on_disk (file_of self.new) else None) }
     {
         if self.failed {
             return Err(io::Error::from(ErrorKind::Other));

@@ -104,7 +104,14 @@ impl EndFile for LosingEnd {
         self.bytes.write(bytes)
     }
 
-    fn sync(&mut self) -> io::Result<()> {
+    fn keep(&mut self, synced: bool) -> io::Result<()> {
+        if !synced {
+            return Ok(());
+        }
+        self.sync_whole()
+    }
+
+    fn sync_whole(&mut self) -> io::Result<()> {
         if self.failed {
             return Ok(());
         }
@@ -113,10 +120,6 @@ impl EndFile for LosingEnd {
         self.settled = Vec::from_slice(self.alloc, self.bytes.as_slice())?;
         self.failed = false;
         Ok(())
-    }
-
-    fn sync_whole(&mut self) -> io::Result<()> {
-        self.sync()
     }
 }
 

@@ -73,6 +73,8 @@ impl<C: FileCalls> Disk for SystemDisk<C> {
 
     ghost leaves = { λ disk. C.leaves disk.calls };
 
+    ghost keeps_written = { C.End.keeps_written };
+
     fn open(&self, name: &str) -> io::Result<C::Reader> {
         self.calls.open(name)
     }
