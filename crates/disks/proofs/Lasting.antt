@@ -5,7 +5,7 @@ use Rattle.std.specs.Str.{bytes_eq}
 use Rattle.std.proofs.lemmas.Slice.Eq.{bytes_eq-Decides}
 use Rattle.std.proofs.lemmas.Bool.{false_from_ne_true, false≢true}
 use Rattle.disks.specs.Held.{Held, File, file_bytes, bytes_of, Grows}
-use Rattle.disks.specs.Lasting.{HasJust, BeginsWith, bytes_in, ChangesOnly, Changes, MayChange, Leaves, MayLeave, LeavesFront, outlives}
+use Rattle.disks.specs.Lasting.{HasJust, BeginsWith, bytes_in, ChangesOnly, Changes, MayChange, Leaves, MayLeave, LeavesFront}
 use Rattle.disks.specs.declared.losing.Left.{Left}
 use Rattle.disks.specs.Left.{left_at, held_left}
 use Rattle.disks.proofs.Finding.{pick, pass}
@@ -51,12 +51,15 @@ pub opened_has : (held : Option Held) (name : List ℕ) (contents : Option (List
 opened_has None name contents opened has just = tt
 opened_has (Some held) name contents opened has just = subst (λ (bytes : Option (List ℕ)). HasJust has bytes) (opened.2 ∙ sym opened.1) just
 
--- a file that was opened, and whose name was put on the disk
-pub opened_leaves : (held was is : Option Held) (name : List ℕ) (contents : Option (List ℕ)) → Grows held name contents → Leaves was is name contents
-    → MayLeave was is name (bytes_in held name)
-opened_leaves held was is name contents opened leaves =
+-- a file that was opened, and whose name is left, if that is asked
+pub opened_leaves : (asked : Bool) (held was mid is : Option Held) (name : List ℕ) (on_disk contents : Option (List ℕ)) → Grows held name contents → mid ≡ was
+    → (asked ≡ true → on_disk ≡ contents) → (asked ≡ true → Leaves mid is name on_disk) → (asked ≡ false → is ≡ mid) → MayLeave was is name (bytes_in held name)
+opened_leaves true held was mid is name on_disk contents opened same all leaves stays =
     may_change was is name (λ has. HasJust has (bytes_in held name))
-    (changes_less was is name (λ has. HasJust has contents) (λ has. HasJust has (bytes_in held name)) (opened_has held name contents opened) leaves)
+    (changes_less was is name (λ has. HasJust has contents) (λ has. HasJust has (bytes_in held name)) (opened_has held name contents opened)
+    (leaves_same was mid is name on_disk contents same (all refl) (leaves refl)))
+opened_leaves false held was mid is name on_disk contents opened same all leaves stays =
+    left_stays was is name (bytes_in held name) (stays refl ∙ same)
 
 -- what lasts of a file that is not synced is not known
 pub front_of_synced : (synced : Bool) (lasting has : Option (List ℕ)) → BeginsWith has lasting → BeginsWith has (if synced then lasting else None)
@@ -68,16 +71,6 @@ pub leaves_synced : (synced : Bool) (was is : Option Held) (name : List ℕ) (on
     → LeavesFront was is name (if synced then on_disk else None)
 leaves_synced synced was is name on_disk leaves =
     changes_less was is name (λ has. BeginsWith has on_disk) (λ has. BeginsWith has (if synced then on_disk else None)) (front_of_synced synced on_disk) leaves
-
--- what is synced is left at either end
-pub outlives_synced : (keeps synced : Bool) → synced ≡ true → outlives keeps synced ≡ true
-outlives_synced true synced is = refl
-outlives_synced false synced is = is
-
--- what is not synced is left where all that is written is
-pub outlives_unsynced : (keeps synced : Bool) → synced ≡ false → outlives keeps synced ≡ true → keeps ≡ true
-outlives_unsynced true synced not is = refl
-outlives_unsynced false synced not is = absurd (false≢true (sym not ∙ is))
 
 -- all that is known to be on the disk lasts of a synced file
 pub all_lasts : (synced : Bool) (on_disk written : Option (List ℕ)) → synced ≡ true → on_disk ≡ written → (if synced then on_disk else None) ≡ written

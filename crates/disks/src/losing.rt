@@ -82,15 +82,15 @@ fn take_sync(syncs: &mut u32) -> io::Result<()> {
 #[derive(Drop)]
 pub struct LosingEnd {
     alloc: Global,
-    bytes: Vec<u8>,
+    pub(crate) bytes: Vec<u8>,
     /// Those that were on the disk at the last sync. At first none of the file is.
-    settled: Vec<u8>,
+    pub(crate) settled: Vec<u8>,
     /// Where they are put when the file is let go.
     room: Box<Left>,
     /// How many syncs succeed.
     syncs: u32,
     /// A sync has failed. As on a system, the next may succeed then, and put nothing on the disk.
-    failed: bool,
+    pub(crate) failed: bool,
 }
 
 impl EndFile for LosingEnd {
@@ -127,8 +127,8 @@ impl EndFile for LosingEnd {
 /// just the files whose names were put on the disk, or that were let go, with the bytes that were on the disk then.
 #[derive(Drop)]
 pub struct LosingCalls {
-    memory: MemoryDisk,
-    after_loss: Left,
+    pub(crate) memory: MemoryDisk,
+    pub(crate) after_loss: Left,
     /// How many syncs of a file succeed, once it is opened.
     file_syncs: u32,
     /// How many syncs of folders succeed.
@@ -248,7 +248,10 @@ impl FileCalls for LosingCalls {
         self.memory.lock(name)
     }
 
-    fn sync_name(&mut self, end: &LosingEnd, name: &str) -> io::Result<()> {
+    fn keep_name(&mut self, end: &LosingEnd, name: &str, synced: bool) -> io::Result<()> {
+        if !synced {
+            return Ok(());
+        }
         take_sync(&mut self.folder_syncs)?;
         let alloc = self.memory.alloc;
         leave_copy(alloc, &mut self.after_loss, name, end.settled.as_slice())

@@ -122,10 +122,7 @@ impl<C: FileCalls> Disk for SystemDisk<C> {
     fn grow(&mut self, name: &str, synced: bool) -> io::Result<GrownFile<C::End>> {
         let end = self.calls.open_end(name)?;
         let grown = GrownFile::begin(end, synced)?;
-        if !synced {
-            return Ok(grown);
-        }
-        match self.calls.sync_name(grown.file(), name) {
+        match self.calls.keep_name(grown.file(), name, synced) {
             Ok(()) => Ok(grown),
             Err(fault) => Err(fault),
         }

@@ -140,7 +140,10 @@ impl<'a, R: Files<File = File> + AllocGlobal> FileCalls for SystemCalls<'a, R> {
         Ok(())
     }
 
-    fn sync_name(&mut self, end: &File, name: &str) -> io::Result<()> {
+    fn keep_name(&mut self, end: &File, name: &str, synced: bool) -> io::Result<()> {
+        if !synced {
+            return Ok(());
+        }
         sync_folder_of(self.files, end, name)
     }
 
