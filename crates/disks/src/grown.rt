@@ -22,7 +22,8 @@ pub trait EndFile {
     /// The bytes that it holds, where they are known.
     ghost written: { Self → Option (List ℕ) } = { λ _. None };
 
-    /// Those that a loss of power leaves at its beginning, whenever it comes from now on, where they are known.
+    /// Those that a loss of power leaves at its beginning, whenever it comes from now on, where they are known; with
+    /// `keeps_written`, those that an end of the process leaves.
     ghost on_disk: { Self → Option (List ℕ) } = { λ _. None };
 
     /// Whether `on_disk` speaks of an end of the process instead of a loss of power.

@@ -10,7 +10,7 @@ use disks::Disk;
 use std::alloc::{AllocError, Global};
 use std::io::ErrorKind;
 
-/// Opens the journal's file to write at its end. If it is synced, all that it has outlives a loss of power.
+/// Opens the journal's file to write at its end. All that it has outlives the process and, if it is synced, a loss of power.
 pub fn open_journal<'a, D: Disk>(
     disk: &mut D,
     name: &'a str,
