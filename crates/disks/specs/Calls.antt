@@ -8,9 +8,3 @@ abbrev pub Syncs : {T E : Type 0} → Result T E → Bool → Option (List ℕ) 
     → Option (List ℕ) → Type 0
 Syncs result sound written old new =
     MatchResult result (λ _. sound ≡ true → new ≡ written) (λ _. Keeps old new)
-
--- The same if it is so; else what was on the disk is there, whatever the result.
-abbrev pub Settles : {T E : Type 0} → Bool → Result T E → Bool → Option (List ℕ)
-    → Option (List ℕ) → Option (List ℕ) → Type 0
-Settles true result sound written old new = Syncs result sound written old new
-Settles false result sound written old new = Keeps old new

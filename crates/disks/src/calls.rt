@@ -3,7 +3,7 @@
 ghost use Rattle.std.specs.Prelude.{◌≡◌, ℕ, List, [], Option, None, Some, IfOk, IfSome, OnOk, OnErr, true, false, string_bytes};
 ghost use Rattle.disks.specs.Held.{Held, is_folder, IsOneFile, Opens, Starts, Creates, Discards, Grows, Locks, Replaces};
 ghost use Rattle.disks.specs.Folders.{LeadsInto, LeadsToNoNew, Lists, names_of};
-ghost use Rattle.disks.specs.Lasting.{Leaves, MayLeave, MayRemove, LeavesFront, outlives};
+ghost use Rattle.disks.specs.Lasting.{Leaves, MayLeave, MayRemove, LeavesFront};
 
 use crate::disk::FolderEntry;
 use crate::grown::EndFile;
@@ -111,21 +111,26 @@ pub trait FileCalls {
         ensures kept { OnErr result (holds self.new ≡ holds self.old) }
         ensures left { leaves self.new ≡ leaves self.old };
 
-    /// Has the name of this open file outlive the process and, if `synced`, a loss of power: puts it on the disk then. What is left
-    /// by it is what is on the disk of the file.
+    /// Has the name of this open file outlive the process, so that an end of it leaves by the name what is kept of the file.
+    fn keep_name(&mut self, end: &Self::End, name: &str) -> io::Result<()>
+        ensures kept { holds self.new ≡ holds self.old }
+        ensures lasts { Self.End.keeps_written ≡ true → OnOk result
+            (Leaves (leaves self.old) (leaves self.new) name.now (Self.End.on_disk end.now)) }
+        ensures stays { Self.End.keeps_written ≡ false → leaves self.new ≡ leaves self.old }
+        ensures left { OnErr result (leaves self.new ≡ leaves self.old) };
+
+    /// Puts the name of this open file on the disk, so that a loss of power leaves by it what is on the disk of the file.
     ///
     /// # Errors
     ///
     /// The name leads elsewhere, or its folder is not known to be on the disk.
-    fn keep_name(&mut self, end: &Self::End, name: &str, synced: bool) -> io::Result<()>
+    fn sync_name(&mut self, end: &Self::End, name: &str) -> io::Result<()>
         ensures kept { holds self.new ≡ holds self.old }
-        ensures lasts { outlives Self.End.keeps_written synced ≡ true → OnOk result
+        ensures lasts { OnOk result
             (Leaves (leaves self.old) (leaves self.new) name.now (Self.End.on_disk end.now)) }
-        ensures stays { outlives Self.End.keeps_written synced ≡ false
-            → leaves self.new ≡ leaves self.old }
         ensures left { OnErr result (leaves self.new ≡ leaves self.old) };
 
-    /// Ends writing to this file, as `keep_name` of a synced one: from now on the file of this name holds what was written.
+    /// Ends writing to this file, as `sync_name`: from now on the file of this name holds what was written.
     fn close(&mut self, end: &Self::End, name: &str) -> io::Result<()>
         ensures closed { OnOk result
             (Replaces (holds self.old) (holds self.new) name.now (Self.End.written end.now)) }

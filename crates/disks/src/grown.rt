@@ -4,7 +4,7 @@ ghost use Rattle.std.specs.Prelude.{◌≡◌, ℕ, List, Option, None, Bool, tr
 ghost use Rattle.std.specs.Io.{WritesAtMost};
 ghost use Rattle.std.specs.Io.KnownBytes.{WriteAppends, Keeps};
 ghost use Rattle.std.proofs.Props.{props};
-ghost use Rattle.disks.specs.Calls.{Syncs, Settles};
+ghost use Rattle.disks.specs.Calls.{Syncs};
 ghost use Rattle.disks.specs.Lasting.{Adds, outlives};
 
 use crate::grow::Grow;
@@ -39,14 +39,22 @@ pub trait EndFile {
         ensures on_disk { on_disk self.new ≡ on_disk self.old }
         ensures sound { is_sound self.new ≡ is_sound self.old };
 
-    /// Has the bytes outlive the process and, if `synced`, a loss of power: puts them on the disk then.
-    fn keep(&mut self, synced: bool) -> io::Result<()>
-        ensures synced { Settles (outlives keeps_written synced) result (is_sound self.old)
-            (written self.old) (on_disk self.old) (on_disk self.new) }
+    /// Has the bytes outlive the process.
+    fn keep(&mut self) -> io::Result<()>
+        ensures kept { keeps_written ≡ true → Syncs result (is_sound self.old) (written self.old)
+            (on_disk self.old) (on_disk self.new) }
+        ensures stays { keeps_written ≡ false → on_disk self.new ≡ on_disk self.old }
         ensures written { written self.new ≡ written self.old }
         ensures sound { OnOk result (is_sound self.new ≡ is_sound self.old) };
 
-    /// Puts the bytes on the disk, with all that is known of the file.
+    /// Puts the bytes on the disk.
+    fn sync(&mut self) -> io::Result<()>
+        ensures synced { Syncs result (is_sound self.old) (written self.old) (on_disk self.old)
+            (on_disk self.new) }
+        ensures written { written self.new ≡ written self.old }
+        ensures sound { OnOk result (is_sound self.new ≡ is_sound self.old) };
+
+    /// The same with all that is known of the file.
     fn sync_whole(&mut self) -> io::Result<()>
         ensures synced { Syncs result (is_sound self.old) (written self.old) (on_disk self.old)
             (on_disk self.new) }
@@ -60,10 +68,12 @@ impl EndFile for File {
         self.write(bytes)
     }
 
-    fn keep(&mut self, synced: bool) -> io::Result<()> {
-        if !synced {
-            return Ok(());
-        }
+    fn keep(&mut self) -> io::Result<()> {
+        // what was written has left the process
+        Ok(())
+    }
+
+    fn sync(&mut self) -> io::Result<()> {
         self.sync_data()
     }
 
@@ -108,7 +118,23 @@ fn put_all<F: EndFile>(file: &mut F, bytes: &[u8]) -> Result<(), usize>
     Ok(())
 }
 
-/// Puts a file that was opened on the disk, if that is asked.
+/// Has the bytes of a file that is not synced outlive the process, and puts them on the disk once this many are not there. Answers
+/// how many are not there then.
+fn keep_ahead<F: EndFile>(file: &mut F, behind: u64) -> io::Result<u64>
+    ensures kept { F.EndFile.keeps_written ≡ true → Syncs result (F.EndFile.is_sound file.old)
+        (F.EndFile.written file.old) (F.EndFile.on_disk file.old) (F.EndFile.on_disk file.new) }
+    ensures written { F.EndFile.written file.new ≡ F.EndFile.written file.old }
+    ensures sound { OnOk result (F.EndFile.is_sound file.new ≡ F.EndFile.is_sound file.old) }
+{
+    if behind <= AHEAD {
+        file.keep()?;
+        return Ok(behind);
+    }
+    file.sync()?;
+    Ok(0)
+}
+
+/// Puts a file that was opened on the disk, if that is asked; else has it outlive the process.
 fn sync_asked<F: EndFile>(file: &mut F, synced: bool) -> io::Result<()>
     ensures written { F.EndFile.written file.new ≡ F.EndFile.written file.old }
     ensures sound { OnOk result (F.EndFile.is_sound file.new ≡ F.EndFile.is_sound file.old) }
@@ -117,7 +143,7 @@ fn sync_asked<F: EndFile>(file: &mut F, synced: bool) -> io::Result<()>
         → F.EndFile.on_disk file.new ≡ F.EndFile.written file.new) }
 {
     if !synced {
-        return file.keep(false);
+        return file.keep();
     }
     file.sync_whole()
 }
@@ -134,12 +160,17 @@ impl<F: EndFile> Grow for GrownFile<F> {
         }
         self.failed = true;
         put_all(&mut self.file, bytes)?;
-        let behind = self.behind.saturating_add(bytes.len() as u64);
-        let synced = self.synced || behind > AHEAD;
-        if self.file.keep(synced).is_err() {
-            return Err(bytes.len());
+        if self.synced {
+            if self.file.sync().is_err() {
+                return Err(bytes.len());
+            }
+        } else {
+            let behind = self.behind.saturating_add(bytes.len() as u64);
+            let Ok(after) = keep_ahead(&mut self.file, behind) else {
+                return Err(bytes.len());
+            };
+            self.behind = after;
         }
-        self.behind = if synced { 0 } else { behind };
         self.failed = false;
         Ok(())
     }

@@ -32,8 +32,12 @@ impl EndFile for KeepingEnd {
         self.end.put(bytes)
     }
 
-    fn keep(&mut self, _synced: bool) -> io::Result<()> {
-        self.end.sync_whole()
+    fn keep(&mut self) -> io::Result<()> {
+        self.end.sync()
+    }
+
+    fn sync(&mut self) -> io::Result<()> {
+        self.end.sync()
     }
 
     fn sync_whole(&mut self) -> io::Result<()> {
@@ -133,8 +137,12 @@ impl FileCalls for KeepingCalls {
         self.calls.lock(name)
     }
 
-    fn keep_name(&mut self, end: &KeepingEnd, name: &str, _synced: bool) -> io::Result<()> {
-        self.calls.keep_name(&end.end, name, true)
+    fn keep_name(&mut self, end: &KeepingEnd, name: &str) -> io::Result<()> {
+        self.calls.sync_name(&end.end, name)
+    }
+
+    fn sync_name(&mut self, end: &KeepingEnd, name: &str) -> io::Result<()> {
+        self.calls.sync_name(&end.end, name)
     }
 
     fn close(&mut self, end: &KeepingEnd, name: &str) -> io::Result<()> {

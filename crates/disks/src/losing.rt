@@ -104,14 +104,11 @@ impl EndFile for LosingEnd {
         self.bytes.write(bytes)
     }
 
-    fn keep(&mut self, synced: bool) -> io::Result<()> {
-        if !synced {
-            return Ok(());
-        }
-        self.sync_whole()
+    fn keep(&mut self) -> io::Result<()> {
+        Ok(())
     }
 
-    fn sync_whole(&mut self) -> io::Result<()> {
+    fn sync(&mut self) -> io::Result<()> {
         if self.failed {
             return Ok(());
         }
@@ -120,6 +117,10 @@ impl EndFile for LosingEnd {
         self.settled = Vec::from_slice(self.alloc, self.bytes.as_slice())?;
         self.failed = false;
         Ok(())
+    }
+
+    fn sync_whole(&mut self) -> io::Result<()> {
+        self.sync()
     }
 }
 
@@ -248,10 +249,11 @@ impl FileCalls for LosingCalls {
         self.memory.lock(name)
     }
 
-    fn keep_name(&mut self, end: &LosingEnd, name: &str, synced: bool) -> io::Result<()> {
-        if !synced {
-            return Ok(());
-        }
+    fn keep_name(&mut self, _end: &LosingEnd, _name: &str) -> io::Result<()> {
+        Ok(())
+    }
+
+    fn sync_name(&mut self, end: &LosingEnd, name: &str) -> io::Result<()> {
         take_sync(&mut self.folder_syncs)?;
         let alloc = self.memory.alloc;
         leave_copy(alloc, &mut self.after_loss, name, end.settled.as_slice())

@@ -1,8 +1,8 @@
 //! The files of a system, by its calls.
 
-ghost use Rattle.std.specs.Prelude.{◌≡◌, IfErr, OnOk, OnErr};
+ghost use Rattle.std.specs.Prelude.{◌≡◌, true, false, IfErr, OnOk, OnErr};
 ghost use Rattle.disks.specs.Held.{Replaces};
-ghost use Rattle.disks.specs.Lasting.{Leaves};
+ghost use Rattle.disks.specs.Lasting.{Leaves, outlives};
 ghost use Rattle.disks.specs.GrownFile.{file_of};
 
 use crate::calls::FileCalls;
@@ -39,6 +39,27 @@ impl<C> SystemDisk<C> {
     pub fn into_calls(self) -> C {
         let SystemDisk { calls } = self;
         calls
+    }
+}
+
+/// Has the name of an open file outlive the process and, with `synced`, a loss of power.
+fn keep_name<C: FileCalls>(
+    calls: &mut C,
+    end: &C::End,
+    name: &str,
+    synced: bool,
+) -> io::Result<()>
+    ensures kept { C.holds calls.new ≡ C.holds calls.old }
+    ensures lasts { outlives C.End.keeps_written synced ≡ true → OnOk result
+        (Leaves (C.leaves calls.old) (C.leaves calls.new) name.now (C.End.on_disk end.now)) }
+    ensures stays { outlives C.End.keeps_written synced ≡ false
+        → C.leaves calls.new ≡ C.leaves calls.old }
+    ensures left { OnErr result (C.leaves calls.new ≡ C.leaves calls.old) }
+{
+    if synced {
+        calls.sync_name(end, name)
+    } else {
+        calls.keep_name(end, name)
     }
 }
 
@@ -122,7 +143,7 @@ impl<C: FileCalls> Disk for SystemDisk<C> {
     fn grow(&mut self, name: &str, synced: bool) -> io::Result<GrownFile<C::End>> {
         let end = self.calls.open_end(name)?;
         let grown = GrownFile::begin(end, synced)?;
-        match self.calls.keep_name(grown.file(), name, synced) {
+        match keep_name(&mut self.calls, grown.file(), name, synced) {
             Ok(()) => Ok(grown),
             Err(fault) => Err(fault),
         }

@@ -22,7 +22,7 @@ pub returns-in-Ok-clause-lasts : goal.returns-in-Ok-clause-lasts
 returns-in-Ok-clause-lasts g c = λ asked.
     let all = c.in_ok-grown.ensures.settled asked ∙ sym c.in_ok-grown.ensures.written in (
       all_lasts (outlives g.C.End.EndFile.keeps_written c.in_ok-grown.grown.synced) (g.C.End.EndFile.on_disk c.in_ok-grown.grown.file) (g.C.End.EndFile.written c.in_ok-grown.grown.file) (ap (outlives g.C.End.EndFile.keeps_written) c.in_ok-grown.ensures.mode ∙ asked) all,
-      leaves_same (g.C.FileCalls.leaves c.args.self.now.calls) (g.C.FileCalls.leaves c.open_end.new.self) (g.C.FileCalls.leaves c.keep_name.new.self) c.args.name.now
+      leaves_same (g.C.FileCalls.leaves c.args.self.now.calls) (g.C.FileCalls.leaves c.open_end.new.self) (g.C.FileCalls.leaves c.keep_name.new.calls) c.args.name.now
           (g.C.End.EndFile.on_disk c.file.result.now) (g.C.End.EndFile.written c.in_ok-grown.grown.file)
           c.open_end.ensures.left (ap g.C.End.EndFile.on_disk c.file.ensures ∙ all) (c.in-Ok.ensures.lasts asked),
     )
@@ -30,11 +30,11 @@ returns-in-Ok-clause-lasts g c = λ asked.
 pub returns-in-Ok-clause-left : goal.returns-in-Ok-clause-left
 returns-in-Ok-clause-left g c =
     opened_leaves (outlives g.C.End.EndFile.keeps_written c.args.synced) (g.C.FileCalls.holds c.args.self.now.calls) (g.C.FileCalls.leaves c.args.self.now.calls)
-    (g.C.FileCalls.leaves c.open_end.new.self) (g.C.FileCalls.leaves c.keep_name.new.self) c.args.name.now (g.C.End.EndFile.on_disk c.file.result.now)
+    (g.C.FileCalls.leaves c.open_end.new.self) (g.C.FileCalls.leaves c.keep_name.new.calls) c.args.name.now (g.C.End.EndFile.on_disk c.file.result.now)
     (g.C.End.EndFile.written c.in_ok-end.end) c.in_ok-end.ensures.opened c.open_end.ensures.left
     (λ asked. ap g.C.End.EndFile.on_disk c.file.ensures ∙ c.in_ok-grown.ensures.settled asked) c.in-Ok.ensures.lasts c.keep_name.ensures.stays
 
 pub returns-in-Err-clause-left : goal.returns-in-Err-clause-left
 returns-in-Err-clause-left g c =
-    left_stays (g.C.FileCalls.leaves c.args.self.now.calls) (g.C.FileCalls.leaves c.keep_name.new.self) c.args.name.now (bytes_in (g.C.FileCalls.holds c.args.self.now.calls) c.args.name.now)
+    left_stays (g.C.FileCalls.leaves c.args.self.now.calls) (g.C.FileCalls.leaves c.keep_name.new.calls) c.args.name.now (bytes_in (g.C.FileCalls.holds c.args.self.now.calls) c.args.name.now)
     (c.in-Err.ensures.left ∙ c.open_end.ensures.left)
