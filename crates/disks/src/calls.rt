@@ -26,8 +26,8 @@ pub trait FileCalls {
     /// The folders and the content of the files, if that is known.
     ghost holds: { Self → Option Held } = { λ _. None };
 
-    /// These as a loss of power leaves them (with `keeps_written` of `End`, an end of the process), if that is known. A call that may
-    /// be lost is in it or not, which no clause says.
+    /// These as a loss of power leaves them (with `keeps_written` of `End`, an end of the process), if that is known. A call that
+    /// may be lost is in it or not, which no clause says.
     ghost leaves: { Self → Option Held } = { λ _. None };
 
     /// The bytes of a new file, where they are known to be on the disk.

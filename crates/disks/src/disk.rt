@@ -36,8 +36,8 @@ pub trait Disk {
     ghost holds: { Self → Option Held } = { λ _. None };
 
     /// The folders and the content of the files as a loss of power at this moment leaves them (with `keeps_written`, an end of the
-    /// process), if that is known. Of a file that is being grown it is so once its writer is let go; until then the writer says what
-    /// lasts.
+    /// process), if that is known. Of a file that is being grown it is so once its writer is let go; until then the writer says
+    /// what lasts.
     ghost leaves: { Self → Option Held } = { λ _. None };
 
     /// Whether `leaves`, and `lasting` of the files that are grown, speak of an end of the process instead of a loss of power: what

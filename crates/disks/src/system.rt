@@ -43,12 +43,7 @@ impl<C> SystemDisk<C> {
 }
 
 /// Has the name of an open file outlive the process and, with `synced`, a loss of power.
-fn keep_name<C: FileCalls>(
-    calls: &mut C,
-    end: &C::End,
-    name: &str,
-    synced: bool,
-) -> io::Result<()>
+fn keep_name<C: FileCalls>(calls: &mut C, end: &C::End, name: &str, synced: bool) -> io::Result<()>
     ensures kept { C.holds calls.new ≡ C.holds calls.old }
     ensures lasts { outlives C.End.keeps_written synced ≡ true → OnOk result
         (Leaves (C.leaves calls.old) (C.leaves calls.new) name.now (C.End.on_disk end.now)) }
