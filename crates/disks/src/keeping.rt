@@ -56,7 +56,7 @@ pub struct KeepingCalls {
 pub type KeepingDisk = SystemDisk<KeepingCalls>;
 
 impl KeepingCalls {
-    /// The system with these calls, that keeps what these put on the disk where that is asked.
+    /// The system with these calls: what is kept is what they put on the disk.
     pub fn new(calls: LosingCalls) -> KeepingCalls {
         KeepingCalls { calls }
     }
