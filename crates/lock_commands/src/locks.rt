@@ -8,6 +8,7 @@ ghost use Rattle.tool_parts.specs.Worlds.{world};
 ghost use Rattle.lock_commands.specs.Refusals.{IsListIf, IsNoListFor};
 ghost use Rattle.lock_commands.specs.Locks.{terms_of, BeginsWith, IsRun, IsServedIn, StaysLocked, IsLocksAnswer, IsRunRefused, IsRefusedIn, IsLocksRefusal};
 ghost use Rattle.lock_commands.specs.Lasting.{RunLasts, FolderLasts, ToldLocksLast};
+ghost use Rattle.disks.specs.Lasting.{outlives};
 
 use crate::holders::{holders_of, name_of};
 use crate::refusals::{begin_refusal, list_refusal, serving_refusal, start_refusal};
@@ -70,7 +71,7 @@ fn serve_from<'a, D: Disk, I: Read, W: Write>(
         IsRunRefused words.now (place_of start) (D.holds disk.old) (D.holds disk.new)
         (I.remaining input.old) (I.remaining input.new) (W.contents out.old) (W.contents out.new)
         e) }
-    ensures lasts { words.now.synced ≡ true → IsSome (D.holds disk.old)
+    ensures lasts { outlives D.keeps_written words.now.synced ≡ true → IsSome (D.holds disk.old)
         → RunLasts words.now (place_of start) (D.holds disk.old) (I.remaining input.old)
         (I.remaining input.new) (W.contents out.old) (W.contents out.new) (D.leaves disk.new) }
 {
@@ -118,7 +119,7 @@ fn run_in_folder<'a, D: Disk, I: Read, W: Write>(
         IsRefusedIn words.now holders.now (D.holds disk.old) (D.holds disk.new)
         (I.remaining input.old) (I.remaining input.new) (W.contents out.old)
         (W.contents out.new) e) }
-    ensures lasts { words.now.synced ≡ true → IsSome (D.holds disk.old)
+    ensures lasts { outlives D.keeps_written words.now.synced ≡ true → IsSome (D.holds disk.old)
         → FolderLasts words.now holders.now (D.holds disk.old) (I.remaining input.old)
         (I.remaining input.new) (W.contents out.old) (W.contents out.new) (D.leaves disk.new) }
     ensures held { IsSome (D.holds disk.old) → StaysLocked words.now (D.holds disk.new)
@@ -174,8 +175,9 @@ pub fn run<'a, D: Disk, I: Read, W: Write, E: Write>(
         (world (D.holds disk.new) (I.remaining input.new) (W.contents out.new)
         (E.contents err.new)) e) }
 
-    // Where each note is put on the disk, and the content of files is known: what was delivered is there whenever the power fails.
-    ensures lasts { words.now.synced ≡ true → IsSome (D.holds disk.old) → ToldLocksLast words.now
+    // Where the content of files is known: what was delivered is there whenever the process ends and, with syncs, the power fails.
+    ensures lasts { outlives D.keeps_written words.now.synced ≡ true → IsSome (D.holds disk.old)
+        → ToldLocksLast words.now
         (world (D.holds disk.old) (I.remaining input.old) (W.contents out.old) (E.contents err.old))
         (world (D.holds disk.new) (I.remaining input.new) (W.contents out.new)
         (E.contents err.new))
