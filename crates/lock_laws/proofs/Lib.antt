@@ -44,5 +44,6 @@ pub mod Parted
 pub mod Untold
 pub mod Stages
 pub mod PutSegments
+pub mod WholeEnds
 pub mod RunsGoOn
 pub mod OneLife

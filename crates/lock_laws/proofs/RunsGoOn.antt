@@ -1,13 +1,16 @@
 -- What is left of a run starts the next one.
-use Rattle.std.proofs.Common.{◌≡◌, ℕ, List, ◌++◌, Some, ap, sym, ◌∙◌, append_assoc}
+use Rattle.std.proofs.Common.{◌≡◌, ℕ, List, ◌++◌, Some, ap, sym, subst, ◌∙◌, append_assoc}
 use Rattle.ring_segments.specs.Spelling.{head_text}
+use Rattle.ring_segments.specs.Remarks.{without_remarks}
 use Rattle.ring_serve.specs.Recovered.{IsPrefix}
 use Rattle.line_replica.specs.State.{own_lines, remarks_of}
 use Rattle.lock_laws.specs.Begun.{begun_text}
+use Rattle.lock_laws.specs.Life.{AreFound}
 use Rattle.lock_laws.specs.Remarked.{begun_with_remarks}
 use Rattle.lock_laws.specs.Started.{head_with, IsKeptLast}
 use Rattle.lock_laws.specs.Runs.{Service, by_segments, inside, RunsGoOn}
 use Rattle.lock_laws.proofs.LastSegments.{kept_segments_start}
+use Rattle.lock_laws.proofs.WholeEnds.{stages_front, whole_front}
 
 -- a segment's file is its head, and then what it begins with
 text_is : (s : Service) (number : ℕ) (digest kept : List ℕ) →
@@ -31,4 +34,6 @@ runs_go_on a b before lines said notes r held folder kept word holders after p f
       last = left.last;
     } in
     let t = kept_segments_start held folder b.number r.digest (inside r.last).segment.locks (begun ++ kept) word holders after p k started in
-    (s.0, s.1, s.2, t.locks, t.added, t.found, t.new, t.handed)
+    let one = stages_front s.0 s.1 (inside r.last).segment (without_remarks (begun ++ kept)) s.2.stages s.2.ends in
+    let whole : t.front ≡ begun ++ kept = whole_front b.number r.digest (inside r.last).segment.locks (begun ++ kept) t.front t.left_out k.fits one t.parts t.end in
+    (s.0, s.1, s.2, t.locks, t.added, subst (λ (u : List ℕ). AreFound (inside r.last).segment.locks (without_remarks u) t.locks) whole t.found, t.new, t.handed)

@@ -7,7 +7,6 @@ use Rattle.segment_loop.specs.declared.segmented.EndFault.{EndFault}
 -- how a service lives in segments: the text with which the file of the segment of this number
 -- begins, after a file of this digest; whether the segment is to end; from which service to which
 -- it has ended and the next one has begun; for which reason there is no next one, and for which
--- it has ended and the next one has begun; for which reason there is no next one, and for which
 -- none of its segments can begin with a text; from which to which it continues although it is to
 -- end, for this reason; and what is so of a service that has such a text, with this number and
 -- digest
