@@ -41,7 +41,8 @@ impl AnswersLines for LockService {
             × (noted : List ℕ)
             × IsServed self.old (D.holds disk.old) line.now said noted self.new
             (D.holds disk.new))) }
-        ensures unchanged { false ≡ false → D.leaves disk.new ≡ D.leaves disk.old }
+        ensures unchanged { false ≡ false
+            → (D.leaves disk.new ≡ D.leaves disk.old) × (false ≡ false) }
     {
         let input = read_input(line);
         let told = answer(self, input, pending);
