@@ -5,7 +5,7 @@ use Rattle.std.specs.List.{AllByRecursion}
 use Rattle.std.specs.Fmt.{decimal}
 use Rattle.std.proofs.lemmas.Bool.{ne_eqb}
 use Rattle.std.proofs.lemmas.Fmt.{decimal_by_steps}
-use Rattle.std.proofs.lemmas.List.{length-map, length-take-le, take-append-drop, drop_all, append-nil}
+use Rattle.std.proofs.lemmas.List.{length-map, length-take-le, take-append-drop, append-nil}
 use Rattle.std.proofs.lemmas.Option.{slice_get_past}
 use Rattle.std.proofs.lemmas.List.Folds.{list_any-append}
 use Rattle.text_lines.proofs.Basics.{ok_is}
@@ -120,12 +120,15 @@ begun_take n bs ss ls vs size b =
     let two : length (take n vs) ≡ n = length-take-le n vs (omega (arith, rings, size, many)) in
     record { rings = omega (arith, size, one); many = two ∙ sym one; each = λ i l v p q. b.each i l v (get_take ls n i l p) (get_take vs n i v q) }
 
+none_left : (m : ℕ) → ◌≡◌ {A = List Event} (drop m []) []
+none_left zero = refl
+none_left (suc m) = refl
+
 -- a ring without history shows no hold
 none_open : (e : EndlessView) → e.ring.book.history ≡ [] → open_in e ≡ None
 none_open e none =
-    let none_left : ◌≡◌ {A = List Event} (drop (ended_before e) []) [] = drop_all (ended_before e) [] (omega arith) in
     ap (λ (h : List Event). open_after None (map Call (drop (ended_before e) (shifted e.base h)))) none
-    ∙ ap (λ (es : List Event). open_after None (map Call es)) none_left
+    ∙ ap (λ (es : List Event). open_after None (map Call es)) (none_left (ended_before e))
 
 new_behind : (bs : List Base) (ss : List SavedRing) (ls : List Listed) (vs : List LockView) (n : ℕ) → length bs ≡ n → length ss ≡ n → AreBegun bs ss ls vs → AllByRecursion IsNew (drop n vs)
 new_behind bs ss ls vs n size rings b = all_behind vs n IsNew is_new
