@@ -73,6 +73,7 @@ fn a_file_is_locked_as_long_as_its_disk_is_there(rt: HostRuntime) -> Result<(), 
     expect_unlocked(&rt, &mut second, &name, ErrorKind::WouldBlock);
     drop(first);
     assert!(rt; second.lock(&name).is_ok());
+    expect_count(&rt, &folder, 2)?;
     Ok(())
 }
 

@@ -87,7 +87,7 @@ fn a_folder_has_one_server_at_a_time(rt: HostRuntime) -> Result<(), Fail> {
     let mut out = Vec::new(alloc);
     assert!(rt; lend(alloc, &mut disk, folder.as_str(), &mut input, &mut out).is_ok());
     assert!(rt; out.as_slice() == b"1 waiting 0 0\n".as_slice());
-    // The list of locks, the lock of the folder, and two segments.
-    expect_count(&rt, &folder, 4)?;
+    // The list of locks, the lock of the folder, and the segment, in which the second one began where the first one ended.
+    expect_count(&rt, &folder, 3)?;
     Ok(())
 }
