@@ -39,8 +39,8 @@ returns-in-Ok-serve_from-clause-lasts g c = λ synced some.
     let known = started_known (folder_of words) (list_of words) c.args.holders.now there listed start started (locked_known (g.D.Disk.holds c.args.disk.now) there (folder_of words) locked some) in
     inr (there, listed, start, locked, started, c.serve_from.ensures.lasts synced known)
 
-pub returns-clause-lasts : goal.returns-clause-lasts
-returns-clause-lasts g c = λ synced some.
+pub returns-in-Err-serve_from-clause-lasts : goal.returns-in-Err-serve_from-clause-lasts
+returns-in-Err-serve_from-clause-lasts g c = λ synced some.
     let words = c.args.words.now in
     let there = g.D.Disk.holds c.lock_folder.new.disk in
     let listed = g.D.Disk.holds c.start_locks.new.disk in
@@ -57,8 +57,8 @@ returns-in-Ok-serve_from-clause-held g c = λ some.
     let listed = g.D.Disk.holds c.start_locks.new.disk in
     inr (still_locked c.args.words.now c.args.holders.now (place_of c.in-Ok-start_locks.start) c.in-Ok-serve_from.end (g.D.Disk.holds c.args.disk.now) (g.D.Disk.holds c.lock_folder.new.disk) listed _ _ _ _ _ c.in-Ok.ensures.locked c.in-Ok-start_locks.ensures.ok c.in-Ok-serve_from.ensures.ok some)
 
-pub returns-clause-held : goal.returns-clause-held
-returns-clause-held g c = λ some.
+pub returns-in-Err-serve_from-clause-held : goal.returns-in-Err-serve_from-clause-held
+returns-in-Err-serve_from-clause-held g c = λ some.
     let listed = g.D.Disk.holds c.start_locks.new.disk in
     refused_locked c.args.words.now c.args.holders.now (place_of c.in-Ok-start_locks.start) (g.D.Disk.holds c.args.disk.now) (g.D.Disk.holds c.lock_folder.new.disk) listed _ _ _ _ _ _ c.in-Ok.ensures.locked c.in-Ok-start_locks.ensures.ok some c.in-Err-serve_from.ensures.err
 
