@@ -1,18 +1,16 @@
 -- The folder is locked as long as lines are served.
-use Rattle.std.proofs.Common.{◌≡◌, ◌+◌, ℕ, List, [], ◌∷◌, Option, None, Some, sym, subst, inl, inr}
+use Rattle.std.proofs.Common.{◌≡◌, ℕ, List, [], ◌∷◌, Option, None, Some, sym, subst, inl, inr}
 use Rattle.std.specs.Prelude.{IsSome}
 use Rattle.disks.specs.Held.{Held}
 use Rattle.segment_folder.specs.Names.{segment_file}
-use Rattle.ring_saved.specs.Spelling.{text}
 use Rattle.ring_serve.specs.declared.answers.Answer.{Answer}
 use Rattle.ring_serve.specs.declared.answers.Answer.TheVariants as answer
 use Rattle.ring_serve.specs.declared.answers.Refusal.{Refusal}
-use Rattle.ring_serve.specs.Permits.{Terms, file_in}
+use Rattle.ring_serve.specs.Permits.{Terms}
 use Rattle.ring_serve.specs.Standings.{Standing}
-use Rattle.ring_serve.specs.Saved.{content_of}
 use Rattle.ring_serve.specs.Serving.{IsSaveGiven, IsGiven, Answers, name_in}
 use Rattle.chain_serve.specs.declared.segments.SegmentRules.{SegmentRules}
-use Rattle.chain_serve.specs.Segments.{Moment, file_of, IsReady}
+use Rattle.chain_serve.specs.Segments.{Moment, IsReady}
 use Rattle.chain_serve.specs.Texts.{segment_text}
 use Rattle.chain_serve.specs.Service.{part_terms, Part, AreParts}
 use Rattle.tool_parts.specs.Locking.{IsLocked, StandsLocked}
@@ -24,18 +22,13 @@ module _ (folder : List ℕ) where
 
   save_locked : (journal history saves : Option (List ℕ)) (was is : Option Held) (name : List ℕ) (rings : List Standing) (given : Answer) → IsSaveGiven journal history saves was is name rings given → StandsLocked was folder → StandsLocked is folder
   save_locked journal history None was is name rings given g l = same_locked was is folder g.1 l
-  save_locked journal history (Some place) was is name rings given (inl (plain, inl s)) l = put_locked was is folder (file_in place name) (text (content_of rings)) s.1 l
+  save_locked journal history (Some place) was is name rings given (inl (plain, inl s)) l = put_locked was is folder _ _ s.1 l
   save_locked journal history (Some place) was is name rings given (inl (plain, inr s)) l = same_locked was is folder s.1 l
   save_locked journal history (Some place) was is name rings given (inr s) l = same_locked was is folder s.2 l
 
   given_locked : (journal history saves : Option (List ℕ)) (was is : Option Held) (name : List ℕ) (rings : List Standing) (asked given : Answer) → IsGiven journal history saves was is name rings asked given → StandsLocked was folder → StandsLocked is folder
   given_locked journal history saves was is name rings answer.Saved given g l = save_locked journal history saves was is name rings given g l
-  given_locked journal history saves was is name rings (answer.Granted number result) given g l = same_locked was is folder g.1 l
-  given_locked journal history saves was is name rings answer.Waits given g l = same_locked was is folder g.1 l
-  given_locked journal history saves was is name rings (answer.Corrupted old) given g l = same_locked was is folder g.1 l
-  given_locked journal history saves was is name rings (answer.Survey survey) given g l = same_locked was is folder g.1 l
-  given_locked journal history saves was is name rings (answer.Block first count) given g l = same_locked was is folder g.1 l
-  given_locked journal history saves was is name rings (answer.Refused why) given g l = same_locked was is folder g.1 l
+  given_locked journal history saves was is name rings asked given g l = same_locked was is folder g.1 l
 
   answers_locked : (terms : Terms) (old new : List Standing) (was is : Option Held) (lines : List (List ℕ)) (said noted : List ℕ) → Answers terms old was lines said noted new is → StandsLocked was folder → StandsLocked is folder
   answers_locked terms old new was is [] said noted h l = same_locked was is folder h.3 l
@@ -49,8 +42,8 @@ module _ (folder : List ℕ) where
   ready_stands s None a b (inl h) k = subst (λ (x : Moment). Stands x.files x.journal folder) (sym h.1) k
   ready_stands s None a b (inr h) k =
       let f = h.1.file in
-      ended_stand a.files f.between b.files a.journal b.journal folder (file_of s a.number) (file_of s (a.number + 1)) (segment_text (a.number + 1) f.behind b.rings) (segment_text b.number f.behind b.rings) f.settled f.put h.1.journal k
-  ready_stands s (Some why) a b h k = kept_stand a.files b.files a.journal b.journal folder (file_of s a.number) h.2.file k
+      ended_stand a.files f.between b.files a.journal b.journal folder _ _ _ _ f.settled f.put h.1.journal k
+  ready_stands s (Some why) a b h k = kept_stand a.files b.files a.journal b.journal folder _ h.2.file k
 
   -- a part after the other
   parts_locked : (s : SegmentRules) (a b : Moment) (ps : List Part) → AreParts s a ps b → Stands a.files a.journal folder → AreUnderLock folder ps

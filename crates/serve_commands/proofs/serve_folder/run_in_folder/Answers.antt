@@ -60,8 +60,8 @@ returns-in-Ok-serve_from-clause-lasts g c = λ synced some.
       c.serve_from.ensures.lasts synced known,
     )
 
-pub returns-clause-lasts : goal.returns-clause-lasts
-returns-clause-lasts g c = λ synced some.
+pub returns-in-Err-serve_from-clause-lasts : goal.returns-in-Err-serve_from-clause-lasts
+returns-in-Err-serve_from-clause-lasts g c = λ synced some.
     let folder = c.args.folder.now in
     let there = g.D.Disk.holds c.lock_folder.new.disk in
     let locked = c.in-Ok-lock_folder.ensures.locked in
