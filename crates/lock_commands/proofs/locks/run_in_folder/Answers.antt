@@ -75,6 +75,6 @@ pub returns-in-Ok-serve_from-clause-life : goal.returns-in-Ok-serve_from-clause-
 returns-in-Ok-serve_from-clause-life g c = λ off.
     inr (g.D.Disk.holds c.lock_folder.new.disk, g.D.Disk.holds c.start_locks.new.disk, place_of c.in-Ok-start_locks.start, c.in-Ok.ensures.locked, c.in-Ok-start_locks.ensures.ok, c.serve_from.ensures.life off)
 
-pub returns-clause-life : goal.returns-clause-life
-returns-clause-life g c = λ off.
+pub returns-in-Err-serve_from-clause-life : goal.returns-in-Err-serve_from-clause-life
+returns-in-Err-serve_from-clause-life g c = λ off.
     inr (g.D.Disk.holds c.lock_folder.new.disk, g.D.Disk.holds c.start_locks.new.disk, place_of c.in-Ok-start_locks.start, c.in-Ok.ensures.locked, c.in-Ok-start_locks.ensures.ok, c.serve_from.ensures.life off)
