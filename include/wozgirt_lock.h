@@ -1,6 +1,6 @@
 /* A client of wozgirt-server for C and C++: locks that programs share, over a Unix socket. This header and wozgirt_connection.h are
- * all of it; no library is linked. docs/CLIENTS.md says what a hold is, and what a token is for. Nothing of this is proved, and nothing
- * here decides about locks.
+ * all of it; no library is linked. docs/CLIENTS.md says what a hold is, and what a token is for. This is tested, not proved; it
+ * makes no locking decisions.
  *
  *     struct wozgirt_lock_client client;
  *     uint64_t token;

@@ -1,5 +1,5 @@
 /* Locks for the threads of one process, in C and C++: a mutex, and a condition variable for each thread that waits, around the locks
- * of wozgirt.h. Nothing of this header is proved, and nothing here decides about locks. Link with -pthread.
+ * of wozgirt.h. This header is tested, not proved; it makes no locking decisions. Link with -pthread.
  *
  *     static struct wozgirt_wait locks;
  *

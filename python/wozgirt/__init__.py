@@ -3,7 +3,7 @@
     from wozgirt import Lock
 
     with Lock("/run/wozgirt/lock.sock", "deploy", wait=5) as token:
-        ...  # the token is greater than that of every hold before: give it to whatever you write to
+        ...  # the token is greater than all earlier ones: give it to whatever you write to
 
 A client is one connection. It waits for one lock at a time; a program that waits for several at once has several clients.
 If the connection goes, the server lets others have what it held. `LockLost` says so here, and the token says so to a

@@ -199,7 +199,7 @@ class Client(OfOneProcess):
             await self._ask_until(lines.cancel(name), deadline)
         except NotWaiter:  # the grant came first
             if not grant.done():
-                self._lose("the server neither grants nor keeps a place in the line")
+                self._lose("the server neither grants nor keeps a place in the queue")
         except LockLost as lost:
             if time.monotonic() < deadline:
                 raise

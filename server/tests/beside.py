@@ -228,17 +228,22 @@ def streams():
 
 
 def saves():
-    """A line of `serve` does not replace the file of a standard stream."""
-    lines = b"save in\nsave out\nsave other\n"
+    """A line of `serve` does not replace the file of a standard stream, or HISTORY, nor by a link."""
+    lines = b"save in\nsave out\nsave h\nsave l\nsave other\n"
     with place():
         make_history()
+        os.symlink("h", "l")
+        with open("h", "rb") as file:
+            history = file.read()
         with open("in", "wb") as file:
             file.write(lines)
         with open("in", "rb") as given, open("out", "wb") as out:
             status, _ = run("serve", "h", "--saves", ".", stdin=given, stdout=out)
         with open("in", "rb") as given, open("out", "rb") as out:
             seen = status, given.read(), out.read()
-        judge("the file of a standard stream: save", seen == (0, lines, b"refused file\nrefused file\nsaved\n"), seen)
+        judge("the file of a standard stream, and HISTORY: save", seen == (0, lines, b"refused file\n" * 4 + b"saved\n"), seen)
+        with open("h", "rb") as file:
+            judge("HISTORY stays", file.read() == history)
 
 
 def names():
@@ -250,6 +255,20 @@ def names():
             pass
         for words in (CHECK, HOLDS, RECOVER, JOIN, LOCKS):
             refused(f"{name}: {words[0]}", text, *words)
+
+
+def links_into():
+    """A link to a new name in the folder that is read: no file is made by it."""
+    with place():
+        make_segments(2)
+        os.symlink("k/n", "n")
+        os.symlink("n", "m")
+        for words in (RECOVER, JOIN):
+            made = words[-1]
+            refused(f"a link into the folder: {words[0]}", f"{made} is in the folder that is read", *words)
+        judge("the folder stays", not os.path.lexists("k/n"), os.listdir("k"))
+        status, seen = run(*CHECK)
+        judge("the folder is legal", status == 0, seen)
 
 
 def links():
@@ -301,6 +320,7 @@ def main():
     saves()
     names()
     links()
+    links_into()
     totals()
     print(f"{passed} passed, {len(faults)} failed")
     sys.exit(bool(faults))

@@ -1,7 +1,7 @@
 #!/bin/sh
 # program.sh TOOL: runs the built program as a process, and compares the status that it ends with, its standard output and its standard
 # error, byte by byte: a request that is done, refusals, words and a list that cannot be read, an output that cannot be written, a
-# folder that two processes are to serve, and locks whose memory is short.
+# folder that two processes are to serve, journals without syncs, and locks whose memory is short.
 # The last line is `N passed, M failed`.
 set -u
 tool=$1
@@ -120,6 +120,54 @@ one_at_a_time() {
 mkdir locked kept
 one_at_a_time locked '1 try 0 5' '1 granted 0 1' locks --journal locked --locks deploy
 one_at_a_time kept 'pass 0 0 1 5' 'granted 3 14' serve history.txt --journal kept
+
+# has_grant WORD ..: the journal that this command reads records one grant
+has_grant() {
+    run "$@"
+    [ "$status" -eq 0 ] && grep -q '^legal .* events 1 granted 1 corrupted 0 ' out
+}
+
+# without_syncs NAME CALL WORD .. -- WORD ..: what a process answers without syncs is in its journal, which the second words read, where it
+# is killed then, and where it is refused since its output takes nothing
+without_syncs() {
+    what=$1 call=$2
+    shift 2
+    served=
+    while [ "$1" != -- ]; do
+        served="$served $1"
+        shift
+    done
+    shift
+    rm -f calls first && mkfifo calls
+    # shellcheck disable=SC2086 # words
+    "$tool" $served --no-sync <calls >first 2>/dev/null &
+    server=$!
+    exec 3>calls
+    echo "$call" >&3
+    status=none
+    is "$what without syncs" answered
+    kill -9 "$server"
+    exec 3>&-
+    wait "$server" 2>/dev/null
+    is "$what without syncs, killed" has_grant "$@"
+    rm -rf unsynced new.txt
+    cp -r empty unsynced 2>/dev/null || :
+    # shellcheck disable=SC2086 # words
+    echo "$call" | "$tool" $served --no-sync >/dev/full 2>err
+    status=$?
+    : >out
+    is "$what without syncs, whose output takes nothing" ended 1 '' 'cannot write\n'
+    is "$what without syncs, refused" has_grant "$@"
+    rm -rf unsynced new.txt
+}
+
+"$tool" new 3:3 >one.txt
+mkdir unsynced empty
+without_syncs "locks in a folder" '1 try 0 5' locks --journal unsynced --locks deploy -- check unsynced
+mkdir unsynced
+without_syncs "serve in a folder" 'pass 0 0 0 5' serve one.txt --journal unsynced -- check unsynced
+rmdir empty
+without_syncs "serve in a file" 'pass 0 0 0 5' serve one.txt --journal unsynced -- recover unsynced new.txt
 
 # short FOLDER WORD ..: locks answer `calls.txt`, where no request for memory may be for more than 128 KiB
 short() {

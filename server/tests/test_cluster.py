@@ -283,11 +283,22 @@ class Ends(Trial):
             self.assertTrue(os.path.exists(log))
 
     def test_other_settings(self):
+        """A server that has other settings than the log changes no file of its folder: so it starts as before with the right ones."""
         self.server("a")
-        for more in (["--checkpoint", "7"], ["--checkpoint", "100000", "--segment", "9"]):
-            it = subprocess.run(self.words("b", *more), capture_output=True, text=True, timeout=PATIENCE)
-            self.assertEqual(it.returncode, 1)
-            self.assertIn("are the same for all servers; in the log they are `100000 - 1 a:8:8,b:8:8,c:8:8`, here `", it.stderr)
+        b = self.server("b")
+        self.hand_over(b)
+        b.stop()
+        RUNNING.remove(b)
+        before = self.files(b.journal)
+        self.assertIn(os.path.join(b.journal, "journal", "locks"), before)
+        for more, here in ((["--checkpoint", "7"], "`7 - 1 a:8:8,b:8:8,c:8:8`"), (["--segment", "9"], "`100000 9 1 a:8:8,b:8:8,c:8:8`"),
+                           (["--locks", "a,c,b"], "`100000 - 1 a:8:8,c:8:8,b:8:8`"), (["--locks", "a,b:9,c,d"], "`100000 - 1 a:8:8,b:9:9,c:8:8,d:8:8`")):
+            with self.subTest(more):
+                it = subprocess.run(self.words("b", "--journal", b.journal, *more), capture_output=True, text=True, timeout=PATIENCE)
+                self.assertEqual(it.returncode, 1)
+                self.assertIn(f"are the same for all servers; in the log they are `100000 - 1 a:8:8,b:8:8,c:8:8`, here {here}", it.stderr)
+                self.assertEqual(self.files(b.journal), before)
+        self.hand_over(self.server("b"))
 
     def test_a_folder_is_one_servers(self):
         a = self.server("a")

@@ -14,7 +14,7 @@ import sys
 import tempfile
 import unittest
 
-from harness import GROUPS, COMMAND, ENGINE, FOLDER, IS_DOUBLE, PATIENCE, SERVER, TOP, needs_programs
+from harness import GROUPS, COMMAND, ENGINE, FOLDER, IS_DOUBLE, PATIENCE, SERVER, TOP, Server, needs_programs
 
 sys.path.insert(0, os.path.join(TOP, "bench"))
 
@@ -106,6 +106,25 @@ class WithTheProgram(Pasting):
 
     def test_the_page_for_those_who_run_it(self):
         self.play("docs/OPERATING.md", needs_program=True)
+
+
+@needs_programs
+class InPython(unittest.TestCase):
+    """Blocks in Python that take a lock, each run as a program, at a server of the test."""
+
+    PLACE = re.compile(r'"(?:/run/wozgirt/)?lock\.sock"|"tcp:[^"]*"')
+
+    def test_they_hold_the_lock(self):
+        env = dict(os.environ, PYTHONPATH=os.path.join(TOP, "python"))
+        for page in ("docs/OPERATING.md", "docs/CLIENTS.md", "release/FIRST.md", "python/README.md"):
+            found = [it.text() for it in Page(TOP, page).blocks if it.text().startswith("from wozgirt import Lock\n")]
+            self.assertTrue(found, page)
+            for text in found:
+                with self.subTest(page), Server(locks="deploy") as server:
+                    program = "write_with = print\n" + self.PLACE.sub(lambda _: repr(server.path), text)
+                    it = subprocess.run([sys.executable, "-c", program], env=env, capture_output=True, text=True, timeout=PATIENCE, check=False)
+                    self.assertEqual((it.returncode, it.stderr, it.stdout), (0, "", "1\n" if "write_with" in text else ""))
+                    self.assertEqual(server.operate("stats deploy"), "stats deploy 8 0 1 0 0")
 
 
 if __name__ == "__main__":

@@ -3,6 +3,7 @@
 import os
 import re
 import shutil
+import signal
 import subprocess
 import unittest
 
@@ -223,6 +224,30 @@ class ManPages(unittest.TestCase):
                 words = [*words, os.path.join(PAGES, page)]
                 it = subprocess.run(words, capture_output=True, text=True, timeout=60, check=False)
                 self.assertEqual((it.stderr, it.stdout if words[0] == "mandoc" else ""), ("", ""), page)
+
+
+@needs_programs
+class Printing(unittest.TestCase):
+    """Of a program whose help or version finds no reader, or no room."""
+
+    def printed_to(self, program, word, output):
+        it = subprocess.run([program, word], stdout=output, stderr=subprocess.PIPE, text=True, timeout=60, check=False)
+        return it.returncode, it.stderr
+
+    def test_nobody_reads(self):
+        for program, word in ((SERVER, "--help"), (SERVER, "--version"), (COMMAND, "--help")):
+            with self.subTest(program=os.path.basename(program), word=word):
+                reads, writes = os.pipe()
+                os.close(reads)
+                self.assertEqual(self.printed_to(program, word, writes), (-signal.SIGPIPE, ""))
+                os.close(writes)
+
+    @unittest.skipUnless(os.path.exists("/dev/full"), "no /dev/full")
+    def test_no_room(self):
+        for program, word in ((SERVER, "--help"), (SERVER, "--version"), (COMMAND, "--help")):
+            name = os.path.basename(program)
+            with self.subTest(program=name, word=word), open("/dev/full", "wb") as full:
+                self.assertEqual(self.printed_to(program, word, full), (1, f"{name}: standard output: No space left on device (os error 28)\n"))
 
 
 if __name__ == "__main__":

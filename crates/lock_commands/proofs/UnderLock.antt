@@ -1,7 +1,7 @@
 -- The folder is locked as long as lines are served.
 use Rattle.std.proofs.Common.{◌≡◌, ◌∙◌, ◌+◌, ◌++◌, ℕ, List, [], ◌∷◌, Option, None, Some, sym, ap, subst, ◌⊎◌, inl, inr}
-use Rattle.std.specs.Prelude.{IsSome}
-use Rattle.disks.specs.Held.{Held}
+use Rattle.std.specs.Prelude.{IsSome, IfSome}
+use Rattle.disks.specs.Held.{Held, Replaces}
 use Rattle.segment_folder.specs.Names.{segment_file}
 use Rattle.line_loop.specs.Answering.{Answers}
 use Rattle.line_loop.specs.Stands.{Stand, stand, by_stand}
@@ -15,7 +15,7 @@ use Rattle.line_replica.specs.State.{lines_of}
 use Rattle.line_replica.specs.Knows.{replied_leads}
 use Rattle.line_replica.specs.Restoring.{restored_leads}
 use Rattle.segment_loop.specs.declared.segmented.EndFault.{EndFault}
-use Rattle.segment_loop.specs.Segments.{Moment, IsReady, IsLeft, stand_of}
+use Rattle.segment_loop.specs.Segments.{Moment, IsUnprepared, IsFileCause, IsReady, IsLeft, stand_of}
 use Rattle.segment_loop.specs.Service.{Part, IsPart, AreParts, IsStopped}
 use Rattle.ring_requests.specs.declared.requests.LocksWords.{LocksWords}
 use Rattle.tool_parts.specs.Locking.{IsLocked, StandsLocked}
@@ -37,9 +37,9 @@ lines_same old new (line ∷ lines) said noted a =
 
 -- ---- before a part a segment ends, or continues
 
-without_causes : (U F P Q : Type 0) → (U × P) ⊎ (F × Q) → P ⊎ Q
-without_causes U F P Q (inl k) = inl k.1
-without_causes U F P Q (inr k) = inr k.1
+without_causes : (U F P Q R S : Type 0) → (U × P × Q) ⊎ (F × R × S) → (P × Q) ⊎ (R × S)
+without_causes U F P Q R S (inl k) = inl (k.1, k.2)
+without_causes U F P Q R S (inr k) = inr (k.1, k.2)
 
 module _ (folder : List ℕ) where
   ready_stands : (kept : Option EndFault) (a b : Moment Service) → IsReady by_segments folder kept a b → Stands a.files a.journal folder → Stands b.files b.journal folder
@@ -47,7 +47,8 @@ module _ (folder : List ℕ) where
   ready_stands None a b (inr h) s =
       let f = h.1.file in
       ended_stand a.files f.between b.files a.journal b.journal folder _ _ _ _ f.settled f.put h.1.journal s
-  ready_stands (Some why) a b h s = kept_stand a.files b.files a.journal b.journal folder (segment_file folder a.number) (without_causes _ _ _ _ h.1.file) s
+  ready_stands (Some why) a b h s = kept_stand a.files b.files a.journal b.journal folder (segment_file folder a.number) (without_causes (IsUnprepared by_segments a.service a.number why) (IsFileCause why) (b.files ≡ a.files) (b.journal ≡ a.journal)
+      (Replaces a.files b.files (segment_file folder a.number) a.journal) (IfSome a.files (λ _. IfSome a.journal (λ bytes. b.journal ≡ Some bytes))) h.1.file) s
 
   -- after a part
   part_stands : (a : Moment Service) (p : Part Service) → IsReady by_segments folder p.kept a p.from → IsPart answering p → Stands a.files a.journal folder → Stands p.from.files p.from.journal folder × Stands p.to.files p.to.journal folder

@@ -290,7 +290,7 @@ extern "C" {
     /// The library's version.
     pub fn wozgirt_version() -> u32;
 
-    /// Opens locks that nobody holds, each over a ring of `machines` machines.
+    /// Opens locks that no client holds, each over a ring of `machines` machines.
     pub fn wozgirt_locks_open(locks: *mut wozgirt_locks, count: u32, machines: u32) -> u32;
     /// A client acquires a lock: it holds it now, or waits.
     pub fn wozgirt_locks_acquire(

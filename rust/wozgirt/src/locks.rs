@@ -7,7 +7,7 @@ use wozgirt_sys as sys;
 /// The answer to a client that acquires a lock.
 #[derive(Clone, Copy, Debug, PartialEq, Eq, Hash)]
 pub enum Acquired {
-    /// It holds the lock, with this token, which is greater than that of every hold of the lock before.
+    /// It holds the lock, with this token, which is greater than all earlier tokens of the lock.
     Held(u64),
     /// It waits, and this many clients wait before it.
     Waits(u64),
@@ -65,7 +65,7 @@ impl Iterator for Grants<'_> {
 }
 
 impl Locks {
-    /// Opens `count` locks, from 0, that nobody holds, each over a ring of `machines` machines.
+    /// Opens `count` locks, from 0, that no client holds, each over a ring of `machines` machines.
     ///
     /// # Errors
     ///
@@ -96,7 +96,7 @@ impl Locks {
         }
     }
 
-    /// A client acquires a lock if nobody holds it, and does not wait: the token, or none.
+    /// A client acquires a lock if no client holds it, and does not wait: the token, or none.
     ///
     /// # Errors
     ///

@@ -25,7 +25,7 @@ pub enum Answer {
         /// How many are before it in the queue.
         before: u64,
     },
-    /// Somebody holds the lock that was tried.
+    /// A client holds the lock that was tried.
     Busy {
         /// The lock.
         lock: Lock,
@@ -71,7 +71,7 @@ pub struct Stats {
     pub passes: u64,
     /// Its holder: [`crate::NOBODY`] with a token is a hold from before the engine's start.
     pub holder: Client,
-    /// The token of the hold, or 0 if nobody holds.
+    /// The token of the hold, or 0 if no client holds the lock.
     pub token: Token,
 }
 

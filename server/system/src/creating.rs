@@ -5,7 +5,7 @@ use crate::calls;
 /// The modes that allow other users than the owner to write.
 const OTHERS_WRITE: u32 = 0o022;
 
-/// What this program and its children create from now on, nobody but the owner can write. Else it has the modes that it had. To be
+/// What this program and its children create from now on, only the owner can write. Else it has the modes that it had. To be
 /// called before there are threads.
 pub fn create_for_owner() {
     calls::set_umask(calls::set_umask(OTHERS_WRITE) | OTHERS_WRITE);

@@ -18,7 +18,7 @@ pub fn inherit(file: impl AsFd) -> io::Result<()> {
     calls::set_descriptor_flags(file.as_fd(), flags & !FD_CLOEXEC)
 }
 
-/// Locks the file, as long as it is open here or in a program that inherited it: whether nobody else has it.
+/// Locks the file, as long as it is open here or in a program that inherited it: whether no other program has it.
 pub fn try_lock(file: impl AsFd) -> io::Result<bool> {
     match calls::lock_file(file.as_fd()) {
         Err(fault) if fault.kind() == io::ErrorKind::WouldBlock => Ok(false),

@@ -21,7 +21,7 @@ pub enum Signal {
     Quit,
     /// SIGKILL: cannot be heard, only sent.
     Kill,
-    /// SIGPIPE: nobody reads what this program writes.
+    /// SIGPIPE: no program reads what this one writes.
     Pipe,
     /// SIGTERM: the program is asked to end.
     Terminate,

@@ -8,10 +8,11 @@ from dataclasses import dataclass, field
 
 #: What is left of that which was written and not synced:
 #: none of it; all of it, as at a kill; of each file the first bytes, torn anywhere, and of the names the first changes; the same with any
-#: of the changes of names; then zeros, up to any length; any of the blocks, with zeros in the place of the others; bytes of other files.
-KINDS = ("none", "all", "first", "some", "zeros", "blocks", "old")
-#: Those that hold no end of a line that nobody wrote there: a start takes them.
-TAKEN = KINDS[:5]
+#: of the changes of names; then zeros, up to any length; any of the blocks, with zeros in the place of the others; bytes of other files;
+#: zeros with ends of lines among them.
+KINDS = ("none", "all", "first", "some", "zeros", "blocks", "old", "lines")
+#: Those that hold no end of a line that nobody wrote there: a start takes them. That of a folder leaves out the lines of zeros.
+TAKEN, LINES = KINDS[:5], KINDS[-1]
 BLOCK = 512
 
 
@@ -101,7 +102,9 @@ class File:
         if kind == "blocks":
             return blocks(whole, front, draw)
         begin = draw.randint(front, len(whole))
-        length = draw.randint(begin, len(whole) + (BLOCK if kind == "zeros" else 0)) - begin
+        length = draw.randint(begin, len(whole) + (0 if kind == "old" else BLOCK)) - begin
+        if kind == LINES:
+            return whole[:begin] + bytes(10 * (at > 0 and draw.random() < 0.1) for at in range(length))
         return whole[:begin] + (bytes(length) if kind == "zeros" else other(length))
 
 

@@ -67,6 +67,8 @@ def label_of(client, lock):
 class Locks:
     """The locks of one folder, through all lives."""
 
+    is_folder = True
+
     def __init__(self, engine, *more):
         self.engine, self.more, self.name = engine, more, "locks"
         self.told, self.sent, self.extra, self.last = Told(), [], 0, MARK

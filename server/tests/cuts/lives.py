@@ -8,7 +8,7 @@ import signal
 import subprocess
 from dataclasses import dataclass, field
 
-from .disk import KINDS, TAKEN, Disk, build, contents, moments, records
+from .disk import KINDS, LINES, TAKEN, Disk, build, contents, moments, records
 
 SECONDS = 60
 
@@ -162,11 +162,13 @@ class Trial:
         self.tally.told += len(told)
         self.note(kind, "left", self.service.judge(left, told, kind))
         refused = starts and self.service.start(left)
+        # what a start has left out is not there any more
+        then = TAKEN[0] if kind == LINES and self.service.is_folder else kind
         if refused:
             counts.refused += 1
-            self.note(kind, "start", [refused] * (kind in TAKEN))
+            self.note(kind, "start", [refused] * (then in TAKEN))
         elif starts:
-            self.note(kind, "started", self.service.judge(left, told, kind, is_started=True))
+            self.note(kind, "started", self.service.judge(left, told, then, is_started=True))
             counts.more += self.service.extra > 0
         return not refused
 

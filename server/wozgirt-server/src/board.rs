@@ -69,7 +69,7 @@ pub struct Sight {
 }
 
 impl Sight {
-    /// Whether one more who asks might be one too many in the line. The first who asks for a free lock does not wait.
+    /// Whether one more client might be too many in the queue. The first that asks for a free lock does not wait.
     pub fn is_full(&self, most: usize) -> bool {
         let waiting = self.line.len() + self.asked;
         waiting >= most.saturating_add(usize::from(self.holder.is_none()))

@@ -43,7 +43,7 @@ pub enum Then {
     Stop,
 }
 
-/// An answer that nobody asked for.
+/// An answer that no line asked for.
 #[derive(Debug)]
 pub struct Unasked;
 

@@ -9,7 +9,7 @@ use std::collections::VecDeque;
 use std::time::{Duration, Instant};
 use wozgirt_engine::{Answer, Client, Input, Lock, Token};
 
-/// How many lines of all clients together should wait for the engine: what each may have there is its part of this. One who comes new
+/// How many lines of all clients together should wait for the engine: what each may have there is its part of this. A new client
 /// waits for as many; so there are fewer, between these, if a mark takes longer than it should, and more if half of them take a
 /// small part of that.
 const MOST_WANTED: usize = 1024;

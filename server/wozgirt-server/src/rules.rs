@@ -91,7 +91,7 @@ impl Rules {
         Ok(rules)
     }
 
-    /// May this one use the lock? Nobody is known who comes over TCP.
+    /// Whether this client may use the lock. A client over TCP is not known.
     pub fn permits(&self, lock: Lock, peer: Option<&Peer>) -> bool {
         self.rules.get(&lock).unwrap_or(&self.others).permits(peer)
     }

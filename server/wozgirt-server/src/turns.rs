@@ -82,7 +82,7 @@ impl Turns {
         place
     }
 
-    /// Somebody who wanted to ask more does so no longer.
+    /// A client that wanted to ask more does so no longer.
     pub fn step_out(&mut self, client: Client, place: u64) {
         self.line.remove(&(place, client));
     }

@@ -83,7 +83,7 @@ impl Fault {
         }
     }
 
-    /// Whether it is that of a server that may just be starting: nobody listens at its place yet.
+    /// Whether it is that of a server that may just be starting: no program listens at its place yet.
     pub fn is_of_a_start(&self) -> bool {
         match self {
             Fault::Connect(_, fault) => matches!(fault.kind(), ErrorKind::NotFound | ErrorKind::ConnectionRefused),

@@ -31,7 +31,7 @@ const LEAST: Duration = Duration::from_millis(1);
 pub enum Ending {
     /// The command ended by itself, or by a signal that was not of this program.
     Command(ExitStatus),
-    /// The lock was not to be had in time.
+    /// Timed out waiting for the lock.
     Conflict,
     /// The same, and the server did not say so.
     Unanswered(Unanswered),

@@ -10,7 +10,7 @@ use wozgirt_system::Signal;
 const SOON: Duration = Duration::from_millis(100);
 const LOOK: Duration = Duration::from_millis(1);
 
-/// Prints on standard output. If nobody reads that any more, the program ends, as SIGPIPE ends others.
+/// Prints on standard output. If no program reads that any more, this one ends, as SIGPIPE ends others.
 pub fn print(text: &str) -> io::Result<()> {
     let mut output = io::stdout().lock();
     match output.write_all(text.as_bytes()).and_then(|()| output.flush()) {

@@ -209,7 +209,7 @@ impl Desk {
         self.board.granted(lock, session, token, None, self.now);
     }
 
-    /// A place in a line that the session had before the engine started.
+    /// A place in a queue that the session had before the engine started.
     pub(crate) fn placed(&mut self, session: Client, place: (Lock, u64), answer: &Answer) -> Result<(), Unasked> {
         let (lock, label) = place;
         match answer {

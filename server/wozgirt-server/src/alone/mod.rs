@@ -34,7 +34,7 @@ pub enum Start {
 /// Why there is no session of a key.
 #[derive(Debug, Clone, Copy, PartialEq, Eq)]
 pub enum NoSession {
-    /// It is somebody else's.
+    /// It is another client's.
     Others,
     /// There are too many, or none can be kept.
     Full,
@@ -310,7 +310,7 @@ impl Alone {
         self.given.get(&lock) == Some(&token)
     }
 
-    /// Somebody was granted the lock.
+    /// A client was granted the lock.
     pub fn note_token(&mut self, lock: Lock, token: Token) {
         if let Some(heard) = self.heard.get_mut(lock) {
             *heard = token.max(*heard);

@@ -19,7 +19,7 @@ pub enum At {
 pub enum What {
     /// An input of the client, with its number, and whether that is new.
     Input(u64, Input, bool),
-    /// A place in a line that it had before the engine started.
+    /// A place in a queue that it had before the engine started.
     Place(Lock, Label),
     /// The end of its hold, by this operator.
     End(Client, Lock, Token),
@@ -173,7 +173,7 @@ impl Session {
         })
     }
 
-    /// The order of its place in the line of the lock, if it has one, or may have.
+    /// The order of its place in the queue of the lock, if it has one, or may have.
     pub fn order(&self, lock: Lock) -> Option<u64> {
         let waits = self.waits.filter(|place| place.lock == lock).map(|place| place.order);
         waits.or(self.unlabelled.as_ref().filter(|it| it.lock == lock).map(|it| it.order))

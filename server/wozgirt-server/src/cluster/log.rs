@@ -24,7 +24,7 @@ pub enum Told {
         /// Its text.
         text: String,
     },
-    /// The servers whose lease lives.
+    /// The servers whose lease is still valid.
     Alive(BTreeSet<Server>),
     /// The server's lease was renewed after this of its signs of life.
     Kept(u64),

@@ -36,7 +36,7 @@ pub struct Owns {
 }
 
 impl Owns {
-    /// Whether nobody else has come here with this key.
+    /// Whether no other client has come here with this key.
     pub fn admits(&self, key: Key, who: Who) -> bool {
         !self.all.contains_key(&key) || self.whos.get(&key) == Some(&who)
     }

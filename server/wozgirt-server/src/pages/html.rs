@@ -30,7 +30,7 @@ pub fn head(text: &mut String, view: &View<'_>) {
     view.in_log.iter().for_each(|it| log(text, it));
     text.push_str(
         "<table><thead><tr><th>Lock</th><th>Held by</th><th class=\"n\">Label</th><th class=\"n\">Token</th>\
-         <th class=\"n\">For</th><th>Line</th><th class=\"n\">Hand-overs</th><th class=\"n\">Longest wait</th>\
+         <th class=\"n\">For</th><th>Queue</th><th class=\"n\">Hand-overs</th><th class=\"n\">Longest wait</th>\
          <th>Last fault</th></tr></thead><tbody>\n",
     );
 }
@@ -203,7 +203,7 @@ mod tests {
     }
 
     #[test]
-    fn the_page_has_holder_line_and_fault() {
+    fn the_page_has_holder_queue_and_fault() {
         let page = shown(Wanted::Page, 1 << 20);
         for part in [
             "client 7</td><td class=\"n\">77</td><td class=\"n\">12</td><td class=\"n\">3.0 s</td>",

@@ -175,7 +175,7 @@ impl Server {
         }
     }
 
-    /// One who has said nothing, or has been here long, makes room for another: whether there is one.
+    /// A visitor that has said nothing, or has been here long, makes room for another: whether there is one.
     fn send_visitor_away(&mut self) -> bool {
         let now = self.desk.now;
         let turns = self.visitors.iter().filter_map(|(key, visitor)| Some((visitor.turn_to_go(now)?, *key)));

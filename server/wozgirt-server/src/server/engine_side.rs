@@ -47,7 +47,7 @@ impl Server {
         }
     }
 
-    /// One answer. False if nobody asked, and the engine is given up.
+    /// One answer. False if no line asked for it, and the engine is given up.
     pub(super) fn answer(&mut self, Answered { client, answer }: Answered) -> bool {
         let line = if client == NOBODY {
             match self.answer_own(&answer) {
@@ -74,7 +74,7 @@ impl Server {
         self.give_up_for(Answered { client, answer: line })
     }
 
-    /// The engine answers what nobody asked, and is given up: false.
+    /// The engine answers what no line asked, and is given up: false.
     fn give_up_for(&mut self, answered: Answered) -> bool {
         let line = answered.to_string();
         self.desk.log.say(&Event::EngineUnreadable { line, fault: None });

@@ -387,7 +387,7 @@ impl Server {
         self.accounts = accounts;
     }
 
-    /// From now on nobody is let in and nothing is read; what was asked is answered.
+    /// From now on no client is let in and nothing is read; what was asked is answered.
     fn stop(&mut self, why: &str) {
         if self.stopping.is_some() {
             return;

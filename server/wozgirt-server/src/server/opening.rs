@@ -208,7 +208,7 @@ pub(super) fn open_sessions(settings: &Settings, names: &Names, log: &mut Log) -
     Alone::new(store, boot(), names.count(), SESSIONS_EACH * settings.connections).map_err(CannotServe::Sessions)
 }
 
-/// The system's limit of open files, which is raised as far as it may be.
+/// The system's limit of open files, which the server raises to the hard limit at its start.
 pub(super) fn check_files(settings: &Settings) -> Result<(), CannotServe> {
     let needed = (Places::count(settings) + MOST_VISITORS + OTHER_FILES) as u64;
     let limit = permit_files(needed)?;

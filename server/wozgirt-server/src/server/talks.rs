@@ -154,7 +154,7 @@ impl Server {
         line
     }
 
-    /// Whether the log has got too much, or has done enough: then nobody is heard, or all are again.
+    /// Whether the log has got too much, or has done enough: then no client is heard, or all are again.
     fn note_full(&mut self) {
         if self.desk.is_free_again() {
             self.desk.is_full = false;

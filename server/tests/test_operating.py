@@ -1,0 +1,110 @@
+"""Blocks of docs/OPERATING.md that are for hosts of their own, each pasted as a whole into a shell: the folders of the system are folders
+of the test there, `scp` copies from another one, and what only root may do is left out. Of what is no command: its words are known."""
+
+import glob
+import grp
+import os
+import pwd
+import re
+import shutil
+import subprocess
+import sys
+import tempfile
+import unittest
+
+from harness import FOLDER, PATIENCE, SERVER, TOP, Server, needs_programs, say
+
+sys.path.insert(0, os.path.join(TOP, "bench"))
+
+from page import Page  # noqa: E402
+
+JOURNAL = "/var/lib/wozgirt/journal"
+#: what the commands of the system are in a test
+STUBS = {"systemctl": "", "chown": "", "scp": 'for it in "${@:1:$#-1}"; do cp ${it/h2:/$OTHER} "${!#}"; done'}
+
+
+def block(section, words):
+    """The block of a section that has these words."""
+    found = [it for it in Page(TOP, "docs/OPERATING.md").blocks if it.section == section and words in it.text()]
+    assert len(found) == 1, (section, words)
+    return found[0].text()
+
+
+def write(path, text=""):
+    os.makedirs(os.path.dirname(path), exist_ok=True)
+    with open(path, "w", encoding="utf-8") as file:
+        file.write(text)
+
+
+class Blocks(unittest.TestCase):
+    def setUp(self):
+        self.folder = tempfile.mkdtemp(prefix="wozgirt-page-", dir=FOLDER)
+        self.addCleanup(shutil.rmtree, self.folder)
+
+    def paste(self, text):
+        """Pastes a block; `# ` before a command is the prompt of root."""
+        for name, does in STUBS.items():
+            write(f"{self.folder}/bin/{name}", f"#!/bin/bash\n{does}\n")
+            os.chmod(f"{self.folder}/bin/{name}", 0o700)
+        text = re.sub(r"(?<!h2:)(?=/(?:var/lib|srv)/)", self.folder, re.sub(r"^# ", "", text, flags=re.M))
+        env = dict(os.environ, PATH=f"{self.folder}/bin:{os.environ['PATH']}", OTHER=f"{self.folder}/other")
+        done = subprocess.run(["bash", "--norc", "-e"], input=text, cwd=self.folder, env=env, capture_output=True, text=True, timeout=PATIENCE,
+                              check=False)
+        self.assertEqual(done.returncode, 0, done.stderr)
+
+    def names(self, folder):
+        return sorted(os.path.relpath(it, self.folder + folder) for it in glob.glob(f"{self.folder}{folder}/**", recursive=True) if os.path.isfile(it))
+
+    def test_old_segments_are_moved_away(self):
+        for number in range(1, 6):
+            write(f"{self.folder}{JOURNAL}/000000000{number}.ring")
+        write(f"{self.folder}{JOURNAL}/locks")
+        os.makedirs(f"{self.folder}/srv/old-locks")
+        self.paste(block("## The journal", "xargs"))
+        self.assertEqual(self.names("/srv/old-locks"), [f"000000000{it}.ring" for it in (1, 2, 3)])
+        self.assertEqual(self.names(JOURNAL), ["0000000004.ring", "0000000005.ring", "locks"])
+
+    def test_a_host_is_replaced(self):
+        parts = ["CHECKPOINT", "PLACE", "SEGMENT-9", "SEGMENT-17", "holders", "journal/0000000001.ring", "journal/0000000002.ring", "journal/locks"]
+        for name in parts:
+            write(f"{self.folder}/other{JOURNAL}/{name}", name)
+        write(f"{self.folder}{JOURNAL}/PLACE", "of before")
+        self.paste(block("### Replace a host", "scp"))
+        self.assertEqual(self.names(JOURNAL), sorted(set(parts) - {"PLACE", "holders"}))
+        self.assertEqual(self.names(JOURNAL + ".before"), ["PLACE"])
+
+    @unittest.skipUnless(shutil.which("openssl"), "openssl is not installed")
+    def test_certificates(self):
+        self.paste(block("### Certificates", "openssl"))
+        for words in (["verify", "-CAfile", "ca.pem", "10.0.0.1.pem"], ["x509", "-in", "10.0.0.1.pem", "-noout", "-checkip", "10.0.0.1"]):
+            done = subprocess.run(["openssl", *words], cwd=self.folder, capture_output=True, text=True, check=False)
+            self.assertEqual((done.returncode, "NOT match" in done.stdout), (0, False), done.stdout + done.stderr)
+
+    def test_alerts_are_of_metrics_that_there_are(self):
+        with open(os.path.join(TOP, "server", "wozgirt-server", "src", "pages", "metrics.rs"), encoding="utf-8") as file:
+            metrics = file.read()
+        named = set(re.findall(r"wozgirt_\w+", block("## What to watch", "- alert:")))
+        self.assertGreater(len(named), 5)
+        self.assertEqual([it for it in sorted(named) if f'"{it}"' not in metrics], [])
+
+    @needs_programs
+    def test_settings_have_options_that_there_are(self):
+        known = subprocess.run([SERVER, "--help"], capture_output=True, text=True, check=True).stdout
+        named = set(re.findall(r"--[a-z-]+", block("### etcd and the server", "WOZGIRT_OPTIONS=")))
+        self.assertGreater(len(named), 5)
+        self.assertEqual([it for it in sorted(named) if f"{it} " not in known and f"{it}\n" not in known], [])
+
+    @needs_programs
+    def test_rules(self):
+        """Those of the page, for the user and the group that there are here."""
+        rules = block("## Who may connect", "lock deploy:")
+        for name, own in (("alice", pwd.getpwuid(os.getuid()).pw_name), ("%ops", "%" + grp.getgrgid(os.getgid()).gr_name)):
+            self.assertIn(name, rules)
+            rules = rules.replace(name, own)
+        write(f"{self.folder}/rules", rules)
+        with Server("--rules", f"{self.folder}/rules", locks="deploy,other") as server, server.raw() as sock:
+            self.assertEqual(say(sock, "try deploy 1\ntry other 1\n", 2), ["granted deploy 1", "granted other 1"])
+
+
+if __name__ == "__main__":
+    unittest.main()
