@@ -83,7 +83,7 @@ kept_if : (b : Bool) (line : List ℕ) (more : List (List ℕ)) → IsLine line 
 kept_if true line more is all = all
 kept_if false line more is all = (is, all)
 
-each_other : (lines : List (List ℕ)) → AllByRecursion IsLine lines → AllByRecursion IsLine (others_of lines)
+pub each_other : (lines : List (List ℕ)) → AllByRecursion IsLine lines → AllByRecursion IsLine (others_of lines)
 each_other [] all = tt
 each_other (line ∷ lines) all = kept_if (is_state line) line (others_of lines) all.0 (each_other lines all.1)
 
