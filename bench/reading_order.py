@@ -1,5 +1,6 @@
 """Prints which definitions a reader has to believe who reads some of them: file by file, lowest first, as a table. Words: the
-definitions, each as crate.File.Name, and the top of the tree. For docs/THEORY.md and bench/documents.py.
+definitions, each as crate.File.Name, and the top of the tree. For docs/THEORY.md and bench/documents.py. A definition behind a `-`
+is taken for what its comment says: it is not opened, and its lines do not count.
 
 A definition stands on each that its text names, in its own file or by an import from another crate's specs/, also of a crate of
 the toolchain; what std and the types of the sources (`declared`) say is not counted, and any other file that is not found is a
@@ -66,9 +67,9 @@ def path_of(top, crate, module):
     return found[0] if found else sys.exit(f"there is no file of {crate}.{module}")
 
 
-def files_below(top, words):
-    """Of each file the definitions that are needed; files by (crate, module)."""
-    files, needed, queue = {}, {}, [tuple(it.split(".")) for it in words]
+def files_below(top, words, taken):
+    """Of each file the definitions that are needed, without those that are taken for what they say; files by (crate, module)."""
+    files, needed, queue, met = {}, {}, [tuple(it.split(".")) for it in words], set()
     while queue:
         crate, module, name = queue.pop()
         path = path_of(top, crate, module)
@@ -77,6 +78,9 @@ def files_below(top, words):
         file = files.setdefault((crate, module), None) or File(path)
         files[crate, module] = file
         names = needed.setdefault((crate, module), set())
+        if (crate, module, name) in taken:
+            met.add((crate, module, name))
+            continue
         if name not in file.lines_of:
             queue += [file.imports[name]] if name in file.imports else []  # it is handed on
         if name in names or name not in file.lines_of:
@@ -86,6 +90,8 @@ def files_below(top, words):
     for crate, module, name in (it.split(".") for it in words):
         if name not in needed.get((crate, module), ()):
             sys.exit(f"there is no {crate}.{module}.{name}")
+    for it in taken - met:
+        sys.exit(f"nothing names {'.'.join(it)}")
     return files, {place: names for place, names in needed.items() if names}
 
 
@@ -111,7 +117,8 @@ def in_order(top, files, needed):
 
 
 def table(top, *words):
-    files, needed = files_below(top, words)
+    taken = {tuple(it[1:].split(".")) for it in words if it.startswith("-")}
+    files, needed = files_below(top, [it for it in words if not it.startswith("-")], taken)
     rows, sums = ["| File | Definitions | Lines | Says |", "|---|---|---|---|"], [0, 0]
     for place in in_order(top, files, needed):
         lines = sum(len(files[place].lines_of[it]) for it in needed[place])

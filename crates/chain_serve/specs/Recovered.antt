@@ -74,10 +74,10 @@ pub record AnsweredCallsAreRecovered (s : SegmentRules) (a : Moment) (new : List
   pub wrote_notes : Appends mid.journal journal more
   pub recovered : KeepsLast s parts more new
 
--- ---- what a loss of power leaves
+-- ---- what a loss of power, or an end of the process, leaves
 
--- Where it is known what a loss of power leaves: the file of this moment's segment begins with these
--- bytes, or that of the next one is there, with the whole text with which it begins after them.
+-- Where it is known what is left: the file of this moment's segment begins with these bytes, or that
+-- of the next one is there, with the whole text with which it begins after them.
 abbrev pub LeavesSegment : SegmentRules → Moment → List ℕ → Option Held → Type 0
 LeavesSegment s a bytes left =
     IfSome left
@@ -87,9 +87,9 @@ LeavesSegment s a bytes left =
     × (bytes_of held (file_of s (a.number + 1))
     ≡ Some (segment_text (a.number + 1) (digest_of bytes) next))))
 
--- Wherever serving ended, and whenever the power fails then: the file of the last segment begins
--- with these bytes, which have the notes of all lines that were delivered in it, and keep the
--- answers to them; or that of the next one is there, which begins after them.
+-- Wherever serving ended, and whenever the power fails or the process ends then: the file of the
+-- last segment begins with these bytes, which have the notes of all lines that were delivered in it,
+-- and keep the answers to them; or that of the next one is there, which begins after them.
 pub record AnsweredCallsLast (s : SegmentRules) (a : Moment) (new : List Standing)
     (input rest out after : Option (List ℕ)) (left : Option Held) : Type 0 where
   pub journal : List ℕ

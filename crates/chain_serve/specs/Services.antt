@@ -93,4 +93,5 @@ segmenting = record {
   HasNoNext = λ s why. HasNoNext s.rings s.number why;
   HasNoText = λ s why. HaveNoText s.rings why;
   IsKept = λ old why new. new ≡ record old { refusing = Some (refusal_of why) };
+  HasText = λ s number behind. Unit {0};
 }

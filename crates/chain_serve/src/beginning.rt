@@ -6,6 +6,7 @@ ghost use Rattle.segment_loop.specs.Digested.{hashed};
 ghost use Rattle.segment_loop.specs.Segments.{IsNamed};
 ghost use Rattle.chain_serve.specs.Segments.{moment_of};
 ghost use Rattle.chain_serve.specs.Beginning.{HasBegun, IsBeginCause, IsLeftUnbegun};
+ghost use Rattle.disks.specs.Lasting.{outlives};
 
 use crate::segmented::refusal_of;
 use crate::segments::SegmentRules;
@@ -41,7 +42,7 @@ pub fn begin_segment<D: Disk>(
     ensures err { IfErr result (λ why. IsBeginCause why) }
     ensures left { OnErr result (IsLeftUnbegun rules.entry served.now number behind
         (D.holds disk.old) (D.holds disk.new)) }
-    ensures lasts { IfOk result (λ segment. rules.entry.synced ≡ true
+    ensures lasts { IfOk result (λ segment. outlives D.keeps_written rules.entry.synced ≡ true
         → D.Grown.lasting segment.writer.inner ≡ D.Grown.contents segment.writer.inner) }
 {
     let text = match segment_text(alloc, number, behind, served) {

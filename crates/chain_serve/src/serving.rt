@@ -2,7 +2,7 @@
 
 ghost use Rattle.std.specs.Prelude.{◌≡◌, ◌≤◌, ℕ, List, Option, None, true, IfOk, IfErr, IfSome, IsSome, OnErr, MatchResult, string_bytes};
 ghost use Rattle.disks.specs.Held.{Held};
-ghost use Rattle.disks.specs.Lasting.{HasFront, LeavesFront};
+ghost use Rattle.disks.specs.Lasting.{HasFront, LeavesFront, outlives};
 ghost use Rattle.line_loop.specs.Loop.{AllLasts};
 ghost use Rattle.segment_loop.specs.Digested.{hashed};
 ghost use Rattle.segment_loop.specs.Segments.{IsNamed};
@@ -76,8 +76,8 @@ pub fn serve_segments<D: Disk, I: Read, W: Write>(
         (I.remaining input.old) (I.remaining input.new) (W.contents out.old) (W.contents out.new)
         journal) }
 
-    // Where each note is put on the disk, and the content of files is known: what was delivered is there whenever the power fails.
-    ensures lasts { rules.entry.synced ≡ true → IsSome (D.holds disk.old)
+    // Where the content of files is known: what was delivered is there whenever the process ends and, with syncs, the power fails.
+    ensures lasts { outlives D.keeps_written rules.entry.synced ≡ true → IsSome (D.holds disk.old)
         → AllLasts (hashed (D.Grown.contents first.writer.inner) first.writer.hasher)
         (D.Grown.lasting first.writer.inner)
         → MatchResult result
@@ -93,14 +93,16 @@ pub fn serve_segments<D: Disk, I: Read, W: Write>(
         (hashed (D.Grown.contents first.writer.inner) first.writer.hasher)) served.new
         (I.remaining input.old) (I.remaining input.new) (W.contents out.old) (W.contents out.new)
         (D.leaves disk.new)) }
-    ensures whole { IfOk result (λ end. rules.entry.synced ≡ true → IsSome (D.holds disk.old)
+    ensures whole { IfOk result (λ end. outlives D.keeps_written rules.entry.synced ≡ true
+        → IsSome (D.holds disk.old)
         → AllLasts (hashed (D.Grown.contents first.writer.inner) first.writer.hasher)
         (D.Grown.lasting first.writer.inner)
         → AllLasts (hashed (D.Grown.contents end.writer.inner) end.writer.hasher)
         (D.Grown.lasting end.writer.inner)) }
 
     // Where no line may save, the segments before the last are there too, whole.
-    ensures earlier { rules.entry.permits.saves ≡ None → rules.entry.synced ≡ true
+    ensures earlier { rules.entry.permits.saves ≡ None
+        → outlives D.keeps_written rules.entry.synced ≡ true
         → IsSome (D.holds disk.old)
         → AllLasts (hashed (D.Grown.contents first.writer.inner) first.writer.hasher)
         (D.Grown.lasting first.writer.inner)

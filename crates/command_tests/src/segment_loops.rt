@@ -71,6 +71,7 @@ impl Segmented for Tally {
       HasNoNext = λ s why. (why ≡ end.OutOfMemory) × (s.told < s.poor);
       HasNoText = λ s why. why ≡ end.OutOfMemory;
       IsKept = λ old why new. (new.told ≡ old.told) × (new.kept ≡ Some why);
+      HasText = λ s number behind. Unit {0};
     } };
 
     fn is_due(&self) -> bool {

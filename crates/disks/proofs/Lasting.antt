@@ -51,12 +51,15 @@ pub opened_has : (held : Option Held) (name : List ℕ) (contents : Option (List
 opened_has None name contents opened has just = tt
 opened_has (Some held) name contents opened has just = subst (λ (bytes : Option (List ℕ)). HasJust has bytes) (opened.2 ∙ sym opened.1) just
 
--- a file that was opened, and whose name was put on the disk
-pub opened_leaves : (held was is : Option Held) (name : List ℕ) (contents : Option (List ℕ)) → Grows held name contents → Leaves was is name contents
-    → MayLeave was is name (bytes_in held name)
-opened_leaves held was is name contents opened leaves =
+-- a file that was opened, and whose name is left, if that is asked
+pub opened_leaves : (asked : Bool) (held was mid is : Option Held) (name : List ℕ) (on_disk contents : Option (List ℕ)) → Grows held name contents → mid ≡ was
+    → (asked ≡ true → on_disk ≡ contents) → (asked ≡ true → Leaves mid is name on_disk) → (asked ≡ false → is ≡ mid) → MayLeave was is name (bytes_in held name)
+opened_leaves true held was mid is name on_disk contents opened same all leaves stays =
     may_change was is name (λ has. HasJust has (bytes_in held name))
-    (changes_less was is name (λ has. HasJust has contents) (λ has. HasJust has (bytes_in held name)) (opened_has held name contents opened) leaves)
+    (changes_less was is name (λ has. HasJust has contents) (λ has. HasJust has (bytes_in held name)) (opened_has held name contents opened)
+    (leaves_same was mid is name on_disk contents same (all refl) (leaves refl)))
+opened_leaves false held was mid is name on_disk contents opened same all leaves stays =
+    left_stays was is name (bytes_in held name) (stays refl ∙ same)
 
 -- what lasts of a file that is not synced is not known
 pub front_of_synced : (synced : Bool) (lasting has : Option (List ℕ)) → BeginsWith has lasting → BeginsWith has (if synced then lasting else None)

@@ -1,7 +1,13 @@
--- What a loss of power leaves of files (this project's own).
-use Rattle.std.specs.Prelude.{◌≡◌, ℕ, ◌≤◌, ◌⊎◌, List, ◌++◌, length, take, Option, None, Some, Result, MatchResult, ⊤}
+-- What a loss of power, or an end of the process, leaves of files (this project's own).
+use Rattle.std.specs.Prelude.{◌≡◌, Bool, true, false, ℕ, ◌≤◌, ◌⊎◌, List, ◌++◌, length, take, Option, None, Some, Result, MatchResult, ⊤}
 use Rattle.std.specs.Io.KnownBytes.{Appends, Keeps}
 use Rattle.disks.specs.Held.{Held, IsOneFile, bytes_of}
+
+-- What is written is left: it is synced; or all that is written is left, synced or not, as where the
+-- process ends and the power does not.
+abbrev pub outlives : Bool → Bool → Bool
+outlives keeps true = true
+outlives keeps false = keeps
 
 -- ---- one file
 

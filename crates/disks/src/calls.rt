@@ -26,7 +26,8 @@ pub trait FileCalls {
     /// The folders and the content of the files, if that is known.
     ghost holds: { Self → Option Held } = { λ _. None };
 
-    /// These as a loss of power leaves them, if that is known. A call that may be lost is in it or not, which no clause says.
+    /// These as a loss of power leaves them (with `keeps_written` of `End`, an end of the process), if that is known. A call that
+    /// may be lost is in it or not, which no clause says.
     ghost leaves: { Self → Option Held } = { λ _. None };
 
     /// The bytes of a new file, where they are known to be on the disk.
@@ -109,6 +110,14 @@ pub trait FileCalls {
         ensures locked { OnOk result (Locks (holds self.old) (holds self.new) name.now) }
         ensures kept { OnErr result (holds self.new ≡ holds self.old) }
         ensures left { leaves self.new ≡ leaves self.old };
+
+    /// Has the name of this open file outlive the process, so that an end of it leaves by the name what is kept of the file.
+    fn keep_name(&mut self, end: &Self::End, name: &str) -> io::Result<()>
+        ensures kept { holds self.new ≡ holds self.old }
+        ensures lasts { Self.End.keeps_written ≡ true → OnOk result
+            (Leaves (leaves self.old) (leaves self.new) name.now (Self.End.on_disk end.now)) }
+        ensures stays { Self.End.keeps_written ≡ false → leaves self.new ≡ leaves self.old }
+        ensures left { OnErr result (leaves self.new ≡ leaves self.old) };
 
     /// Puts the name of this open file on the disk, so that a loss of power leaves by it what is on the disk of the file.
     ///

@@ -1,10 +1,10 @@
 //! The operations on files.
 
-ghost use Rattle.std.specs.Prelude.{◌≡◌, ℕ, List, [], Option, None, Some, IfOk, IfErr, IfSome, OnOk, OnErr, true, false, string_bytes};
+ghost use Rattle.std.specs.Prelude.{◌≡◌, ℕ, List, [], Option, None, Some, Bool, IfOk, IfErr, IfSome, OnOk, OnErr, true, false, string_bytes};
 ghost use Rattle.std.specs.Io.KnownBytes.{Keeps};
 ghost use Rattle.disks.specs.Held.{Held, is_folder, IsOneFile, Opens, Starts, Creates, Discards, Grows, Locks, Replaces};
 ghost use Rattle.disks.specs.Folders.{LeadsInto, LeadsToNoNew, Lists, names_of};
-ghost use Rattle.disks.specs.Lasting.{bytes_in, Leaves, MayLeave, MayRemove, LeavesFront};
+ghost use Rattle.disks.specs.Lasting.{bytes_in, Leaves, MayLeave, MayRemove, LeavesFront, outlives};
 
 use crate::grow::Grow;
 use std::io::{self, Read, Write};
@@ -35,9 +35,14 @@ pub trait Disk {
     /// The folders and the content of the files, if that is known.
     ghost holds: { Self → Option Held } = { λ _. None };
 
-    /// The folders and the content of the files as a loss of power at this moment leaves them, if that is known. What it says of a
-    /// file that is being grown is so once its writer is let go; until then the writer says what lasts.
+    /// The folders and the content of the files as a loss of power at this moment leaves them (with `keeps_written`, an end of the
+    /// process), if that is known. Of a file that is being grown it is so once its writer is let go; until then the writer says
+    /// what lasts.
     ghost leaves: { Self → Option Held } = { λ _. None };
+
+    /// Whether `leaves`, and `lasting` of the files that are grown, speak of an end of the process instead of a loss of power: what
+    /// was written is left then, synced or not. A clause over each disk speaks of both.
+    ghost keeps_written: { Bool } = { false };
 
     /// Opens the file of this name, which is not a folder. The reader has the bytes that the file holds now.
     fn open(&self, name: &str) -> io::Result<Self::Reader>
@@ -129,8 +134,8 @@ pub trait Disk {
         ensures kept { OnErr result (holds self.new ≡ holds self.old) }
         ensures left { leaves self.new ≡ leaves self.old };
 
-    /// Opens a file that is there to be written at its end. Its writer has the content of the file. With `synced` that content,
-    /// under its name, and all that is added are put on the disk.
+    /// Opens a file that is there to be written at its end. Its writer has the content of the file. That content, under its name,
+    /// and all that is added outlive the process; with `synced` they are put on the disk.
     ///
     /// # Errors
     ///
@@ -140,13 +145,13 @@ pub trait Disk {
         ensures opened { IfOk result
             (λ grown. Grows (holds self.old) name.now (Self.Grown.contents grown)) }
         ensures kept { holds self.new ≡ holds self.old }
-        ensures lasts { IfOk result (λ grown. synced ≡ true
+        ensures lasts { IfOk result (λ grown. outlives keeps_written synced ≡ true
             → (Self.Grown.lasting grown ≡ Self.Grown.contents grown)
             × Leaves (leaves self.old) (leaves self.new) name.now (Self.Grown.contents grown)) }
         ensures left { MayLeave (leaves self.old) (leaves self.new) name.now
             (bytes_in (holds self.old) name.now) };
 
-    /// Ends writing to a file of this name: it holds what its writer has, and a loss of power leaves just that.
+    /// Ends writing to a file of this name: it is synced, holds what its writer has, and is left with just that.
     ///
     /// # Errors
     ///

@@ -9,7 +9,7 @@ pub trait Grow {
     ghost contents: { Self → Option (List ℕ) } = { λ _. None };
 
     /// The bytes that a loss of power leaves at its beginning, whenever it comes from now on, where they are known: of a file
-    /// that is not synced they are not.
+    /// that is not synced they are not. With `keeps_written` of the disk, those that an end of the process leaves, synced or not.
     ghost lasting: { Self → Option (List ℕ) } = { λ _. None };
 
     /// Adds all of these bytes at the end. They outlive the process then and, if the file is synced, a loss of power.

@@ -5,7 +5,7 @@ ghost use Rattle.std.specs.Io.{WritesAtMost};
 ghost use Rattle.std.specs.Io.KnownBytes.{WriteAppends, Keeps};
 ghost use Rattle.std.proofs.Props.{props};
 ghost use Rattle.disks.specs.Calls.{Syncs};
-ghost use Rattle.disks.specs.Lasting.{Adds};
+ghost use Rattle.disks.specs.Lasting.{Adds, outlives};
 
 use crate::grow::Grow;
 use crate::same_file::leads_to;
@@ -22,8 +22,12 @@ pub trait EndFile {
     /// The bytes that it holds, where they are known.
     ghost written: { Self → Option (List ℕ) } = { λ _. None };
 
-    /// Those that a loss of power leaves at its beginning, whenever it comes from now on, where they are known.
+    /// Those that a loss of power leaves at its beginning, whenever it comes from now on, where they are known; with
+    /// `keeps_written`, those that an end of the process leaves.
     ghost on_disk: { Self → Option (List ℕ) } = { λ _. None };
+
+    /// Whether `on_disk` speaks of an end of the process instead of a loss of power.
+    ghost keeps_written: { Bool } = { false };
 
     /// No sync has failed. After one has, what was written may be lost with no further error.
     ghost is_sound: { Self → Bool } = { λ _. true };
@@ -34,6 +38,14 @@ pub trait EndFile {
         ensures bytes { WriteAppends (written self.old) (written self.new) result bytes.now }
         ensures on_disk { on_disk self.new ≡ on_disk self.old }
         ensures sound { is_sound self.new ≡ is_sound self.old };
+
+    /// Has the bytes outlive the process.
+    fn keep(&mut self) -> io::Result<()>
+        ensures kept { keeps_written ≡ true → Syncs result (is_sound self.old) (written self.old)
+            (on_disk self.old) (on_disk self.new) }
+        ensures stays { keeps_written ≡ false → on_disk self.new ≡ on_disk self.old }
+        ensures written { written self.new ≡ written self.old }
+        ensures sound { OnOk result (is_sound self.new ≡ is_sound self.old) };
 
     /// Puts the bytes on the disk.
     fn sync(&mut self) -> io::Result<()>
@@ -56,6 +68,11 @@ impl EndFile for File {
         self.write(bytes)
     }
 
+    fn keep(&mut self) -> io::Result<()> {
+        // what was written has left the process
+        Ok(())
+    }
+
     fn sync(&mut self) -> io::Result<()> {
         self.sync_data()
     }
@@ -76,7 +93,7 @@ pub struct GrownFile<F: EndFile> {
     /// A call has failed: nothing more is added.
     failed: bool,
     ghost sound: { failed ≡ false → F.EndFile.is_sound file ≡ true } by { Prim.hlevel props },
-    ghost settled: { failed ≡ false → synced ≡ true
+    ghost settled: { failed ≡ false → outlives F.EndFile.keeps_written synced ≡ true
         → F.EndFile.on_disk file ≡ F.EndFile.written file } by { Prim.hlevel props },
 }
 
@@ -101,27 +118,32 @@ fn put_all<F: EndFile>(file: &mut F, bytes: &[u8]) -> Result<(), usize>
     Ok(())
 }
 
-/// Puts the bytes of a file that is not synced on the disk, once this many are not there. Answers how many are not there then.
-fn sync_ahead<F: EndFile>(file: &mut F, behind: u64) -> io::Result<u64>
+/// Has the bytes of a file that is not synced outlive the process, and puts them on the disk once this many are not there. Answers
+/// how many are not there then.
+fn keep_ahead<F: EndFile>(file: &mut F, behind: u64) -> io::Result<u64>
+    ensures kept { F.EndFile.keeps_written ≡ true → Syncs result (F.EndFile.is_sound file.old)
+        (F.EndFile.written file.old) (F.EndFile.on_disk file.old) (F.EndFile.on_disk file.new) }
     ensures written { F.EndFile.written file.new ≡ F.EndFile.written file.old }
     ensures sound { OnOk result (F.EndFile.is_sound file.new ≡ F.EndFile.is_sound file.old) }
 {
     if behind <= AHEAD {
+        file.keep()?;
         return Ok(behind);
     }
     file.sync()?;
     Ok(0)
 }
 
-/// Puts a file on the disk, if that is asked.
+/// Puts a file that was opened on the disk, if that is asked; else has it outlive the process.
 fn sync_asked<F: EndFile>(file: &mut F, synced: bool) -> io::Result<()>
     ensures written { F.EndFile.written file.new ≡ F.EndFile.written file.old }
     ensures sound { OnOk result (F.EndFile.is_sound file.new ≡ F.EndFile.is_sound file.old) }
-    ensures synced { OnOk result (synced ≡ true → F.EndFile.is_sound file.old ≡ true
+    ensures synced { OnOk result (outlives F.EndFile.keeps_written synced ≡ true
+        → F.EndFile.is_sound file.old ≡ true
         → F.EndFile.on_disk file.new ≡ F.EndFile.written file.new) }
 {
     if !synced {
-        return Ok(());
+        return file.keep();
     }
     file.sync_whole()
 }
@@ -129,7 +151,8 @@ fn sync_asked<F: EndFile>(file: &mut F, synced: bool) -> io::Result<()>
 impl<F: EndFile> Grow for GrownFile<F> {
     ghost contents = { λ g. F.EndFile.written g.file };
 
-    ghost lasting = { λ g. if g.synced then F.EndFile.on_disk g.file else None };
+    ghost lasting = { λ g. if outlives F.EndFile.keeps_written g.synced
+        then F.EndFile.on_disk g.file else None };
 
     fn add(&mut self, bytes: &[u8]) -> Result<(), usize> {
         if self.failed {
@@ -143,7 +166,7 @@ impl<F: EndFile> Grow for GrownFile<F> {
             }
         } else {
             let behind = self.behind.saturating_add(bytes.len() as u64);
-            let Ok(after) = sync_ahead(&mut self.file, behind) else {
+            let Ok(after) = keep_ahead(&mut self.file, behind) else {
                 return Err(bytes.len());
             };
             self.behind = after;
@@ -164,7 +187,7 @@ impl<F: EndFile> GrownFile<F> {
         ensures written { IfOk result (λ grown.
             F.EndFile.written (file_of grown) ≡ F.EndFile.written file) }
         ensures mode { IfOk result (λ grown. is_synced grown ≡ synced) }
-        ensures settled { IfOk result (λ grown. synced ≡ true
+        ensures settled { IfOk result (λ grown. outlives F.EndFile.keeps_written synced ≡ true
             → F.EndFile.on_disk (file_of grown) ≡ F.EndFile.written file) }
     {
         sync_asked(&mut file, synced)?;
@@ -198,8 +221,10 @@ impl<F: EndFile> GrownFile<F> {
         ensures written { F.EndFile.written (file_of self.new)
             ≡ F.EndFile.written (file_of self.old) }
         ensures lasting { Keeps
-            (if is_synced self.old then F.EndFile.on_disk (file_of self.old) else None)
-            (if is_synced self.new then F.EndFile.on_disk (file_of self.new) else None) }
+            (if outlives F.EndFile.keeps_written (is_synced self.old)
+            then F.EndFile.on_disk (file_of self.old) else None)
+            (if outlives F.EndFile.keeps_written (is_synced self.new)
+            then F.EndFile.on_disk (file_of self.new) else None) }
     {
         if self.failed {
             return Err(io::Error::from(ErrorKind::Other));

@@ -82,15 +82,15 @@ fn take_sync(syncs: &mut u32) -> io::Result<()> {
 #[derive(Drop)]
 pub struct LosingEnd {
     alloc: Global,
-    bytes: Vec<u8>,
+    pub(crate) bytes: Vec<u8>,
     /// Those that were on the disk at the last sync. At first none of the file is.
-    settled: Vec<u8>,
+    pub(crate) settled: Vec<u8>,
     /// Where they are put when the file is let go.
     room: Box<Left>,
     /// How many syncs succeed.
     syncs: u32,
     /// A sync has failed. As on a system, the next may succeed then, and put nothing on the disk.
-    failed: bool,
+    pub(crate) failed: bool,
 }
 
 impl EndFile for LosingEnd {
@@ -102,6 +102,10 @@ impl EndFile for LosingEnd {
 
     fn put(&mut self, bytes: &[u8]) -> io::Result<usize> {
         self.bytes.write(bytes)
+    }
+
+    fn keep(&mut self) -> io::Result<()> {
+        Ok(())
     }
 
     fn sync(&mut self) -> io::Result<()> {
@@ -124,8 +128,8 @@ impl EndFile for LosingEnd {
 /// just the files whose names were put on the disk, or that were let go, with the bytes that were on the disk then.
 #[derive(Drop)]
 pub struct LosingCalls {
-    memory: MemoryDisk,
-    after_loss: Left,
+    pub(crate) memory: MemoryDisk,
+    pub(crate) after_loss: Left,
     /// How many syncs of a file succeed, once it is opened.
     file_syncs: u32,
     /// How many syncs of folders succeed.
@@ -243,6 +247,10 @@ impl FileCalls for LosingCalls {
 
     fn lock(&mut self, name: &str) -> io::Result<()> {
         self.memory.lock(name)
+    }
+
+    fn keep_name(&mut self, _end: &LosingEnd, _name: &str) -> io::Result<()> {
+        Ok(())
     }
 
     fn sync_name(&mut self, end: &LosingEnd, name: &str) -> io::Result<()> {

@@ -1,8 +1,8 @@
 //! The files of a system, by its calls.
 
-ghost use Rattle.std.specs.Prelude.{◌≡◌, IfErr, OnOk, OnErr};
+ghost use Rattle.std.specs.Prelude.{◌≡◌, true, false, IfErr, OnOk, OnErr};
 ghost use Rattle.disks.specs.Held.{Replaces};
-ghost use Rattle.disks.specs.Lasting.{Leaves};
+ghost use Rattle.disks.specs.Lasting.{Leaves, outlives};
 ghost use Rattle.disks.specs.GrownFile.{file_of};
 
 use crate::calls::FileCalls;
@@ -42,6 +42,22 @@ impl<C> SystemDisk<C> {
     }
 }
 
+/// Has the name of an open file outlive the process and, with `synced`, a loss of power.
+fn keep_name<C: FileCalls>(calls: &mut C, end: &C::End, name: &str, synced: bool) -> io::Result<()>
+    ensures kept { C.holds calls.new ≡ C.holds calls.old }
+    ensures lasts { outlives C.End.keeps_written synced ≡ true → OnOk result
+        (Leaves (C.leaves calls.old) (C.leaves calls.new) name.now (C.End.on_disk end.now)) }
+    ensures stays { outlives C.End.keeps_written synced ≡ false
+        → C.leaves calls.new ≡ C.leaves calls.old }
+    ensures left { OnErr result (C.leaves calls.new ≡ C.leaves calls.old) }
+{
+    if synced {
+        calls.sync_name(end, name)
+    } else {
+        calls.keep_name(end, name)
+    }
+}
+
 /// Ends writing to a file of which all is on the disk, or gives it back.
 fn close_settled<C: FileCalls>(
     calls: &mut C,
@@ -72,6 +88,8 @@ impl<C: FileCalls> Disk for SystemDisk<C> {
     ghost holds = { λ disk. C.holds disk.calls };
 
     ghost leaves = { λ disk. C.leaves disk.calls };
+
+    ghost keeps_written = { C.End.keeps_written };
 
     fn open(&self, name: &str) -> io::Result<C::Reader> {
         self.calls.open(name)
@@ -120,10 +138,7 @@ impl<C: FileCalls> Disk for SystemDisk<C> {
     fn grow(&mut self, name: &str, synced: bool) -> io::Result<GrownFile<C::End>> {
         let end = self.calls.open_end(name)?;
         let grown = GrownFile::begin(end, synced)?;
-        if !synced {
-            return Ok(grown);
-        }
-        match self.calls.sync_name(grown.file(), name) {
+        match keep_name(&mut self.calls, grown.file(), name, synced) {
             Ok(()) => Ok(grown),
             Err(fault) => Err(fault),
         }

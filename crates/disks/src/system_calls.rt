@@ -140,6 +140,11 @@ impl<'a, R: Files<File = File> + AllocGlobal> FileCalls for SystemCalls<'a, R> {
         Ok(())
     }
 
+    fn keep_name(&mut self, _end: &File, _name: &str) -> io::Result<()> {
+        // the name is there
+        Ok(())
+    }
+
     fn sync_name(&mut self, end: &File, name: &str) -> io::Result<()> {
         sync_folder_of(self.files, end, name)
     }

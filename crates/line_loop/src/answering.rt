@@ -19,7 +19,7 @@ pub trait AnswersLines {
     /// No line is answered any more until something else is done.
     ghost is_over: { Self → Bool };
 
-    /// Whether an answer may change what a loss of power leaves of files. Where none does, none does later.
+    /// Whether an answer may change what is left of files (`leaves` of a disk). Where none does, none does later.
     ghost changes_files: { Self → Bool } = { λ _. true };
 
     /// Answers a line, which has its LF: its answer and its notes are pending then.

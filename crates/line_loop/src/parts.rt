@@ -145,7 +145,7 @@ pub fn serve_part<S: AnswersLines, D: Disk, I: Read, J: Grow, W: Write>(
         IsFaultOf e (I.remaining input.old) (I.remaining input.new)) }
     ensures kept { is_some journal.new ≡ is_some journal.old }
 
-    // The same of the bytes that last: whenever the power fails, the journal has the notes of each delivered line.
+    // The same of the bytes that last: whenever the power or the process ends, the journal has the notes of each delivered line.
     ensures lasts { (begun : List ℕ) → HasBegun begun line.old.items
         → MatchResult result
         (λ ending. ServesPart ending (by_stand S.is_answered) (stand service.old (D.holds disk.old))

@@ -35,6 +35,7 @@ segmenting G = record {
   HasNoNext = λ r why. G.HasNoNext r.inner why;
   HasNoText = λ r why. G.HasNoText r.inner why;
   IsKept = λ old why new. G.IsKept old.inner why new.inner;
+  HasText = λ r number behind. G.HasText r.inner number behind;
 }
 
 -- What each line of the service inside does to files, each line does; so where their content is known

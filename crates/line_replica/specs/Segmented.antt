@@ -21,4 +21,5 @@ segmenting G = record {
   HasNoNext = λ r why. G.HasNoNext r.numbered.inner why ⊎ (why ≡ end.OutOfMemory);
   HasNoText = λ r why. G.HasNoText r.numbered.inner why ⊎ (why ≡ end.OutOfMemory);
   IsKept = λ old why new. G.IsKept old.numbered.inner why new.numbered.inner × IsSameAround old new;
+  HasText = λ r number behind. G.HasText r.numbered.inner number behind;
 }

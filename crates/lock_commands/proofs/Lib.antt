@@ -4,3 +4,4 @@ mod Summing
 pub mod UnreadLists
 mod StartedLocks
 mod UnderLock
+mod Living

@@ -1,4 +1,4 @@
--- What a loss of power leaves of the locks of a folder (this project's own).
+-- What a loss of power, or an end of the process, leaves of a folder's locks (this project's own).
 use Rattle.std.specs.Prelude.{ℕ, ◌⊎◌, List, Option}
 use Rattle.disks.specs.Held.{Held}
 use Rattle.ring_locks.specs.declared.handing.Handover.{Handover}
@@ -36,9 +36,9 @@ FolderLasts words holders before was is old new left =
     × AreStarted (folder_of words) (list_of words) holders there listed start
     × RunLasts words start listed was is old new left)
 
--- Whenever the power fails after the call: no line was served; or the folder is left with the notes
--- of all lines whose answers the output got, from where the locks started with the holders of the
--- file.
+-- Whenever the power fails or the process ends after the call: no line was served; or the folder is
+-- left with the notes of all lines whose answers the output got, from where the locks started with
+-- the holders of the file.
 abbrev pub ToldLocksLast : LocksWords → World → World → Option Held → Type 0
 ToldLocksLast words was is left =
     IsUnserved was.input is.input was.out is.out

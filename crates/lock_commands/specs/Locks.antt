@@ -31,6 +31,7 @@ use Rattle.line_replica.specs.Running.{at_place}
 use Rattle.line_replica.specs.Segmented as around
 use Rattle.line_replica.specs.Restoring as behind
 use Rattle.line_replica.specs.State.{lines_of, IsRestorable}
+use Rattle.lock_laws.specs.Begun.{HaveBegun}
 use Rattle.ring_requests.specs.declared.requests.LocksWords.{LocksWords}
 use Rattle.tool_parts.specs.declared.faults.ToolError.{ToolError}
 use Rattle.tool_parts.specs.declared.faults.ToolError.TheVariants as tool
@@ -85,12 +86,14 @@ pub record BeginsWith (words : LocksWords) (locks : List LockView) (s : Service)
   pub running : s.inner.running ≡ at_place 0 []
   pub whole : s.inner.lost ≡ false
 
--- It began where the locks start: the file of its first segment was put into the folder.
+-- It began where the locks start: the file of its first segment was put into the folder. The locks
+-- begin a segment: each ring shows the hold of its lock, and the rings have a text.
 pub record HasStarted (words : LocksWords) (start : Place) (files : Option Held)
     (first : Moment Service) : Type 0 where
   pub service : Service
   pub begins : BeginsWith words start.locks service
   pub begun : HasBegun by_segments (folder_of words) service start.number start.behind files first
+  pub locks : HaveBegun start.locks
 
 -- All lines were served from there on, in segments, and the file of the last one was settled.
 pub record IsRun (words : LocksWords) (start : Place) (end : Service)

@@ -1,13 +1,19 @@
 //! `locks`: the locks of a folder answer the lines of standard input, with a journal in the folder's segments.
 
-ghost use Rattle.std.specs.Prelude.{◌≡◌, ◌<◌, true, OnOk, IfOk, IfErr, IsSome};
+ghost use Rattle.std.specs.Prelude.{◌≡◌, ◌<◌, ℕ, List, true, false, OnOk, IfOk, IfErr, IsSome};
 ghost use Rattle.std.specs.Option.{option_map};
+ghost use Rattle.ring_saved.specs.Spelling.{Fits};
 ghost use Rattle.ring_segments.specs.Spelling.{DigestFits};
+ghost use Rattle.ring_locks.specs.Kept.{AreKept};
+ghost use Rattle.lock_serve.specs.Segments.{content_of};
 ghost use Rattle.lock_folder.specs.Folders.{place_of};
 ghost use Rattle.tool_parts.specs.Worlds.{world};
 ghost use Rattle.lock_commands.specs.Refusals.{IsListIf, IsNoListFor};
 ghost use Rattle.lock_commands.specs.Locks.{terms_of, BeginsWith, IsRun, IsServedIn, StaysLocked, IsLocksAnswer, IsRunRefused, IsRefusedIn, IsLocksRefusal};
 ghost use Rattle.lock_commands.specs.Lasting.{RunLasts, FolderLasts, ToldLocksLast};
+ghost use Rattle.disks.specs.Lasting.{outlives};
+ghost use Rattle.lock_commands.specs.Life.{RunLives, FolderLives, ToldLocksLive};
+ghost use Rattle.lock_laws.specs.Begun.{HaveBegun};
 
 use crate::holders::{holders_of, name_of};
 use crate::refusals::{begin_refusal, list_refusal, serving_refusal, start_refusal};
@@ -63,6 +69,8 @@ fn serve_from<'a, D: Disk, I: Read, W: Write>(
 ) -> Result<Restorable<Replica<LockService>>, ToolError<'a>>
     requires digest { DigestFits start.behind }
     requires number { 0 < start.number }
+    requires begin { (entries : List (ℕ × ℕ)) → AreKept start.locks entries
+        → Fits (content_of start.locks) → HaveBegun start.locks }
     ensures ok { IfOk result (λ end.
         IsRun words.now (place_of start) end (D.holds disk.old) (D.holds disk.new)
         (I.remaining input.old) (I.remaining input.new) (W.contents out.old) (W.contents out.new)) }
@@ -70,15 +78,19 @@ fn serve_from<'a, D: Disk, I: Read, W: Write>(
         IsRunRefused words.now (place_of start) (D.holds disk.old) (D.holds disk.new)
         (I.remaining input.old) (I.remaining input.new) (W.contents out.old) (W.contents out.new)
         e) }
-    ensures lasts { words.now.synced ≡ true → IsSome (D.holds disk.old)
+    ensures lasts { outlives D.keeps_written words.now.synced ≡ true → IsSome (D.holds disk.old)
         → RunLasts words.now (place_of start) (D.holds disk.old) (I.remaining input.old)
         (I.remaining input.new) (W.contents out.old) (W.contents out.new) (D.leaves disk.new) }
+    ensures life { words.now.faults ≡ false
+        → RunLives words.now (place_of start) (D.holds disk.old) (I.remaining input.old)
+        (I.remaining input.new) (W.contents out.old) (W.contents out.new) }
 {
     let Start {
         locks,
         number,
         behind,
     } = start;
+    locks.are_kept(); // says: they are, as they start
     let rules = SegmentRules {
         folder: words.journal,
         synced: words.synced,
@@ -118,11 +130,14 @@ fn run_in_folder<'a, D: Disk, I: Read, W: Write>(
         IsRefusedIn words.now holders.now (D.holds disk.old) (D.holds disk.new)
         (I.remaining input.old) (I.remaining input.new) (W.contents out.old)
         (W.contents out.new) e) }
-    ensures lasts { words.now.synced ≡ true → IsSome (D.holds disk.old)
+    ensures lasts { outlives D.keeps_written words.now.synced ≡ true → IsSome (D.holds disk.old)
         → FolderLasts words.now holders.now (D.holds disk.old) (I.remaining input.old)
         (I.remaining input.new) (W.contents out.old) (W.contents out.new) (D.leaves disk.new) }
     ensures held { IsSome (D.holds disk.old) → StaysLocked words.now (D.holds disk.new)
         (I.remaining input.old) (I.remaining input.new) (W.contents out.old) (W.contents out.new) }
+    ensures life { words.now.faults ≡ false
+        → FolderLives words.now holders.now (D.holds disk.old) (I.remaining input.old)
+        (I.remaining input.new) (W.contents out.old) (W.contents out.new) }
 {
     match lock_folder(alloc, disk, words.journal) {
         Ok(()) => {}
@@ -174,8 +189,9 @@ pub fn run<'a, D: Disk, I: Read, W: Write, E: Write>(
         (world (D.holds disk.new) (I.remaining input.new) (W.contents out.new)
         (E.contents err.new)) e) }
 
-    // Where each note is put on the disk, and the content of files is known: what was delivered is there whenever the power fails.
-    ensures lasts { words.now.synced ≡ true → IsSome (D.holds disk.old) → ToldLocksLast words.now
+    // Where the content of files is known: what was delivered is there whenever the process ends and, with syncs, the power fails.
+    ensures lasts { outlives D.keeps_written words.now.synced ≡ true → IsSome (D.holds disk.old)
+        → ToldLocksLast words.now
         (world (D.holds disk.old) (I.remaining input.old) (W.contents out.old) (E.contents err.old))
         (world (D.holds disk.new) (I.remaining input.new) (W.contents out.new)
         (E.contents err.new))
@@ -184,6 +200,11 @@ pub fn run<'a, D: Disk, I: Read, W: Write, E: Write>(
     // Where the content of files is known: the folder stays locked, also where serving ends with a fault.
     ensures held { IsSome (D.holds disk.old) → StaysLocked words.now (D.holds disk.new)
         (I.remaining input.old) (I.remaining input.new) (W.contents out.old) (W.contents out.new) }
+    // Where no fault is permitted: what was reported is part of a life of locks.
+    ensures life { words.now.faults ≡ false → ToldLocksLive words.now
+        (world (D.holds disk.old) (I.remaining input.old) (W.contents out.old) (E.contents err.old))
+        (world (D.holds disk.new) (I.remaining input.new) (W.contents out.new)
+        (E.contents err.new)) }
 {
     match check_named(alloc, words.locks) {
         Ok(()) => {}

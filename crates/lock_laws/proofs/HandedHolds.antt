@@ -35,7 +35,7 @@ same_rings old new h is =
 begun_handed : (v : LockView) (h : Handover) → v.holder ≡ Some (record { client = 0; token = h.token }) → IsBegun v → IsBegun (handed v h)
 begun_handed v h held b = record { shown = b.shown ∙ ap (λ (x : Option Holder). token_of x) held; small = b.small }
 
-each_handed : (old new : List LockView) (h : Handover) → IsHanded old new h → ((i : ℕ) (v : LockView) → slice_get old i ≡ Some v → IsBegun v) → (i : ℕ) (v : LockView) → slice_get new i ≡ Some v → IsBegun v
+pub each_handed : (old new : List LockView) (h : Handover) → IsHanded old new h → ((i : ℕ) (v : LockView) → slice_get old i ≡ Some v → IsBegun v) → (i : ℕ) (v : LockView) → slice_get new i ≡ Some v → IsBegun v
 each_handed old new h is each i v at =
     elim (get_set old h.lock i (handed is.lock h) is.lock v is.there (subst (λ (x : List LockView). slice_get x i ≡ Some v) is.new_is at)) [
       | inl p ↦ subst (λ (x : LockView). IsBegun x) (sym p.1) (begun_handed is.lock h is.held.held (each h.lock is.lock is.there))

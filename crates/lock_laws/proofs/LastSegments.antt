@@ -1,11 +1,12 @@
 -- What is kept of a folder's last segment starts the next run: the head of its file is the one that was written.
-use Rattle.std.proofs.Common.{◌≡◌, ℕ, ◌+◌, ◌%◌, ◌^◌, ◌<◌, ◌≤◌, Bool, true, false, eqb, List, [], ◌∷◌, ◌++◌, map, replicate, zero, suc, length, Option, Some, None, Ok, refl, sym, ◌∙◌, ap, subst, append_assoc, ◌⊎◌, inl, inr, arith}
+use Rattle.std.proofs.Common.{◌≡◌, ℕ, ◌+◌, ◌%◌, ◌^◌, ◌<◌, ◌≤◌, Bool, true, false, eqb, List, [], ◌∷◌, ◌++◌, map, replicate, take, drop, zero, suc, length, slice_get, Option, Some, None, Ok, refl, sym, ◌∙◌, ap, subst, append_assoc, ◌⊎◌, inl, inr, arith}
 use Rattle.std.specs.Prelude.{codes, ◌||◌, ◌-◌}
 use Rattle.std.specs.List.{AllByRecursion}
 use Rattle.std.specs.Fmt.{decimal}
 use Rattle.std.proofs.lemmas.Bool.{ne_eqb}
 use Rattle.std.proofs.lemmas.Fmt.{decimal_by_steps}
-use Rattle.std.proofs.lemmas.List.{length-map, append-nil}
+use Rattle.std.proofs.lemmas.List.{length-map, length-take-le, take-append-drop, append-nil}
+use Rattle.std.proofs.lemmas.Option.{slice_get_past}
 use Rattle.std.proofs.lemmas.List.Folds.{list_any-append}
 use Rattle.text_lines.proofs.Basics.{ok_is}
 use Rattle.disks.specs.Held.{Held, Thing, Nothing, Folder, File, file_bytes, is_a_thing, bytes_of, is_there}
@@ -32,15 +33,21 @@ use Rattle.torn_ends.proofs.Staying.{one_rest, told_stay}
 use Rattle.ring_endless.specs.Endless.{EndlessView}
 use Rattle.ring_serve.specs.Segments.{bases_of}
 use Rattle.ring_serve.specs.Recovered.{IsPrefix}
+use Rattle.ring_model.specs.declared.events.Event.{Event}
+use Rattle.ring_chains.specs.Bases.{shifted}
+use Rattle.ring_locks.specs.Locks.{Call}
+use Rattle.ring_locks.specs.Promises.{open_after}
+use Rattle.ring_locks.specs.Opened.{open_in, holder_behind, ended_before}
 use Rattle.ring_locks.specs.Kept.{LockView, IsKeptRing}
+use Rattle.ring_locks.specs.Handed.{AreHanded}
 use Rattle.lock_lists.specs.Lists.{Listed}
-use Rattle.lock_folder.specs.Rings.{AreBegun}
+use Rattle.lock_folder.specs.Rings.{IsRingOf, AreBegun}
 use Rattle.lock_folder.specs.Folders.{Place, StandsAt}
 use Rattle.lock_serve.specs.Segments.{rings_of}
 use Rattle.lock_laws.specs.Recovered.{AreMadeOf}
 use Rattle.lock_laws.specs.Life.{AreFound}
-use Rattle.lock_laws.specs.Started.{head_with, IsKeptLast, IsTornAfter, StartThere, KeptSegmentsStart, FoundLocksBegin}
-use Rattle.lock_laws.proofs.Following.{some_is}
+use Rattle.lock_laws.specs.Started.{head_with, IsNew, IsKeptLast, IsTornAfter, KeptSegmentsStart, FoundLocksBegin}
+use Rattle.lock_laws.proofs.Following.{some_is, also_there}
 use Rattle.lock_laws.proofs.Segments.{added_locks_begin}
 use Rattle.lock_laws.proofs.Started.{bases_many, started_locks_are_found}
 
@@ -85,6 +92,72 @@ a_thing Nothing bytes e = absurd cc
 a_thing Folder bytes e = absurd cc
 a_thing (File b) bytes e = refl
 
+-- ---- the locks that were there, and new ones after them
+
+nothing_got : {X : Type 0} (x : X) → ◌≡◌ {A = Option X} None (Some x) → ⊥
+nothing_got x e = cc
+
+get_take : {X : Type 0} (xs : List X) (n i : ℕ) (x : X) → slice_get (take n xs) i ≡ Some x → slice_get xs i ≡ Some x
+get_take xs zero i x e = absurd (nothing_got x e)
+get_take [] (suc n) i x e = e
+get_take (y ∷ xs) (suc n) zero x e = e
+get_take (y ∷ xs) (suc n) (suc i) x e = get_take xs n i x e
+
+all_there : (vs : List LockView) (Such : LockView → Type 0) → ((i : ℕ) (v : LockView) → slice_get vs i ≡ Some v → Such v) → AllByRecursion Such vs
+all_there [] Such f = tt
+all_there (v ∷ vs) Such f = (f zero v refl, all_there vs Such (λ i w e. f (suc i) w e))
+
+all_behind : (vs : List LockView) (n : ℕ) (Such : LockView → Type 0) → ((i : ℕ) (v : LockView) → n ≤ i → slice_get vs i ≡ Some v → Such v) → AllByRecursion Such (drop n vs)
+all_behind vs zero Such f = all_there vs Such (λ i v e. f i v (omega arith) e)
+all_behind [] (suc n) Such f = tt
+all_behind (v ∷ vs) (suc n) Such f = all_behind vs n Such (λ i w le e. f (suc i) w (omega (arith, le)) e)
+
+begun_take : (n : ℕ) (bs : List Base) (ss : List SavedRing) (ls : List Listed) (vs : List LockView) → length ss ≡ n → AreBegun bs ss ls vs → AreBegun bs ss (take n ls) (take n vs)
+begun_take n bs ss ls vs size b =
+    let rings = b.rings in
+    let many = b.many in
+    let one : length (take n ls) ≡ n = length-take-le n ls (omega (arith, rings, size)) in
+    let two : length (take n vs) ≡ n = length-take-le n vs (omega (arith, rings, size, many)) in
+    record { rings = omega (arith, size, one); many = two ∙ sym one; each = λ i l v p q. b.each i l v (get_take ls n i l p) (get_take vs n i v q) }
+
+none_left : (m : ℕ) → ◌≡◌ {A = List Event} (drop m []) []
+none_left zero = refl
+none_left (suc m) = refl
+
+-- a ring without history shows no hold
+none_open : (e : EndlessView) → e.ring.book.history ≡ [] → open_in e ≡ None
+none_open e none =
+    ap (λ (h : List Event). open_after None (map Call (drop (ended_before e) (shifted e.base h)))) none
+    ∙ ap (λ (es : List Event). open_after None (map Call es)) (none_left (ended_before e))
+
+new_behind : (bs : List Base) (ss : List SavedRing) (ls : List Listed) (vs : List LockView) (n : ℕ) → length bs ≡ n → length ss ≡ n → AreBegun bs ss ls vs → AllByRecursion IsNew (drop n vs)
+new_behind bs ss ls vs n size rings b = all_behind vs n IsNew is_new
+  where
+    is_new : (i : ℕ) (v : LockView) → n ≤ i → slice_get vs i ≡ Some v → IsNew v
+    is_new i v le at =
+        let l = also_there vs ls i v b.many at in
+        let k = b.each i l.0 v l.1 at in
+        let no_base : slice_get bs i ≡ None = slice_get_past bs i (omega (arith, size, le)) in
+        let no_ring : slice_get ss i ≡ None = slice_get_past ss i (omega (arith, rings, le)) in
+        let fresh : IsRingOf None None l.0 k.0 = subst (λ (o : Option Base). IsRingOf o None l.0 k.0) no_base (subst (λ (o : Option SavedRing). IsRingOf (slice_get bs i) o l.0 k.0) no_ring k.1) in
+        (k.2.line, k.2.holder ∙ ap (λ (t : Option ℕ). holder_behind t) (none_open k.0 fresh.history))
+
+-- locks start there, before a hold is handed over
+record IsThere (number : ℕ) (behind : List ℕ) (start : List LockView) (kept : List ℕ) (p : Place) : Type 0 where
+  pub number_is : p.number ≡ number
+  pub behind_is : p.behind ≡ behind
+  pub locks : List LockView
+  pub added : List LockView
+  pub front : List ℕ
+  pub left_out : List ℕ
+  pub parts : kept ≡ front ++ left_out
+  pub end : (left_out ≡ []) ⊎ IsTornAfter number behind start kept front
+  pub stays : (j : Journal) (told more : List ℕ) → IsRightJournal j → AreLines told
+      → without_remarks told ≡ journal_text j → kept ≡ told ++ more → IsPrefix told front
+  pub all : p.locks ≡ locks ++ added
+  pub found : AreFound start (without_remarks front) locks
+  pub new : AllByRecursion IsNew added
+
 module _ (held : Held) (folder : List ℕ) (number : ℕ) (behind : List ℕ) (start : List LockView) (kept : List ℕ) (k : IsKeptLast held folder number behind start kept) where
   is_number : IsNumber number
   is_number = (k.fits.first, k.fits.number)
@@ -116,13 +189,13 @@ module _ (held : Held) (folder : List ℕ) (number : ℕ) (behind : List ℕ) (s
         let m = told_stay h j told more s k.fits right lines journal t.0 in
         (m.0, one_rest h h rest (told ++ m.0) k.fits k.fits (sym is ∙ (sym t.1 ∙ (m.1 ∙ append_assoc (head_text h) told m.0))))
 
-  starts_there : (entries : List FolderEntry) → ListsNames held folder (names_of entries) → (range : Option SegmentNumbers) → IsRightNumbers entries (Ok range) → (locks : List Listed) (p : Place) → StandsAt (Some held) folder range locks p → length p.locks ≡ length start →
-      StartThere number behind start kept p
-  starts_there entries l None right locks p s many = absurd (none (sym (has_it (names_of entries) l) ∙ right.1 number is_number))
+  starts_there : (entries : List FolderEntry) → ListsNames held folder (names_of entries) → (range : Option SegmentNumbers) → IsRightNumbers entries (Ok range) → (locks : List Listed) (p : Place) → StandsAt (Some held) folder range locks p →
+      IsThere number behind start kept p
+  starts_there entries l None right locks p s = absurd (none (sym (has_it (names_of entries) l) ∙ right.1 number is_number))
     where
       none : true ≡ false → ⊥
       none e = cc
-  starts_there entries l (Some r) right locks p s many =
+  starts_there entries l (Some r) right locks p s =
       let from = right.1 in
       let inside = from.only number is_number (has_it (names_of entries) l) in
       let up : number ≤ r.last = inside.1 in
@@ -144,9 +217,13 @@ module _ (held : Held) (folder : List ℕ) (number : ℕ) (behind : List ℕ) (s
       let bases : s.segment.head.bases.items ≡ bases_of (rings_of start) = ap (λ (z : Head). z.bases) heads in
       let rings : List SavedRing = s.segment.saved.rings.items in
       let as_many : length s.segment.head.bases.items ≡ length (map block_of rings) = r.right.bases.rings in
-      let listed : length p.locks ≡ length locks = s.begun.many in
       let written : length s.segment.head.bases.items ≡ length start = ap (λ (bs : List Base). length bs) bases ∙ bases_many start in
-      let saved : length (map block_of rings) ≡ length rings = length-map rings block_of in record {
+      let saved : length (map block_of rings) ≡ length rings = length-map rings block_of in
+      let n : ℕ = length start in
+      let size : length rings ≡ n = omega (arith, as_many, written, saved) in
+      let begun : AreBegun (bases_of (rings_of start)) rings locks p.locks = subst (λ (bs : List Base). AreBegun bs rings locks p.locks) bases s.begun in
+      let fewer : length rings ≤ length locks = s.begun.rings in
+      let taken : length (take n locks) ≡ n = length-take-le n locks (omega (arith, size, fewer)) in record {
         number_is = s.number ∙ same;
         behind_is = s.behind ∙ ap (λ (z : Head). z.behind) heads;
         front = f.rest;
@@ -154,18 +231,21 @@ module _ (held : Held) (folder : List ℕ) (number : ℕ) (behind : List ℕ) (s
         parts = sym rest;
         end = torn_after s.segment s.last.bytes r.front r.left_out f.rest text (f.spelled ∙ ap (λ (z : Head). head_text z ++ f.rest) heads) r.end;
         stays = told_stays s.segment s.last.bytes r.front r.left_out f.rest text rest (f.spelled ∙ ap (λ (z : Head). head_text z ++ f.rest) heads) r.end;
-        found = started_locks_are_found start p.locks (without_remarks f.rest) s.segment.saved locks
+        locks = take n p.locks;
+        added = drop n p.locks;
+        all = sym (take-append-drop n p.locks);
+        found = started_locks_are_found start (take n p.locks) (without_remarks f.rest) s.segment.saved (take n locks)
             f.recovered
-            (subst (λ (bs : List Base). AreBegun bs rings locks p.locks) bases s.begun)
-            (omega (arith, as_many, listed, written, saved, many))
-            (omega (arith, listed, many));
+            (begun_take n (bases_of (rings_of start)) rings locks p.locks size begun)
+            (taken ∙ sym size)
+            taken;
+        new = new_behind (bases_of (rings_of start)) rings locks p.locks n (bases_many start) size begun;
       }
 
 pub kept_segments_start : KeptSegmentsStart
-kept_segments_start held folder number behind start kept word after p k started many =
+kept_segments_start held folder number behind start kept word holders after p k started =
     let stands = started.started.stands in
-    let same : p.locks ≡ stands.found.locks = stands.handed in
-    let t = starts_there held folder number behind start kept k started.entries started.listed.1 started.range started.right started.started.locks stands.found stands.stands (sym (ap (λ (vs : List LockView). length vs) same) ∙ many) in record {
+    let t = starts_there held folder number behind start kept k started.entries started.listed.1 started.range started.right started.started.locks stands.found stands.stands in record {
       number_is = stands.number ∙ t.number_is;
       behind_is = stands.behind ∙ t.behind_is;
       front = t.front;
@@ -173,7 +253,11 @@ kept_segments_start held folder number behind start kept word after p k started 
       parts = t.parts;
       end = t.end;
       stays = t.stays;
-      found = subst (λ (vs : List LockView). AreFound start (without_remarks t.front) vs) (sym same) t.found;
+      locks = t.locks;
+      added = t.added;
+      found = t.found;
+      new = t.new;
+      handed = subst (λ (vs : List LockView). AreHanded vs holders p.locks) t.all stands.handed;
     }
 
 -- ---- locks that are found

@@ -37,7 +37,13 @@ pub mod Lawful
 pub mod CutRemarks
 pub mod Around
 pub mod Started
+pub mod StartedBegin
 pub mod LastSegments
 pub mod Telling
 pub mod Parted
+pub mod Untold
 pub mod Stages
+pub mod PutSegments
+pub mod WholeEnds
+pub mod RunsGoOn
+pub mod OneLife

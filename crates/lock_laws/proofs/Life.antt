@@ -120,12 +120,12 @@ module _ (s : Stage) (k : IsStage s) where
 -- ---- the life
 
 -- what comes after a run, and the locks that the next begins with
-record IsPassedOn (s next : Stage) : Type 0 where
+pub record IsPassedOn (s next : Stage) : Type 0 where
   pub inputs : List Input
   pub run : IsLockRun (locks_of s.start.locks) s inputs
   pub locks : locks_of next.start.locks ≡ locks_after (locks_of s.start.locks) (inputs ++ behind s)
 
-passed_on : (s next : Stage) → IsStage s → Follows s.killed s next → IsPassedOn s next
+pub passed_on : (s next : Stage) → IsStage s → Follows s.killed s next → IsPassedOn s next
 passed_on s next k f = go s.killed refl f
   where
     go : (b : Bool) → s.killed ≡ b → Follows b s next → IsPassedOn s next

@@ -116,7 +116,7 @@ behind_is : (t : Option ℕ) → t ≡ token_of (holder_behind t)
 behind_is None = refl
 behind_is (Some t) = refl
 
-added_begins : (e ring : EndlessView) → IsKeptRing e → AreMade e (map Call (repairs (most_passes (length e.ring.book.now.ring.values)) (state_of e))) ring → IsBegun (record { ring = ring; line = []; holder = holder_behind (open_in e) })
+pub added_begins : (e ring : EndlessView) → IsKeptRing e → AreMade e (map Call (repairs (most_passes (length e.ring.book.now.ring.values)) (state_of e))) ring → IsBegun (record { ring = ring; line = []; holder = holder_behind (open_in e) })
 added_begins e ring k m =
     let most : ℕ = most_passes (length e.ring.book.now.ring.values) in record {
       shown = made_open e ring (map Call (repairs most (state_of e))) (open_kept e k) (repairs_seated most (state_of e)) m ∙ ((repairs_no_holds most (state_of e) (open_in e)).same ∙ behind_is (open_in e));

@@ -26,7 +26,7 @@ AreEach : List Base → List SavedRing → List LockView → Type 0
 AreEach bs ss vs =
     (i : ℕ) (b : Base) (s : SavedRing) (v : LockView) → slice_get bs i ≡ Some b → slice_get ss i ≡ Some s → slice_get vs i ≡ Some v → IsStarted b s v
 
-lock_is : (v : LockView) (line : List Waiter) (holder : Option Holder) → v.line ≡ line → v.holder ≡ holder → v ≡ record { ring = v.ring; line = line; holder = holder }
+pub lock_is : (v : LockView) (line : List Waiter) (holder : Option Holder) → v.line ≡ line → v.holder ≡ holder → v ≡ record { ring = v.ring; line = line; holder = holder }
 lock_is v line holder e f = ap (λ (x : List Waiter). record { ring = v.ring; line = x; holder = v.holder }) e ∙ ap (λ (x : Option Holder). record { ring = v.ring; line = line; holder = x }) f
 
 -- the rings of all

@@ -11,3 +11,4 @@ pub mod Lawful
 pub mod Around
 pub mod Started
 pub mod Runs
+pub mod OneLife

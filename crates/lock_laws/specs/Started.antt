@@ -1,5 +1,6 @@
 -- Locks that a folder's last segment starts are those that are found in it (this project's own).
-use Rattle.std.specs.Prelude.{◌≡◌, ℕ, ◌≤◌, ◌⊎◌, true, List, [], ◌++◌, length, Option, Some}
+use Rattle.std.specs.Prelude.{◌≡◌, ℕ, ◌≤◌, ◌⊎◌, true, List, [], ◌++◌, length, Option, Some, None}
+use Rattle.std.specs.List.{AllByRecursion}
 use Rattle.disks.specs.Held.{Held, bytes_of, is_there}
 use Rattle.segment_folder.specs.Names.{segment_file, IsNumber}
 use Rattle.ring_saved.specs.declared.saved.Saved.{Saved}
@@ -16,6 +17,8 @@ use Rattle.torn_ends.specs.Torn.{IsTorn}
 use Rattle.ring_serve.specs.Segments.{bases_of}
 use Rattle.ring_serve.specs.Recovered.{IsPrefix}
 use Rattle.ring_locks.specs.Kept.{LockView, AreKept}
+use Rattle.ring_locks.specs.declared.handing.Handover.{Handover}
+use Rattle.ring_locks.specs.Handed.{AreHanded}
 use Rattle.lock_lists.specs.Lists.{Listed}
 use Rattle.lock_folder.specs.Rings.{AreBegun}
 use Rattle.lock_folder.specs.Folders.{Place, AreStarted}
@@ -59,29 +62,42 @@ IsTornAfter number behind start kept front =
     × (torn : IsTorn (head_text (head_with number behind start) ++ kept) s)
     × (torn.front ≡ head_text (head_with number behind start) ++ front)
 
--- Locks start in that segment, as they are found in what is kept of it, or before a torn end.
--- That front has each right journal which is kept, whatever comes after it.
+-- of what is kept a start takes these bytes: all, or those before a torn end
+abbrev pub IsTakenOf : ℕ → List ℕ → List LockView → List ℕ → List ℕ → Type 0
+IsTakenOf number behind start kept front =
+    (front ≡ kept) ⊎ IsTornAfter number behind start kept front
+
+-- a lock that is new: no client waits for it, and none holds it
+abbrev pub IsNew : LockView → Type 0
+IsNew v = (v.line ≡ []) × (v.holder ≡ None)
+
+-- Locks start in that segment: those that are found in what is kept of it, or before a torn end, and
+-- new ones after them. Then each of these open holds was handed to its client. That front has each
+-- right journal which is kept, whatever comes after it.
 pub record StartThere (number : ℕ) (behind : List ℕ) (start : List LockView) (kept : List ℕ)
-    (p : Place) : Type 0 where
+    (holders : List Handover) (p : Place) : Type 0 where
   pub number_is : p.number ≡ number
   pub behind_is : p.behind ≡ behind
   pub front : List ℕ
   pub left_out : List ℕ
   pub parts : kept ≡ front ++ left_out
   pub end : (left_out ≡ []) ⊎ IsTornAfter number behind start kept front
-  pub found : AreFound start (without_remarks front) p.locks
   pub stays : (j : Journal) (told more : List ℕ) → IsRightJournal j → AreLines told
       → without_remarks told ≡ journal_text j → kept ≡ told ++ more → IsPrefix told front
+  pub locks : List LockView
+  pub added : List LockView
+  pub found : AreFound start (without_remarks front) locks
+  pub new : AllByRecursion IsNew added
+  pub handed : AreHanded (locks ++ added) holders p.locks
 
--- A law: what is kept of a folder's last segment starts the next run, if no lock is new and no hold
--- is handed over.
+-- A law: what is kept of a folder's last segment starts the next run.
 abbrev pub KeptSegmentsStart : Type 0
 KeptSegmentsStart =
     (held : Held) (folder : List ℕ) (number : ℕ) (behind : List ℕ) (start : List LockView)
-    (kept : List ℕ) (word : Option (List ℕ)) (after : Option Held) (p : Place)
-    → IsKeptLast held folder number behind start kept
-    → AreStarted folder word [] (Some held) after p → length p.locks ≡ length start
-    → StartThere number behind start kept p
+    (kept : List ℕ) (word : Option (List ℕ)) (holders : List Handover) (after : Option Held)
+    (p : Place) → IsKeptLast held folder number behind start kept
+    → AreStarted folder word holders (Some held) after p
+    → StartThere number behind start kept holders p
 
 -- A law: locks that are found begin a segment, if they are kept and have a text.
 abbrev pub FoundLocksBegin : Type 0
@@ -89,3 +105,12 @@ FoundLocksBegin =
     (start found : List LockView) (journal : List ℕ) (entries : List (ℕ × ℕ))
     → AreFound start journal found → AreKept found entries → Fits (content_of found)
     → HaveBegun found
+
+-- A law: locks that start in a folder begin a segment, if they are kept and have a text: new ones
+-- among them, and with holds that are handed over.
+abbrev pub StartedLocksBegin : Type 0
+StartedLocksBegin =
+    (folder : List ℕ) (word : Option (List ℕ)) (holders : List Handover)
+    (before after : Option Held) (p : Place) (entries : List (ℕ × ℕ))
+    → AreStarted folder word holders before after p → AreKept p.locks entries
+    → Fits (content_of p.locks) → HaveBegun p.locks

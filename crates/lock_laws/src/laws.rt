@@ -7,8 +7,9 @@ ghost use Rattle.lock_laws.specs.Around.{ReplicaRunsAreStages, OtherLinesAreRepl
 ghost use Rattle.lock_laws.specs.Begun.{ServedLinesAreAnswered, AnsweredLinesFollow};
 ghost use Rattle.lock_laws.specs.Equal.{EqualLinesGiveEqualAnswers, EqualSegmentsEndEqually};
 ghost use Rattle.lock_laws.specs.KeysBack.{FreshIsSound, OwnLinesAreLines, SoundStays, KeysComeBack, PlacesAreLast};
-ghost use Rattle.lock_laws.specs.Runs.{PartsAreStages, RunsFollow};
-ghost use Rattle.lock_laws.specs.Started.{StartedLocksAreFound, KeptSegmentsStart, FoundLocksBegin};
+ghost use Rattle.lock_laws.specs.OneLife.{RunsAreOneLife};
+ghost use Rattle.lock_laws.specs.Runs.{PartsAreStages, PutSegmentsAreStages, RunsFollow, RunsGoOn};
+ghost use Rattle.lock_laws.specs.Started.{StartedLocksAreFound, KeptSegmentsStart, FoundLocksBegin, StartedLocksBegin};
 ghost use Rattle.lock_laws.specs.StateBack.{HoldsAreFirst, StateComesBack};
 ghost use Rattle.lock_laws.specs.WaitersBack.{HavingStateStays, WaitersComeBack};
 ghost use Rattle.lock_laws.specs.Remarked.{LocksOfReplicasComeBack, RemarksBringBack};
@@ -123,18 +124,31 @@ pub fn replica_runs_are_stages()
 /// Lines that a program of locks delivers in parts, whatever segments end between them, and lines after them that were answered,
 /// are such runs in stages, segment by segment: begun with the locks of the first part, they say one after the other what was said,
 /// and the last one's journal is what is kept of the last segment's file. And a run that begins with the locks that are found there
-/// follows it.
+/// follows it. If the run ended when the file of the next segment had been put there, that is a stage without lines. And what is left
+/// of the last segment starts the next run there.
 pub fn parts_are_stages()
     ensures parts { PartsAreStages }
     ensures runs { RunsFollow }
+    ensures put { PutSegmentsAreStages }
+    ensures go_on { RunsGoOn }
 {}
 
-/// The locks that start of a folder's last segment, none of them new, are those that are found in its journal: the head of
-/// the file is read as it was written, whatever is kept after it; a torn end is left out, and comes after each right journal
-/// that is kept. So a run of the program that begins with what another one left follows it in a life; and locks that are
-/// found begin a segment again.
+/// So runs over one folder, each ended at any moment, and each next one started from what was left of the one before it,
+/// are one list of inputs of the machine of locks, with a restart between two runs: what each run said is what the machine
+/// answers to its part of the list, and each run begins with the locks after all inputs before it, with new ones after
+/// them, when its holds were handed over.
+pub fn runs_are_one_life()
+    ensures { RunsAreOneLife }
+{}
+
+/// The locks that start from a folder's last segment are those that are found in its journal, with new ones after them,
+/// when holds were handed over: the head of the file is read as it was written, whatever is kept after it; a torn end is
+/// left out, and comes after each right journal that is kept. So a run of the program that begins with what another one
+/// left follows it in a life; and locks that are found begin a segment again. So do all locks that start, new ones and
+/// handed holds among them.
 pub fn started_locks_are_found()
     ensures found { StartedLocksAreFound }
     ensures kept { KeptSegmentsStart }
     ensures begun { FoundLocksBegin }
+    ensures starts { StartedLocksBegin }
 {}

@@ -6,3 +6,5 @@ pub mod NeverFull
 pub mod Places
 pub mod Counts
 pub mod StateLines
+pub mod Fitting
+pub mod Answered

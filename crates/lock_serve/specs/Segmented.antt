@@ -6,7 +6,7 @@ use Rattle.lock_serve.specs.declared.service.LockService.{LockService}
 use Rattle.lock_serve.specs.declared.service.Stage.{Stage}
 use Rattle.lock_serve.specs.declared.service.Stage.TheVariants as stage
 use Rattle.lock_serve.specs.Due.{IsUnended, HaveNoText}
-use Rattle.lock_serve.specs.Segments.{segment_text}
+use Rattle.lock_serve.specs.Segments.{segment_text, HasText}
 
 -- how many lines the journal of a segment may have
 abbrev pub limit_of : Option ℕ → ℕ
@@ -40,4 +40,5 @@ segmenting = record {
   HasNoNext = λ s why. IsUnended s.segment.locks why;
   HasNoText = λ s why. HaveNoText s.segment.locks why;
   IsKept = λ old why new. new ≡ record old { stage = stage.KeptOn };
+  HasText = λ s number behind. HasText number behind s.segment.locks;
 }

@@ -1,8 +1,13 @@
 -- The text of a segment of locks (this project's own).
 use Rattle.std.specs.Prelude.{ℕ, List, map}
+use Rattle.std.specs.List.{AllByRecursion}
 use Rattle.ring_saved.specs.Content.{Content}
+use Rattle.ring_saved.specs.Spelling.{BlockFits, Fits}
+use Rattle.ring_saved.specs.Versions.{latest_version}
+use Rattle.ring_segments.specs.Spelling.{HeadFits}
 use Rattle.ring_endless.specs.Endless.{EndlessView}
 use Rattle.ring_serve.specs.Standings.{Standing, standing_of}
+use Rattle.ring_serve.specs.Segments.{bases_of}
 use Rattle.ring_serve.specs.Saved as saved
 use Rattle.chain_serve.specs.Texts as texts
 use Rattle.ring_locks.specs.Kept.{LockView}
@@ -21,3 +26,16 @@ content_of locks = saved.content_of (rings_of locks)
 -- the text with which the file of the segment of this number begins, after a file of this digest
 abbrev pub segment_text : ℕ → List ℕ → List LockView → List ℕ
 segment_text number behind locks = texts.segment_text number behind (rings_of locks)
+
+-- the block of each ring fits in a saved text
+abbrev pub BlocksFit : List LockView → Type 0
+BlocksFit locks = AllByRecursion (BlockFits latest_version) (saved.blocks_from 0 (rings_of locks))
+
+-- there is such a text: the head fits in it, and so do the rings
+pub record HasText (number : ℕ) (behind : List ℕ) (locks : List LockView) : Type 0 where
+  pub head : HeadFits (record {
+    number = number;
+    behind = behind;
+    bases = bases_of (rings_of locks);
+  })
+  pub rings : Fits (content_of locks)

@@ -3,7 +3,7 @@ use Rattle.std.specs.Prelude.{◌≡◌, ℕ, Bool, true, false, cond, ◌&&◌,
 use Rattle.ring_locks.specs.declared.answers.Answers.{Answers}
 use Rattle.ring_locks.specs.declared.answers.Left.{Left}
 use Rattle.ring_locks.specs.Locks.{Ask}
-use Rattle.ring_locks.specs.Kept.{answers_of, IsLeft}
+use Rattle.ring_locks.specs.Kept.{answers_of, IsLeft, AreKept}
 use Rattle.lock_lines.specs.declared.answers.Denial.{Denial}
 use Rattle.lock_lines.specs.declared.answers.Denial.TheVariants as denial
 use Rattle.lock_lines.specs.declared.inputs.Input.{Input}
@@ -114,8 +114,12 @@ pub record AnswersInput (old : LockService) (i : Input) (said noted : List ℕ) 
   pub terms : new.terms ≡ old.terms
   pub stage : new.stage ≡ stage_after old.stage (is_past old.terms new.segment)
 
--- from one state of the service to another a line was answered, on the same terms, and no file has
--- changed
+-- the locks of the service are kept
+abbrev pub IsKept : LockService → Type 0
+IsKept s = (entries : List (ℕ × ℕ)) × AreKept s.segment.locks entries
+
+-- from one state of the service to another a line was answered, on the same terms; no file has
+-- changed, and the locks are kept
 pub record IsServed (old : LockService) (was : Option Held) (line said noted : List ℕ)
     (new : LockService) (is : Option Held) : Type 0 where
   pub goes : IsOpen old
@@ -123,6 +127,7 @@ pub record IsServed (old : LockService) (was : Option Held) (line said noted : L
   pub terms : new.terms ≡ old.terms
   pub stage : new.stage ≡ stage_after old.stage (is_past old.terms new.segment)
   pub files : is ≡ was
+  pub kept : IsKept new
 
 -- what is pending has grown by an answer and its notes
 abbrev pub IsAdded : Pending → Pending → List ℕ → List ℕ → Type 0

@@ -13,4 +13,5 @@ by_start old new full said noted long a =
       terms = a.terms;
       stage = a.stage;
       files = a.files;
+      kept = a.kept;
     }

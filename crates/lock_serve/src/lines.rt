@@ -3,7 +3,7 @@
 ghost use Rattle.std.specs.Prelude.{◌≡◌, ◌++◌, ◌⊎◌, ℕ, List, false, OnOk, OnErr};
 ghost use Rattle.lock_serve.specs.Serving.{IsServed};
 
-use crate::service::{LockService, Stage, answer};
+use crate::service::{LockService, Stage, answer, are_kept};
 use disks::Disk;
 use line_loop::{AnswersLines, Pending};
 use lock_lines::read_input;
@@ -45,7 +45,9 @@ impl AnswersLines for LockService {
             → (D.leaves disk.new ≡ D.leaves disk.old) × (false ≡ false) }
     {
         let input = read_input(line);
-        answer(self, input, pending)
+        let told = answer(self, input, pending);
+        are_kept(self);
+        told
     }
 
     fn is_over(&self) -> bool {

@@ -9,7 +9,7 @@ ghost use Rattle.lock_serve.specs.Asking.{is_off, asked, is_want};
 ghost use Rattle.lock_serve.specs.Segments.{content_of};
 ghost use Rattle.lock_serve.specs.Counting.{IsStart};
 ghost use Rattle.lock_serve.specs.Segmented.{limit_of, is_to_end};
-ghost use Rattle.lock_serve.specs.Serving.{IsToldOf, IsToldOfLeave, IsAnsweredIf, denial_of, IsInputAnswered, AnswersInput, IsAdded, Leaves, put, is_past, stage_after};
+ghost use Rattle.lock_serve.specs.Serving.{IsToldOf, IsToldOfLeave, IsAnsweredIf, denial_of, IsInputAnswered, AnswersInput, IsKept, IsAdded, Leaves, put, is_past, stage_after};
 
 use crate::asking::{OneAsk, is_off, is_want, one_ask};
 use crate::noting::{events_at, note_if, note_left_if, tell, tell_left};
@@ -276,6 +276,13 @@ pub(crate) fn answer(
         }
         Err(Untold::Unanswered) => Err(AllocError),
     }
+}
+
+/// The locks are kept, at each moment: this does nothing, and says so.
+pub(crate) fn are_kept(service: &LockService)
+    ensures { IsKept service.now }
+{
+    service.locks().are_kept();
 }
 
 impl LockService {

@@ -1,17 +1,17 @@
 //! The text with which a segment of locks begins.
 
-ghost use Rattle.std.specs.Prelude.{◌≡◌, ◌≤◌, ◌<◌, ◌^◌, ◌++◌, length, slice_get, Some, IfOk, IfErr};
+ghost use Rattle.std.specs.Prelude.{◌≡◌, ◌≤◌, ◌<◌, ◌^◌, ◌++◌, length, slice_get, Some, IfOk, IfErr, OnOk};
 ghost use Rattle.std.specs.List.{flat_map};
 ghost use Rattle.text_lines.specs.Writing.{Writes};
 ghost use Rattle.ring_saved.specs.Versions.{latest_version};
 ghost use Rattle.ring_saved.specs.Spelling.{block_text, text, BlockFits};
 ghost use Rattle.ring_journal.specs.Spelling.{head_text as journal_text};
-ghost use Rattle.ring_segments.specs.Spelling.{head_of, head_text, DigestFits};
+ghost use Rattle.ring_segments.specs.Spelling.{head_of, head_text, DigestFits, HeadFits};
 ghost use Rattle.ring_serve.specs.Standings.{standing_of};
 ghost use Rattle.ring_serve.specs.Segments.{bases_of};
 ghost use Rattle.ring_serve.specs.Saved.{block_at, blocks_from};
 ghost use Rattle.lock_serve.specs.Due.{HaveNoText};
-ghost use Rattle.lock_serve.specs.Segments.{rings_of, content_of, segment_text};
+ghost use Rattle.lock_serve.specs.Segments.{rings_of, content_of, segment_text, BlocksFit, HasText};
 
 use ring_chains::Base;
 use ring_desk::put_ring;
@@ -49,8 +49,9 @@ fn put_block<W: Write>(out: &mut W, lock: u32, ring: &EndlessRing) -> Result<(),
 
 /// Writes the blocks of the rings of the locks.
 fn put_blocks<W: Write>(out: &mut W, locks: &Locks) -> Result<(), WriteFault>
-    ensures { Writes (W.contents out.old) (W.contents out.new) result
+    ensures written { Writes (W.contents out.old) (W.contents out.new) result
         (flat_map block_text (blocks_from 0 (rings_of locks.now))) }
+    ensures fits { IfOk result (λ _. BlocksFit locks.now) }
 {
     let count = locks.count();
     for lock in 0..count {
@@ -64,8 +65,9 @@ fn put_blocks<W: Write>(out: &mut W, locks: &Locks) -> Result<(), WriteFault>
 
 /// Writes the saved text of the rings of the locks.
 fn put_rings<W: Write>(out: &mut W, locks: &Locks) -> Result<(), WriteFault>
-    ensures { Writes (W.contents out.old) (W.contents out.new) result
+    ensures written { Writes (W.contents out.old) (W.contents out.new) result
         (text (content_of locks.now)) }
+    ensures fits { IfOk result (λ _. BlocksFit locks.now) }
 {
     put_lines::put_first_line(out, LATEST_VERSION)?;
     put_blocks(out, locks)?;
@@ -75,8 +77,9 @@ fn put_rings<W: Write>(out: &mut W, locks: &Locks) -> Result<(), WriteFault>
 
 /// Writes the beginning of a journal of these locks.
 pub(crate) fn put_beginning<W: Write>(out: &mut W, locks: &Locks) -> Result<(), WriteFault>
-    ensures { Writes (W.contents out.old) (W.contents out.new) result
+    ensures written { Writes (W.contents out.old) (W.contents out.new) result
         (journal_text (content_of locks.now)) }
+    ensures fits { IfOk result (λ _. BlocksFit locks.now) }
 {
     match put_first_line(out) {
         Ok(()) => put_rings(out, locks),
@@ -91,8 +94,9 @@ fn put_segment<W: Write>(out: &mut W, head: &SegmentHead, locks: &Locks) -> Resu
     requires digits { DigestFits head.now.behind }
     requires some { 0 < length head.now.bases.items }
     requires most { length head.now.bases.items < 2 ^ 32 }
-    ensures { Writes (W.contents out.old) (W.contents out.new) result
+    ensures written { Writes (W.contents out.old) (W.contents out.new) result
         (head_text (head_of head.now) ++ journal_text (content_of locks.now)) }
+    ensures fits { IfOk result (λ _. HeadFits (head_of head.now) × BlocksFit locks.now) }
 {
     match put_head(out, head) {
         Ok(()) => put_beginning(out, locks),
@@ -115,6 +119,7 @@ pub(crate) fn segment_text(
     requires digits { DigestFits behind }
     ensures text { IfOk result (λ text. text.items ≡ segment_text number behind locks.now) }
     ensures why { IfErr result (λ e. HaveNoText locks.now e) }
+    ensures fits { OnOk result (HasText number behind locks.now) }
 {
     if locks.count() == 0 {
         return Err(EndFault::File);
@@ -129,7 +134,8 @@ pub(crate) fn segment_text(
     };
     let mut text = Vec::new(alloc);
     match put_segment(&mut text, &head, locks) {
-        Ok(()) => Ok(text),
-        Err(_) => Err(EndFault::OutOfMemory),
+        Ok(()) => {}
+        Err(_) => return Err(EndFault::OutOfMemory),
     }
+    Ok(text)
 }

@@ -375,7 +375,8 @@ pub fn serve<D: Disk, I: Read, J: Grow + Drop, W: Write>(
         (record { journal = held_by J.contents journal.old; out = W.contents out.old })
         (record { journal = held_by J.contents journal.new; out = W.contents out.new }) }
 
-    // The same of the bytes that last: whenever the power fails, the calls of the delivered lines are recovered from the journal.
+    // The same of the bytes that last: whenever the power or the process ends, the calls of the delivered lines are recovered from
+    // the journal.
     ensures lasts { AnsweredCallsAreRecovered (terms_of (named_by journal.old) permits.entry)
         served.old served.new (D.holds disk.old) (D.holds disk.new) (I.remaining input.old)
         (I.remaining input.new)

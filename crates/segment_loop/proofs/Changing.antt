@@ -1,5 +1,5 @@
 -- What is known of the file of a segment that is opened.
-use Rattle.std.proofs.Common.{◌≡◌, ℕ, ◌+◌, List, Option, None, Some, refl, sym, subst, ◌∙◌, ◌⊎◌, inl, inr}
+use Rattle.std.proofs.Common.{◌≡◌, ℕ, ◌+◌, true, List, Option, None, Some, refl, sym, subst, ◌∙◌, ◌⊎◌, inl, inr}
 use Rattle.std.specs.Prelude.{IfSome}
 use Rattle.disks.specs.Held.{Held, bytes_of, Grows, Replaces}
 use Rattle.segment_folder.specs.Names.{segment_file}
@@ -60,8 +60,8 @@ module _ {S : Type 0} (G : Segmenting S) (folder : List ℕ) (service : S) (was 
   settled_here = subst (λ (x : List ℕ). Replaces was mid x journal) old settled
 
   pub is_put : (next : S) (put : Option Held) (n : ℕ) (behind text new_name : List ℕ) → G.IsNext service next → n ≡ number + 1 → IfSome journal (λ (bytes : List ℕ). behind ≡ digest_of bytes) →
-      Replaces mid put new_name (Some text) → new_name ≡ segment_file folder n → text ≡ G.text next n behind → IsPut G folder (moment_of service was number journal) next put
-  is_put next put n behind text new_name follows counted digest there named spelled = record {
+      Replaces mid put new_name (Some text) → new_name ≡ segment_file folder n → text ≡ G.text next n behind → G.HasText next n behind → G.is_due service ≡ true → IsPut G folder (moment_of service was number journal) next put
+  is_put next put n behind text new_name follows counted digest there named spelled fits due = record {
     behind = behind;
     between = mid;
     follows = follows;
@@ -69,15 +69,17 @@ module _ {S : Type 0} (G : Segmenting S) (folder : List ℕ) (service : S) (was 
     settled = settled_here;
     put = subst (λ (m : ℕ). Replaces mid put (segment_file folder m) (Some (G.text next m behind))) counted
         (subst (λ (x : List ℕ). Replaces mid put (segment_file folder n) (Some x)) spelled (subst (λ (x : List ℕ). Replaces mid put x (Some text)) named there));
+    fits = subst (λ (m : ℕ). G.HasText next m behind) counted fits;
+    due = due;
   }
 
   pub has_ended : (next : S) (put is : Option Held) (n b : ℕ) (w : Option (List ℕ)) (behind text new_name : List ℕ) (hasher : Sha256) → G.IsNext service next → n ≡ number + 1 → b ≡ n → IfSome journal (λ (bytes : List ℕ). behind ≡ digest_of bytes) →
-      Replaces mid put new_name (Some text) → new_name ≡ segment_file folder n → text ≡ G.text next n behind → is ≡ put → Holds256 hasher text → Knows put new_name hasher w → HasEnded G folder (moment_of service was number journal) (moment_of next is b w)
+      Replaces mid put new_name (Some text) → new_name ≡ segment_file folder n → text ≡ G.text next n behind → G.HasText next n behind → G.is_due service ≡ true → is ≡ put → Holds256 hasher text → Knows put new_name hasher w → HasEnded G folder (moment_of service was number journal) (moment_of next is b w)
   unfolding is_put
-  has_ended next put is n b w behind text new_name hasher follows counted same digest there named spelled kept hashes known =
+  has_ended next put is n b w behind text new_name hasher follows counted same digest there named spelled fits due kept hashes known =
       subst (λ (i : Option Held). HasEnded G folder (moment_of service was number journal) (moment_of next i b w)) (sym kept)
       (subst (λ (m : ℕ). HasEnded G folder (moment_of service was number journal) (moment_of next put m w)) (sym same) (record {
-        file = is_put next put n behind text new_name follows counted digest there named spelled;
+        file = is_put next put n behind text new_name follows counted digest there named spelled fits due;
         number = counted;
         journal = subst (λ (x : List ℕ). IfSome mid (λ (held : Held). w ≡ Some x)) spelled (placed_known mid put new_name text hasher w there hashes known);
       }))

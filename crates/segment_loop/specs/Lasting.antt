@@ -1,4 +1,4 @@
--- What a loss of power leaves of the segments of a run (this project's own).
+-- What a loss of power, or an end of the process, leaves of a run's segments (this project's own).
 use Rattle.std.specs.Prelude.{◌≡◌, ℕ, ◌+◌, ◌<◌, ◌⊎◌, List, [], ◌∷◌, Option, None, Some, IfSome}
 use Rattle.disks.specs.Held.{Held, IsOneFile, bytes_of}
 use Rattle.disks.specs.Lasting.{HasFront}
@@ -19,8 +19,8 @@ HasNext {S} G folder a bytes held =
     × (bytes_of held (segment_file folder (a.number + 1))
     ≡ Some (G.text next (a.number + 1) (digest_of bytes)))
 
--- Where it is known what a loss of power leaves: the segment's file begins with these bytes, or the
--- next segment is there, after just them.
+-- Where it is known what is left: the segment's file begins with these bytes, or the next segment is
+-- there, after just them.
 abbrev pub LeavesSegment : {S : Type 0} → Segmenting S → List ℕ → Moment S → List ℕ → Option Held
     → Type 0
 LeavesSegment G folder a bytes left =
@@ -28,9 +28,9 @@ LeavesSegment G folder a bytes left =
     (λ held. HasFront held (segment_file folder a.number) (Some bytes)
     ⊎ HasNext G folder a bytes held)
 
--- Wherever serving ended, and whenever the power fails then: the file of the last segment begins
--- with these bytes, which have the notes of all lines that were delivered in it; or that of the
--- next one is there, which the service begins after them.
+-- Wherever serving ended, and whenever the power fails or the process ends then: the file of the
+-- last segment begins with these bytes, which have the notes of all lines that were delivered in it;
+-- or that of the next one is there, which the service begins after them.
 pub record ToldLinesLast {S : Type 0} (A : AnsweringWith S) (G : Segmenting S) (folder : List ℕ)
     (a : Moment S) (new : S) (input rest out after : Option (List ℕ)) (left : Option Held) : Type 0
   where

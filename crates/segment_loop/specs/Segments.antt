@@ -51,9 +51,10 @@ pub record HasBegun {S : Type 0} (G : Segmenting S) (folder : List ℕ) (service
   pub service_is : m.service ≡ service
   pub number_is : m.number ≡ number
   pub file : IsBegun folder number (G.text service number behind) was m.files m.journal
+  pub fits : G.HasText service number behind
 
--- The whole file of the segment was settled; then the file of the next one was put there, with the
--- digest of the file before and the next service's text.
+-- The segment was due, and its whole file was settled; then the file of the next one was put there,
+-- with the digest of the file before and the next service's text.
 pub record IsPut {S : Type 0} (G : Segmenting S) (folder : List ℕ) (a : Moment S) (next : S)
     (is : Option Held) : Type 0 where
   pub behind : List ℕ
@@ -63,6 +64,8 @@ pub record IsPut {S : Type 0} (G : Segmenting S) (folder : List ℕ) (a : Moment
   pub settled : Replaces a.files between (segment_file folder a.number) a.journal
   pub put : Replaces between is (segment_file folder (a.number + 1))
       (Some (G.text next (a.number + 1) behind))
+  pub fits : G.HasText next (a.number + 1) behind
+  pub due : G.is_due a.service ≡ true
 
 -- The segment has ended, and the next one begun: its file was put there, and is being written from
 -- its text on.
@@ -127,6 +130,7 @@ pub record IsPrepared {S : Type 0} (G : Segmenting S) (service : S) (number : �
   pub digest : IfSome journal (λ bytes. behind ≡ digest_of bytes)
   pub text : next.text.items ≡ G.text next.service next.number behind
   pub hashes : Holds256 next.hasher next.text.items
+  pub fits : G.HasText next.service next.number behind
 
 -- the name is that of the segment's file
 abbrev pub IsNamed : {W : Type 0} → List ℕ → OpenSegment W → Type 0

@@ -4,6 +4,7 @@ ghost use Rattle.std.specs.Prelude.{◌≡◌, ◌<◌, ◌⊎◌, true, IfOk, I
 ghost use Rattle.ring_segments.specs.Spelling.{DigestFits};
 ghost use Rattle.segment_loop.specs.Digested.{hashed};
 ghost use Rattle.segment_loop.specs.Segments.{HasBegun, IsBegun, IsFileCause, IsLeftUnbegun, IsNamed, moment_of};
+ghost use Rattle.disks.specs.Lasting.{outlives};
 
 use crate::ending::{Beginning, cause_of, open_segment};
 use crate::segmented::{EndFault, Segmented};
@@ -35,7 +36,7 @@ pub fn begin_file<D: Disk>(
     ensures err { IfErr result (λ e. IsFileCause e) }
     ensures left { OnErr result (IsLeftUnbegun rules.entry.folder.now number text.now
         (D.holds disk.old) (D.holds disk.new)) }
-    ensures lasts { IfOk result (λ segment. rules.entry.synced ≡ true
+    ensures lasts { IfOk result (λ segment. outlives D.keeps_written rules.entry.synced ≡ true
         → D.Grown.lasting segment.writer.inner ≡ D.Grown.contents segment.writer.inner) }
 {
     let Ok(name) = segment_file(alloc, rules.folder, number) else {
@@ -77,7 +78,7 @@ pub fn begin_segment<S: Segmented, D: Disk>(
         (λ e. S.segmenting.HasNoText service.now e ⊎ IsFileCause e) }
     ensures left { OnErr result (IsLeftUnbegun rules.entry.folder.now number
         (S.segmenting.text service.now number behind) (D.holds disk.old) (D.holds disk.new)) }
-    ensures lasts { IfOk result (λ segment. rules.entry.synced ≡ true
+    ensures lasts { IfOk result (λ segment. outlives D.keeps_written rules.entry.synced ≡ true
         → D.Grown.lasting segment.writer.inner ≡ D.Grown.contents segment.writer.inner) }
 {
     let text = match service.text(alloc, number, behind) {

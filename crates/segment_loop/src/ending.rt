@@ -3,7 +3,7 @@
 ghost use Rattle.std.specs.Prelude.{◌≡◌, ◌+◌, ◌<◌, ℕ, List, true, false, IfOk, IfErr, IfSome, OnOk, OnErr, IsSome, Some, string_bytes};
 ghost use Rattle.std.specs.Io.KnownBytes.{Keeps};
 ghost use Rattle.disks.specs.Held.{Replaces, bytes_of};
-ghost use Rattle.disks.specs.Lasting.{bytes_in, BeginsWith, Leaves, MayLeave, LeavesFront};
+ghost use Rattle.disks.specs.Lasting.{bytes_in, BeginsWith, Leaves, MayLeave, LeavesFront, outlives};
 ghost use Rattle.sha2.specs.Hashers.{Holds256};
 ghost use Rattle.line_loop.specs.declared.faults.LoopFault.TheVariants as fault;
 ghost use Rattle.segment_loop.specs.Digested.{hashed};
@@ -189,7 +189,7 @@ pub fn open_segment<D: Disk>(
         → hashed (D.Grown.contents segment.writer.inner) segment.writer.hasher ≡ Some bytes)) }
     ensures kept { D.holds disk.new ≡ D.holds disk.old }
     ensures err { IfErr result (λ e. e ≡ fault.Journal) }
-    ensures lasts { IfOk result (λ segment. synced ≡ true
+    ensures lasts { IfOk result (λ segment. outlives D.keeps_written synced ≡ true
         → D.Grown.lasting segment.writer.inner ≡ D.Grown.contents segment.writer.inner) }
     ensures left { MayLeave (D.leaves disk.old) (D.leaves disk.new) (string_bytes name)
         (bytes_in (D.holds disk.old) (string_bytes name)) }
@@ -234,7 +234,7 @@ fn change<S: Segmented, D: Disk>(
         (moment_of service.old (D.holds disk.old) segment.number
         (hashed (D.Grown.contents segment.writer.inner) segment.writer.hasher))
         (D.holds disk.new)) }
-    ensures lasts { IfOk result (λ ready. rules.entry.synced ≡ true
+    ensures lasts { IfOk result (λ ready. outlives D.keeps_written rules.entry.synced ≡ true
         → D.Grown.lasting segment.writer.inner ≡ D.Grown.contents segment.writer.inner
         → D.Grown.lasting ready.segment.writer.inner
         ≡ D.Grown.contents ready.segment.writer.inner) }
@@ -325,7 +325,7 @@ pub(crate) fn make_ready<S: Segmented, D: Disk>(
         (moment_of service.old (D.holds disk.old) segment.number
         (hashed (D.Grown.contents segment.writer.inner) segment.writer.hasher))
         (D.holds disk.new)) }
-    ensures lasts { IfOk result (λ ready. rules.entry.synced ≡ true
+    ensures lasts { IfOk result (λ ready. outlives D.keeps_written rules.entry.synced ≡ true
         → D.Grown.lasting segment.writer.inner ≡ D.Grown.contents segment.writer.inner
         → D.Grown.lasting ready.segment.writer.inner
         ≡ D.Grown.contents ready.segment.writer.inner) }

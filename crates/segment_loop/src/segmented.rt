@@ -1,6 +1,6 @@
 //! What answers lines in segments.
 
-ghost use Rattle.std.specs.Prelude.{◌≡◌, ◌<◌, ℕ, true, false, IfOk, IfErr};
+ghost use Rattle.std.specs.Prelude.{◌≡◌, ◌<◌, ℕ, true, false, IfOk, IfErr, OnOk};
 ghost use Rattle.ring_segments.specs.Spelling.{DigestFits};
 ghost use Rattle.segment_loop.specs.Segmenting.{Segmenting, KeepsKnown};
 
@@ -54,7 +54,8 @@ pub trait Segmented: AnswersLines + Drop {
         requires number { 0 < number }
         requires digits { DigestFits behind }
         ensures text { IfOk result (λ text. text.items ≡ segmenting.text self.now number behind) }
-        ensures why { IfErr result (λ e. segmenting.HasNoText self.now e) };
+        ensures why { IfErr result (λ e. segmenting.HasNoText self.now e) }
+        ensures fits { OnOk result (segmenting.HasText self.now number behind) };
 
     /// The segment continues although it is due, for this reason: lines are answered again.
     fn keep_on(&mut self, why: EndFault)

@@ -2,7 +2,7 @@
 
 ghost use Rattle.std.specs.Prelude.{◌≡◌, ℕ, List, Option, true, false, IfOk, IfErr, IfSome, IsSome, OnOk, OnErr, MatchResult, is_some, string_bytes, ⊤};
 ghost use Rattle.disks.specs.Held.{Held};
-ghost use Rattle.disks.specs.Lasting.{Changes, HasFront, LeavesFront};
+ghost use Rattle.disks.specs.Lasting.{Changes, HasFront, LeavesFront, outlives};
 ghost use Rattle.line_loop.specs.Answering.{HasBegun};
 ghost use Rattle.line_loop.specs.Stands.{by_stand, stand};
 ghost use Rattle.line_loop.specs.declared.faults.LoopFault.{LoopFault};
@@ -197,8 +197,8 @@ pub fn serve_segments<S: Segmented, D: Disk, I: Read, W: Write>(
         (I.remaining input.old) (I.remaining input.new) (W.contents out.old) (W.contents out.new)
         journal) }
 
-    // Where each note is put on the disk, and the content of files is known: what was delivered is there whenever the power fails.
-    ensures lasts { rules.entry.synced ≡ true → IsSome (D.holds disk.old)
+    // Where the content of files is known: what was delivered is there whenever the process ends and, with syncs, the power fails.
+    ensures lasts { outlives D.keeps_written rules.entry.synced ≡ true → IsSome (D.holds disk.old)
         → AllLasts (hashed (D.Grown.contents first.writer.inner) first.writer.hasher)
         (D.Grown.lasting first.writer.inner)
         → MatchResult result
@@ -214,14 +214,16 @@ pub fn serve_segments<S: Segmented, D: Disk, I: Read, W: Write>(
         (hashed (D.Grown.contents first.writer.inner) first.writer.hasher)) service.new
         (I.remaining input.old) (I.remaining input.new) (W.contents out.old) (W.contents out.new)
         (D.leaves disk.new)) }
-    ensures whole { IfOk result (λ end. rules.entry.synced ≡ true → IsSome (D.holds disk.old)
+    ensures whole { IfOk result (λ end. outlives D.keeps_written rules.entry.synced ≡ true
+        → IsSome (D.holds disk.old)
         → AllLasts (hashed (D.Grown.contents first.writer.inner) first.writer.hasher)
         (D.Grown.lasting first.writer.inner)
         → AllLasts (hashed (D.Grown.contents end.writer.inner) end.writer.hasher)
         (D.Grown.lasting end.writer.inner)) }
 
     // Where answers change no file, the segments before the last are there too, whole.
-    ensures earlier { S.changes_files service.old ≡ false → rules.entry.synced ≡ true
+    ensures earlier { S.changes_files service.old ≡ false
+        → outlives D.keeps_written rules.entry.synced ≡ true
         → IsSome (D.holds disk.old)
         → AllLasts (hashed (D.Grown.contents first.writer.inner) first.writer.hasher)
         (D.Grown.lasting first.writer.inner)

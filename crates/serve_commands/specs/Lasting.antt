@@ -1,4 +1,5 @@
--- What a loss of power leaves of the journal of served rings (this project's own).
+-- What a loss of power, or an end of the process, leaves of the journal of served rings (this
+-- project's own).
 use Rattle.std.specs.Prelude.{◌≡◌, ℕ, ◌⊎◌, List, Option, None, Some, IfSome, ⊤}
 use Rattle.disks.specs.Held.{Held, LeadsToFolder, Replaces}
 use Rattle.disks.specs.Lasting.{HasFront}
@@ -52,7 +53,7 @@ FolderLasts words folder saved before was is old new left =
 -- ---- in a file
 
 -- Some of the lines were delivered, or all of them, from where the rings began and the journal's
--- file had these bytes. Where it is known what a loss of power leaves, the file begins with them
+-- file had these bytes. Where it is known what is left, the file begins with them
 -- and with the notes of each delivered line after them, and the rings that are recovered of it have
 -- its call.
 pub record JournalLasts (permits : Permits) (name : List ℕ) (start : List Standing)
@@ -95,8 +96,9 @@ CallsLast words None saved before was is old new left = ⊤
 CallsLast words (Some name) saved before was is old new left =
     KeptLasts words name saved before was is old new left
 
--- Whenever the power fails after the call: no line was served; or the journal, if one is kept, is
--- left with the notes of all lines whose answers the output got, from where the rings began.
+-- Whenever the power fails or the process ends after the call: no line was served; or the journal,
+-- if one is kept, is left with the notes of all lines whose answers the output got, from where the
+-- rings began.
 abbrev pub ToldCallsLast : ServeWords → World → World → Option Held → Type 0
 ToldCallsLast words was is left =
     IsUnserved was.input is.input was.out is.out

@@ -4,7 +4,7 @@ ghost use Rattle.std.specs.Prelude.{◌≡◌, ℕ, List, true, None, Some, Opti
 ghost use Rattle.std.specs.Option.{option_map};
 ghost use Rattle.std.specs.Io.KnownBytes.{Appends};
 ghost use Rattle.disks.specs.Held.{Grows, Replaces};
-ghost use Rattle.disks.specs.Lasting.{HasFront, Leaves, bytes_in};
+ghost use Rattle.disks.specs.Lasting.{HasFront, Leaves, bytes_in, outlives};
 ghost use Rattle.ring_saved.specs.declared.saved.Saved.{Saved};
 ghost use Rattle.ring_serve.specs.Standings.{Standing};
 ghost use Rattle.ring_serve.specs.Permits.{terms_of};
@@ -203,7 +203,7 @@ fn serve_begun<'a, D: Disk, I: Read, W: Write>(
         × IsServedPart (terms_of (Some name.now) (permits_of words.now)) served.old
         (D.holds disk.old) (D.holds disk.new) first (I.remaining input.old)
         (I.remaining input.new) (W.contents out.old) (W.contents out.new))) }
-    ensures lasts { words.now.synced ≡ true → (first : List ℕ)
+    ensures lasts { outlives D.keeps_written words.now.synced ≡ true → (first : List ℕ)
         → bytes_in (D.holds disk.old) name.now ≡ Some first
         → IsUnserved (I.remaining input.old) (I.remaining input.new) (W.contents out.old)
         (W.contents out.new)
@@ -316,7 +316,7 @@ fn run_with_journal<'a, D: Disk, I: Read, W: Write>(
         IsRefusedFrom (permits_of words.now) (D.holds disk.old) (D.holds disk.new) (Some name.now)
         saved (I.remaining input.old) (I.remaining input.new) (W.contents out.old)
         (W.contents out.new) e) }
-    ensures lasts { words.now.synced ≡ true → IsSome (D.holds disk.old)
+    ensures lasts { outlives D.keeps_written words.now.synced ≡ true → IsSome (D.holds disk.old)
         → FileLasts (permits_of words.now) name.now saved (D.holds disk.old)
         (I.remaining input.old) (I.remaining input.new) (W.contents out.old) (W.contents out.new)
         (D.leaves disk.new) }
@@ -355,7 +355,7 @@ fn run_kept<'a, D: Disk, I: Read, W: Write>(
     ensures err { IfErr result (λ e.
         IsRefusedTo words.now (D.holds disk.old) (D.holds disk.new) saved (I.remaining input.old)
         (I.remaining input.new) (W.contents out.old) (W.contents out.new) e) }
-    ensures lasts { words.now.synced ≡ true → IsSome (D.holds disk.old)
+    ensures lasts { outlives D.keeps_written words.now.synced ≡ true → IsSome (D.holds disk.old)
         → KeptLasts words.now name.now saved (D.holds disk.old) (I.remaining input.old)
         (I.remaining input.new) (W.contents out.old) (W.contents out.new) (D.leaves disk.new) }
 {
@@ -390,7 +390,7 @@ fn run_on<'a, D: Disk, I: Read, W: Write>(
     ensures err { IfErr result (λ e.
         IsRefusedTo words.now (D.holds disk.old) (D.holds disk.new) saved (I.remaining input.old)
         (I.remaining input.new) (W.contents out.old) (W.contents out.new) e) }
-    ensures lasts { words.now.synced ≡ true → IsSome (D.holds disk.old)
+    ensures lasts { outlives D.keeps_written words.now.synced ≡ true → IsSome (D.holds disk.old)
         → CallsLast words.now (journal_of words.now) saved (D.holds disk.old)
         (I.remaining input.old) (I.remaining input.new) (W.contents out.old) (W.contents out.new)
         (D.leaves disk.new) }
@@ -435,8 +435,9 @@ pub fn run<'a, D: Disk, I: Read, W: Write, E: Write>(
         (world (D.holds disk.new) (I.remaining input.new) (W.contents out.new)
         (E.contents err.new)) e) }
 
-    // Where each note is put on the disk, and the content of files is known: what was delivered is there whenever the power fails.
-    ensures lasts { words.now.synced ≡ true → IsSome (D.holds disk.old) → ToldCallsLast words.now
+    // Where the content of files is known: what was delivered is there whenever the process ends and, with syncs, the power fails.
+    ensures lasts { outlives D.keeps_written words.now.synced ≡ true → IsSome (D.holds disk.old)
+        → ToldCallsLast words.now
         (world (D.holds disk.old) (I.remaining input.old) (W.contents out.old) (E.contents err.old))
         (world (D.holds disk.new) (I.remaining input.new) (W.contents out.new)
         (E.contents err.new))

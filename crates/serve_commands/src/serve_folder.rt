@@ -3,6 +3,7 @@
 ghost use Rattle.std.specs.Prelude.{◌≡◌, ◌⊎◌, ◌≤◌, ◌<◌, ℕ, List, length, codes, string_bytes, Option, true, Some, Ok, Err, IfOk, IfErr, IsSome, OnOk, OnErr};
 ghost use Rattle.std.specs.List.{All};
 ghost use Rattle.disks.specs.Folders.{path_in};
+ghost use Rattle.disks.specs.Lasting.{outlives};
 ghost use Rattle.segment_folder.specs.declared.errors.FolderError.{FolderError};
 ghost use Rattle.segment_folder.specs.Numbers.{IsRightNumbers};
 ghost use Rattle.ring_segments.specs.Spelling.{DigestFits};
@@ -285,7 +286,7 @@ fn serve_from<'a, D: Disk, I: Read, W: Write>(
     ensures err { IfErr result (λ e. IsRunRefused rules.entry (place_of place) (D.holds disk.old)
         (D.holds disk.new) (I.remaining input.old) (I.remaining input.new) (W.contents out.old)
         (W.contents out.new) e) }
-    ensures lasts { rules.entry.synced ≡ true → IsSome (D.holds disk.old)
+    ensures lasts { outlives D.keeps_written rules.entry.synced ≡ true → IsSome (D.holds disk.old)
         → RunLasts rules.entry (place_of place) (D.holds disk.old) (I.remaining input.old)
         (I.remaining input.new) (W.contents out.old) (W.contents out.new) (D.leaves disk.new) }
 {
@@ -326,7 +327,7 @@ pub(crate) fn run_in_folder<'a, D: Disk, I: Read, W: Write>(
         IsRefusedIn words.now folder.now saved (D.holds disk.old) (D.holds disk.new)
         (I.remaining input.old) (I.remaining input.new) (W.contents out.old) (W.contents out.new)
         e) }
-    ensures lasts { words.now.synced ≡ true → IsSome (D.holds disk.old)
+    ensures lasts { outlives D.keeps_written words.now.synced ≡ true → IsSome (D.holds disk.old)
         → FolderLasts words.now folder.now saved (D.holds disk.old) (I.remaining input.old)
         (I.remaining input.new) (W.contents out.old) (W.contents out.new) (D.leaves disk.new) }
 {

@@ -2,6 +2,7 @@
 
 ghost use Rattle.std.specs.Prelude.{◌≡◌, true, OnOk, OnErr, IfOk, IfErr, string_bytes};
 ghost use Rattle.disks.specs.Held.{Grows};
+ghost use Rattle.disks.specs.Lasting.{outlives};
 ghost use Rattle.tool_parts.specs.Locking.{lock_of, IsUnopenedJournal, IsLocked, IsLockLeft, IsUnkeptFolder};
 
 use crate::faults::ToolError;
@@ -9,7 +10,7 @@ use disks::Disk;
 use std::alloc::{AllocError, Global};
 use std::io::ErrorKind;
 
-/// Opens the journal's file to write at its end. If it is synced, all that it has outlives a loss of power.
+/// Opens the journal's file to write at its end. All that it has outlives the process and, if it is synced, a loss of power.
 pub fn open_journal<'a, D: Disk>(
     disk: &mut D,
     name: &'a str,
@@ -18,7 +19,7 @@ pub fn open_journal<'a, D: Disk>(
     ensures ok { IfOk result (λ grown. Grows (D.holds disk.old) name.now (D.Grown.contents grown)) }
     ensures kept { D.holds disk.new ≡ D.holds disk.old }
     ensures err { IfErr result (λ e. IsUnopenedJournal name.now e) }
-    ensures lasts { IfOk result (λ grown. synced ≡ true
+    ensures lasts { IfOk result (λ grown. outlives D.keeps_written synced ≡ true
         → D.Grown.lasting grown ≡ D.Grown.contents grown) }
 {
     match disk.grow(name, synced) {

@@ -2,6 +2,7 @@ use Rattle.std.proofs.Common.{inr}
 use Rattle.lock_folder.specs.Folders.{place_of}
 use Rattle.tool_parts.proofs.LockedFolders.{locked_known}
 use Rattle.lock_commands.specs.Locks.{folder_of, list_of}
+use Rattle.lock_laws.proofs.StartedBegin.{started_locks_begin}
 use Rattle.lock_commands.proofs.StartedLocks.{started_known}
 use Rattle.lock_commands.proofs.UnderLock.{under_lock, still_locked, refused_locked}
 use Rattle.lock_commands.proofs.locks.run_in_folder.Goals as goal
@@ -60,3 +61,20 @@ pub returns-in-Err-serve_from-clause-held : goal.returns-in-Err-serve_from-claus
 returns-in-Err-serve_from-clause-held g c = λ some.
     let listed = g.D.Disk.holds c.start_locks.new.disk in
     refused_locked c.args.words.now c.args.holders.now (place_of c.in-Ok-start_locks.start) (g.D.Disk.holds c.args.disk.now) (g.D.Disk.holds c.lock_folder.new.disk) listed _ _ _ _ _ _ c.in-Ok.ensures.locked c.in-Ok-start_locks.ensures.ok some c.in-Err-serve_from.ensures.err
+
+-- ---- the locks begin a segment
+
+pub serve_from-requires-clause-begin : goal.serve_from-requires-clause-begin
+serve_from-requires-clause-begin g c = λ entries kept fits.
+    let words = c.args.words.now in
+    started_locks_begin (folder_of words) (list_of words) c.args.holders.now (g.D.Disk.holds c.lock_folder.new.disk) (g.D.Disk.holds c.start_locks.new.disk) (place_of c.in-Ok-start_locks.start) entries c.in-Ok-start_locks.ensures.ok kept fits
+
+-- ---- part of a life
+
+pub returns-in-Ok-serve_from-clause-life : goal.returns-in-Ok-serve_from-clause-life
+returns-in-Ok-serve_from-clause-life g c = λ off.
+    inr (g.D.Disk.holds c.lock_folder.new.disk, g.D.Disk.holds c.start_locks.new.disk, place_of c.in-Ok-start_locks.start, c.in-Ok.ensures.locked, c.in-Ok-start_locks.ensures.ok, c.serve_from.ensures.life off)
+
+pub returns-in-Err-serve_from-clause-life : goal.returns-in-Err-serve_from-clause-life
+returns-in-Err-serve_from-clause-life g c = λ off.
+    inr (g.D.Disk.holds c.lock_folder.new.disk, g.D.Disk.holds c.start_locks.new.disk, place_of c.in-Ok-start_locks.start, c.in-Ok.ensures.locked, c.in-Ok-start_locks.ensures.ok, c.serve_from.ensures.life off)

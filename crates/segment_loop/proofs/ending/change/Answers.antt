@@ -28,7 +28,7 @@ returns-in-Ok-open_segment-clause-ok g c =
           p.next_service p.next_number c.in-Ok-open_segment.ensures.ok.0 p.digest
           (subst (λ (t : List ℕ). Replaces (g.D.Disk.holds c.settle.new.disk) (g.D.Disk.holds c.replace.new.disk) (string_bytes c.args.next.name) (Some t)) c.as_slice.ensures.value
           (subst (λ (n : List ℕ). Replaces (g.D.Disk.holds c.settle.new.disk) (g.D.Disk.holds c.replace.new.disk) n (Some c.as_slice.result.now)) c.as_str-2.ensures.value c.in-Ok-replace.ensures.replaced))
-          p.name p.text c.in-Ok-open_segment.ensures.kept p.hashes c.in-Ok-open_segment.ensures.known,
+          p.name p.text p.fits c.requires.due c.in-Ok-open_segment.ensures.kept p.hashes c.in-Ok-open_segment.ensures.known,
     )
 
 pub returns-in-Ok-open_segment-2-clause-ok : goal.returns-in-Ok-open_segment-2-clause-ok

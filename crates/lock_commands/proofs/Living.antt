@@ -1,0 +1,67 @@
+-- What a run reported is part of a life of locks.
+use Rattle.std.proofs.Common.{◌≡◌, ℕ, false, List, ◌++◌, Option, sym, ap, subst, ◌∙◌}
+use Rattle.disks.specs.Held.{Held}
+use Rattle.ring_saved.specs.Spelling.{Fits}
+use Rattle.ring_locks.specs.Kept.{LockView, AreKept}
+use Rattle.segment_loop.specs.Notes.{ToldLinesAreNoted}
+use Rattle.segment_loop.specs.Segments.{Moment, HasBegun}
+use Rattle.lock_folder.specs.Folders.{Place}
+use Rattle.lock_serve.specs.declared.service.Terms.{Terms}
+use Rattle.lock_serve.specs.Segments.{content_of}
+use Rattle.lock_serve.specs.Serving.{IsServed}
+use Rattle.lock_laws.specs.Begun.{HaveBegun}
+use Rattle.lock_laws.specs.KeysBack.{IsSound}
+use Rattle.lock_laws.specs.Runs.{inside, IsPlain}
+use Rattle.lock_laws.proofs.SoundKeys.{fresh_is_sound}
+use Rattle.lock_laws.proofs.Stages.{parts_are_stages}
+use Rattle.lock_laws.proofs.PutSegments.{put_segments_are_stages}
+use Rattle.ring_requests.specs.declared.requests.LocksWords.{LocksWords}
+use Rattle.lock_commands.specs.Locks.{folder_of, terms_of, Service, answering, by_segments, BeginsWith, HasStarted}
+use Rattle.lock_commands.specs.Life.{IsLived}
+
+-- the locks begin a segment, if they are kept and have a text
+abbrev pub BeginIfTheyFit : List LockView → Type 0
+BeginIfTheyFit locks = (entries : List (ℕ × ℕ)) → AreKept locks entries → Fits (content_of locks) → HaveBegun locks
+
+pub has_started : (words : LocksWords) (start : Place) (files : Option Held) (first : Moment Service) (service : Service) → BeginsWith words start.locks service → HasBegun by_segments (folder_of words) service start.number start.behind files first → ((entries : List (ℕ × ℕ)) × AreKept start.locks entries) → BeginIfTheyFit start.locks →
+    HasStarted words start files first
+has_started words start files first service begins begun kept begin = record {
+  service = service;
+  begins = begins;
+  begun = begun;
+  locks = begin kept.0 kept.1 (subst (λ (vs : List LockView). Fits (content_of vs)) begins.inside.segment.locks_are begun.fits.rings);
+}
+
+module _ (words : LocksWords) (start : Place) (files : Option Held) (first : Moment Service) (h : HasStarted words start files first) where
+  locks_are : (inside first.service).segment.locks ≡ start.locks
+  locks_are = ap (λ (s : Service). (inside s).segment.locks) h.begun.service_is ∙ h.begins.inside.segment.locks_are
+
+  terms_are : (inside first.service).terms ≡ terms_of words
+  terms_are = ap (λ (s : Service). (inside s).terms) h.begun.service_is ∙ h.begins.inside.terms
+
+  plain : words.faults ≡ false → IsPlain first.service
+  plain off = record { noting = ap (λ (t : Terms). t.noting) terms_are; plain = ap (λ (t : Terms). t.faults) terms_are ∙ off }
+
+  sound : IsSound first.service.inner
+  sound = subst (λ (s : Service). IsSound s.inner) (sym h.begun.service_is) (fresh_is_sound IsServed h.service.inner (record { keys = h.begins.keys; running = h.begins.running }))
+
+  begun : HaveBegun (inside first.service).segment.locks
+  begun = subst (λ (vs : List LockView). HaveBegun vs) (sym locks_are) h.locks
+
+  fits : by_segments.HasText first.service first.number start.behind
+  fits =
+      subst (λ (n : ℕ). by_segments.HasText first.service n start.behind) (sym h.begun.number_is)
+      (subst (λ (s : Service). by_segments.HasText s start.number start.behind) (sym h.begun.service_is) h.begun.fits)
+
+  pub lived : (end : Service) (was is old new journal : Option (List ℕ)) → words.faults ≡ false → ToldLinesAreNoted answering by_segments (folder_of words) first end was is old new journal → IsLived words start files was is old new
+  lived end was is old new journal off n = record {
+    first = first;
+    started = h;
+    locks = locks_are;
+    fits = fits;
+    end = end;
+    journal = journal;
+    noted = n;
+    stages = λ whole. parts_are_stages (folder_of words) first n.mid start.behind n.parts n.untold.lines n.unsaid (n.more ++ n.back) end n.is begun (plain off) sound whole n.told n.untold.each n.untold.answers;
+    put = λ whole next is p. put_segments_are_stages (folder_of words) first n.mid start.behind n.parts next is begun (plain off) sound whole n.told p;
+  }
