@@ -1,5 +1,5 @@
-//! Locks that programs hold, over rings: the clients that wait for a lock are its line, and the first privileged machine of its
-//! ring passes for the client that is granted it.
+//! Locks that programs hold, over rings: clients that wait are in a queue, and when the lock is free the first privileged machine
+//! of its ring passes on behalf of the client at its head.
 #![tactic(auto)]
 
 mod answers;

@@ -68,7 +68,8 @@ impl AnswersLines for RingService<'_, '_> {
 
     ghost by_start = { by_start };
 
-    /// The line is answered in any case: memory may be short only for the text of its answer and for its notes.
+    /// The line is answered, even if memory is short for the text of its answer or for its notes; or on strict terms nothing has
+    /// changed.
     fn answer<D: Disk>(
         &mut self,
         disk: &mut D,
