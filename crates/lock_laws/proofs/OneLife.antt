@@ -1,5 +1,5 @@
 -- Runs over one folder are one list of inputs, with a restart between two of them.
-use Rattle.std.proofs.Common.{◌≡◌, ℕ, List, [], ◌∷◌, ◌++◌, refl, ap, sym, subst, ◌∙◌, append_assoc}
+use Rattle.std.proofs.Common.{◌≡◌, ℕ, List, [], ◌∷◌, ◌++◌, refl, ap, sym, subst, ◌∙◌, append_assoc, append-nil}
 use Rattle.ring_locks.specs.Lines.{Lock}
 use Rattle.ring_locks.specs.Locks.{Input, Restart}
 use Rattle.ring_locks.specs.Promises.{AreRight, locks_after}
@@ -75,12 +75,11 @@ go folder r [] ls e runs =
     let begun : List ℕ = begun_with_remarks r.in_stages.last.inner in
     let x = r.in_stages.stages (begun ++ r.kept) (behind_both begun r.in_stages.noted r.kept r.left.told) (behind_both begun r.kept (r.in_stages.noted ++ r.notes) r.left.no_more) in
     let l = life_so x.0 x.1 ls (inside r.in_stages.last).segment (without_remarks (begun ++ r.kept)) (ap (λ (v : SegmentView). locks_of v.locks) x.2.begins ∙ e) x.2.stages x.2.ends in
-    (l.inputs, record { first = x.0; more = x.1; run = x.2; life = l.life })
+    (l.inputs, record { first = x.0; more = x.1; run = record { taken = r.kept; told = r.left.told; no_more = ([], sym (append-nil r.kept)); run = x.2 }; life = l.life })
 go folder r (next ∷ more) ls e runs =
     let s = runs.0 in
-    let begun : List ℕ = begun_with_remarks r.in_stages.last.inner in
     let x = runs_go_on r.from r.to r.before r.lines r.said r.notes r.in_stages r.held folder r.kept s.word next.holders s.after s.place r.fits r.left s.started in
-    let l = life_so x.0 x.1 ls (inside r.in_stages.last).segment (without_remarks (begun ++ r.kept)) (ap (λ (v : SegmentView). locks_of v.locks) x.2.begins ∙ e) x.2.stages x.2.ends in
+    let l = life_so x.0 x.1 ls (inside r.in_stages.last).segment (without_remarks (begun_with_remarks r.in_stages.last.inner ++ x.2.taken)) (ap (λ (v : SegmentView). locks_of v.locks) x.2.run.begins ∙ e) x.2.run.stages x.2.run.ends in
     let given : List Lock = locks_of (locks_at_start next) in
     let added : List Lock = locks_of x.4 in
     let both : locks_of (x.3 ++ x.4) ≡ locks_after ls (l.inputs ++ Restart ∷ []) ++ added =

@@ -1,11 +1,12 @@
 -- What the locks inside were given and said, of lines of a service that were delivered in parts.
-use Rattle.std.proofs.Common.{◌≡◌, ℕ, Bool, true, false, cond, List, [], ◌∷◌, ◌++◌, Option, refl, ap, sym, subst, ◌∙◌, append_assoc}
+use Rattle.std.proofs.Common.{◌≡◌, ℕ, Bool, true, false, cond, List, [], ◌∷◌, ◌++◌, Option, inl, refl, ap, sym, subst, ◌∙◌, append_assoc}
 use Rattle.std.specs.Prelude.{not}
 use Rattle.std.specs.List.{AllByRecursion}
 use Rattle.disks.specs.Held.{Held}
 use Rattle.line_loop.specs.Answering.{IsLine, Answers}
 use Rattle.line_loop.specs.Stands.{Stand, by_stand, stand}
 use Rattle.ring_segments.specs.Remarks.{without_remarks}
+use Rattle.ring_segments.specs.RemarkLaws.{AreLines}
 use Rattle.line_replica.specs.declared.replica.Replica.{Replica}
 use Rattle.line_replica.specs.Replies.{IsReplied}
 use Rattle.line_replica.specs.Log.{Numbers, numbers_of, given, given_of, numbers_after}
@@ -22,7 +23,8 @@ use Rattle.lock_laws.specs.Begun.{HaveBegun, AreAnswered}
 use Rattle.lock_laws.specs.Around.{AreToldAround, AreToldBehind}
 use Rattle.lock_laws.specs.Runs.{Service, answering, inside, others_of}
 use Rattle.lock_laws.proofs.Longer.{served_lines_are_answered, answered_lines_follow}
-use Rattle.lock_laws.proofs.WithoutRemarks.{lines_bring, parts, remarks_go, no_hash_noted}
+use Rattle.lock_laws.proofs.WholeTexts.{of_both}
+use Rattle.lock_laws.proofs.WithoutRemarks.{lines_bring, parts, remarks_go, noted_ends, no_hash_noted}
 use Rattle.lock_laws.proofs.Telling.{CanTell, tells_all}
 use Rattle.lock_laws.proofs.Around.{AreTakenSo, all_taken, terms_stay, other_lines_are_replied}
 
@@ -133,6 +135,7 @@ pub record SoFar (start now : Service) (lines : List (List ℕ)) (replied noted 
   pub answered : AreAnswered (inside start).terms (inside start).segment (given (numbers_of start.inner.numbered.keys) lines) told inside_noted (inside now).segment
   pub terms : (inside now).terms ≡ (inside start).terms
   pub left : (rest : List ℕ) → without_remarks (noted ++ rest) ≡ inside_noted ++ without_remarks rest
+  pub ends : AreLines noted
   pub around : AreToldAround (numbers_of start.inner.numbered.keys) lines replied told
   pub numbers : numbers_of now.inner.numbered.keys ≡ numbers_all (numbers_of start.inner.numbered.keys) lines
 
@@ -143,6 +146,7 @@ none_so_far start noting = record {
   answered = record { noting = noting; answers = (refl, refl, refl) };
   terms = refl;
   left = λ rest. refl;
+  ends = inl refl;
   around = (refl, refl);
   numbers = refl;
 }
@@ -160,6 +164,7 @@ goes_on start old new lines replied noted s o = record {
   answered = subst (λ (v : SegmentView). AreAnswered (inside start).terms (inside start).segment (given (numbers_of start.inner.numbered.keys) lines) s.told s.inside_noted v) (sym o.segment) s.answered;
   terms = o.terms ∙ s.terms;
   left = s.left;
+  ends = s.ends;
   around = s.around;
   numbers = o.numbers ∙ s.numbers;
 }
@@ -199,6 +204,7 @@ part_more start old new was is lines more said replied noted notes entries begun
           ∙ (s.left (notes ++ rest)
           ∙ (ap (λ (u : List ℕ). s.inside_noted ++ u) (b.1 rest)
           ∙ sym (append_assoc s.inside_noted p.taken.inside (without_remarks rest))));
+      ends = of_both noted notes s.ends (noted_ends later (stand (inside old) was) (stand (inside new) is) (others_of more) p.taken.inside notes p.taken.given_so);
       around = around_then n lines (others_of more) replied p.replied s.told p.taken.told s.around (subst (λ (m : Numbers). AreToldAround m (others_of more) p.replied p.taken.told) s.numbers p.taken.around);
       numbers = p.numbers ∙ (ap (λ (m : Numbers). numbers_all m (others_of more)) s.numbers ∙ sym (all_then n lines (others_of more)));
     }

@@ -1,16 +1,21 @@
 -- What is left of a run starts the next one.
-use Rattle.std.proofs.Common.{◌≡◌, ℕ, List, ◌++◌, Some, ap, sym, subst, ◌∙◌, append_assoc}
+use Rattle.std.proofs.Common.{◌≡◌, ℕ, List, [], ◌∷◌, ◌++◌, Some, refl, ap, sym, subst, ◌∙◌, append_assoc, append-nil, ◌⊎◌, inl, inr}
+use Rattle.std.proofs.lemmas.List.{append_cancel_left}
 use Rattle.ring_segments.specs.Spelling.{head_text}
 use Rattle.ring_segments.specs.Remarks.{without_remarks}
+use Rattle.ring_segments.specs.RemarkLaws.{AreLines}
+use Rattle.torn_ends.proofs.Lines.{not_none}
 use Rattle.ring_serve.specs.Recovered.{IsPrefix}
 use Rattle.line_replica.specs.State.{own_lines, remarks_of}
+use Rattle.ring_locks.specs.Kept.{LockView}
 use Rattle.lock_laws.specs.Begun.{begun_text}
 use Rattle.lock_laws.specs.Life.{AreFound}
 use Rattle.lock_laws.specs.Remarked.{begun_with_remarks}
-use Rattle.lock_laws.specs.Started.{head_with, IsKeptLast}
+use Rattle.lock_laws.specs.Started.{head_with, IsKeptLast, IsTornAfter, IsTaken}
 use Rattle.lock_laws.specs.Runs.{Service, by_segments, inside, RunsGoOn}
 use Rattle.lock_laws.proofs.LastSegments.{kept_segments_start}
-use Rattle.lock_laws.proofs.WholeEnds.{stages_front, whole_front}
+use Rattle.lock_laws.proofs.WholeEnds.{within, found_before}
+use Rattle.lock_laws.proofs.WholeTexts.{ends_behind}
 
 -- a segment's file is its head, and then what it begins with
 text_is : (s : Service) (number : ℕ) (digest kept : List ℕ) →
@@ -24,16 +29,60 @@ text_is s number digest kept =
 pub behind_both : (front a b : List ℕ) → IsPrefix a b → IsPrefix (front ++ a) (front ++ b)
 behind_both front a b p = (p.0, ap (λ (u : List ℕ). front ++ u) p.1 ∙ sym (append_assoc front a p.0))
 
+pub prefix_then : (a b c : List ℕ) → IsPrefix a b → IsPrefix b c → IsPrefix a c
+prefix_then a b c p q = (p.0 ++ q.0, q.1 ∙ (ap (λ (u : List ℕ). u ++ q.0) p.1 ∙ append_assoc a p.0 q.0))
+
+-- after the same front
+cut_front : (front a b : List ℕ) → IsPrefix (front ++ a) (front ++ b) → IsPrefix a b
+cut_front front a b p = (p.0, append_cancel_left front b (a ++ p.0) (p.1 ∙ append_assoc front a p.0))
+
+-- with whole lines after it
+whole_then : (begun lines noted : List ℕ) → AreLines (begun ++ noted) → IsPrefix noted lines → AreLines lines → AreLines (begun ++ lines)
+whole_then begun lines [] told has (inl none) = subst (λ (u : List ℕ). AreLines (begun ++ u)) (sym none) told
+whole_then begun lines (b ∷ noted) told has (inl none) = absurd (not_none [] b (noted ++ has.0) (sym has.1 ∙ none))
+whole_then begun lines noted told has (inr e) = inr (ends_behind begun lines e)
+
+-- what a start takes
+taken_so : (number : ℕ) (behind : List ℕ) (start : List LockView) (kept front left_out : List ℕ) → kept ≡ front ++ left_out → (left_out ≡ []) ⊎ IsTornAfter number behind start kept front → IsTaken number behind start kept front
+taken_so number behind start kept front left_out parts (inl none) = inl (sym (parts ∙ (ap (λ (u : List ℕ). front ++ u) none ∙ append-nil front)))
+taken_so number behind start kept front left_out parts (inr torn) = inr torn
+
 pub runs_go_on : RunsGoOn
 runs_go_on a b before lines said notes r held folder kept word holders after p fits left started =
     let begun : List ℕ = begun_with_remarks r.last.inner in
-    let s = r.stages (begun ++ kept) (behind_both begun r.noted kept left.told) (behind_both begun kept (r.noted ++ notes) left.no_more) in
-    let k : IsKeptLast held folder b.number r.digest (inside r.last).segment.locks (begun ++ kept) = record {
+    let locks : List LockView = (inside r.last).segment.locks in
+    let all : List ℕ = begun ++ (kept ++ left.torn) in
+    let k : IsKeptLast held folder b.number r.digest locks all = record {
       fits = (r.fits fits).head;
-      file = left.file ∙ ap (λ (u : List ℕ). Some u) (text_is r.last b.number r.digest kept);
+      file = left.file ∙ ap (λ (u : List ℕ). Some u) (text_is r.last b.number r.digest (kept ++ left.torn));
       last = left.last;
     } in
-    let t = kept_segments_start held folder b.number r.digest (inside r.last).segment.locks (begun ++ kept) word holders after p k started in
-    let one = stages_front s.0 s.1 (inside r.last).segment (without_remarks (begun ++ kept)) s.2.stages s.2.ends in
-    let whole : t.front ≡ begun ++ kept = whole_front b.number r.digest (inside r.last).segment.locks (begun ++ kept) t.front t.left_out k.fits one t.parts t.end in
-    (s.0, s.1, s.2, t.locks, t.added, subst (λ (u : List ℕ). AreFound (inside r.last).segment.locks (without_remarks u) t.locks) whole t.found, t.new, t.handed)
+    let t = kept_segments_start held folder b.number r.digest locks all word holders after p k started in
+    let told : List ℕ = begun ++ r.noted in
+    let parts : all ≡ told ++ (left.told.0 ++ left.torn) =
+    ap (λ (u : List ℕ). begun ++ (u ++ left.torn)) left.told.1
+    ∙ (ap (λ (u : List ℕ). begun ++ u) (append_assoc r.noted left.told.0 left.torn) ∙ sym (append_assoc begun r.noted (left.told.0 ++ left.torn))) in
+    let stays = t.stays r.whole.journal told (left.told.0 ++ left.torn) r.whole.right r.whole.lines r.whole.is parts in
+    let front : List ℕ = r.noted ++ stays.0 in
+    let front_is : t.front ≡ begun ++ front = stays.1 ∙ append_assoc begun r.noted stays.0 in
+    let taken : IsTaken b.number r.digest locks all (begun ++ front) =
+    subst (λ (u : List ℕ). IsTaken b.number r.digest locks all u) front_is (taken_so b.number r.digest locks all t.front t.left_out t.parts t.end) in
+    let n = left.tail front taken in
+    let line_parts : (begun ++ n.lines) ++ n.cut ≡ told ++ stays.0 =
+    append_assoc begun n.lines n.cut ∙ (ap (λ (u : List ℕ). begun ++ u) (sym n.parts) ∙ sym (append_assoc begun r.noted stays.0)) in
+    let has : IsPrefix told (begun ++ n.lines) = within told stays.0 (begun ++ n.lines) n.cut n.unended r.whole.lines line_parts in
+    let up : IsPrefix n.lines (r.noted ++ notes) = prefix_then n.lines kept (r.noted ++ notes) n.within left.no_more in
+    let s = r.stages (begun ++ n.lines) has (behind_both begun n.lines (r.noted ++ notes) up) in
+    let noted : IsPrefix r.noted n.lines = cut_front begun r.noted n.lines has in
+    let ends : AreLines (begun ++ n.lines) = whole_then begun n.lines r.noted r.whole.lines noted n.whole in
+    let found : AreFound locks (without_remarks ((begun ++ n.lines) ++ n.cut)) t.locks =
+    subst (λ (u : List ℕ). AreFound locks (without_remarks u) t.locks) (stays.1 ∙ sym line_parts) t.found in (
+      s.0,
+      s.1,
+      record { taken = n.lines; told = noted; no_more = n.within; run = s.2 },
+      t.locks,
+      t.added,
+      found_before locks (begun ++ n.lines) n.cut t.locks ends n.unended found,
+      t.new,
+      t.handed,
+    )

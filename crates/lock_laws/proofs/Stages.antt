@@ -17,7 +17,7 @@ use Rattle.ring_segments.specs.Remarks.{without_remarks}
 use Rattle.ring_serve.specs.Recovered.{IsPrefix}
 use Rattle.line_replica.specs.Log.{Numbers, numbers_of, given}
 use Rattle.line_replica.specs.Keys.{Table}
-use Rattle.line_replica.specs.State.{is_state, own_lines}
+use Rattle.line_replica.specs.State.{is_state, own_lines, remarks_of}
 use Rattle.ring_locks.specs.Kept.{AreKept}
 use Rattle.ring_locks.specs.Cuts.{AreNext}
 use Rattle.ring_locks.proofs.NextSegments.{next_all}
@@ -29,9 +29,11 @@ use Rattle.lock_laws.specs.Begun.{begun_text, HaveBegun}
 use Rattle.lock_laws.specs.Remarked.{begun_with_remarks}
 use Rattle.lock_laws.specs.Life.{Stage, IsStage, AreFound, Follows, AreStages}
 use Rattle.lock_laws.specs.Around.{AreToldAround, AreToldBehind}
-use Rattle.lock_laws.specs.Runs.{Service, answering, by_segments, inside, IsPlain, others_of, lines_in, told_of, said_of, EndWith, PartsAreStages, RunsFollow}
+use Rattle.lock_laws.specs.Runs.{Service, answering, by_segments, inside, IsPlain, others_of, lines_in, told_of, said_of, EndWith, IsWholeJournal, PartsAreStages, RunsFollow}
 use Rattle.lock_laws.proofs.CutRemarks.{without_cut}
-use Rattle.lock_laws.proofs.WithoutRemarks.{begun_goes_by}
+use Rattle.lock_laws.proofs.WholeTexts.{of_both}
+use Rattle.lock_laws.proofs.WholeEnds.{noted_journal}
+use Rattle.lock_laws.proofs.WithoutRemarks.{begun_ends, begun_goes_by, remark_lines}
 use Rattle.lock_laws.proofs.Segments.{next_locks_begin}
 use Rattle.lock_laws.proofs.Telling.{CanTell, sound_tells, own_are_lines, same_tells}
 use Rattle.lock_laws.proofs.Around.{without_nothing}
@@ -150,6 +152,7 @@ module _ (first : Moment Service) (before : List ℕ) where
       pub noted : List ℕ
       pub holds : Known → b.journal ≡ Some (by_segments.text last b.number digest ++ noted)
       pub fits : Begins → by_segments.HasText last b.number digest
+      pub whole : IsWholeJournal (begun_with_remarks last.inner ++ noted)
       pub stages : (kept : List ℕ) → IsPrefix (begun_with_remarks last.inner ++ noted) kept → IsPrefix kept (begun_with_remarks last.inner ++ (noted ++ notes)) → AreSo start last lines replied ps kept
 
     -- it ends here
@@ -163,6 +166,7 @@ module _ (first : Moment Service) (before : List ℕ) where
         let of_told : without_remarks noted ≡ sf.inside_noted = ap without_remarks (sym (append-nil noted)) ∙ (sf.left [] ∙ (ap (λ (u : List ℕ). sf.inside_noted ++ u) without_nothing ∙ append-nil sf.inside_noted)) in
         let of_notes : without_remarks notes ≡ l.inside_notes = ap without_remarks (sym (append-nil notes)) ∙ (l.left [] ∙ (ap (λ (u : List ℕ). l.inside_notes ++ u) without_nothing ∙ append-nil l.inside_notes)) in
         let front : without_remarks (begun_with_remarks start.inner ++ noted) ≡ begun ++ sf.inside_noted = begun_goes_by start.inner noted g.begun g.own ∙ ap (λ (u : List ℕ). begun ++ u) of_told in
+        let j = noted_journal (inside start).terms (inside start).segment (inside b.service).segment (given n lines) sf.told sf.inside_noted g.kept.0 g.begun sf.answered g.kept.1 in
         let all : without_remarks (begun_with_remarks start.inner ++ (noted ++ notes)) ≡ begun ++ (sf.inside_noted ++ l.inside_notes) =
         begun_goes_by start.inner (noted ++ notes) g.begun g.own ∙ (ap (λ (u : List ℕ). begun ++ u) (sf.left notes) ∙ ap (λ (u : List ℕ). begun ++ (sf.inside_noted ++ u)) of_notes) in record {
           last = start;
@@ -170,6 +174,12 @@ module _ (first : Moment Service) (before : List ℕ) where
           noted = noted;
           holds = g.holds.journal;
           fits = g.holds.fits;
+          whole = record {
+            journal = j.0;
+            right = j.1;
+            lines = of_both (begun_with_remarks start.inner) noted (of_both begun (remarks_of (own_lines start.inner)) (begun_ends start.inner) (remark_lines (own_lines start.inner) g.own)) sf.ends;
+            is = front ∙ j.2;
+          };
           stages = λ kept pre post.
               let s : Stage = record {
                 terms = (inside start).terms;
@@ -221,6 +231,7 @@ module _ (first : Moment Service) (before : List ℕ) where
           noted = g.noted;
           holds = g.holds;
           fits = g.fits;
+          whole = g.whole;
           stages = λ kept pre post.
               let a = g.stages kept pre post in record {
                 one = a.one;
@@ -317,6 +328,7 @@ module _ (first : Moment Service) (before : List ℕ) where
             noted = more.noted;
             holds = more.holds;
             fits = more.fits;
+            whole = more.whole;
             stages = λ kept pre post.
                 let r = more.stages kept pre post in
                 let given_later : told_of (r.one ∷ r.more) ≡ given (numbers_all n lines) (others_of (lines_in ps)) = r.told ∙ ap (λ (m : Numbers). given m (others_of (lines_in ps))) numbers in record {
@@ -408,6 +420,7 @@ parts_are_stages folder a b before parts untold unsaid notes new is begun plain 
       noted = g.noted;
       holds = λ known text. g.holds (known, text);
       fits = g.fits;
+      whole = g.whole;
       stages = λ kept pre post.
           let s = g.stages kept pre post in (
             s.one,

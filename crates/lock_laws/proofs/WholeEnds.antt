@@ -1,41 +1,37 @@
--- What is kept of a run is a prefix of a right journal, so that its end is not torn.
-use Rattle.std.proofs.Common.{◌≡◌, ℕ, ◌<◌, ◌^◌, true, List, [], ◌∷◌, ◌++◌, length, Err, refl, sym, ◌∙◌, ap, subst, ◌⊎◌, inl, inr, arith}
+-- What lines noted is a right journal, and what is torn after whole lines changes nothing of what is recovered of them.
+use Rattle.std.proofs.Common.{◌≡◌, ℕ, Bool, true, false, List, [], ◌∷◌, ◌++◌, length, refl, sym, ◌∙◌, ap, subst, append_assoc, append-nil, ◌⊎◌, inl, inr}
+use Rattle.std.specs.Prelude.{◌||◌}
 use Rattle.std.specs.List.{AllByRecursion}
-use Rattle.std.proofs.lemmas.Bool.{false≢true}
-use Rattle.std.proofs.lemmas.List.{append-nil}
-use Rattle.std.proofs.lemmas.Grind.{flat_map-append}
+use Rattle.std.proofs.lemmas.List.{append_cancel_left}
+use Rattle.std.proofs.lemmas.List.Folds.{list_any-append}
+use Rattle.ring_saved.specs.Content.{Content}
 use Rattle.ring_saved.specs.Spelling.{Fits}
 use Rattle.ring_saved.specs.Versions.{latest_version}
 use Rattle.ring_check.specs.Legal.{IsLegalText}
-use Rattle.ring_check.specs.declared.answers.Kind.{Kind}
 use Rattle.ring_journal.specs.declared.calls.JournalLine.{JournalLine}
-use Rattle.ring_journal.specs.declared.errors.RecoverError.TheVariants as recovery
 use Rattle.ring_journal.specs.Spelling.{Journal, JournalLineFits, journal_line, journal_text, head_text as start_text}
-use Rattle.ring_journal.specs.Recovery.{IsRightRecovery}
+use Rattle.ring_journal.specs.Recovery.{has_line_end, IsRecovered}
 use Rattle.ring_journal.specs.Beginnings.{IsRightJournal}
-use Rattle.ring_journal.proofs.Cutting.{beginnings_recovered}
-use Rattle.ring_segments.specs.declared.errors.SegmentError.{SegmentError}
-use Rattle.ring_segments.specs.declared.errors.SegmentError.TheVariants as segment
-use Rattle.ring_segments.specs.Spelling.{Head, HeadFits, head_text}
-use Rattle.ring_segments.specs.Remarks.{without_remarks}
-use Rattle.ring_segments.specs.Last.{IsRightLast}
-use Rattle.torn_ends.specs.Torn.{names_line}
-use Rattle.torn_ends.proofs.Staying.{one_rest}
+use Rattle.ring_segments.specs.Remarks.{IsEnded, without_remarks}
+use Rattle.ring_segments.specs.RemarkLaws.{AreLines}
+use Rattle.ring_segments.proofs.Remarked.{without_append}
+use Rattle.torn_ends.proofs.Lines.{split_by, not_none, rest_ends}
+use Rattle.ring_serve.specs.Recovered.{IsPrefix}
 use Rattle.ring_serve.specs.Standings.{Standing}
 use Rattle.ring_serve.specs.Saved.{IsRight, content_of}
 use Rattle.ring_serve.proofs.Legality.{content_legal, as_many}
 use Rattle.ring_serve.proofs.Journaling.{stands_tell, begins}
-use Rattle.ring_serve.proofs.Recovering.{lines_of}
-use Rattle.ring_locks.specs.Kept.{LockView}
+use Rattle.ring_locks.specs.Kept.{LockView, AreKept}
+use Rattle.lock_serve.specs.declared.service.Terms.{Terms}
 use Rattle.lock_serve.specs.Counting.{SegmentView}
 use Rattle.lock_serve.specs.Segments.{rings_of}
-use Rattle.lock_laws.specs.Life.{Stage, IsStage, AreStages}
-use Rattle.lock_laws.specs.Runs.{EndWith}
-use Rattle.lock_laws.specs.Started.{head_with, IsTornAfter}
-use Rattle.lock_laws.proofs.Chains.{Chain, chain_append, chain_fits, chain_front, chain_many, chain_stands}
-use Rattle.lock_laws.proofs.Lines.{AreBounded}
-use Rattle.lock_laws.proofs.Longer.{bounded_all, noted_lines}
+use Rattle.lock_laws.specs.Begun.{begun_text, HaveBegun, AreAnswered}
+use Rattle.lock_laws.specs.Life.{AreFound}
+use Rattle.lock_laws.proofs.Chains.{Chain, chain_fits, chain_front, chain_stands}
+use Rattle.lock_laws.proofs.Longer.{noted_lines}
 use Rattle.lock_laws.proofs.Recovering.{begun_right, begun_few, followed_begun, kept_bounded}
+use Rattle.lock_laws.proofs.WholeTexts.{ends_behind, of_each, journal_line_ends}
+use Rattle.lock_laws.proofs.WithoutRemarks.{head_ends, torn_none}
 
 -- ---- the journal of a run
 
@@ -50,67 +46,81 @@ calls_right old new calls all fits chain = record {
       subst IsLegalText (sym (stands_tell old front f.0 s)) (content_legal f.0 s.right);
 }
 
--- a prefix of a right journal
-pub record IsFrontOfOne (bytes : List ℕ) : Type 0 where
-  pub journal : Journal
-  pub more : List ℕ
-  pub right : IsRightJournal journal
-  pub cut : bytes ++ more ≡ journal_text journal
+-- what lines noted, after the text with which the locks began
+pub noted_journal : (terms : Terms) (old new : SegmentView) (lines : List (List ℕ)) (said noted : List ℕ) (entries : List (ℕ × ℕ)) → HaveBegun old.locks → AreAnswered terms old lines said noted new → AreKept new.locks entries →
+    (j : Journal) × IsRightJournal j × (begun_text old.locks ++ noted ≡ journal_text j)
+noted_journal terms old new lines said noted entries begun a kept =
+    let rings : List Standing = rings_of old.locks in
+    let one = noted_lines terms rings old new lines said noted (begun_few old.locks begun) (followed_begun old.locks begun) a.noting a.answers (kept_bounded new.locks entries kept) in (
+      record { began = content_of rings; calls = one.notes.calls },
+      calls_right rings one.notes.behind one.notes.calls (begun_right old.locks begun) begun.text one.notes.chain,
+      ap (λ (u : List ℕ). start_text (content_of rings) ++ u) one.notes.lines,
+    )
 
-stage_front : (s : Stage) → IsStage s → IsFrontOfOne s.journal
-stage_front s k =
-    let rings : List Standing = rings_of s.start.locks in
-    let few : length rings < 2 ^ 32 = begun_few s.start.locks k.begun in
-    let most : AreBounded s.end.locks = kept_bounded s.end.locks k.entries k.right in
-    let one = noted_lines s.terms rings s.start s.mid s.told k.said k.noted few (followed_begun s.start.locks k.begun) k.answered.noting k.answered.answers (bounded_all s.terms s.mid s.end s.untold k.unsaid k.notes k.more.answers most) in
-    let size : length one.notes.behind ≡ length rings = chain_many rings one.notes.behind one.notes.calls one.notes.chain in
-    let few_behind : length one.notes.behind < 2 ^ 32 = omega (arith, few, size) in
-    let two = noted_lines s.terms one.notes.behind s.mid s.end s.untold k.unsaid k.notes few_behind one.notes.followed k.more.noting k.more.answers most in
-    let calls : List JournalLine = one.notes.calls ++ two.notes.calls in
-    let chain : Chain rings calls two.notes.behind = chain_append rings one.notes.behind two.notes.behind one.notes.calls two.notes.calls one.notes.chain two.notes.chain in
-    let lines : k.noted ++ k.notes ≡ lines_of calls =
-    ap (λ (u : List ℕ). u ++ k.notes) one.notes.lines
-    ∙ (ap (λ (u : List ℕ). lines_of one.notes.calls ++ u) two.notes.lines ∙ sym (flat_map-append journal_line one.notes.calls two.notes.calls)) in record {
-      journal = record { began = content_of rings; calls = calls };
-      more = k.no_more.0;
-      right = calls_right rings two.notes.behind calls (begun_right s.start.locks k.begun) k.begun.text chain;
-      cut = sym k.no_more.1 ∙ ap (λ (u : List ℕ). start_text (content_of rings) ++ u) lines;
+-- it ends with a line
+calls_then : (front : List ℕ) (calls : List ℕ) → IsEnded front → AreLines calls → IsEnded (front ++ calls)
+calls_then front calls ended (inl none) = subst IsEnded (sym (ap (λ (u : List ℕ). front ++ u) none ∙ append-nil front)) ended
+calls_then front calls ended (inr e) = ends_behind front calls e
+
+journal_ends : (j : Journal) → IsEnded (journal_text j)
+journal_ends j = calls_then (start_text j.began) _ (head_ends j.began) (of_each journal_line (λ r. inr (journal_line_ends r)) j.calls)
+
+-- ---- bytes after whole lines
+
+front_of : (a b : Bool) → (a || b) ≡ false → a ≡ false
+front_of true b e = e
+front_of false b e = refl
+
+back_of : (a b : Bool) → (a || b) ≡ false → b ≡ false
+back_of true b e = absurd cc
+back_of false b e = e
+
+in_front : (xs ys : List ℕ) → has_line_end (xs ++ ys) ≡ false → has_line_end xs ≡ false
+in_front xs ys e = front_of (has_line_end xs) (has_line_end ys) (sym (list_any-append (λ b. b == 10) xs ys) ∙ e)
+
+no_end : (front tail : List ℕ) → has_line_end ((front ++ 10 ∷ []) ++ tail) ≡ false → ⊥
+no_end front tail none = absurd (back_of (has_line_end front) true (sym (list_any-append (λ b. b == 10) front (10 ∷ [])) ∙ in_front (front ++ 10 ∷ []) tail none))
+
+module _ (whole tail lines rest : List ℕ) (none : has_line_end rest ≡ false) where
+  clash : AreLines whole → (b : ℕ) (m : List ℕ) → whole ≡ lines ++ b ∷ m → (b ∷ m) ++ tail ≡ rest → ⊥
+  clash (inl e) b m shorter behind = not_none lines b m (sym shorter ∙ e)
+  clash (inr e) b m shorter behind =
+      let y = rest_ends e.0 lines b m (sym e.1 ∙ shorter) in
+      no_end y.0 tail (ap has_line_end (ap (λ (u : List ℕ). u ++ tail) (sym y.1) ∙ behind) ∙ none)
+
+  -- whole lines at the front of bytes are in each front of them after which no line ends
+  pub within : AreLines whole → lines ++ rest ≡ whole ++ tail → IsPrefix whole lines
+  within ends e = by (split_by lines rest whole tail e)
+    where
+      by : ((m : List ℕ) × (lines ≡ whole ++ m)) ⊎ ((b : ℕ) × (m : List ℕ) × (whole ≡ lines ++ b ∷ m) × ((b ∷ m) ++ tail ≡ rest)) → IsPrefix whole lines
+      by (inl k) = k
+      by (inr k) = absurd (clash ends k.0 k.1 k.2 k.3)
+
+-- what is recovered of bytes is recovered of a front of them after which no line ends
+unended : (lines rest : List ℕ) (h : Content) → has_line_end rest ≡ false → IsRecovered (lines ++ rest) h → IsRecovered lines h
+unended lines rest h none r =
+    let text : List ℕ = journal_text r.journal in
+    let m = within text r.tail lines rest none (inr (journal_ends r.journal)) r.lines.spelled in
+    let tail : m.0 ++ rest ≡ r.tail = append_cancel_left text (m.0 ++ rest) r.tail (sym (append_assoc text m.0 rest) ∙ (ap (λ (u : List ℕ). u ++ rest) (sym m.1) ∙ r.lines.spelled)) in record {
+      journal = r.journal;
+      tail = m.0;
+      lines = record {
+        fits = r.lines.fits;
+        spelled = m.1;
+        behind = λ call more fits e. r.lines.behind call (more ++ rest) fits (sym tail ∙ (ap (λ (u : List ℕ). u ++ rest) e ∙ append_assoc (journal_line call) more rest));
+      };
+      unended = in_front m.0 rest (ap has_line_end tail ∙ r.unended);
+      began = r.began;
+      is = r.is;
+      legal = r.legal;
     }
 
-pub stages_front : (s : Stage) (more : List Stage) (last : SegmentView) (journal : List ℕ) → AreStages s more → EndWith s more last journal → IsFrontOfOne journal
-stages_front s [] last journal k ends = subst (λ (j : List ℕ). IsFrontOfOne j) ends.2 (stage_front s k)
-stages_front s (next ∷ more) last journal k ends = stages_front next more last journal k.2 ends.1
-
--- ---- no line of it is refused
-
-module _ (h : Head) (kept : List ℕ) (fits : HeadFits h) (f : IsFrontOfOne (without_remarks kept)) (bytes : List ℕ) (spelled : bytes ≡ head_text h ++ kept) where
-  same_rest : (g : Head) (rest : List ℕ) → HeadFits g → bytes ≡ head_text g ++ rest → rest ≡ kept
-  same_rest g rest good e = one_rest g h rest kept good fits (sym e ∙ spelled)
-
-  no_syntax : (g : Head) (rest : List ℕ) (line : ℕ) → HeadFits g → bytes ≡ head_text g ++ rest → IsRightRecovery (without_remarks rest) (Err (recovery.Syntax line)) → ⊥
-  no_syntax g rest line good e r =
-      beginnings_recovered f.journal (without_remarks kept) f.more (Err (recovery.Syntax line)) f.right f.cut
-      (subst (λ (u : List ℕ). IsRightRecovery (without_remarks u) (Err (recovery.Syntax line))) (same_rest g rest good e) r)
-
-  no_fault : (g : Head) (rest : List ℕ) (line : ℕ) (kind : Kind) → HeadFits g → bytes ≡ head_text g ++ rest → IsRightRecovery (without_remarks rest) (Err (recovery.Bad line kind)) → ⊥
-  no_fault g rest line kind good e r =
-      beginnings_recovered f.journal (without_remarks kept) f.more (Err (recovery.Bad line kind)) f.right f.cut
-      (subst (λ (u : List ℕ). IsRightRecovery (without_remarks u) (Err (recovery.Bad line kind))) (same_rest g rest good e) r)
-
-  not_refused : (why : SegmentError) → names_line why ≡ true → IsRightLast bytes (Err why) → ⊥
-  not_refused segment.Truncated n r = false≢true n
-  not_refused (segment.Syntax line) n (inl b) = b.0 h kept fits spelled
-  not_refused (segment.Syntax line) n (inr a) = no_syntax a.head a.rest a.holds.0 a.fits a.spelled a.holds.2
-  not_refused (segment.Bad line kind) n r = no_fault r.head r.rest r.holds.0 kind r.fits r.spelled r.holds.2
-  not_refused segment.Number n r = false≢true n
-  not_refused segment.Behind n r = false≢true n
-  not_refused segment.Base n r = false≢true n
-  not_refused segment.Start n r = false≢true n
-  not_refused segment.Full n r = false≢true n
-  not_refused segment.Unfinished n r = false≢true n
-  not_refused segment.OutOfMemory n r = false≢true n
-
--- all of it is before a torn end, since there is none
-pub whole_front : (number : ℕ) (behind : List ℕ) (start : List LockView) (kept front left_out : List ℕ) → HeadFits (head_with number behind start) → IsFrontOfOne (without_remarks kept) → kept ≡ front ++ left_out → (left_out ≡ []) ⊎ IsTornAfter number behind start kept front → front ≡ kept
-whole_front number behind start kept front left_out fits f parts (inl none) = sym (parts ∙ (ap (λ (u : List ℕ). front ++ u) none ∙ append-nil front))
-whole_front number behind start kept front left_out fits f parts (inr t) = absurd (not_refused (head_with number behind start) kept fits f (head_text (head_with number behind start) ++ kept) refl t.1.why t.1.named t.1.refused)
+-- so the locks that are found are
+pub found_before : (start : List LockView) (lines rest : List ℕ) (found : List LockView) → AreLines lines → has_line_end rest ≡ false → AreFound start (without_remarks (lines ++ rest)) found → AreFound start (without_remarks lines) found
+found_before start lines rest found whole none f = record {
+  history = f.history;
+  recovered = unended (without_remarks lines) (without_remarks rest) f.history (torn_none rest none) (subst (λ (u : List ℕ). IsRecovered u f.history) (without_append lines rest whole) f.recovered);
+  rings = f.rings;
+  made = f.made;
+  added = f.added;
+}

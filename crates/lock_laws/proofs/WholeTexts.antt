@@ -50,11 +50,11 @@ ends_behind front xs e = (front ++ e.0, ap (λ (u : List ℕ). front ++ u) e.1 �
 pub number_ends : (n : ℕ) → IsEnded (ended n)
 number_ends n = (decimal n, refl)
 
-of_both : (a b : List ℕ) → AreLines a → AreLines b → AreLines (a ++ b)
+pub of_both : (a b : List ℕ) → AreLines a → AreLines b → AreLines (a ++ b)
 of_both a b p (inl e) = subst (λ (u : List ℕ). AreLines u) (sym (ap (λ (u : List ℕ). a ++ u) e ∙ append-nil a)) p
 of_both a b p (inr e) = inr (ends_behind a b e)
 
-of_each : {A : Type 0} (line : A → List ℕ) → ((a : A) → AreLines (line a)) → (all : List A) → AreLines (flat_map line all)
+pub of_each : {A : Type 0} (line : A → List ℕ) → ((a : A) → AreLines (line a)) → (all : List A) → AreLines (flat_map line all)
 of_each line each [] = inl refl
 of_each line each (a ∷ all) = of_both (line a) (flat_map line all) (each a) (of_each line each all)
 
@@ -107,7 +107,7 @@ event_ends (Corrupted s m v o) = ends_behind (codes "c ") _ (ends_behind (spaced
 survey_ends : (v : SavedSurvey) → IsEnded (survey_line v)
 survey_ends v = ends_behind (codes "s ") _ (ends_behind (spaced v.seat) _ (ends_behind (spaced v.position) _ (ends_behind (spaced v.privileged) _ (ends_behind (spaced v.first) _ (ends_behind (spaced v.calm) (ended v.rest) (number_ends v.rest))))))
 
-journal_line_ends : (r : JournalLine) → IsEnded (journal_line r)
+pub journal_line_ends : (r : JournalLine) → IsEnded (journal_line r)
 journal_line_ends r = ends_behind (spaced r.ring) (call_line r.call) (go r.call)
   where
     go : (c : Call) → IsEnded (call_line c)

@@ -16,8 +16,8 @@ use Rattle.ring_journal.specs.declared.calls.JournalLine.{JournalLine}
 use Rattle.ring_journal.specs.Spelling.{JournalLineFits, head_text, journal_line}
 use Rattle.ring_journal.specs.Recovery.{has_line_end}
 use Rattle.ring_segments.specs.RemarkLaws.{IsOneLine, AreLines}
-use Rattle.ring_segments.specs.Remarks.{IsEnded, lines_in, is_remark, without_remarks}
-use Rattle.ring_segments.proofs.Remarked.{HasNoHash, last_line, plain_then, remarks_then}
+use Rattle.ring_segments.specs.Remarks.{IsEnded, lines_in, is_remark, remark_of, without_remarks}
+use Rattle.ring_segments.proofs.Remarked.{HasNoHash, last_line, plain_then, remarks_then, remark_ended}
 use Rattle.ring_segments.proofs.Hashless.{no_hash_append, no_hash_call, no_hash_head}
 use Rattle.line_replica.specs.declared.replica.Replica.{Replica}
 use Rattle.line_replica.specs.Keys.{first_line, line_to_asker}
@@ -44,7 +44,7 @@ use Rattle.lock_laws.proofs.Restarting.{locks_come_back}
 use Rattle.lock_laws.proofs.Heard.{IsOfKey, IsReadSo, read_so}
 use Rattle.lock_laws.proofs.LineParts.{line_behind, spaced_ends}
 use Rattle.lock_laws.proofs.SoundKeys.{text_kept, did_is, next_fits, key_is_line, word_ends, digest_is_line, own_lines_are_lines}
-use Rattle.lock_laws.proofs.WholeTexts.{ends_behind, number_ends, of_lines, notes_of_lines, first_of_lines}
+use Rattle.lock_laws.proofs.WholeTexts.{ends_behind, number_ends, of_both, of_lines, notes_of_lines, first_of_lines}
 
 -- ---- the replica's own lines are lines
 
@@ -139,6 +139,19 @@ remarks_go numbers old new (line ∷ lines) inside noted rest g none =
     ∙ (ap (λ (u : List ℕ). one.notes ++ u) more
     ∙ (sym (append_assoc one.notes g.4 (without_remarks rest)) ∙ ap (λ (u : List ℕ). u ++ without_remarks rest) (sym g.6))))))
 
+-- remarks are whole lines, and so are the notes of lines, with the remarks among them
+pub remark_lines : (own : List (List ℕ)) → AllByRecursion IsLine own → AreLines (remarks_of own)
+remark_lines [] all = inl refl
+remark_lines (line ∷ own) all = of_both (remark_of line) (remarks_of own) (remark_ended line (ends_once line all.0)) (remark_lines own all.1)
+
+pub noted_ends : (numbers : Numbers) (old new : Stand LockService) (lines : List (List ℕ)) (inside noted : List ℕ) → AreGiven IsServed IsLine numbers old lines inside noted new → AreLines noted
+noted_ends numbers old new [] inside noted g = inl g.1
+noted_ends numbers old new (line ∷ lines) inside noted g =
+    let one = g.5 in
+    let ends : AreLines one.notes = notes_of_lines old g.0 (given_of (heard line) numbers line) one.told one.notes one.answered in
+    let first : AreLines g.2 = subst (λ (u : List ℕ). AreLines u) (sym one.noted_are) (of_both one.notes (remarks_of g.1) ends (remark_lines g.1 one.each)) in
+    subst (λ (u : List ℕ). AreLines u) (sym g.7) (of_both g.2 g.3 first (noted_ends (numbers_after (heard line) numbers) g.0 new lines g.4 g.3 g.8))
+
 -- ---- what is torn
 
 pub torn_none : (torn : List ℕ) → has_line_end torn ≡ false → has_line_end (without_remarks torn) ≡ false
@@ -152,7 +165,7 @@ torn_none (b ∷ bs) none = ap (λ (ls : List (List ℕ)). has_line_end (flat_ma
 
 -- ---- the locks come back
 
-head_ends : (c : Content) → IsEnded (head_text c)
+pub head_ends : (c : Content) → IsEnded (head_text c)
 head_ends c =
     ends_behind (codes "ringjournal 1\n") (text c)
     (ends_behind (saved.first_line c.version) _ (ends_behind (flat_map block_text c.rings) (done_line c.rings_said) (ends_behind (codes "done ") (ended c.rings_said) (number_ends c.rings_said))))

@@ -10,8 +10,7 @@ use Rattle.ring_locks.specs.Promises.{AreRight, locks_after}
 use Rattle.ring_locks.specs.Kept.{LockView, locks_of}
 use Rattle.lock_folder.specs.Folders.{Place, AreStarted}
 use Rattle.lock_laws.specs.Life.{Stage, IsLockLife}
-use Rattle.lock_laws.specs.Remarked.{begun_with_remarks}
-use Rattle.lock_laws.specs.Runs.{Service, by_segments, inside, IsRun, IsInStages, IsLeftIn}
+use Rattle.lock_laws.specs.Runs.{Service, by_segments, inside, IsInStages, IsLeftIn, IsTakenAs}
 
 -- A run over the folder, ended at any moment: the holds that were handed over at its start, what
 -- was reported of it, and what was left of its last segment when the next run started.
@@ -52,8 +51,7 @@ pub record IsLifeOf {folder : List ℕ} (ls : List Lock) (r : Run folder) (is : 
   where
     pub first : Stage
     pub more : List Stage
-    pub run : IsRun r.from.service r.in_stages.last r.lines r.said
-        (begun_with_remarks r.in_stages.last.inner ++ r.kept) first more
+    pub run : IsTakenAs r.in_stages r.kept first more
     pub life : IsLockLife ls first more is
 
 -- This open hold of the machine is the client's now, with the same token, and nothing else has

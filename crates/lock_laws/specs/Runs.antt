@@ -8,7 +8,11 @@ use Rattle.line_loop.specs.Stands.{AnsweringWith, by_stand, stand}
 use Rattle.segment_loop.specs.Segmenting.{Segmenting}
 use Rattle.segment_loop.specs.Segments.{Moment, moment_of, stand_of, IsPut}
 use Rattle.segment_loop.specs.Service.{Part, AreParts, all_said}
+use Rattle.ring_journal.specs.Spelling.{Journal, journal_text}
+use Rattle.ring_journal.specs.Beginnings.{IsRightJournal}
+use Rattle.ring_journal.specs.Recovery.{has_line_end}
 use Rattle.ring_segments.specs.Remarks.{without_remarks}
+use Rattle.ring_segments.specs.RemarkLaws.{AreLines}
 use Rattle.ring_serve.specs.Recovered.{IsPrefix}
 use Rattle.line_replica.specs.declared.replica.Replica.{Replica}
 use Rattle.line_replica.specs.declared.restorable.Restorable.{Restorable}
@@ -29,7 +33,7 @@ use Rattle.lock_serve.specs.State.{state_lines}
 use Rattle.lock_laws.specs.Begun.{HaveBegun}
 use Rattle.lock_laws.specs.KeysBack.{IsSound}
 use Rattle.lock_laws.specs.Remarked.{begun_with_remarks}
-use Rattle.lock_laws.specs.Started.{IsNew}
+use Rattle.lock_laws.specs.Started.{IsTaken, IsNew}
 use Rattle.lock_laws.specs.Life.{Stage, AreFound, AreStages}
 use Rattle.lock_laws.specs.Around.{AreToldAround, AreToldBehind}
 
@@ -96,6 +100,13 @@ pub record IsRun (start last : Service) (lines : List (List ℕ)) (said kept : L
   pub said_so : AreToldAround (numbers_of start.inner.numbered.keys) (others_of lines) replied
       (said_of (first ∷ more))
 
+-- whole lines are a right journal, when their remarks are left out
+pub record IsWholeJournal (bytes : List ℕ) : Type 0 where
+  pub journal : Journal
+  pub right : IsRightJournal journal
+  pub lines : AreLines bytes
+  pub is : without_remarks bytes ≡ journal_text journal
+
 -- Of a run from this moment to that one, after which other lines had these notes: the service with
 -- which its last segment began, and the notes since. The segment's file holds that, and its head has
 -- a text. Whatever is kept of it after its head, with these notes and no more than those others, the
@@ -109,6 +120,7 @@ pub record IsInStages (a b : Moment Service) (before : List ℕ) (lines : List (
       → b.journal ≡ Some (by_segments.text last b.number digest ++ noted)
   pub fits : by_segments.HasText a.service a.number before
       → by_segments.HasText last b.number digest
+  pub whole : IsWholeJournal (begun_with_remarks last.inner ++ noted)
   pub stages : (kept : List ℕ)
       → IsPrefix (begun_with_remarks last.inner ++ noted) kept
       → IsPrefix kept (begun_with_remarks last.inner ++ (noted ++ notes))
@@ -148,16 +160,40 @@ RunsFollow =
     → AreFound last.locks journal next.start.locks → AreStages next others
     → AreStages one (more ++ next ∷ others)
 
--- what is kept of the last segment of such a run, its head and the bytes after it, is in the folder,
--- and no later segment
+-- each whole line of these bytes is one of those
+pub record HasNoLineMore (bytes kept : List ℕ) : Type 0 where
+  pub lines : List ℕ
+  pub cut : List ℕ
+  pub parts : bytes ≡ lines ++ cut
+  pub whole : AreLines lines
+  pub unended : has_line_end cut ≡ false
+  pub within : IsPrefix lines kept
+
+-- What is kept of the last segment of such a run, its head and the bytes after it, is in the folder,
+-- perhaps with others after them, of which a start takes no line; and there is no later segment.
 pub record IsLeftIn {a b : Moment Service} {before : List ℕ} {lines : List (List ℕ)}
     {said notes : List ℕ} (r : IsInStages a b before lines said notes) (held : Held)
     (folder kept : List ℕ) : Type 0 where
+  pub torn : List ℕ
   pub file : bytes_of held (segment_file folder b.number)
-      ≡ Some (by_segments.text r.last b.number r.digest ++ kept)
+      ≡ Some (by_segments.text r.last b.number r.digest ++ (kept ++ torn))
   pub last : (n : ℕ) → IsNumber n → is_there held (segment_file folder n) ≡ true → n ≤ b.number
   pub told : IsPrefix r.noted kept
   pub no_more : IsPrefix kept (r.noted ++ notes)
+  pub tail : (front : List ℕ)
+      → IsTaken b.number r.digest (inside r.last).segment.locks
+      (begun_with_remarks r.last.inner ++ (kept ++ torn)) (begun_with_remarks r.last.inner ++ front)
+      → HasNoLineMore front kept
+
+-- The run is these stages, with as much of what was kept as a start takes: the notes of all that was
+-- reported, perhaps with some of the others.
+pub record IsTakenAs {a b : Moment Service} {before : List ℕ} {lines : List (List ℕ)}
+    {said notes : List ℕ} (r : IsInStages a b before lines said notes) (kept : List ℕ)
+    (first : Stage) (more : List Stage) : Type 0 where
+  pub taken : List ℕ
+  pub told : IsPrefix r.noted taken
+  pub no_more : IsPrefix taken kept
+  pub run : IsRun a.service r.last lines said (begun_with_remarks r.last.inner ++ taken) first more
 
 -- A law: where that is left, and locks start there, the run is some stages, and these locks are
 -- found in its journal, with new ones after them, when each of these holds was handed to its client.
@@ -169,10 +205,9 @@ RunsGoOn =
     (word : Option (List ℕ)) (holders : List Handover) (after : Option Held) (p : Place)
     → by_segments.HasText a.service a.number before → IsLeftIn r held folder kept
     → AreStarted folder word holders (Some held) after p
-    → (first : Stage) × (more : List Stage)
-    × IsRun a.service r.last lines said (begun_with_remarks r.last.inner ++ kept) first more
+    → (first : Stage) × (more : List Stage) × (t : IsTakenAs r kept first more)
     × (locks added : List LockView)
     × AreFound (inside r.last).segment.locks
-    (without_remarks (begun_with_remarks r.last.inner ++ kept)) locks
+    (without_remarks (begun_with_remarks r.last.inner ++ t.taken)) locks
     × AllByRecursion IsNew added
     × AreHanded (locks ++ added) holders p.locks

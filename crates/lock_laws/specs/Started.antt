@@ -62,6 +62,11 @@ IsTornAfter number behind start kept front =
     × (torn : IsTorn (head_text (head_with number behind start) ++ kept) s)
     × (torn.front ≡ head_text (head_with number behind start) ++ front)
 
+-- of what is kept a start takes these bytes: all, or those before a torn end
+abbrev pub IsTaken : ℕ → List ℕ → List LockView → List ℕ → List ℕ → Type 0
+IsTaken number behind start kept front =
+    (front ≡ kept) ⊎ IsTornAfter number behind start kept front
+
 -- a lock that is new: no client waits for it, and none holds it
 abbrev pub IsNew : LockView → Type 0
 IsNew v = (v.line ≡ []) × (v.holder ≡ None)
