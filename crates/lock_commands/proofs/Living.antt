@@ -14,6 +14,7 @@ use Rattle.lock_laws.specs.KeysBack.{IsSound}
 use Rattle.lock_laws.specs.Runs.{inside, IsPlain}
 use Rattle.lock_laws.proofs.SoundKeys.{fresh_is_sound}
 use Rattle.lock_laws.proofs.Stages.{parts_are_stages}
+use Rattle.lock_laws.proofs.PutSegments.{put_segments_are_stages}
 use Rattle.ring_requests.specs.declared.requests.LocksWords.{LocksWords}
 use Rattle.lock_commands.specs.Locks.{folder_of, terms_of, Service, answering, by_segments, BeginsWith, HasStarted}
 use Rattle.lock_commands.specs.Life.{IsLived}
@@ -44,6 +45,9 @@ module _ (words : LocksWords) (start : Place) (files : Option Held) (first : Mom
   sound : IsSound first.service.inner
   sound = subst (λ (s : Service). IsSound s.inner) (sym h.begun.service_is) (fresh_is_sound IsServed h.service.inner (record { keys = h.begins.keys; running = h.begins.running }))
 
+  begun : HaveBegun (inside first.service).segment.locks
+  begun = subst (λ (vs : List LockView). HaveBegun vs) (sym locks_are) h.locks
+
   fits : by_segments.HasText first.service first.number start.behind
   fits =
       subst (λ (n : ℕ). by_segments.HasText first.service n start.behind) (sym h.begun.number_is)
@@ -58,5 +62,6 @@ module _ (words : LocksWords) (start : Place) (files : Option Held) (first : Mom
     end = end;
     journal = journal;
     noted = n;
-    stages = λ whole. parts_are_stages (folder_of words) first n.mid start.behind n.parts n.untold.lines n.unsaid (n.more ++ n.back) end n.is (subst (λ (vs : List LockView). HaveBegun vs) (sym locks_are) h.locks) (plain off) sound whole n.told n.untold.each n.untold.answers;
+    stages = λ whole. parts_are_stages (folder_of words) first n.mid start.behind n.parts n.untold.lines n.unsaid (n.more ++ n.back) end n.is begun (plain off) sound whole n.told n.untold.each n.untold.answers;
+    put = λ whole next is p. put_segments_are_stages (folder_of words) first n.mid start.behind n.parts next is begun (plain off) sound whole n.told p;
   }

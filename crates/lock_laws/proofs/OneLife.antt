@@ -13,7 +13,7 @@ use Rattle.ring_segments.specs.Remarks.{without_remarks}
 use Rattle.lock_serve.specs.Counting.{SegmentView}
 use Rattle.lock_laws.specs.Life.{Stage, IsLockRun, behind, IsLockLife, AreFound, AreStages}
 use Rattle.lock_laws.specs.Remarked.{begun_with_remarks}
-use Rattle.lock_laws.specs.Runs.{inside, EndWith}
+use Rattle.lock_laws.specs.Runs.{inside, EndWith, IsRun}
 use Rattle.lock_laws.specs.Started.{IsNew}
 use Rattle.lock_laws.specs.OneLife.{Run, locks_at_start, IsHandedOver, AreHandedOver, AreNew, AreRuns, AreOneLife, RunsAreOneLife}
 use Rattle.lock_laws.proofs.Following.{lock_there}
@@ -70,15 +70,22 @@ all_new (v ∷ vs) all = (all.0, all_new vs all.1)
 
 -- ---- one run after the other
 
+-- the stages of a run, with no notes but those of what was reported
+just_told : (folder : List ℕ) (r : Run folder) → (first : Stage) × (more : List Stage) × IsRun r.from.service r.in_stages.last r.lines r.said (begun_with_remarks r.in_stages.last.inner ++ r.in_stages.noted) first more
+just_told folder r =
+    let begun : List ℕ = begun_with_remarks r.in_stages.last.inner in
+    let noted : List ℕ = r.in_stages.noted in
+    r.in_stages.stages (begun ++ noted) ([], sym (append-nil (begun ++ noted))) (behind_both begun noted (noted ++ r.notes) (r.notes, refl))
+
 go : (folder : List ℕ) (r : Run folder) (more : List (Run folder)) (ls : List Lock) → locks_of (locks_at_start r) ≡ ls → AreRuns r more → (is : List Input) × AreOneLife ls r more is
 go folder r [] ls e runs =
     let begun : List ℕ = begun_with_remarks r.in_stages.last.inner in
-    let x = r.in_stages.stages (begun ++ r.kept) (behind_both begun r.in_stages.noted r.kept r.left.told) (behind_both begun r.kept (r.in_stages.noted ++ r.notes) r.left.no_more) in
-    let l = life_so x.0 x.1 ls (inside r.in_stages.last).segment (without_remarks (begun ++ r.kept)) (ap (λ (v : SegmentView). locks_of v.locks) x.2.begins ∙ e) x.2.stages x.2.ends in
-    (l.inputs, record { first = x.0; more = x.1; run = record { taken = r.kept; told = r.left.told; no_more = ([], sym (append-nil r.kept)); run = x.2 }; life = l.life })
+    let x = just_told folder r in
+    let l = life_so x.0 x.1 ls (inside r.in_stages.last).segment (without_remarks (begun ++ r.in_stages.noted)) (ap (λ (v : SegmentView). locks_of v.locks) x.2.begins ∙ e) x.2.stages x.2.ends in
+    (l.inputs, record { first = x.0; more = x.1; run = record { taken = r.in_stages.noted; told = ([], sym (append-nil r.in_stages.noted)); of_left = r.left_so.told; run = x.2 }; life = l.life })
 go folder r (next ∷ more) ls e runs =
     let s = runs.0 in
-    let x = runs_go_on r.from r.to r.before r.lines r.said r.notes r.in_stages r.held folder r.kept s.word next.holders s.after s.place r.fits r.left s.started in
+    let x = runs_go_on r.from r.to r.before r.lines r.said r.notes r.in_stages r.held folder r.left s.word next.holders s.after s.place r.fits r.left_so s.started in
     let l = life_so x.0 x.1 ls (inside r.in_stages.last).segment (without_remarks (begun_with_remarks r.in_stages.last.inner ++ x.2.taken)) (ap (λ (v : SegmentView). locks_of v.locks) x.2.run.begins ∙ e) x.2.run.stages x.2.run.ends in
     let given : List Lock = locks_of (locks_at_start next) in
     let added : List Lock = locks_of x.4 in
@@ -93,8 +100,7 @@ go folder r (next ∷ more) ls e runs =
 -- the first one begins with locks that are right
 first_right : (folder : List ℕ) (r : Run folder) → AreRight (locks_of (locks_at_start r))
 first_right folder r =
-    let begun : List ℕ = begun_with_remarks r.in_stages.last.inner in
-    let x = r.in_stages.stages (begun ++ r.kept) (behind_both begun r.in_stages.noted r.kept r.left.told) (behind_both begun r.kept (r.in_stages.noted ++ r.notes) r.left.no_more) in
+    let x = just_told folder r in
     subst (λ (v : SegmentView). AreRight (locks_of v.locks)) x.2.begins (runs_are_a_life x.0 x.1 x.2.stages).1
 
 pub runs_are_one_life : RunsAreOneLife

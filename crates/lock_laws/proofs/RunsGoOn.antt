@@ -11,7 +11,7 @@ use Rattle.ring_locks.specs.Kept.{LockView}
 use Rattle.lock_laws.specs.Begun.{begun_text}
 use Rattle.lock_laws.specs.Life.{AreFound}
 use Rattle.lock_laws.specs.Remarked.{begun_with_remarks}
-use Rattle.lock_laws.specs.Started.{head_with, IsKeptLast, IsTornAfter, IsTaken}
+use Rattle.lock_laws.specs.Started.{head_with, IsKeptLast, IsTornAfter, IsTakenOf}
 use Rattle.lock_laws.specs.Runs.{Service, by_segments, inside, RunsGoOn}
 use Rattle.lock_laws.proofs.LastSegments.{kept_segments_start}
 use Rattle.lock_laws.proofs.WholeEnds.{within, found_before}
@@ -43,46 +43,44 @@ whole_then begun lines (b ∷ noted) told has (inl none) = absurd (not_none [] b
 whole_then begun lines noted told has (inr e) = inr (ends_behind begun lines e)
 
 -- what a start takes
-taken_so : (number : ℕ) (behind : List ℕ) (start : List LockView) (kept front left_out : List ℕ) → kept ≡ front ++ left_out → (left_out ≡ []) ⊎ IsTornAfter number behind start kept front → IsTaken number behind start kept front
+taken_so : (number : ℕ) (behind : List ℕ) (start : List LockView) (kept front left_out : List ℕ) → kept ≡ front ++ left_out → (left_out ≡ []) ⊎ IsTornAfter number behind start kept front → IsTakenOf number behind start kept front
 taken_so number behind start kept front left_out parts (inl none) = inl (sym (parts ∙ (ap (λ (u : List ℕ). front ++ u) none ∙ append-nil front)))
 taken_so number behind start kept front left_out parts (inr torn) = inr torn
 
 pub runs_go_on : RunsGoOn
-runs_go_on a b before lines said notes r held folder kept word holders after p fits left started =
+runs_go_on a b before lines said notes r held folder bytes word holders after p fits left started =
     let begun : List ℕ = begun_with_remarks r.last.inner in
     let locks : List LockView = (inside r.last).segment.locks in
-    let all : List ℕ = begun ++ (kept ++ left.torn) in
+    let all : List ℕ = begun ++ bytes in
     let k : IsKeptLast held folder b.number r.digest locks all = record {
       fits = (r.fits fits).head;
-      file = left.file ∙ ap (λ (u : List ℕ). Some u) (text_is r.last b.number r.digest (kept ++ left.torn));
+      file = left.file ∙ ap (λ (u : List ℕ). Some u) (text_is r.last b.number r.digest bytes);
       last = left.last;
     } in
     let t = kept_segments_start held folder b.number r.digest locks all word holders after p k started in
     let told : List ℕ = begun ++ r.noted in
-    let parts : all ≡ told ++ (left.told.0 ++ left.torn) =
-    ap (λ (u : List ℕ). begun ++ (u ++ left.torn)) left.told.1
-    ∙ (ap (λ (u : List ℕ). begun ++ u) (append_assoc r.noted left.told.0 left.torn) ∙ sym (append_assoc begun r.noted (left.told.0 ++ left.torn))) in
-    let stays = t.stays r.whole.journal told (left.told.0 ++ left.torn) r.whole.right r.whole.lines r.whole.is parts in
+    let parts : all ≡ told ++ left.told.0 = (behind_both begun r.noted bytes left.told).1 in
+    let stays = t.stays r.whole.journal told left.told.0 r.whole.right r.whole.lines r.whole.is parts in
     let front : List ℕ = r.noted ++ stays.0 in
     let front_is : t.front ≡ begun ++ front = stays.1 ∙ append_assoc begun r.noted stays.0 in
-    let taken : IsTaken b.number r.digest locks all (begun ++ front) =
-    subst (λ (u : List ℕ). IsTaken b.number r.digest locks all u) front_is (taken_so b.number r.digest locks all t.front t.left_out t.parts t.end) in
-    let n = left.tail front taken in
-    let line_parts : (begun ++ n.lines) ++ n.cut ≡ told ++ stays.0 =
-    append_assoc begun n.lines n.cut ∙ (ap (λ (u : List ℕ). begun ++ u) (sym n.parts) ∙ sym (append_assoc begun r.noted stays.0)) in
-    let has : IsPrefix told (begun ++ n.lines) = within told stays.0 (begun ++ n.lines) n.cut n.unended r.whole.lines line_parts in
-    let up : IsPrefix n.lines (r.noted ++ notes) = prefix_then n.lines kept (r.noted ++ notes) n.within left.no_more in
-    let s = r.stages (begun ++ n.lines) has (behind_both begun n.lines (r.noted ++ notes) up) in
-    let noted : IsPrefix r.noted n.lines = cut_front begun r.noted n.lines has in
-    let ends : AreLines (begun ++ n.lines) = whole_then begun n.lines r.noted r.whole.lines noted n.whole in
-    let found : AreFound locks (without_remarks ((begun ++ n.lines) ++ n.cut)) t.locks =
-    subst (λ (u : List ℕ). AreFound locks (without_remarks u) t.locks) (stays.1 ∙ sym line_parts) t.found in (
+    let taken : IsTakenOf b.number r.digest locks all (begun ++ front) =
+    subst (λ (u : List ℕ). IsTakenOf b.number r.digest locks all u) front_is (taken_so b.number r.digest locks all t.front t.left_out t.parts t.end) in
+    let n = left.no_more front taken in
+    let line_parts : (begun ++ n.0) ++ n.1 ≡ told ++ stays.0 =
+    append_assoc begun n.0 n.1 ∙ (ap (λ (u : List ℕ). begun ++ u) (sym n.2) ∙ sym (append_assoc begun r.noted stays.0)) in
+    let has : IsPrefix told (begun ++ n.0) = within told stays.0 (begun ++ n.0) n.1 n.4 r.whole.lines line_parts in
+    let noted : IsPrefix r.noted n.0 = cut_front begun r.noted n.0 has in
+    let s = r.stages (begun ++ n.0) has (behind_both begun n.0 (r.noted ++ notes) n.5) in
+    let ends : AreLines (begun ++ n.0) = whole_then begun n.0 r.noted r.whole.lines noted n.3 in
+    let found : AreFound locks (without_remarks ((begun ++ n.0) ++ n.1)) t.locks =
+    subst (λ (u : List ℕ). AreFound locks (without_remarks u) t.locks) (stays.1 ∙ sym line_parts) t.found in
+    let up : IsPrefix front bytes = cut_front begun front bytes (subst (λ (u : List ℕ). IsPrefix u all) front_is (t.left_out, t.parts)) in (
       s.0,
       s.1,
-      record { taken = n.lines; told = noted; no_more = n.within; run = s.2 },
+      record { taken = n.0; told = noted; of_left = prefix_then n.0 front bytes (n.1, n.2) up; run = s.2 },
       t.locks,
       t.added,
-      found_before locks (begun ++ n.lines) n.cut t.locks ends n.unended found,
+      found_before locks (begun ++ n.0) n.1 t.locks ends n.4 found,
       t.new,
       t.handed,
     )

@@ -25,8 +25,8 @@ pub record Run (folder : List ℕ) : Type 0 where
   pub in_stages : IsInStages from to before lines said notes
   pub fits : by_segments.HasText from.service from.number before
   pub held : Held
-  pub kept : List ℕ
-  pub left : IsLeftIn in_stages held folder kept
+  pub left : List ℕ
+  pub left_so : IsLeftIn in_stages held folder left
 
 -- the locks with which it began
 abbrev pub locks_at_start : {folder : List ℕ} → Run folder → List LockView
@@ -51,7 +51,7 @@ pub record IsLifeOf {folder : List ℕ} (ls : List Lock) (r : Run folder) (is : 
   where
     pub first : Stage
     pub more : List Stage
-    pub run : IsTakenAs r.in_stages r.kept first more
+    pub run : IsTakenAs r.in_stages r.left first more
     pub life : IsLockLife ls first more is
 
 -- This open hold of the machine is the client's now, with the same token, and nothing else has

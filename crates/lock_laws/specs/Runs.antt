@@ -33,7 +33,7 @@ use Rattle.lock_serve.specs.State.{state_lines}
 use Rattle.lock_laws.specs.Begun.{HaveBegun}
 use Rattle.lock_laws.specs.KeysBack.{IsSound}
 use Rattle.lock_laws.specs.Remarked.{begun_with_remarks}
-use Rattle.lock_laws.specs.Started.{IsTaken, IsNew}
+use Rattle.lock_laws.specs.Started.{IsTakenOf, IsNew}
 use Rattle.lock_laws.specs.Life.{Stage, AreFound, AreStages}
 use Rattle.lock_laws.specs.Around.{AreToldAround, AreToldBehind}
 
@@ -138,8 +138,13 @@ PartsAreStages =
     → Answers (by_stand answering) (stand_of b) untold unsaid notes (stand new is)
     → IsInStages a b before (lines_in parts) (all_said parts) notes
 
--- A law: a run that ended when the file of the next segment had been put there is one too, whose last
--- stage has no lines.
+-- the moment when the file of the next segment had been put there
+abbrev pub moment_after : {folder : List ℕ} {b : Moment Service} {next : Service}
+    {is : Option Held} → IsPut by_segments folder b next is → Moment Service
+moment_after {folder} {b} {next} {is} put =
+    moment_of next is (b.number + 1) (Some (by_segments.text next (b.number + 1) put.behind))
+
+-- A law: a run that ended then is one too, whose last stage has no lines.
 abbrev pub PutSegmentsAreStages : Type 0
 PutSegmentsAreStages =
     (folder : List ℕ) (a b : Moment Service) (before : List ℕ) (parts : List (Part Service))
@@ -147,9 +152,7 @@ PutSegmentsAreStages =
     → HaveBegun (inside a.service).segment.locks → IsPlain a.service → IsSound a.service.inner
     → b.service.inner.lost ≡ false → AreParts answering by_segments folder a parts b
     → (put : IsPut by_segments folder b next is)
-    → IsInStages a
-    (moment_of next is (b.number + 1) (Some (by_segments.text next (b.number + 1) put.behind)))
-    before (lines_in parts) (all_said parts) []
+    → IsInStages a (moment_after put) before (lines_in parts) (all_said parts) []
 
 -- A law: two runs, the second begun with the locks that are found in what is kept of the first, are
 -- stages one after the other, and so a life.
@@ -161,38 +164,35 @@ RunsFollow =
     → AreStages one (more ++ next ∷ others)
 
 -- each whole line of these bytes is one of those
-pub record HasNoLineMore (bytes kept : List ℕ) : Type 0 where
-  pub lines : List ℕ
-  pub cut : List ℕ
-  pub parts : bytes ≡ lines ++ cut
-  pub whole : AreLines lines
-  pub unended : has_line_end cut ≡ false
-  pub within : IsPrefix lines kept
+abbrev pub HasNoLineMore : List ℕ → List ℕ → Type 0
+HasNoLineMore bytes those =
+    (lines cut : List ℕ)
+    × (bytes ≡ lines ++ cut)
+    × AreLines lines
+    × (has_line_end cut ≡ false)
+    × IsPrefix lines those
 
--- What is kept of the last segment of such a run, its head and the bytes after it, is in the folder,
--- perhaps with others after them, of which a start takes no line; and there is no later segment.
+-- This is left of the last segment of such a run, after its head, and no later segment is in the
+-- folder. It begins with the notes of all that was reported; whatever comes after them, of lines a
+-- start takes no more than the notes of the others.
 pub record IsLeftIn {a b : Moment Service} {before : List ℕ} {lines : List (List ℕ)}
     {said notes : List ℕ} (r : IsInStages a b before lines said notes) (held : Held)
-    (folder kept : List ℕ) : Type 0 where
-  pub torn : List ℕ
+    (folder left : List ℕ) : Type 0 where
   pub file : bytes_of held (segment_file folder b.number)
-      ≡ Some (by_segments.text r.last b.number r.digest ++ (kept ++ torn))
+      ≡ Some (by_segments.text r.last b.number r.digest ++ left)
   pub last : (n : ℕ) → IsNumber n → is_there held (segment_file folder n) ≡ true → n ≤ b.number
-  pub told : IsPrefix r.noted kept
-  pub no_more : IsPrefix kept (r.noted ++ notes)
-  pub tail : (front : List ℕ)
-      → IsTaken b.number r.digest (inside r.last).segment.locks
-      (begun_with_remarks r.last.inner ++ (kept ++ torn)) (begun_with_remarks r.last.inner ++ front)
-      → HasNoLineMore front kept
+  pub told : IsPrefix r.noted left
+  pub no_more : (front : List ℕ) → IsTakenOf b.number r.digest (inside r.last).segment.locks
+      (begun_with_remarks r.last.inner ++ left) (begun_with_remarks r.last.inner ++ front)
+      → HasNoLineMore front (r.noted ++ notes)
 
--- The run is these stages, with as much of what was kept as a start takes: the notes of all that was
--- reported, perhaps with some of the others.
+-- The run is these stages, with some of what was left: the notes of all that was reported, at least.
 pub record IsTakenAs {a b : Moment Service} {before : List ℕ} {lines : List (List ℕ)}
-    {said notes : List ℕ} (r : IsInStages a b before lines said notes) (kept : List ℕ)
+    {said notes : List ℕ} (r : IsInStages a b before lines said notes) (left : List ℕ)
     (first : Stage) (more : List Stage) : Type 0 where
   pub taken : List ℕ
   pub told : IsPrefix r.noted taken
-  pub no_more : IsPrefix taken kept
+  pub of_left : IsPrefix taken left
   pub run : IsRun a.service r.last lines said (begun_with_remarks r.last.inner ++ taken) first more
 
 -- A law: where that is left, and locks start there, the run is some stages, and these locks are
@@ -201,11 +201,11 @@ pub record IsTakenAs {a b : Moment Service} {before : List ℕ} {lines : List (L
 abbrev pub RunsGoOn : Type 0
 RunsGoOn =
     (a b : Moment Service) (before : List ℕ) (lines : List (List ℕ)) (said notes : List ℕ)
-    (r : IsInStages a b before lines said notes) (held : Held) (folder kept : List ℕ)
+    (r : IsInStages a b before lines said notes) (held : Held) (folder left : List ℕ)
     (word : Option (List ℕ)) (holders : List Handover) (after : Option Held) (p : Place)
-    → by_segments.HasText a.service a.number before → IsLeftIn r held folder kept
+    → by_segments.HasText a.service a.number before → IsLeftIn r held folder left
     → AreStarted folder word holders (Some held) after p
-    → (first : Stage) × (more : List Stage) × (t : IsTakenAs r kept first more)
+    → (first : Stage) × (more : List Stage) × (t : IsTakenAs r left first more)
     × (locks added : List LockView)
     × AreFound (inside r.last).segment.locks
     (without_remarks (begun_with_remarks r.last.inner ++ t.taken)) locks

@@ -63,8 +63,8 @@ IsTornAfter number behind start kept front =
     × (torn.front ≡ head_text (head_with number behind start) ++ front)
 
 -- of what is kept a start takes these bytes: all, or those before a torn end
-abbrev pub IsTaken : ℕ → List ℕ → List LockView → List ℕ → List ℕ → Type 0
-IsTaken number behind start kept front =
+abbrev pub IsTakenOf : ℕ → List ℕ → List LockView → List ℕ → List ℕ → Type 0
+IsTakenOf number behind start kept front =
     (front ≡ kept) ⊎ IsTornAfter number behind start kept front
 
 -- a lock that is new: no client waits for it, and none holds it
