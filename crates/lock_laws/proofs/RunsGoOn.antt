@@ -1,5 +1,5 @@
 -- What is left of a run starts the next one.
-use Rattle.std.proofs.Common.{◌≡◌, ℕ, List, [], ◌∷◌, ◌++◌, Some, refl, ap, sym, subst, ◌∙◌, append_assoc, append-nil, ◌⊎◌, inl, inr}
+use Rattle.std.proofs.Common.{◌≡◌, ℕ, List, [], ◌∷◌, ◌++◌, Some, ap, sym, subst, ◌∙◌, append_assoc, append-nil, ◌⊎◌, inl, inr}
 use Rattle.std.proofs.lemmas.List.{append_cancel_left}
 use Rattle.ring_segments.specs.Spelling.{head_text}
 use Rattle.ring_segments.specs.Remarks.{without_remarks}
@@ -59,7 +59,7 @@ runs_go_on a b before lines said notes r held folder bytes word holders after p 
     } in
     let t = kept_segments_start held folder b.number r.digest locks all word holders after p k started in
     let told : List ℕ = begun ++ r.noted in
-    let parts : all ≡ told ++ left.told.0 = (behind_both begun r.noted bytes left.told).1 in
+    let parts : all ≡ told ++ left.told.0 = ap (λ (u : List ℕ). begun ++ u) left.told.1 ∙ sym (append_assoc begun r.noted left.told.0) in
     let stays = t.stays r.whole.journal told left.told.0 r.whole.right r.whole.lines r.whole.is parts in
     let front : List ℕ = r.noted ++ stays.0 in
     let front_is : t.front ≡ begun ++ front = stays.1 ∙ append_assoc begun r.noted stays.0 in

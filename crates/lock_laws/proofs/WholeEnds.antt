@@ -1,7 +1,8 @@
 -- What lines noted is a right journal, and what is torn after whole lines changes nothing of what is recovered of them.
-use Rattle.std.proofs.Common.{◌≡◌, ℕ, Bool, true, false, List, [], ◌∷◌, ◌++◌, length, refl, sym, ◌∙◌, ap, subst, append_assoc, append-nil, ◌⊎◌, inl, inr}
+use Rattle.std.proofs.Common.{◌≡◌, ℕ, Bool, true, false, eqb, List, [], ◌∷◌, ◌++◌, refl, sym, ◌∙◌, ap, subst, append_assoc, append-nil, ◌⊎◌, inl, inr}
 use Rattle.std.specs.Prelude.{◌||◌}
 use Rattle.std.specs.List.{AllByRecursion}
+use Rattle.std.proofs.lemmas.Bool.{false≢true}
 use Rattle.std.proofs.lemmas.List.{append_cancel_left}
 use Rattle.std.proofs.lemmas.List.Folds.{list_any-append}
 use Rattle.ring_saved.specs.Content.{Content}
@@ -76,10 +77,10 @@ back_of true b e = absurd cc
 back_of false b e = e
 
 in_front : (xs ys : List ℕ) → has_line_end (xs ++ ys) ≡ false → has_line_end xs ≡ false
-in_front xs ys e = front_of (has_line_end xs) (has_line_end ys) (sym (list_any-append (λ b. b == 10) xs ys) ∙ e)
+in_front xs ys e = front_of (has_line_end xs) (has_line_end ys) (sym (list_any-append (λ b. eqb b 10) xs ys) ∙ e)
 
 no_end : (front tail : List ℕ) → has_line_end ((front ++ 10 ∷ []) ++ tail) ≡ false → ⊥
-no_end front tail none = absurd (back_of (has_line_end front) true (sym (list_any-append (λ b. b == 10) front (10 ∷ [])) ∙ in_front (front ++ 10 ∷ []) tail none))
+no_end front tail none = false≢true (sym (back_of (has_line_end front) true (sym (list_any-append (λ b. eqb b 10) front (10 ∷ [])) ∙ in_front (front ++ 10 ∷ []) tail none)))
 
 module _ (whole tail lines rest : List ℕ) (none : has_line_end rest ≡ false) where
   clash : AreLines whole → (b : ℕ) (m : List ℕ) → whole ≡ lines ++ b ∷ m → (b ∷ m) ++ tail ≡ rest → ⊥
