@@ -2,17 +2,17 @@
 use Rattle.std.proofs.Common.{◌≡◌, ℕ, List, [], ◌∷◌, Option, None, Some, sym, subst, inl, inr}
 use Rattle.std.specs.Prelude.{IsSome}
 use Rattle.disks.specs.Held.{Held}
-use Rattle.segment_folder.specs.Names.{segment_file}
-use Rattle.ring_serve.specs.declared.answers.Answer.{Answer}
-use Rattle.ring_serve.specs.declared.answers.Answer.TheVariants as answer
-use Rattle.ring_serve.specs.declared.answers.Refusal.{Refusal}
-use Rattle.ring_serve.specs.Permits.{Terms}
-use Rattle.ring_serve.specs.Standings.{Standing}
-use Rattle.ring_serve.specs.Serving.{IsSaveGiven, IsGiven, Answers, name_in}
-use Rattle.chain_serve.specs.declared.segments.SegmentRules.{SegmentRules}
-use Rattle.chain_serve.specs.Segments.{Moment, IsReady}
-use Rattle.chain_serve.specs.Texts.{segment_text}
-use Rattle.chain_serve.specs.Service.{part_terms, Part, AreParts}
+use Rattle.line_service.specs.SegmentNames.{segment_file}
+use Rattle.ring_service.specs.declared.answers.Answer.{Answer}
+use Rattle.ring_service.specs.declared.answers.Answer.TheVariants as answer
+use Rattle.ring_service.specs.declared.answers.Refusal.{Refusal}
+use Rattle.ring_service.specs.Permits.{Terms}
+use Rattle.ring_service.specs.Standings.{Standing}
+use Rattle.ring_service.specs.Serving.{IsSaveGiven, IsGiven, Answers, name_in}
+use Rattle.ring_service.specs.declared.chain_segments.SegmentRules.{SegmentRules}
+use Rattle.ring_service.specs.ChainSegments.{Moment, IsReady}
+use Rattle.ring_service.specs.Texts.{segment_text}
+use Rattle.ring_service.specs.Service.{part_terms, Part, AreParts}
 use Rattle.tool_parts.specs.Locking.{IsLocked, StandsLocked}
 use Rattle.tool_parts.proofs.LockedFolders.{Stands, stands_locked, same_locked, put_locked, if_held, ended_stand, kept_stand, added_stand}
 use Rattle.serve_commands.specs.ServedFolder.{Place, IsRun, AreUnderLock}

@@ -5,21 +5,21 @@ use Rattle.std.specs.Option.{is_some}
 use Rattle.std.specs.Io.KnownBytes.{Appends}
 use Rattle.std.proofs.lemmas.Bool.{false≢true, true≢false}
 use Rattle.disks.specs.Held.{Held, Thing, Nothing, Folder, File, file_bytes, is_a_folder, is_a_thing, bytes_of, is_folder, is_there, LeadsToFolder, IsOneFile, IsReplaced, Grows, Creates, Locks, Replaces}
-use Rattle.segment_folder.specs.Names.{segment_file}
-use Rattle.ring_saved.specs.declared.saved.Saved.{Saved}
-use Rattle.ring_serve.specs.declared.answers.Answer.{Answer}
-use Rattle.ring_serve.specs.declared.answers.Answer.TheVariants as answer
-use Rattle.ring_serve.specs.declared.answers.Refusal.{Refusal}
-use Rattle.ring_serve.specs.declared.permits.Permits.{Permits}
-use Rattle.ring_serve.specs.Permits.{Terms}
-use Rattle.ring_serve.specs.Standings.{Standing}
-use Rattle.ring_serve.specs.Serving.{IsSaved, IsSaveGiven, IsGiven, IsAnswered, Answers, name_in}
-use Rattle.chain_serve.specs.declared.segments.SegmentRules.{SegmentRules}
-use Rattle.chain_serve.specs.Segments.{Moment, IsReady, HasEnded, file_of}
-use Rattle.chain_serve.specs.Texts.{segment_text}
-use Rattle.chain_serve.specs.Service.{part_terms, Part, IsPart, AreParts}
-use Rattle.chain_serve.specs.Beginning.{HasBegun}
-use Rattle.ring_requests.specs.declared.requests.ServeWords.{ServeWords}
+use Rattle.line_service.specs.SegmentNames.{segment_file}
+use Rattle.saved_history.specs.declared.saved.Saved.{Saved}
+use Rattle.ring_service.specs.declared.answers.Answer.{Answer}
+use Rattle.ring_service.specs.declared.answers.Answer.TheVariants as answer
+use Rattle.ring_service.specs.declared.answers.Refusal.{Refusal}
+use Rattle.ring_service.specs.declared.permits.Permits.{Permits}
+use Rattle.ring_service.specs.Permits.{Terms}
+use Rattle.ring_service.specs.Standings.{Standing}
+use Rattle.ring_service.specs.Serving.{IsSaved, IsSaveGiven, IsGiven, IsAnswered, Answers, name_in}
+use Rattle.ring_service.specs.declared.chain_segments.SegmentRules.{SegmentRules}
+use Rattle.ring_service.specs.ChainSegments.{Moment, IsReady, HasEnded, file_of}
+use Rattle.ring_service.specs.Texts.{segment_text}
+use Rattle.ring_service.specs.Service.{part_terms, Part, IsPart, AreParts}
+use Rattle.ring_service.specs.Beginning.{HasBegun}
+use Rattle.tool_parts.specs.declared.requests.ServeWords.{ServeWords}
 use Rattle.serve_commands.specs.Served.{journal_of, permits_of, IsNoted, BeginsAt, IsServedNoted, IsServed, IsServedFrom}
 use Rattle.serve_commands.specs.ServedFolder.{Place, IsRun, IsServedIn}
 use Rattle.tool_parts.specs.Locking.{lock_of}

@@ -2,22 +2,21 @@
 
 ghost use Rattle.std.specs.Prelude.{◌≡◌, ◌≢◌, ◌≤◌, ◌+◌, ◌∷◌, ℕ, List, [], true, Some, IfSome};
 ghost use Rattle.disks.specs.Held.{Held};
-ghost use Rattle.ring_segments.specs.Spelling.{digest_of, DigestFits};
-ghost use Rattle.ring_serve.specs.Due.{is_due};
-ghost use Rattle.ring_serve.specs.Standings.{standing_of};
-ghost use Rattle.segment_loop.specs.Digested.{hashed};
-ghost use Rattle.chain_serve.specs.Segments.{moment_of};
-ghost use Rattle.chain_serve.specs.Texts.{segment_text};
-ghost use Rattle.chain_serve.specs.Service.{ServesSegments};
+ghost use Rattle.segment_files.specs.Spelling.{digest_of, DigestFits};
+ghost use Rattle.ring_service.specs.Due.{is_due};
+ghost use Rattle.ring_service.specs.Standings.{standing_of};
+ghost use Rattle.line_service.specs.Digested.{hashed};
+ghost use Rattle.ring_service.specs.ChainSegments.{moment_of};
+ghost use Rattle.ring_service.specs.Texts.{segment_text};
+ghost use Rattle.ring_service.specs.Service.{ServesSegments};
 
-use chain_serve::{SegmentRules, begin_segment, close_segment};
 use disks::Disk;
+use endless_ring::EndlessRing;
+use line_service::OpenSegment;
 use ring_book::Till;
-use ring_chains::Base;
-use ring_endless::EndlessRing;
-use ring_segments::{DIGEST_DIGITS, digest};
-use ring_serve::{Journal, Served, serve};
-use segment_loop::OpenSegment;
+use ring_model::Base;
+use ring_service::{Journal, SegmentRules, Served, begin_segment, close_segment, serve};
+use segment_files::{DIGEST_DIGITS, digest};
 use std::alloc::Global;
 use std::io::Read;
 

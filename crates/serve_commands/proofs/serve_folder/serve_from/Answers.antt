@@ -1,8 +1,8 @@
 use Rattle.std.proofs.Common.{Some, refl, inr}
 use Rattle.std.specs.Prelude.{string_bytes}
-use Rattle.segment_folder.specs.Names.{segment_file}
-use Rattle.segment_loop.proofs.Lasting.{begun_lasts, replaced_known, front_has, whole_has, whole_leaves}
-use Rattle.chain_serve.specs.Texts.{segment_text}
+use Rattle.line_service.specs.SegmentNames.{segment_file}
+use Rattle.line_service.proofs.SegmentLasting.{begun_lasts, replaced_known, front_has, whole_has, whole_leaves}
+use Rattle.ring_service.specs.Texts.{segment_text}
 use Rattle.serve_commands.proofs.serve_folder.serve_from.Goals as goal
 
 pub returns-clause-err : goal.returns-clause-err
