@@ -3,7 +3,7 @@ use Rattle.std.proofs.Common.{◌≡◌, ℕ, ◌^◌, ◌<◌, List, [], ◌∷
 use Rattle.std.specs.List.{AllByRecursion}
 use Rattle.disks.specs.Held.{Held}
 use Rattle.journal.specs.declared.calls.JournalLine.{JournalLine}
-use Rattle.journal.specs.Spelling.{head_text as journal_text}
+use Rattle.journal.specs.Spelling.{journal_head}
 use Rattle.ring_service.specs.declared.answers.Refusal.{Refusal}
 use Rattle.ring_service.specs.Standings.{Standing}
 use Rattle.ring_service.specs.Saved.{IsRight, content_of}
@@ -83,7 +83,7 @@ keeps_last s a mid parts number refusing untold unsaid more back new is right se
     let at = parts_at s a mid earlier first others (subst (λ (x : List Part). AreParts s a x mid) parted served) in
     let t = part_turned s old few [] first (begins old all) at.is in
     let u = parts_turned s old few t.calls first.to mid others first.from.number t.stands at.is.number at.then_ within in
-    let head : List ℕ = journal_text (content_of old) in
+    let head : List ℕ = journal_head (content_of old) in
     let noted : List ℕ = all_noted (first ∷ others) in
     let all_notes : kept ++ (lost ++ back) ≡ head ++ (noted ++ (more ++ back)) =
     sym (append_assoc kept lost back)

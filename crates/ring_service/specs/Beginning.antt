@@ -1,7 +1,7 @@
 -- The first segment that is written, and the end of the last (this project's own).
 use Rattle.std.specs.Prelude.{◌≡◌, ℕ, ◌⊎◌, List, Option}
 use Rattle.disks.specs.Held.{Held, Replaces}
-use Rattle.line_service.specs.Segments.{IsBegun, IsLeftUnbegun as IsFileUnbegun}
+use Rattle.line_service.specs.Segments.{IsBegun, IsFileUnbegun}
 use Rattle.ring_service.specs.declared.answers.Refusal.{Refusal}
 use Rattle.ring_service.specs.declared.answers.Refusal.TheVariants as refusal
 use Rattle.ring_service.specs.Standings.{Standing}

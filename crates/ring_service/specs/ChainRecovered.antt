@@ -8,7 +8,7 @@ use Rattle.disks.specs.Lasting.{HasFront}
 use Rattle.segment_files.specs.Spelling.{digest_of}
 use Rattle.line_service.specs.Lasting.{AreApart}
 use Rattle.saved_history.specs.Spelling.{Fits}
-use Rattle.journal.specs.Spelling.{head_text as journal_text}
+use Rattle.journal.specs.Spelling.{journal_head}
 use Rattle.journal.specs.Recovery.{IsRecovered}
 use Rattle.ring_service.specs.Standings.{Standing}
 use Rattle.ring_service.specs.Saved.{content_of}
@@ -52,8 +52,8 @@ KeepsLast s parts more new =
     → parts ≡ earlier ++ first ∷ others → AreIn first.from.number others
     → Fits (content_of first.from.rings)
     → kept ++ lost
-    ≡ journal_text (content_of first.from.rings) ++ (all_noted (first ∷ others) ++ more)
-    → IsPrefix (journal_text (content_of first.from.rings) ++ all_noted (first ∷ others)) kept
+    ≡ journal_head (content_of first.from.rings) ++ (all_noted (first ∷ others) ++ more)
+    → IsPrefix (journal_head (content_of first.from.rings) ++ all_noted (first ∷ others)) kept
     → AreRecovered s (first ∷ others) kept new
 
 -- Wherever serving ended: these parts were delivered, the output has a prefix of their answers and

@@ -10,7 +10,7 @@ use Rattle.disks.specs.Held.{Held, Replaces}
 use Rattle.ring_model.specs.Surveys.{granted_count}
 use Rattle.ring_model.specs.declared.bases.Base.{Base}
 use Rattle.segment_files.specs.Spelling.{digest_of, number_line, base_line, DigestFits}
-use Rattle.journal.specs.Spelling.{head_text as journal_text}
+use Rattle.journal.specs.Spelling.{journal_head}
 use Rattle.line_service.specs.Answering.{IsLine, joined_lines}
 use Rattle.ring_service.specs.declared.answers.Answer.{Answer}
 use Rattle.ring_service.specs.declared.answers.Answer.TheVariants as answer
@@ -270,12 +270,12 @@ none_called r s more called h = called h.0.history
 abbrev front_of : ℕ → List Standing → List ℕ
 front_of number rings = number_line number (length (bases_of rings)) ++ codes "behind "
 
-parts_of : (number : ℕ) (behind : List ℕ) (rings : List Standing) → segment_text number behind rings ≡ front_of number rings ++ (behind ++ (10 ∷ (flat_map base_line (bases_of rings) ++ journal_text (content_of rings))))
+parts_of : (number : ℕ) (behind : List ℕ) (rings : List Standing) → segment_text number behind rings ≡ front_of number rings ++ (behind ++ (10 ∷ (flat_map base_line (bases_of rings) ++ journal_head (content_of rings))))
 parts_of number behind rings =
     let n = number_line number (length (bases_of rings)) in
     let w : List ℕ = codes "behind " in
     let bases = flat_map base_line (bases_of rings) in
-    let journal = journal_text (content_of rings) in
+    let journal = journal_head (content_of rings) in
     append_assoc n ((w ++ (behind ++ 10 ∷ [])) ++ bases) journal
     ∙ (ap (λ (x : List ℕ). n ++ x) (ap (λ (x : List ℕ). x ++ journal) (append_assoc w (behind ++ 10 ∷ []) bases) ∙ append_assoc w ((behind ++ 10 ∷ []) ++ bases) journal)
     ∙ (ap (λ (x : List ℕ). n ++ (w ++ x)) (ap (λ (x : List ℕ). x ++ journal) (append_assoc behind (10 ∷ []) bases) ∙ append_assoc behind (10 ∷ bases) journal)
@@ -294,5 +294,5 @@ some_same xs ys p = cc
 pub one_digest : {rings : List Standing} {bytes : List ℕ} {b : Moment} (behind : List ℕ) → b.journal ≡ Some (segment_text b.number behind b.rings) → IsCut rings bytes b → behind ≡ digest_of bytes
 one_digest {rings} {bytes} {b} behind is c =
     let same : segment_text b.number behind b.rings ≡ segment_text b.number c.behind b.rings = some_same _ _ (sym is ∙ c.journal) in
-    one_behind (front_of b.number b.rings) behind c.behind (10 ∷ (flat_map base_line (bases_of b.rings) ++ journal_text (content_of b.rings))) (sym (parts_of b.number behind b.rings) ∙ (same ∙ parts_of b.number c.behind b.rings))
+    one_behind (front_of b.number b.rings) behind c.behind (10 ∷ (flat_map base_line (bases_of b.rings) ++ journal_head (content_of b.rings))) (sym (parts_of b.number behind b.rings) ∙ (same ∙ parts_of b.number c.behind b.rings))
     ∙ c.digest

@@ -1,5 +1,5 @@
 use Rattle.std.proofs.Common.{◌++◌}
-use Rattle.line_service.specs.Loop.{Written, held_by}
+use Rattle.line_service.specs.Loop.{Written, written_by}
 use Rattle.line_service.specs.Stands.{stand}
 use Rattle.line_service.proofs.Telling.{rests_goes}
 use Rattle.line_service.proofs.Parting.{block_stops}
@@ -7,12 +7,12 @@ use Rattle.line_service.proofs.parts.serve_block.Goals as goal
 
 pub returns-in-Err-clause-serves : goal.returns-in-Err-clause-serves
 returns-in-Err-clause-serves g c = λ old before bytes h.
-    let now : Written = record { journal = held_by g.J.Grow.contents c.args.journal.now; out = g.W.Write.contents c.args.out.now } in
+    let now : Written = record { journal = written_by g.J.Grow.contents c.args.journal.now; out = g.W.Write.contents c.args.out.now } in
     c.in-Err.ensures.serves old before now bytes (rests_goes c.args.pending.now c.requires.none.0 c.requires.none.1 h)
 
 pub returns-in-Ok-put_pending-clause-serves : goal.returns-in-Ok-put_pending-clause-serves
 returns-in-Ok-put_pending-clause-serves g c = λ old before bytes h.
-    let now : Written = record { journal = held_by g.J.Grow.contents c.args.journal.now; out = g.W.Write.contents c.args.out.now } in
+    let now : Written = record { journal = written_by g.J.Grow.contents c.args.journal.now; out = g.W.Write.contents c.args.out.now } in
     let t = c.in-Ok.ensures.serves old before now bytes (rests_goes c.args.pending.now c.requires.none.0 c.requires.none.1 h) in (
       t.0,
       t.1,
@@ -22,19 +22,19 @@ returns-in-Ok-put_pending-clause-serves g c = λ old before bytes h.
 
 pub returns-in-Err-put_pending-clause-serves : goal.returns-in-Err-put_pending-clause-serves
 returns-in-Err-put_pending-clause-serves g c = λ old before bytes h.
-    let now : Written = record { journal = held_by g.J.Grow.contents c.args.journal.now; out = g.W.Write.contents c.args.out.now } in
+    let now : Written = record { journal = written_by g.J.Grow.contents c.args.journal.now; out = g.W.Write.contents c.args.out.now } in
     let t = c.in-Ok.ensures.serves old before now bytes (rests_goes c.args.pending.now c.requires.none.0 c.requires.none.1 h) in
     block_stops bytes c.args.unread.now t.0 c.take_block.new.unread t.1
     (c.in-Err-put_pending.ensures.told old (stand c.take_block.new.service (g.D.Disk.holds c.take_block.new.disk)) before (bytes ++ t.0) c.take_block.new.line.items t.3)
 
 pub returns-in-Err-clause-lasts : goal.returns-in-Err-clause-lasts
 returns-in-Err-clause-lasts g c = λ old before bytes h.
-    let now : Written = record { journal = held_by g.J.Grow.lasting c.args.journal.now; out = g.W.Write.contents c.args.out.now } in
+    let now : Written = record { journal = written_by g.J.Grow.lasting c.args.journal.now; out = g.W.Write.contents c.args.out.now } in
     c.in-Err.ensures.serves old before now bytes (rests_goes c.args.pending.now c.requires.none.0 c.requires.none.1 h)
 
 pub returns-in-Ok-put_pending-clause-lasts : goal.returns-in-Ok-put_pending-clause-lasts
 returns-in-Ok-put_pending-clause-lasts g c = λ old before bytes h.
-    let now : Written = record { journal = held_by g.J.Grow.lasting c.args.journal.now; out = g.W.Write.contents c.args.out.now } in
+    let now : Written = record { journal = written_by g.J.Grow.lasting c.args.journal.now; out = g.W.Write.contents c.args.out.now } in
     let t = c.in-Ok.ensures.serves old before now bytes (rests_goes c.args.pending.now c.requires.none.0 c.requires.none.1 h) in (
       t.0,
       t.1,
@@ -44,7 +44,7 @@ returns-in-Ok-put_pending-clause-lasts g c = λ old before bytes h.
 
 pub returns-in-Err-put_pending-clause-lasts : goal.returns-in-Err-put_pending-clause-lasts
 returns-in-Err-put_pending-clause-lasts g c = λ old before bytes h.
-    let now : Written = record { journal = held_by g.J.Grow.lasting c.args.journal.now; out = g.W.Write.contents c.args.out.now } in
+    let now : Written = record { journal = written_by g.J.Grow.lasting c.args.journal.now; out = g.W.Write.contents c.args.out.now } in
     let t = c.in-Ok.ensures.serves old before now bytes (rests_goes c.args.pending.now c.requires.none.0 c.requires.none.1 h) in
     block_stops bytes c.args.unread.now t.0 c.take_block.new.unread t.1
     (c.in-Err-put_pending.ensures.lasts old (stand c.take_block.new.service (g.D.Disk.holds c.take_block.new.disk)) before (bytes ++ t.0) c.take_block.new.line.items t.3)
