@@ -20,8 +20,7 @@ ghost use Rattle.tool_parts.specs.Locking.{IsUnkeptFolder, IsLocked, IsLockLeft}
 use crate::resuming::{needed, resume_rings};
 use crate::serve::{permits_of, serving_refusal};
 use disks::{Disk, FolderEntry};
-use line_service::{SegmentNumbers, close_segment, list_name};
-use lock_folder::has_list;
+use line_service::{SegmentNumbers, close_segment, has_list, list_name};
 use ring_service::{Refusal, SegmentRules, Served, begin_segment, serve_segments};
 use saved_history::Saved;
 use segment_files::{DIGEST_DIGITS, LastSegment, SegmentError, read_end};
