@@ -14,6 +14,7 @@ use crate::answers::{Answer, Answers, HoldEnd, Holder, Refusal, Waiter};
 use crate::waits::Waits;
 use crate::{marks, queue};
 use endless_ring::EndlessRing;
+use ring_model::lock_seats::GRANT_SEAT;
 use std::collections::VecDeque;
 
 /// A lock: its ring, who waits for it, and who holds it.
@@ -147,7 +148,7 @@ fn pass_hold(
         result }
     ensures own { result.own ≡ own }
 {
-    match marks::pass_first(&mut lock.ring, 0, over.survey.first, waiter.order) {
+    match marks::pass_first(&mut lock.ring, GRANT_SEAT, over.survey.first, waiter.order) {
         Ok(token) => {
             let holder = Holder {
                 client: waiter.client,
