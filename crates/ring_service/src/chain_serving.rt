@@ -125,7 +125,7 @@ pub fn serve_segments<D: Disk, I: Read, W: Write>(
         abandon_segment(disk, first);
         return Err(LoopFault::OutOfMemory);
     };
-    are_right(served);
+    are_right(served); // says: the rings are right, at each moment
     let rings = mem::replace(served, Served::none(alloc));
     let mut service = ChainService::new(alloc, rings, rules, first.number, name);
     let folder = FolderRules {

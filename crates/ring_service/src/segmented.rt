@@ -25,7 +25,7 @@ fn next_rings(alloc: Global, served: &Served) -> Result<Served, EndFault>
 {
     match served.next(alloc) {
         Ok(next) => {
-            are_right(&next);
+            are_right(&next); // says: the rings are right, at each moment
             Ok(next)
         }
         Err(NextError::Full) => Err(EndFault::Full),
