@@ -2,6 +2,8 @@
 use Rattle.std.specs.Prelude.{◌≡◌, ℕ, ◌+◌, ◌≤◌, ◌^◌, true, false, List, Option, None, Some, IfSome, ◌⊎◌}
 use Rattle.disks.specs.Held.{Held, Replaces}
 use Rattle.line_service.specs.SegmentNames.{segment_file}
+use Rattle.line_service.specs.declared.segments.OpenSegment.{OpenSegment}
+use Rattle.line_service.specs.Segments.{segment_holds}
 use Rattle.segment_files.specs.Spelling.{digest_of}
 use Rattle.ring_service.specs.declared.answers.Refusal.{Refusal}
 use Rattle.ring_service.specs.declared.answers.Refusal.TheVariants as refusal
@@ -30,6 +32,12 @@ moment_of rings files number journal = record {
   number = number;
   journal = journal;
 }
+
+-- the moment in this segment
+abbrev pub moment_at : {V : Type 0} → (V → Option (List ℕ)) → List Standing → Option Held
+    → OpenSegment V → Moment
+moment_at contents rings files segment =
+    moment_of rings files segment.number (segment_holds contents segment)
 
 -- The whole file of the segment was settled; then the file of the next one was put there, with the
 -- digest of the file before and these rings as they begin.

@@ -2,9 +2,8 @@
 
 ghost use Rattle.std.specs.Prelude.{◌≡◌, ◌<◌, true, IfOk, IfErr, OnErr};
 ghost use Rattle.segment_files.specs.Spelling.{DigestFits};
-ghost use Rattle.line_service.specs.Digested.{hashed};
 ghost use Rattle.line_service.specs.Segments.{IsNamed};
-ghost use Rattle.ring_service.specs.ChainSegments.{moment_of};
+ghost use Rattle.ring_service.specs.ChainSegments.{moment_at};
 ghost use Rattle.ring_service.specs.Beginning.{HasBegun, IsBeginCause, IsLeftUnbegun};
 ghost use Rattle.disks.specs.Lasting.{outlives};
 
@@ -36,9 +35,7 @@ pub fn begin_segment<D: Disk>(
     requires number { 0 < number }
     requires digits { DigestFits behind }
     ensures ok { IfOk result (λ segment. HasBegun rules.entry served.now number behind
-        (D.holds disk.old)
-        (moment_of served.now (D.holds disk.new) segment.number
-        (hashed (D.Grown.contents segment.writer.inner) segment.writer.hasher))) }
+        (D.holds disk.old) (moment_at D.Grown.contents served.now (D.holds disk.new) segment)) }
     ensures named { IfOk result (λ segment. IsNamed rules.entry.folder.now segment) }
     ensures err { IfErr result (λ why. IsBeginCause why) }
     ensures left { OnErr result (IsLeftUnbegun rules.entry served.now number behind

@@ -1,13 +1,12 @@
 //! Lines that are served in segments.
 
-ghost use Rattle.std.specs.Prelude.{◌≡◌, ◌≤◌, ℕ, List, Option, None, true, IfOk, IfErr, IfSome, IsSome, OnErr, MatchResult, string_bytes};
-ghost use Rattle.disks.specs.Held.{Held};
+ghost use Rattle.std.specs.Prelude.{◌≡◌, ◌≤◌, None, true, IfOk, IfErr, IfSome, IsSome, OnErr, string_bytes};
 ghost use Rattle.disks.specs.Lasting.{HasFront, LeavesFront, outlives};
-ghost use Rattle.line_service.specs.Loop.{AllLasts};
-ghost use Rattle.line_service.specs.Digested.{hashed};
-ghost use Rattle.line_service.specs.Segments.{IsNamed};
+ghost use Rattle.line_service.specs.Segments.{IsNamed, segment_holds, AllLastsIn};
 ghost use Rattle.line_service.specs.Service.{IsFaultOf};
-ghost use Rattle.ring_service.specs.ChainSegments.{moment_of};
+ghost use Rattle.line_service.specs.Notes.{ForJournal};
+ghost use Rattle.line_service.specs.Lasting.{ForLeft};
+ghost use Rattle.ring_service.specs.ChainSegments.{moment_at};
 ghost use Rattle.ring_service.specs.ChainRecovered.{AnsweredCallsAreRecovered, AnsweredCallsLast, EachSegmentLasts};
 ghost use Rattle.ring_service.specs.Service.{ServesSegments, ServesSomeSegments};
 
@@ -51,75 +50,43 @@ pub fn serve_segments<D: Disk, I: Read, W: Write>(
     requires limit { 1 ≤ rules.limit }
     requires named { IsNamed rules.folder.now first }
     ensures ok { IfOk result (λ end. ServesSegments rules.entry
-        (moment_of served.old (D.holds disk.old) first.number
-        (hashed (D.Grown.contents first.writer.inner) first.writer.hasher))
-        (moment_of served.new (D.holds disk.new) end.number
-        (hashed (D.Grown.contents end.writer.inner) end.writer.hasher))
-        (I.remaining input.old) (I.remaining input.new) (W.contents out.old)
-        (W.contents out.new)) }
+        (moment_at D.Grown.contents served.old (D.holds disk.old) first)
+        (moment_at D.Grown.contents served.new (D.holds disk.new) end) (I.remaining input.old)
+        (I.remaining input.new) (W.contents out.old) (W.contents out.new)) }
     ensures err { OnErr result (ServesSomeSegments rules.entry
-        (moment_of served.old (D.holds disk.old) first.number
-        (hashed (D.Grown.contents first.writer.inner) first.writer.hasher)) served.new
+        (moment_at D.Grown.contents served.old (D.holds disk.old) first) served.new
         (D.holds disk.new) (I.remaining input.old) (I.remaining input.new) (W.contents out.old)
         (W.contents out.new)) }
     ensures long { IfErr result (λ e.
         IsFaultOf e (I.remaining input.old) (I.remaining input.new)) }
     ensures named { IfOk result (λ end. IsNamed rules.entry.folder.now end) }
-    ensures recovered { MatchResult result
-        (λ end. AnsweredCallsAreRecovered rules.entry
-        (moment_of served.old (D.holds disk.old) first.number
-        (hashed (D.Grown.contents first.writer.inner) first.writer.hasher)) served.new
-        (I.remaining input.old) (I.remaining input.new) (W.contents out.old) (W.contents out.new)
-        (hashed (D.Grown.contents end.writer.inner) end.writer.hasher))
-        (λ _. (journal : Option (List ℕ)) × AnsweredCallsAreRecovered rules.entry
-        (moment_of served.old (D.holds disk.old) first.number
-        (hashed (D.Grown.contents first.writer.inner) first.writer.hasher)) served.new
+    ensures recovered { ForJournal result (λ end. segment_holds D.Grown.contents end) (λ journal.
+        AnsweredCallsAreRecovered rules.entry
+        (moment_at D.Grown.contents served.old (D.holds disk.old) first) served.new
         (I.remaining input.old) (I.remaining input.new) (W.contents out.old) (W.contents out.new)
         journal) }
 
     // Where the content of files is known: what was delivered is there whenever the process ends and, with syncs, the power fails.
     ensures lasts { outlives D.keeps_written rules.entry.synced ≡ true → IsSome (D.holds disk.old)
-        → AllLasts (hashed (D.Grown.contents first.writer.inner) first.writer.hasher)
-        (D.Grown.lasting first.writer.inner)
-        → MatchResult result
-        (λ end. (left : Option Held) → IfSome left (λ held. HasFront held (string_bytes end.name)
-        (D.Grown.lasting end.writer.inner))
-        → AnsweredCallsLast rules.entry
-        (moment_of served.old (D.holds disk.old) first.number
-        (hashed (D.Grown.contents first.writer.inner) first.writer.hasher)) served.new
+        → AllLastsIn D.Grown.contents D.Grown.lasting first → ForLeft result (λ end left. IfSome
+        left (λ held. HasFront held (string_bytes end.name) (D.Grown.lasting end.writer.inner)))
+        (D.leaves disk.new) (λ left. AnsweredCallsLast rules.entry
+        (moment_at D.Grown.contents served.old (D.holds disk.old) first) served.new
         (I.remaining input.old) (I.remaining input.new) (W.contents out.old) (W.contents out.new)
-        left)
-        (λ _. AnsweredCallsLast rules.entry
-        (moment_of served.old (D.holds disk.old) first.number
-        (hashed (D.Grown.contents first.writer.inner) first.writer.hasher)) served.new
-        (I.remaining input.old) (I.remaining input.new) (W.contents out.old) (W.contents out.new)
-        (D.leaves disk.new)) }
+        left) }
     ensures whole { IfOk result (λ end. outlives D.keeps_written rules.entry.synced ≡ true
-        → IsSome (D.holds disk.old)
-        → AllLasts (hashed (D.Grown.contents first.writer.inner) first.writer.hasher)
-        (D.Grown.lasting first.writer.inner)
-        → AllLasts (hashed (D.Grown.contents end.writer.inner) end.writer.hasher)
-        (D.Grown.lasting end.writer.inner)) }
+        → IsSome (D.holds disk.old) → AllLastsIn D.Grown.contents D.Grown.lasting first
+        → AllLastsIn D.Grown.contents D.Grown.lasting end) }
 
     // Where no line may save, the segments before the last are there too, whole.
     ensures earlier { rules.entry.permits.saves ≡ None
         → outlives D.keeps_written rules.entry.synced ≡ true
-        → IsSome (D.holds disk.old)
-        → AllLasts (hashed (D.Grown.contents first.writer.inner) first.writer.hasher)
-        (D.Grown.lasting first.writer.inner)
-        → MatchResult result
-        (λ end. (left : Option Held) → LeavesFront (D.leaves disk.new) left (string_bytes end.name)
-        (D.Grown.lasting end.writer.inner)
-        → EachSegmentLasts rules.entry
-        (moment_of served.old (D.holds disk.old) first.number
-        (hashed (D.Grown.contents first.writer.inner) first.writer.hasher)) served.new
+        → IsSome (D.holds disk.old) → AllLastsIn D.Grown.contents D.Grown.lasting first
+        → ForLeft result (λ end left. LeavesFront (D.leaves disk.new) left (string_bytes end.name)
+        (D.Grown.lasting end.writer.inner)) (D.leaves disk.new) (λ left. EachSegmentLasts
+        rules.entry (moment_at D.Grown.contents served.old (D.holds disk.old) first) served.new
         (I.remaining input.old) (I.remaining input.new) (W.contents out.old) (W.contents out.new)
-        left)
-        (λ _. EachSegmentLasts rules.entry
-        (moment_of served.old (D.holds disk.old) first.number
-        (hashed (D.Grown.contents first.writer.inner) first.writer.hasher)) served.new
-        (I.remaining input.old) (I.remaining input.new) (W.contents out.old) (W.contents out.new)
-        (D.leaves disk.new)) }
+        left) }
 {
     let Ok(name) = segment_file(alloc, rules.folder, first.number) else {
         abandon_segment(disk, first);

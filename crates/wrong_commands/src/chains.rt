@@ -3,10 +3,10 @@
 ghost use Rattle.std.specs.Prelude.{◌≡◌, ◌≢◌, ◌≤◌, ◌+◌, ◌∷◌, ℕ, List, [], true, Some, IfSome};
 ghost use Rattle.disks.specs.Held.{Held};
 ghost use Rattle.segment_files.specs.Spelling.{digest_of, DigestFits};
+ghost use Rattle.line_service.specs.Segments.{segment_holds};
 ghost use Rattle.ring_service.specs.Due.{is_due};
 ghost use Rattle.ring_service.specs.Standings.{standing_of};
-ghost use Rattle.line_service.specs.Digested.{hashed};
-ghost use Rattle.ring_service.specs.ChainSegments.{moment_of};
+ghost use Rattle.ring_service.specs.ChainSegments.{moment_at};
 ghost use Rattle.ring_service.specs.Texts.{segment_text};
 ghost use Rattle.ring_service.specs.Service.{ServesSegments};
 
@@ -38,11 +38,10 @@ pub fn answers_in_a_segment_that_is_due<D: Disk, I: Read>(
 ) -> Option<Told<D::Grown>>
     requires { is_due (Some rules.limit) served.old ≡ true }
     ensures wrong { IfSome result (λ told. ServesSegments rules.entry
-        (moment_of served.old (D.holds disk.old) first.number
-        (hashed (D.Grown.contents first.writer.inner) first.writer.hasher))
-        (moment_of served.new (D.holds disk.new) told.segment.number
-        (hashed (D.Grown.contents told.segment.writer.inner) told.segment.writer.hasher))
-        (I.remaining input.old) (I.remaining input.new) (Some []) (Some told.out.items) → ⊥) }
+        (moment_at D.Grown.contents served.old (D.holds disk.old) first)
+        (moment_at D.Grown.contents served.new (D.holds disk.new) told.segment)
+        (I.remaining input.old) (I.remaining input.new) (Some []) (Some told.out.items)
+        → ⊥) }
 {
     let OpenSegment {
         number,
@@ -96,10 +95,8 @@ fn cut<D: Disk>(
     ensures number { IfSome result (λ end. end.number ≡ first.number + 1) }
     ensures rings { IfSome result (λ _. served.new ≡ next) }
     ensures journal { IfSome result (λ end. (bytes : List ℕ) (held : Held)
-        → hashed (D.Grown.contents first.writer.inner) first.writer.hasher ≡ Some bytes
-        → D.holds disk.old ≡ Some held
-        → hashed (D.Grown.contents end.writer.inner) end.writer.hasher
-        ≡ Some (segment_text end.number behind next)) }
+        → segment_holds D.Grown.contents first ≡ Some bytes → D.holds disk.old ≡ Some held
+        → segment_holds D.Grown.contents end ≡ Some (segment_text end.number behind next)) }
 {
     if first.number == u64::MAX {
         return None;
@@ -128,18 +125,14 @@ pub fn names_the_digest_of_the_head_alone<D: Disk>(
     head: &[u8],
 ) -> Option<OpenSegment<D::Grown>>
     requires due { is_due (Some rules.limit) served.old ≡ true }
-    requires apart { (bytes : List ℕ)
-        → hashed (D.Grown.contents first.writer.inner) first.writer.hasher ≡ Some bytes
+    requires apart { (bytes : List ℕ) → segment_holds D.Grown.contents first ≡ Some bytes
         → digest_of head.now ≢ digest_of bytes }
     ensures wrong { IfSome result (λ end. (bytes : List ℕ) (held : Held)
-        → hashed (D.Grown.contents first.writer.inner) first.writer.hasher ≡ Some bytes
-        → D.holds disk.old ≡ Some held
+        → segment_holds D.Grown.contents first ≡ Some bytes → D.holds disk.old ≡ Some held
         → ServesSegments rules.entry
-        (moment_of served.old (D.holds disk.old) first.number
-        (hashed (D.Grown.contents first.writer.inner) first.writer.hasher))
-        (moment_of served.new (D.holds disk.new) end.number
-        (hashed (D.Grown.contents end.writer.inner) end.writer.hasher))
-        (Some []) (Some []) (Some []) (Some []) → ⊥) }
+        (moment_at D.Grown.contents served.old (D.holds disk.old) first)
+        (moment_at D.Grown.contents served.new (D.holds disk.new) end) (Some []) (Some []) (Some [])
+        (Some []) → ⊥) }
 {
     let next = match served.next(alloc) {
         Ok(next) => next,
@@ -164,14 +157,11 @@ pub fn ends_with_a_base_that_forgets_the_grants<D: Disk>(
     requires one { served.old ≡ standing_of ring.now ∷ [] }
     requires grants { 1 ≤ ring.now.base.grants }
     ensures wrong { IfSome result (λ end. (bytes : List ℕ) (held : Held)
-        → hashed (D.Grown.contents first.writer.inner) first.writer.hasher ≡ Some bytes
-        → D.holds disk.old ≡ Some held
+        → segment_holds D.Grown.contents first ≡ Some bytes → D.holds disk.old ≡ Some held
         → ServesSegments rules.entry
-        (moment_of served.old (D.holds disk.old) first.number
-        (hashed (D.Grown.contents first.writer.inner) first.writer.hasher))
-        (moment_of served.new (D.holds disk.new) end.number
-        (hashed (D.Grown.contents end.writer.inner) end.writer.hasher))
-        (Some []) (Some []) (Some []) (Some []) → ⊥) }
+        (moment_at D.Grown.contents served.old (D.holds disk.old) first)
+        (moment_at D.Grown.contents served.new (D.holds disk.new) end) (Some []) (Some []) (Some [])
+        (Some []) → ⊥) }
 {
     let behind = match first.writer.digest() {
         Ok(behind) => behind,
@@ -223,14 +213,11 @@ pub fn begins_one_call_late<D: Disk>(
     requires due { is_due (Some rules.limit) served.old ≡ true }
     requires one { served.old ≡ standing_of ring.now ∷ [] }
     ensures wrong { IfSome result (λ end. (bytes : List ℕ) (held : Held)
-        → hashed (D.Grown.contents first.writer.inner) first.writer.hasher ≡ Some bytes
-        → D.holds disk.old ≡ Some held
+        → segment_holds D.Grown.contents first ≡ Some bytes → D.holds disk.old ≡ Some held
         → ServesSegments rules.entry
-        (moment_of served.old (D.holds disk.old) first.number
-        (hashed (D.Grown.contents first.writer.inner) first.writer.hasher))
-        (moment_of served.new (D.holds disk.new) end.number
-        (hashed (D.Grown.contents end.writer.inner) end.writer.hasher))
-        (Some []) (Some []) (Some []) (Some []) → ⊥) }
+        (moment_at D.Grown.contents served.old (D.holds disk.old) first)
+        (moment_at D.Grown.contents served.new (D.holds disk.new) end) (Some []) (Some []) (Some [])
+        (Some []) → ⊥) }
 {
     let behind = match first.writer.digest() {
         Ok(behind) => behind,
