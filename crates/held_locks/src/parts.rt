@@ -55,7 +55,7 @@ pub(crate) fn grant(lock: &mut LockParts, waiter: Waiter) -> Answers
         (granted (state_of lock.old.ring) lock.old.queue.items waiter) result
         ⊎ IsLacking (view_of lock.old) (view_of lock.new) (length lock.old.queue.items + 1) result }
 {
-    match marks::grant(&mut lock.ring, lock.queue.len(), waiter.order) {
+    match marks::grant(&mut lock.ring, lock.queue.len(), waiter.label) {
         Ok(token) => {
             lock.holder = Some(Holder {
                 client: waiter.client,
@@ -148,7 +148,7 @@ fn pass_hold(
         result }
     ensures own { result.own ≡ own }
 {
-    match marks::pass_first(&mut lock.ring, GRANT_SEAT, over.survey.first, waiter.order) {
+    match marks::pass_first(&mut lock.ring, GRANT_SEAT, over.survey.first, waiter.label) {
         Ok(token) => {
             let holder = Holder {
                 client: waiter.client,
