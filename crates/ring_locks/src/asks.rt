@@ -13,6 +13,23 @@ use crate::answers::{Answer, Answers, Holder, Refusal, Stats, Waiter};
 use crate::parts::{LockParts, drop_waiter, end_hold, fault, grant, refused, told, wait};
 use crate::waits::Waits;
 
+/// What a client asks of one lock.
+#[derive(Clone, Copy)]
+pub enum OneAsk {
+    /// To hold it, with an order that the client chooses, or else to wait for it.
+    Acquire { order: u64 },
+    /// To hold it, and not to wait for it.
+    Try { order: u64 },
+    /// To hold it no more, of which this is the token.
+    Release { token: u64 },
+    /// To wait for it no more.
+    Cancel,
+    /// A fault: a value is written into a machine of its ring.
+    Corrupt { machine: u32, value: u32 },
+    /// What there is to say of it.
+    Stats,
+}
+
 /// Whether the client is this holder.
 #[inline(always)]
 pub(crate) fn is_held_by(client: u64, holder: Option<Holder>) -> bool
