@@ -8,3 +8,4 @@ pub mod Counts
 pub mod StateLines
 pub mod Fitting
 pub mod Answered
+mod Inputs

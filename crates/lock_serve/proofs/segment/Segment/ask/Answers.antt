@@ -35,6 +35,9 @@ counted_inside c =
     let left : c.after_events-self-inside.result ≡ c.self.inside.remaining - (end_count ended + (events_at (slice_get new c.args.lock) - events_at (slice_get old c.args.lock))) = omega (arith, end, events, place) in
     record { remaining = left; short = short }
 
+pub returns-clause-place : goal.returns-clause-place
+returns-clause-place c = c.events_at-place.ensures ∙ ap (λ (s : SegmentView). events_at (slice_get s.locks c.args.lock)) c.self.view_is
+
 pub returns-clause-counted : goal.returns-clause-counted
 returns-clause-counted c =
     let new = c.ask_lock-answers.new.locks in
