@@ -18,7 +18,8 @@ use Rattle.line_loop.specs.Answering.{Answers as Answered}
 use Rattle.line_loop.specs.Stands.{Stand, by_stand, stand}
 use Rattle.lock_serve.specs.declared.service.LockService.{LockService}
 use Rattle.lock_serve.specs.declared.service.Terms.{Terms}
-use Rattle.lock_serve.specs.Asking.{one_ask, is_off, IsAnswerTo}
+use Rattle.ring_locks.specs.Asked.{IsAnswerTo}
+use Rattle.lock_serve.specs.Asking.{one_ask, is_off}
 use Rattle.lock_serve.specs.Counting.{SegmentView}
 use Rattle.lock_serve.specs.Serving.{IsTold, IsAnsweredIf, IsInputAnswered, IsServed, IsLineAnswered}
 use Rattle.lock_laws.specs.Begun.{ServedLinesAreAnswered, AnsweredLinesFollow}

@@ -13,7 +13,7 @@ use Rattle.ring_locks.specs.Promises.{locks_after, leaves}
 use Rattle.ring_locks.specs.Kept.{LockView, lock_of, locks_of, IsDone, IsWant, IsAnswer, IsLeft}
 use Rattle.ring_model.specs.Limits.{event_limit, machine_limit}
 use Rattle.std.specs.Prelude.{nat_lt, ◌+◌}
-use Rattle.lock_serve.specs.Asking.{IsAnswerTo}
+use Rattle.ring_locks.specs.Asked.{IsAnswerTo}
 use Rattle.lock_serve.specs.Due.{is_short, is_short_at, has_short}
 use Rattle.lock_serve.specs.Counting.{IsWatched}
 

@@ -13,7 +13,8 @@ use Rattle.ring_locks.specs.Lines.{Lock, stands, without, is_held_by, is_held_wi
 use Rattle.ring_locks.specs.Locks.{Ask, Acquire, Try, Release, Cancel, Leave, Corrupt, Stats, acquired, joined, tried, tried_of, ended, told, dropped, faulted, turn, step_at}
 use Rattle.ring_model.specs.History.{State}
 use Rattle.ring_locks.specs.Kept.{LockView, locks_of, own_answer, other_grant, IsDone, IsAnswer}
-use Rattle.lock_serve.specs.Asking.{IsAnswerTo, is_want}
+use Rattle.ring_locks.specs.Asked.{IsAnswerTo}
+use Rattle.lock_serve.specs.Asking.{is_want}
 use Rattle.lock_serve.proofs.Short.{as_answer}
 
 -- ---- the machine never answers so

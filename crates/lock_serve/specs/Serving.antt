@@ -17,7 +17,8 @@ use Rattle.lock_lines.specs.Answers.{denial_line}
 use Rattle.disks.specs.Held.{Held}
 use Rattle.line_loop.specs.declared.pending.Pending.{Pending}
 use Rattle.lock_serve.specs.declared.service.LockService.{LockService}
-use Rattle.lock_serve.specs.Asking.{one_ask, is_off, IsAnswerTo, is_want}
+use Rattle.ring_locks.specs.Asked.{IsAnswerTo}
+use Rattle.lock_serve.specs.Asking.{one_ask, is_off, is_want}
 use Rattle.lock_serve.specs.declared.service.Stage.{Stage}
 use Rattle.lock_serve.specs.declared.service.Stage.TheVariants as stage
 use Rattle.lock_serve.specs.declared.service.Terms.{Terms}

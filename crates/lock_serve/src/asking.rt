@@ -4,21 +4,11 @@ ghost use Rattle.std.specs.Prelude.{◌≡◌};
 ghost use Rattle.std.specs.Option.{option_map};
 ghost use Rattle.line_parts.specs.Numbers.{in_32_bits};
 ghost use Rattle.lock_lines.specs.Asks.{seen};
-ghost use Rattle.lock_serve.specs.Asking.{one_ask, is_off, asked, IsAnswerTo, is_want};
+ghost use Rattle.ring_locks.specs.Asked.{asked};
+ghost use Rattle.lock_serve.specs.Asking.{one_ask, is_off, is_want};
 
 use lock_lines::Ask;
-use ring_locks::{Answer, Answers, Locks, Refusal};
-
-/// What is asked of one lock.
-#[derive(Clone, Copy)]
-pub(crate) enum OneAsk {
-    Acquire { order: u64 },
-    Try { order: u64 },
-    Release { token: u64 },
-    Cancel,
-    Corrupt { machine: u32, value: u32 },
-    Stats,
-}
+use ring_locks::{Answer, OneAsk, Refusal};
 
 /// This number, or the greatest one of 32 bits if it is greater.
 fn narrow(number: u64) -> u32
@@ -71,19 +61,5 @@ pub(crate) fn is_want(own: Option<Answer>) -> bool
     match own {
         Some(Answer::Refused(Refusal::Full | Refusal::Memory)) => true,
         _ => false,
-    }
-}
-
-/// Asks one lock.
-pub(crate) fn ask_lock(locks: &mut Locks, client: u64, lock: u32, ask: OneAsk) -> Answers
-    ensures { IsAnswerTo locks.old locks.new client lock (asked ask) result }
-{
-    match ask {
-        OneAsk::Acquire { order } => locks.acquire(client, lock, order),
-        OneAsk::Try { order } => locks.try_acquire(client, lock, order),
-        OneAsk::Release { token } => locks.release(client, lock, token),
-        OneAsk::Cancel => locks.cancel(client, lock),
-        OneAsk::Corrupt { machine, value } => locks.corrupt(client, lock, machine, value),
-        OneAsk::Stats => locks.stats(lock),
     }
 }

@@ -4,16 +4,16 @@ ghost use Rattle.std.specs.Prelude.{◌≡◌, ◌||◌, ◌⊎◌, true, false,
 ghost use Rattle.ring_locks.specs.declared.answers.Refusal.{Refusal};
 ghost use Rattle.ring_locks.specs.Cuts.{AreNext};
 ghost use Rattle.ring_locks.specs.Kept.{IsLeft};
-ghost use Rattle.lock_serve.specs.Asking.{asked, IsAnswerTo, is_want};
+ghost use Rattle.ring_locks.specs.Asked.{asked, IsAnswerTo};
+ghost use Rattle.lock_serve.specs.Asking.{is_want};
 ghost use Rattle.lock_serve.specs.Noting.{events_at};
 ghost use Rattle.lock_serve.specs.Due.{is_due, has_short, HaveNoSegment};
 ghost use Rattle.lock_serve.specs.Counting.{IsCounted, IsStart, count_about, count_of_all};
 
-use crate::asking::{OneAsk, ask_lock};
 use crate::counting::{after_end, after_events, after_left, after_start};
 use crate::due::{has_short, is_short_at};
 use crate::noting::events_at;
-use ring_locks::{Answers, Left, Locks, Refusal};
+use ring_locks::{Answers, Left, Locks, OneAsk, Refusal};
 use std::alloc::{AllocError, Global};
 use std::marker::Model;
 
@@ -107,7 +107,7 @@ impl Segment {
         ensures want { is_want result.answers.own ≡ true → self.new ≡ self.old }
     {
         let place = events_at(&self.locks, lock);
-        let answers = ask_lock(&mut self.locks, client, lock, ask);
+        let answers = self.locks.ask(client, lock, ask);
         let remaining = after_end(self.remaining, answers.ended);
         self.remaining = after_events(remaining, &self.locks, lock, place);
         self.short = was_or_is(self.short, is_short_at(&self.locks, lock));

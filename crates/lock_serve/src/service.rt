@@ -4,19 +4,20 @@ ghost use Rattle.std.specs.Prelude.{◌≡◌, ◌⊎◌, ◌&&◌, List, ℕ, O
 ghost use Rattle.text_lines.specs.Writing.{Writes};
 ghost use Rattle.ring_journal.specs.Spelling.{head_text as journal_text};
 ghost use Rattle.ring_locks.specs.declared.answers.Refusal.{Refusal};
-ghost use Rattle.lock_serve.specs.Asking.{asked, is_want};
+ghost use Rattle.ring_locks.specs.Asked.{asked};
+ghost use Rattle.lock_serve.specs.Asking.{is_want};
 ghost use Rattle.lock_serve.specs.Segments.{content_of};
 ghost use Rattle.lock_serve.specs.Counting.{IsStart};
 ghost use Rattle.lock_serve.specs.Segmented.{limit_of, is_to_end};
 ghost use Rattle.lock_serve.specs.Serving.{IsToldOf, IsToldOfLeave, denial_of, IsInputAnswered, AnswersInput, IsKept, IsAdded, Leaves, put, is_past, stage_after};
 
-use crate::asking::{OneAsk, is_off, is_want, one_ask};
+use crate::asking::{is_off, is_want, one_ask};
 use crate::noting::{note_if, note_left_if, tell, tell_left};
 use crate::segment::Segment;
 use crate::texts::put_beginning;
 use line_loop::Pending;
 use lock_lines::{Denial, Fault, Input, put_denial};
-use ring_locks::{Answer, Locks, Refusal};
+use ring_locks::{Answer, Locks, OneAsk, Refusal};
 use segment_loop::EndFault;
 use std::alloc::{AllocError, Global};
 use std::io::Write;

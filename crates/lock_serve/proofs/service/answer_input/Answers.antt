@@ -1,12 +1,13 @@
 use Rattle.std.proofs.Common.{◌≡◌, true, false, [], ◌++◌, Some, None, Result, ap, sym, ◌∙◌, subst, refl}
 use Rattle.std.proofs.lemmas.List.{append-nil}
+use Rattle.ring_locks.specs.Asked.{asked}
 use Rattle.lock_lines.specs.declared.answers.Denial.{Denial}
 use Rattle.lock_lines.specs.declared.answers.Denial.TheVariants as denial
 use Rattle.lock_lines.specs.declared.inputs.Input.{Input}
 use Rattle.lock_lines.specs.Asks.{seen}
 use Rattle.lock_lines.specs.Answers.{denial_line}
 use Rattle.lock_serve.specs.declared.service.Untold.{Untold}
-use Rattle.lock_serve.specs.Asking.{is_off, asked}
+use Rattle.lock_serve.specs.Asking.{is_off}
 use Rattle.lock_serve.specs.Serving.{denial_of, IsToldOf, IsInputAnswered, Leaves}
 use Rattle.lock_serve.proofs.Telling.{on_ok, put_leaves, said_leaves, leaves_weaker}
 use Rattle.lock_serve.proofs.Inputs.{asked_input, told_input}

@@ -2,7 +2,7 @@ use Rattle.std.proofs.Common.{◌≡◌, ℕ, List, [], ◌++◌, cond, Result, 
 use Rattle.std.specs.Prelude.{slice_get}
 use Rattle.ring_locks.specs.Kept.{LockView, answers_of}
 use Rattle.lock_serve.specs.declared.service.Untold.{Untold}
-use Rattle.lock_serve.specs.Asking.{asked}
+use Rattle.ring_locks.specs.Asked.{asked}
 use Rattle.lock_serve.specs.Noting.{lines_about, note_about, end_line, events_from, events_at}
 use Rattle.lock_serve.specs.Serving.{IsToldOf, Leaves}
 use Rattle.lock_serve.proofs.Telling.{on_ok, put_leaves}
