@@ -59,16 +59,12 @@ pub(crate) fn grant(lock: &mut LockParts, waiter: Waiter) -> Answers
         Err(why) => return refused(why),
     }
     let first = marks::privileged(&lock.ring);
-    match marks::pass_first(&mut lock.ring, 0, first, waiter.order) {
-        Ok(token) => {
-            lock.holder = Some(Holder {
-                client: waiter.client,
-                token,
-            });
-            told(Answer::Granted(token))
-        }
-        Err(_) => unreachable!(),
-    }
+    let token = marks::pass_first(&mut lock.ring, 0, first, waiter.order);
+    lock.holder = Some(Holder {
+        client: waiter.client,
+        token,
+    });
+    told(Answer::Granted(token))
 }
 
 /// Puts a client that does not wait into the line of a lock that is held, once there is room for its grant. The ring
@@ -152,22 +148,18 @@ fn pass_hold(
         result }
     ensures own { result.own ≡ own }
 {
-    match marks::pass_first(&mut lock.ring, 0, over.survey.first, waiter.order) {
-        Ok(token) => {
-            let holder = Holder {
-                client: waiter.client,
-                token,
-            };
-            line::take_head(&mut lock.line);
-            waits.end(waiter.client);
-            lock.holder = Some(holder);
-            Answers {
-                own,
-                ended: Some(over),
-                granted: Some(holder),
-            }
-        }
-        Err(_) => unreachable!(),
+    let token = marks::pass_first(&mut lock.ring, 0, over.survey.first, waiter.order);
+    let holder = Holder {
+        client: waiter.client,
+        token,
+    };
+    line::take_head(&mut lock.line);
+    waits.end(waiter.client);
+    lock.holder = Some(holder);
+    Answers {
+        own,
+        ended: Some(over),
+        granted: Some(holder),
     }
 }
 
