@@ -42,16 +42,21 @@ fn two_locks(rt: &impl Abort, alloc: Global, limit: u64, strict: bool) -> LockSe
     }
 }
 
-/// Serves these lines up to this end. They are answered so, with these notes.
+/// What comes of some lines: the end up to which they are served, their answers, and their notes.
+struct Expected<'a> {
+    end: Ending,
+    said: &'a [u8],
+    noted: &'a [u8],
+}
+
+/// Serves these lines, with what is expected of them.
 fn serves(
     rt: &impl Abort,
     alloc: Global,
     service: &mut LockService,
     unread: &mut Unread,
     lines: &[u8],
-    end: Ending,
-    said: &[u8],
-    noted: &[u8],
+    expected: Expected<'_>,
 ) {
     let mut disk = no_files(alloc);
     let mut journal = Some(Vec::new(alloc));
@@ -70,12 +75,12 @@ fn serves(
         &mut input,
         &mut out,
     );
-    assert!(rt; ended == Ok(end));
-    assert!(rt; out.as_slice() == said);
+    assert!(rt; ended == Ok(expected.end));
+    assert!(rt; out.as_slice() == expected.said);
     let Some(notes) = journal else {
         panic!(rt; "there is a journal");
     };
-    assert!(rt; notes.as_slice() == noted);
+    assert!(rt; notes.as_slice() == expected.noted);
 }
 
 /// The text with which a segment of this number begins, after a file of no bytes.
@@ -115,30 +120,22 @@ fn keeps_on(rt: HostRuntime) {
     let lines = b"1 try 0 5\n1 try 1 6\n1 leave\n1 try 0 7\n";
     let said = b"1 granted 0 1\n1 granted 1 1\n";
     let noted = b"0 p 0 0 5 g 1 5\n1 p 0 0 6 g 1 6\n0 s 2 1 1 1 1 0\n1 s 2 1 1 1 1 0\n";
-    serves(
-        &rt,
-        alloc,
-        &mut service,
-        &mut unread,
-        lines,
-        Ending::Over,
+    let expected = Expected {
+        end: Ending::Over,
         said,
         noted,
-    );
+    };
+    serves(&rt, alloc, &mut service, &mut unread, lines, expected);
     assert!(rt; service.is_due());
     service.keep_on(EndFault::File);
     let said = b"1 granted 0 2\n";
     let noted = b"0 p 0 1 7 g 2 12\n";
-    serves(
-        &rt,
-        alloc,
-        &mut service,
-        &mut unread,
-        b"",
-        Ending::End,
+    let expected = Expected {
+        end: Ending::End,
         said,
         noted,
-    );
+    };
+    serves(&rt, alloc, &mut service, &mut unread, b"", expected);
     assert!(rt; service.is_due() && !service.is_over());
     let next = next_of(&rt, alloc, &service);
     assert!(rt; !next.is_due() && next.locks().count() == 2);
@@ -153,15 +150,18 @@ fn stops_on_strict_terms(rt: HostRuntime) {
     let lines = b"1 acquire 0 77\n2 acquire 0 78\n3 acquire 0 79\n1 release 0 1\n";
     let said = b"1 granted 0 1\n2 waiting 0 0\n3 waiting 0 1\n1 released 0\n2 granted 0 2\n";
     let noted = b"0 p 0 0 77 g 1 77\n0 s 1 1 1 1 1 0\n0 p 0 1 78 g 2 155\n";
+    let expected = Expected {
+        end: Ending::Over,
+        said,
+        noted,
+    };
     serves(
         &rt,
         alloc,
         &mut service,
         &mut Unread::none(),
         lines,
-        Ending::Over,
-        said,
-        noted,
+        expected,
     );
     assert!(rt; service.is_due());
     service.keep_on(EndFault::File);
