@@ -1,0 +1,4 @@
+pub mod Taking
+pub mod Filling
+pub mod Filled
+pub mod Latched

@@ -1,0 +1,20 @@
+//! What takes a text piece by piece, and never fails.
+
+ghost use Rattle.std.specs.Prelude.{ℕ, List};
+ghost use Rattle.text_takers.specs.Taking.{TakesNothing, TakesBoth};
+
+/// What takes a text piece by piece, and never fails.
+pub trait TakesText {
+    /// From one moment to the other it took these bytes.
+    ghost took: { Self → Self → List ℕ → Type 0 };
+
+    /// Takes these bytes.
+    fn put(&mut self, bytes: &[u8])
+        ensures { took self.old self.new bytes.now };
+
+    /// Where nothing came, nothing was taken.
+    ghost nothing: { TakesNothing took };
+
+    /// Two pieces, one after the other, are one.
+    ghost both: { TakesBoth took };
+}
