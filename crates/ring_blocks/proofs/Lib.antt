@@ -1,3 +1,4 @@
 pub mod SavedParts
 pub mod Fitting
 pub mod WrittenBlocks
+pub mod Taken

@@ -10,29 +10,23 @@ ghost use Rattle.ring_desk.specs.Texts.{saved_block, saved_alone, IsTextOf};
 
 use crate::clients::Client;
 use crate::rings::OneThreadRing;
-use ring_blocks::{SurveyLog, put_block, saved_survey};
+use ring_blocks::{Latch, SurveyLog, TakesText, put_block, saved_survey, take_block, take_word};
 use ring_book::Till;
 use ring_model::Survey;
-use ring_saved::LATEST_VERSION;
-use ring_saved::put_lines::{put_done_line, put_first_line, put_survey_line};
+use ring_saved::{LATEST_VERSION, survey_line};
 use std::alloc::{AllocError, Global};
 use std::io::Write;
 use text_lines::WriteFault;
 
-/// Writes a line for each of these surveys of a seat.
-fn put_survey_lines<W: Write>(out: &mut W, seat: u32, surveys: &[Survey]) -> Result<(), WriteFault>
-    ensures written { Writes (W.contents out.old) (W.contents out.new) result
+/// Has a line for each of these surveys of a seat taken.
+fn take_survey_lines<T: TakesText>(out: &mut T, seat: u32, surveys: &[Survey])
+    ensures told { T.took out.old out.new
         (flat_map survey_line (map (saved_survey seat) surveys.now)) }
-    ensures fits { IfOk result
-        (λ _. AllByRecursion SurveyFits (map (saved_survey seat) surveys.now)) }
+    ensures fits { AllByRecursion SurveyFits (map (saved_survey seat) surveys.now) }
 {
     for survey in surveys {
-        match put_survey_line(out, saved_survey(seat, *survey)) {
-            Ok(()) => {}
-            Err(fault) => return Err(fault),
-        }
+        out.put(survey_line(saved_survey(seat, *survey)).as_bytes());
     }
-    Ok(())
 }
 
 impl SurveyLog for Client {
@@ -40,8 +34,8 @@ impl SurveyLog for Client {
 
     ghost surveys = { client_surveys };
 
-    fn put_surveys<W: Write>(&self, out: &mut W) -> Result<(), WriteFault> {
-        put_survey_lines(out, self.number(), self.surveys())
+    fn take_surveys<T: TakesText>(&self, out: &mut T) {
+        take_survey_lines(out, self.number(), self.surveys())
     }
 }
 
@@ -64,6 +58,17 @@ pub fn put_ring<W: Write>(
 }
 
 impl OneThreadRing<Till> {
+    /// Has the saved text of the ring taken as it is now, which is legal. It takes no memory.
+    pub fn take_text<T: TakesText>(&self, out: &mut T)
+        ensures told { T.took out.old out.new (text (saved_alone self.now)) }
+        ensures fits { Fits (saved_alone self.now) }
+        ensures legal { IsLegalText (saved_alone self.now) }
+    {
+        take_word(out, b"ringfarm ", LATEST_VERSION as u64);
+        take_block(out, 0, self.start(), self.history(), self.clients());
+        take_word(out, b"done ", 1);
+    }
+
     /// Writes the saved text of the ring as it is now, which is legal. It takes no memory, and does not flush.
     ///
     /// # Errors
@@ -75,11 +80,10 @@ impl OneThreadRing<Till> {
         ensures fits { IfOk result (λ _. Fits (saved_alone self.now)) }
         ensures legal { IsLegalText (saved_alone self.now) }
     {
-        self.clients(); // says: it is a one-thread ring
-        put_first_line(out, LATEST_VERSION)?;
-        put_ring(out, 0, self)?;
-        put_done_line(out, 1)?;
-        Ok(())
+        let mut latch = Latch { out, ended: Ok(()) };
+        self.take_text(&mut latch);
+        let Latch { ended, .. } = latch;
+        ended
     }
 
     /// The saved text of the ring as it is now, which is legal.
