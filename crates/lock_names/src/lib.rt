@@ -1,0 +1,7 @@
+//! Locks by any name, over the rings of `ring_locks`: a name gets a ring with its first hold, and loses it with the last.
+#![tactic(auto)]
+
+pub mod laws;
+mod replies;
+
+pub use replies::Reply;
