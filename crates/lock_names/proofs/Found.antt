@@ -82,7 +82,7 @@ there_by x os i b e n only (Some p) q =
     let same : p.1 ≡ b = some_same p.1 b (some_same (Some p.1) (Some b) (sym h.slot ∙ ap (λ (k : ℕ). slice_get os k) at ∙ e)) in
     ap (λ (k : ℕ). Some (k, p.1)) at ∙ ap (λ (d : Bound). Some (i, d)) same
 
--- the ring that alone has a name is found
+-- the only ring that has a name is found
 pub found_there : (x : List ℕ) (os : List (Option Bound)) (i : ℕ) (b : Bound) → slice_get os i ≡ Some (Some b) → x ≡ b.name → OnlyAt os i b → found x os ≡ Some (i, b)
 found_there x os i b e n only = there_by x os i b e n only (found x os) refl
 

@@ -143,7 +143,7 @@ changed_none s x v e h l = record {
   known = λ i d f. inr f;
 }
 
--- ---- who waits
+-- ---- clients that wait
 
 data WaitAlike (v w : Option Lock) : Type 0 where
   Neither : v ≡ None → w ≡ None → WaitAlike v w
@@ -230,7 +230,7 @@ token_after ls m c u h g pos e = elim (g.held h e) [
 ]
 
 module _ (ns : List (List ℕ)) (s : Named) (ls : List Lock) (n : IsNamed s) (w : AreOwn ns s ls) (c k : ℕ) (x : List ℕ) (m : Lock) (at : slice_get ns k ≡ Some x) (there : slice_get ls k ≡ Some m) where
-  -- the lock of its own goes on
+  -- the lock of its own continues
   own_turn : (z : Named) (u : Ask) → Changed s z x (turn ls m c u).lock → AreOwn ns z (slice_set ls k (turn ls m c u).lock)
   own_turn z u ch =
       own_changed ns s z ls k x m (turn ls m c u).lock w at there ch (right_asked ls m c k u w.right there)

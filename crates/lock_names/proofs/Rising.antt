@@ -70,7 +70,7 @@ last low (t ∷ ts) = last t ts
 abbrev Goes : List ℕ → ℕ → Named → List ℕ → Type 0
 Goes x low s ts = Rise low ts × IsBelow (last low ts) x s
 
--- after it, this is at most what was told
+-- after it, this is at most the token that was reported
 below_turn : (x : List ℕ) (low high : ℕ) (s : Named) (i : ℕ) (b : Bound) (t : Turn) (f : Fits s i b) → IsBelow low x s → high ≤ top_after s.top f.lock t → (b.name ≡ x → high ≤ token_in b t.lock.ring.grants) →
     ((high ≡ low) ⊎ (b.name ≡ x)) → IsBelow high x (turned s i b f.lock t).named
 below_turn x low high s i b t f w le own which = (
@@ -93,7 +93,7 @@ below_turn x low high s i b t f w le own which = (
   ],
 )
 
--- the ring's last grant was told as a token that is not below
+-- the token of the ring's last grant is not below
 reached : (x : List ℕ) (low : ℕ) (s : Named) (i : ℕ) (b : Bound) (f : Fits s i b) → IsBelow low x s → b.name ≡ x → low ≤ token_in b f.lock.ring.grants
 reached x low s i b f w same = elim f.which [
   | inl q ↦ w.1 i f.lock b f.there (f.slot ∙ ap (λ (o : Option Bound). Some o) q) same

@@ -135,7 +135,7 @@ IsPlain (Release token) = ⊥
 IsPlain (Corrupt i v) = ⊥
 IsPlain _ = Unit {0}
 
--- who waits, and for whom, is the same in both machines
+-- the clients that wait, and those they wait for, are the same in both machines
 pub record AreEqualWaits (ls ms : List Lock) (l m : Lock) (c : ℕ) : Type 0 where
   pub waits : is_some (waits_for ls c) ≡ is_some (waits_for ms c)
   pub circle : comes_to (length ls) ls c (client_of l.holder) ≡ comes_to (length ms) ms c (client_of m.holder)
@@ -246,7 +246,7 @@ circle_alike ls ms i j l m c r s e f same whoms = elim (cases_Bool (comes_to (le
   ]
 ]
 
--- ---- what is told, tokens aside
+-- ---- what is reported, tokens aside
 
 aside_holder : (b : Bound) (h : Option Holder) → nameless (option_map (λ (x : Holder). record { client = x.client; token = token_in b x.token }) h) ≡ nameless h
 aside_holder b None = refl

@@ -43,7 +43,7 @@ abbrev pub place : List ℕ → List (List ℕ) → Option ℕ
 place x [] = None
 place x (n ∷ ns) = if bytes_eq x n then Some zero else option_map suc (place x ns)
 
--- the token that was told of the hold that a name has
+-- the token of the hold that a name has
 abbrev pub told_at : Bound → Option Lock → Option ℕ
 told_at b None = None
 told_at b (Some l) = option_map (λ (h : Holder). token_in b h.token) l.holder
@@ -137,7 +137,7 @@ AreAnsweredAlike ns s ls (i ∷ is) =
     IsAnsweredAlike ns s ls i
     × AreAnsweredAlike ns (step_named s i).named (locks_after ls (own_inputs ns s ls i)) is
 
--- the inputs ask of these names alone
+-- the inputs ask of no other names than these
 abbrev pub AreAmong : List (List ℕ) → List NamedInput → Type 0
 AreAmong ns [] = Unit {0}
 AreAmong ns (Of c x ask ∷ is) = ((j : ℕ) × (slice_get ns j ≡ Some x)) × AreAmong ns is

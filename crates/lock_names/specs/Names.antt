@@ -30,7 +30,7 @@ pub data NamedInput : Type 0 where
   Of : ℕ → List ℕ → Ask → NamedInput
   Again : NamedInput
 
--- what a client is told about a name
+-- what is said to a client about a name
 pub record Said : Type 0 where
   pub client : ℕ
   pub name : List ℕ
@@ -43,11 +43,11 @@ pub record NamedStep : Type 0 where
 
 -- ---- tokens
 
--- the token that is told of the ring's grant n
+-- the name's token of the ring's grant n
 abbrev pub token_in : Bound → ℕ → ℕ
 token_in b n = b.floor + (n - b.before)
 
--- the ring's grant of which this token was told; 0 is none
+-- the ring's grant that has this token; 0 is none
 abbrev pub number_in : Bound → ℕ → ℕ
 number_in b token = if nat_le token b.floor then 0 else ((token - b.floor) + b.before)
 
@@ -56,7 +56,7 @@ abbrev pub of_ring : Bound → Ask → Ask
 of_ring b (Release token) = Release (number_in b token)
 of_ring b ask = ask
 
--- the holder, and the ring's answer, as they are told
+-- the holder, and the ring's answer, with the tokens of the name
 abbrev pub told_holder : Bound → Holder → Holder
 told_holder b h = record { client = h.client; token = token_in b h.token }
 

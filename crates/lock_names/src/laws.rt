@@ -11,7 +11,7 @@ pub fn names_stay_right()
     ensures stay { NamedStays }
 {}
 
-/// The tokens that are told of a name rise with each grant, over all rings that it ever has, restarts or not.
+/// The tokens of a name rise with each grant, over all rings that it ever has, restarts or not.
 pub fn tokens_of_names_rise()
     ensures { TokensOfNamesRise }
 {}

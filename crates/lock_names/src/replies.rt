@@ -1,4 +1,4 @@
-//! What a client is told about a name.
+//! What is said to a client about a name.
 
 use ring_locks::Answer;
 
