@@ -55,7 +55,7 @@ total_set [] i l m e = absurd (none_some l e)
 total_set (k ∷ ls) zero l m e = let same : k.ring.grants ≡ l.ring.grants = ap (λ (x : Lock). x.ring.grants) (some_same k l e) in omega arith
 total_set (k ∷ ls) (suc i) l m e = let rest : total (slice_set ls i m) + l.ring.grants ≡ total ls + m.ring.grants = total_set ls i l m e in omega arith
 
-more_of : (x y a b : ℕ) → x + b ≡ y + a → x - y ≡ a - b
+pub more_of : (x y a b : ℕ) → x + b ≡ y + a → x - y ≡ a - b
 more_of x y a b e = omega arith
 
 pub at_ring_is : (s : Named) (c i : ℕ) (b : Bound) (ask : Ask) (l : Lock) → slice_get s.locks i ≡ Some l → at_ring s c i b ask ≡ turned s i b l (turn s.locks l c (of_ring b ask))

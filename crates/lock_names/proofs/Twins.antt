@@ -175,7 +175,7 @@ no_hold : (c t : ℕ) (o : Option Holder) → o ≡ None → is_held_with c t o 
 no_hold c t o e = ap (λ (x : Option Holder). is_held_with c t x) e
 
 -- the token of the hold, and no other, is that of the hold of the other machine
-same_token : (b : Bound) (t n k : ℕ) → b.before < n → 0 < k → (n == number_in b t) ≡ (k == (if t == token_in b n then k else 0))
+pub same_token : (b : Bound) (t n k : ℕ) → b.before < n → 0 < k → (n == number_in b t) ≡ (k == (if t == token_in b n then k else 0))
 same_token b t n k lo pos = elim (cases_eq t (token_in b n)) [
   | inl q ↦ own q
   | inr q ↦ other q

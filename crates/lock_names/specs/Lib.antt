@@ -1,3 +1,4 @@
+pub mod Bindings
 pub mod Names
 pub mod Promises
 pub mod Alike

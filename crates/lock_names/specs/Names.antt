@@ -1,21 +1,15 @@
 -- Locks by any name: the machine (this project's own). A ring of the pool has a name just while it
 -- is held; the ring of a fixed lock has one for ever.
-use Rattle.std.specs.Prelude.{ℕ, zero, suc, ◌+◌, ◌-◌, nat_le, nat_lt, ◌||◌, Bool, if◌then◌else◌, List, [], ◌∷◌, ◌++◌, map, slice_get, slice_set, Option, Some, None, is_some, option_map}
-use Rattle.std.specs.Str.{bytes_eq}
+use Rattle.std.specs.Prelude.{ℕ, ◌+◌, ◌-◌, nat_le, nat_lt, ◌||◌, Bool, if◌then◌else◌, List, [], ◌∷◌, ◌++◌, map, slice_get, slice_set, Option, Some, None, is_some, option_map}
 use Rattle.ring_locks.specs.declared.answers.Holder.{Holder}
 use Rattle.ring_locks.specs.declared.answers.Answer.{Answer}
 use Rattle.ring_locks.specs.declared.answers.Answer.TheVariants as answer
 use Rattle.ring_locks.specs.declared.answers.Refusal.TheVariants as refusal
 use Rattle.ring_locks.specs.Lines.{Lock, holder_of}
 use Rattle.ring_locks.specs.Locks.{Ask, Acquire, Try, Release, Cancel, Leave, Corrupt, Stats, Asked, Restart, Step, step}
+pub use Rattle.lock_names.specs.Bindings.{Bound, further, found, free}
 use Rattle.lock_names.specs.declared.replies.Reply.{Reply}
 use Rattle.lock_names.specs.declared.replies.Reply.TheVariants as reply
-
--- a name, with the numbers of grants that its ring, and all rings, had when it was bound
-pub record Bound : Type 0 where
-  pub name : List ℕ
-  pub before : ℕ
-  pub floor : ℕ
 
 -- the locks of all rings; the name of each ring that has one; how many rings belong to fixed locks,
 -- which come first; and how many grants there were of all rings for ever
@@ -73,23 +67,7 @@ as_told b a = a
 abbrev pub said_of : Bound → ℕ × Answer → Said
 said_of b a = record { client = a.0; name = b.name; reply = reply.Lock (as_told b a.1) }
 
--- ---- names and rings
-
--- the same ring, with one before it
-abbrev pub further : {X : Type 0} → Option (ℕ × X) → Option (ℕ × X)
-further {X} o = option_map (λ (p : ℕ × X). (suc p.0, p.1)) o
-
--- the ring that has this name, and how it is bound
-abbrev pub found : List ℕ → List (Option Bound) → Option (ℕ × Bound)
-found x [] = None
-found x (None ∷ os) = further (found x os)
-found x (Some b ∷ os) = if bytes_eq x b.name then Some (zero, b) else further (found x os)
-
--- the lowest ring that has no name
-abbrev pub free : List (Option Bound) → Option ℕ
-free [] = None
-free (None ∷ os) = Some zero
-free (Some b ∷ os) = option_map suc (free os)
+-- ---- rings
 
 -- the grants of a ring, and of all rings
 abbrev pub grants_at : Option Lock → ℕ
