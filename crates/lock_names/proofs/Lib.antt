@@ -6,3 +6,4 @@ pub mod Keeping
 pub mod Twins
 pub mod Owning
 pub mod Beginning
+pub mod Tabled

@@ -2,3 +2,4 @@ pub mod Bindings
 pub mod Names
 pub mod Promises
 pub mod Alike
+pub mod Table

@@ -3,5 +3,6 @@
 
 pub mod laws;
 mod replies;
+mod table;
 
 pub use replies::Reply;
