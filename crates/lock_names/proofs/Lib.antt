@@ -7,3 +7,7 @@ pub mod Twins
 pub mod Owning
 pub mod Beginning
 pub mod Tabled
+pub mod Asking
+pub mod Taking
+pub mod Begins
+pub mod LeftNames

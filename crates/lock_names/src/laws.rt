@@ -1,8 +1,9 @@
 //! What locks by name promise, over every list of inputs. Each law is the contract of a function that does nothing; the
-//! statements are in `specs/Promises.antt` and `specs/Alike.antt`, of the machine in `specs/Names.antt`.
+//! statements are in `specs/Promises.antt`, `specs/Alike.antt` and `specs/Leaves.antt`, of the machine in `specs/Names.antt`.
 
 ghost use Rattle.lock_names.specs.Promises.{NamedStays, NamesBegin, TokensOfNamesRise, WaitedIsKept, WaitedIsHeld, UsedAreHeld, UnusedCostsNothing};
 ghost use Rattle.lock_names.specs.Alike.{OwnBegin, NamesAreLocks};
+ghost use Rattle.lock_names.specs.Leaves.{LeavesAreSettled};
 
 /// The rings are named right in a beginning, and stay so, whatever is asked: of the pool those that are held have a name, and
 /// no two rings have the same.
@@ -34,4 +35,10 @@ pub fn unused_costs_nothing()
 pub fn names_are_locks()
     ensures begin { OwnBegin }
     ensures alike { NamesAreLocks }
+{}
+
+/// A client that leaves all names leaves all locks. After that each name of the pool whose lock is not held is forgotten, and
+/// each grant is counted.
+pub fn leaves_are_settled()
+    ensures { LeavesAreSettled }
 {}

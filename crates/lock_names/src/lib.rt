@@ -1,8 +1,13 @@
 //! Locks by any name, over the rings of `ring_locks`: a name gets a ring with its first hold, and loses it with the last.
 #![tactic(auto)]
 
+mod asks;
 pub mod laws;
+mod names;
 mod replies;
+mod starting;
 mod table;
 
-pub use replies::Reply;
+pub use names::{Names, TOP_LIMIT};
+pub use replies::{NameAnswers, NameAsk, Reply};
+pub use starting::NotBegun;
