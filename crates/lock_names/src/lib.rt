@@ -11,3 +11,6 @@ mod table;
 pub use names::{Names, TOP_LIMIT};
 pub use replies::{NameAnswers, NameAsk, Reply};
 pub use starting::NotBegun;
+
+#[cfg(test)]
+mod tests;
