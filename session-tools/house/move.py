@@ -741,19 +741,19 @@ def with_names(tree):
         mine = [path for path, crate in crates.items() if crate and (where == "*" or crate in where.split(","))]
         # (a module of that name is no word of the code, nor is what a comment says)
         apart = rf"(?://|--|promise:).*|\bmod {new};|\b{new}::|[./]{new}(?=[./])"
-        taken = [path for path in mine if word(new).search(re.sub(apart, "", tree.texts[path]))]
-        found = [path for path in mine if word(old).search(tree.texts[path])]
+        taken = [path for path in mine if new in tree.texts[path] and word(new).search(re.sub(apart, "", tree.texts[path]))]
+        found = [path for path in mine if old in tree.texts[path] and word(old).search(tree.texts[path])]
         faults += [f"{new} of {row} is in {path}" for path in taken[:3]] + [f"nothing has {row}"] * (not found)
         for path in found:
             texts[path] = word(old).sub(new, texts[path])
         for path in texts if re.search(r"[A-Z_]", old) else ():
-            if path.endswith(".md"):
+            if path.endswith(".md") and old in texts[path]:
                 texts[path] = re.sub(rf"(`[^`\n]*?(?<!\w)){old}(?!\w)(?=[^`\n]*`)", rf"\g<1>{new}", texts[path])
     for row in FIELDS.strip().split("\n"):
         where, old, new = row.split()
         below, *above = where.split(",")
         for path, crate in crates.items():
-            if crate in above and (f"Rattle.{below}." in texts[path] or path.endswith(".edit")):
+            if crate in above and old in texts[path] and (f"Rattle.{below}." in texts[path] or path.endswith(".edit")):
                 text = re.sub(rf"(?<=[\w)]\.)(?<!args\.)(?<!ensures\.){old}(?!\w)", new, texts[path])
                 text = re.sub(rf"(record (?:\w+ )?\{{(?:[^{{}}\n]*;)? ){old} = ", rf"\g<1>{new} = ", text)
                 texts[path] = re.sub(rf"^( +(?:pub )?){old}(?= : \w+\.{new} ≡| = refl;)", rf"\g<1>{new}", text, flags=re.M)
@@ -779,7 +779,7 @@ def qualified(texts):
         other = re.compile(rf"use Rattle\.(?!{crate}\.specs\.{file}\.)[\w.]+\.\{{(?:[^}}]*[ ,])?{old}[,}} ]|^(?:(?:abbrev|unfoldable) )*(?:pub )?(?:record |data )?{old} (?:\(|:)|^ +(?:pub )?{old} : ", re.M)
         faults += [f"nothing has {row}"] * (home not in texts or not word(old).search(texts[home]))
         for path, text in texts.items():
-            found = item.search(text) if path.endswith((".rt", ".antt", ".rt.txt", ".antt.txt")) else None
+            found = item.search(text) if old in text and path.endswith((".rt", ".antt", ".rt.txt", ".antt.txt")) else None
             if path != home and not found:
                 continue
             alias = found and found[2]
@@ -793,7 +793,7 @@ def qualified(texts):
             text = item.sub(rf"\g<1>{seen}", texts[path])
             texts[path] = re.sub(rf"\b{new} as {new}\b", new, named(text))
         for path, text in texts.items():
-            if path.endswith((".rt", ".antt")) and whole.search(text) and re.search(rf"use Rattle\.{crate}\.specs\.{file};?$", text, re.M):
+            if path.endswith((".rt", ".antt")) and f"{file}.{old}" in text and whole.search(text) and re.search(rf"use Rattle\.{crate}\.specs\.{file};?$", text, re.M):
                 texts[path] = whole.sub(f"{file}.{new}", text)
             if path.endswith(".edit"):
                 own = re.sub(r"bench/wrong_bodies/", "crates/", path).split("/")[1]

@@ -3,7 +3,8 @@
 # commits by hand. Stops at the first thing that is wrong: mend it, and go on from there by hand. No proofs; two minutes of one processor.
 set -e
 here=$(cd "$(dirname "$0")" && pwd)
-git clone -q "$1" "$2" && cd "$2"
+git clone -q "$1" "$2"
+cd "$2"
 before=$(git rev-parse HEAD)
 says() { local out; out=$(cat); echo "$out"; grep -q "$1" <<< "$out"; }   # what is printed has these words, or the script ends
 python3 -B "$here/move.py" .                      # what moves; FAULT: two things would have one name: give one another in PARTS
@@ -21,10 +22,14 @@ git commit -qam "Layout"
 git tag -f named >/dev/null
 python3 -B "$here/resolve.py" . | says " names 0 faults"
 python3 -B "$here/same_clauses.py" "$before" HEAD | cut -c1-300 | says "gone 0 new 0"   # and as many clauses before as now
-git rev-parse -q --verify "37a40e77^{commit}" >/dev/null || echo "the commits by hand were made on 37a40e77, kept in main: fetch it"
+git fetch -q "$here/moved.bundle" 'refs/heads/*:refs/hands/*' 2>/dev/null || echo "no moved.bundle: what the commits by hand were made on is missing"
 git config merge.words.driver "python3 -B '$here/word_merge.py' %O %A %B"
-echo '* merge=words' > .git/info/attributes
+git config merge.ours.driver true
+printf '* merge=words\nbench/wrong_bodies/TABLE.md merge=ours\n' > .git/info/attributes
 git am -3 "$here"/patches/*.patch                 # the commits by hand; a conflict: git status, mend, git am --continue
+python3 -B "$here/orders.py" .                    # the tables of reading orders, as the script has them
+git commit -qam "Pages: the reading order over the moved crates" || true
+git tag -f hand >/dev/null
 python3 -B "$here/edits_apply.py" | says " pairs 0 bad"
 python3 bench/documents.py .                      # 0 failed
 python3 -B "$here/page_names.py" .                # what bench/documents.sh looks up without the program
