@@ -2,8 +2,8 @@
 
 Without a program it only reads, in a few seconds, for ./test. Of each page, man pages too: no word or form of `page_words.py` is
 in it; each link leads to a file, and to a heading of it; each clause that it names is one of the crates (`page_clauses.py`). The first
-page has at most 150 lines of 120 characters, and cells of 200. Nor is such a word in help texts, in what the server logs and answers, or
-in comments (`source_words.py`). The last line is `N passed, M failed`, one for each page and each kind of source.
+page has at most 150 lines of 120 characters, and cells of 200. Nor is such a word in help texts, in what the server logs and answers, in
+comments, or in the names of the proved crates (`source_words.py`). The last line is `N passed, M failed`, one for each page and each kind of source.
 
 With a program, of each page (README, CHANGELOG, docs/, each crate's README; of the others only links and names):
 
@@ -226,10 +226,14 @@ class Trial:
                         self.differs(page, 1, f"the limit `{name}`, {int(value):,}, is not told")
 
     def look_crates_up(self, page):
+        """Each crate has a row of a table, and is on a figure."""
+        figures = "\n".join(it.text() for it in page.blocks)
         with open(f"{self.top}/crates.txt", encoding="utf-8") as file:
             for crate in re.findall(r"^(\w+)", file.read(), re.M):
                 if not any(f"`{crate}`" in line for line in page.lines):
                     self.differs(page, 1, f"the crate `{crate}` is not told")
+                if not re.search(rf"\b{crate}\b", figures):
+                    self.differs(page, 1, f"the crate `{crate}` is on no figure")
 
     def is_known(self, page, name):
         word = name.split(" ")[0]

@@ -1,26 +1,25 @@
 -- The answer of `recover` to a folder: the history of its last segment.
 use Rattle.std.specs.Prelude.{◌≡◌, ℕ, List, ◌++◌, Bool, true, false, Option, None, Some, Ok, ◌⊎◌}
 use Rattle.std.specs.Io.KnownBytes.{Appends}
-use Rattle.disks.specs.Held.{Held}
+use Rattle.disks.specs.Held.{Held, IsHeld}
 use Rattle.disks.specs.declared.disk.FolderEntry.{FolderEntry}
-use Rattle.segment_folder.specs.Names.{segment_file}
-use Rattle.segment_folder.specs.Numbers.{IsRightNumbers}
-use Rattle.segment_folder.specs.declared.numbers.SegmentNumbers.{SegmentNumbers}
-use Rattle.ring_saved.specs.declared.saved.Saved.{Saved}
-use Rattle.ring_saved.specs.Content.{content}
-use Rattle.ring_saved.specs.Spelling.{text}
+use Rattle.line_service.specs.SegmentNames.{segment_file}
+use Rattle.line_service.specs.SegmentNumbers.{IsRightNumbers}
+use Rattle.line_service.specs.declared.segment_numbers.SegmentNumbers.{SegmentNumbers}
+use Rattle.saved_history.specs.declared.saved.Saved.{Saved}
+use Rattle.saved_history.specs.Content.{content}
+use Rattle.saved_history.specs.Spelling.{text}
 use Rattle.ring_check.specs.Legal.{summary_of}
-use Rattle.ring_segments.specs.Spelling.{Head, head_of, head_text}
-use Rattle.ring_segments.specs.declared.errors.SegmentError.{SegmentError}
-use Rattle.ring_segments.specs.declared.errors.SegmentError.TheVariants as segment
-use Rattle.ring_segments.specs.declared.heads.SegmentHead.{SegmentHead}
-use Rattle.ring_segments.specs.Files.{File}
-use Rattle.ring_segments.specs.Chain.{IsRightRefusal}
+use Rattle.segment_files.specs.Spelling.{Head, head_of, head_text}
+use Rattle.segment_files.specs.declared.errors.SegmentError.{SegmentError}
+use Rattle.segment_files.specs.declared.errors.SegmentError.TheVariants as segment
+use Rattle.segment_files.specs.declared.heads.SegmentHead.{SegmentHead}
+use Rattle.segment_files.specs.Files.{File}
+use Rattle.segment_files.specs.Chain.{IsRightRefusal}
 use Rattle.tool_parts.specs.Chained.{IsFolder, IsUnreadSegment, AreNamesRefused}
 use Rattle.tool_parts.specs.CheckText.{legal_line}
 use Rattle.tool_parts.specs.Handed.{IsHanded, IsHandRefusal}
 use Rattle.tool_parts.specs.Kept.{IsFileKept, file_left, file_place, IsLostFile}
-use Rattle.tool_parts.specs.Named.{IsHeld}
 use Rattle.tool_parts.specs.Outside.{IsOutside, IsOutsideRefusal}
 use Rattle.tool_parts.specs.Handed.{file_of}
 use Rattle.tool_parts.specs.Reading.{names_stream}
@@ -28,7 +27,7 @@ use Rattle.tool_parts.specs.Worlds.{World}
 use Rattle.tool_parts.specs.Written.{AppendsFront}
 use Rattle.folder_commands.specs.declared.last_file.LastFile.{LastFile}
 use Rattle.folder_commands.specs.declared.last_segment.RecoveredSegment.{RecoveredSegment}
-use Rattle.ring_requests.specs.declared.requests.RecoverWords.{RecoverWords}
+use Rattle.tool_parts.specs.declared.requests.RecoverWords.{RecoverWords}
 use Rattle.tool_parts.specs.declared.faults.ToolError.{ToolError}
 use Rattle.tool_parts.specs.declared.faults.ToolError.TheVariants as tool
 

@@ -1,39 +1,23 @@
 //! The journal of served rings in a file: it is locked, read, and begun anew where it ends.
 
 ghost use Rattle.std.specs.Prelude.{◌≡◌, ◌⊎◌, ◌≤◌, ◌<◌, ◌^◌, true, Some, IsFalse, OnOk, OnErr, IfOk, IfErr, length};
-ghost use Rattle.text_lines.specs.Writing.{Writes};
 ghost use Rattle.disks.specs.Held.{Replaces, Discards};
-ghost use Rattle.ring_saved.specs.declared.saved.Saved.{Saved};
-ghost use Rattle.ring_journal.specs.Spelling.{head_text};
-ghost use Rattle.ring_serve.specs.Saved.{content_of};
-ghost use Rattle.ring_serve.specs.Starting.{AreResumed};
+ghost use Rattle.saved_history.specs.declared.saved.Saved.{Saved};
+ghost use Rattle.journal.specs.Spelling.{journal_head};
+ghost use Rattle.ring_service.specs.Saved.{content_of};
+ghost use Rattle.ring_service.specs.Starting.{AreResumed};
 ghost use Rattle.tool_parts.specs.Handed.{IsSaveRefusal};
 ghost use Rattle.serve_commands.specs.Served.{CanBegin, CanBeginWith, IsNoted, IsUnbegun, IsMadeJournalRefusal, IsUntouched};
 
 use crate::resuming::{resume_rings, value_to_resume};
 use disks::{Contents, ContentsFault, Disk, replace};
-use ring_journal::put_first_line;
-use ring_saved::Saved;
-use ring_serve::{Served, write_rings};
+use ring_service::{Served, put_beginning};
+use saved_history::Saved;
 use std::alloc::Global;
 use std::io::Write;
-use text_lines::WriteFault;
 use tool_parts::faults::ToolError;
 use tool_parts::handing::save_fault;
 use tool_parts::locking::open_journal;
-
-/// Writes the start of a journal of these rings.
-fn put_head<W: Write>(out: &mut W, served: &Served) -> Result<(), WriteFault>
-    requires some { 1 ≤ length served.now }
-    requires most { length served.now < 2 ^ 32 }
-    ensures { Writes (W.contents out.old) (W.contents out.new) result
-        (head_text (content_of served.now)) }
-{
-    match put_first_line(out) {
-        Ok(()) => write_rings(out, served),
-        Err(fault) => Err(fault),
-    }
-}
 
 /// The beginning of a journal of these rings, which its file is to hold.
 #[derive(Drop)]
@@ -43,15 +27,15 @@ struct Beginning<'a> {
 
 impl Contents for Beginning<'_> {
     ghost use Rattle.std.specs.Prelude.{◌≤◌, ◌<◌, ◌^◌, length};
-    ghost use Rattle.ring_journal.specs.Spelling.{head_text};
-    ghost use Rattle.ring_serve.specs.Saved.{content_of};
+    ghost use Rattle.journal.specs.Spelling.{journal_head};
+    ghost use Rattle.ring_service.specs.Saved.{content_of};
 
     ghost ready = { λ s. (1 ≤ length s.served.now) × (length s.served.now < 2 ^ 32) };
 
-    ghost bytes = { λ s. head_text (content_of s.served.now) };
+    ghost bytes = { λ s. journal_head (content_of s.served.now) };
 
     fn write_to<W: Write>(&self, out: &mut W) -> Result<(), ContentsFault> {
-        match put_head(out, self.served) {
+        match put_beginning(out, self.served) {
             Ok(()) => Ok(()),
             Err(_) => Err(ContentsFault::Write),
         }
@@ -67,7 +51,7 @@ fn save_beginning<'a, D: Disk>(
 ) -> Result<(), ToolError<'a>>
     requires rings { CanBegin (length served.now) }
     ensures ok { OnOk result (Replaces (D.holds disk.old) (D.holds disk.new) name.now
-        (Some (head_text (content_of served.now)))) }
+        (Some (journal_head (content_of served.now)))) }
     ensures kept { OnErr result (D.holds disk.new ≡ D.holds disk.old) }
     ensures err { IfErr result (λ e. IsSaveRefusal name.now e) }
 {
@@ -90,7 +74,7 @@ fn begin_locked<'a, D: Disk>(
         × IsNoted (D.holds disk.old) name.now saved from
         × AreResumed begun.1 from.rings.items
         × Replaces (D.holds disk.old) (D.holds disk.new) name.now
-        (Some (head_text (content_of begun.1)))) }
+        (Some (journal_head (content_of begun.1)))) }
     ensures kept { OnErr result (D.holds disk.new ≡ D.holds disk.old) }
     ensures err { IfErr result (λ e. IsUnbegun (D.holds disk.old) name.now saved e) }
 {
@@ -142,7 +126,7 @@ pub(crate) fn begin_journal<'a, D: Disk>(
         × IsNoted (D.holds disk.old) name.now saved from
         × AreResumed begun.1 from.rings.items
         × Replaces (D.holds disk.old) (D.holds disk.new) name.now
-        (Some (head_text (content_of begun.1)))) }
+        (Some (journal_head (content_of begun.1)))) }
     ensures kept { OnErr result (IsUntouched (D.holds disk.old) (D.holds disk.new) name.now) }
     ensures err { IfErr result (λ e. IsMadeJournalRefusal (D.holds disk.old) name.now saved e) }
 {

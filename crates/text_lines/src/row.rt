@@ -6,15 +6,15 @@ ghost use Rattle.text_lines.specs.Reading.{Gives, row_at, stop_of};
 ghost use Rattle.text_lines.specs.Spelling.{row};
 ghost use Rattle.text_lines.specs.Writing.{Writes};
 
+use crate::bounded_numbers::number32;
 use crate::fault::Stop;
-use crate::number::number32;
 use crate::numbers::put_numbers;
 use crate::write::WriteFault;
 use std::alloc::Global;
 use std::io::Write;
 
 /// The byte that ends a number with n after it on the line.
-fn stop_byte(left: usize) -> u8
+pub(crate) fn stop_byte(left: usize) -> u8
     ensures { result ≡ stop_of left }
 {
     match left {

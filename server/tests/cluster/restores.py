@@ -80,13 +80,18 @@ class Restores(unittest.TestCase):
             self.assertIn(part, text)
 
     def ended(self, server):
-        """The server, which ran, has ended so."""
+        """The server, which ran, has ended so; or as one that has lost its lease first, and then finds no log of its own."""
         try:
             status = server.process.wait(PATIENCE)
         except subprocess.TimeoutExpired:
             self.fail("the server serves")
         RUNNING.remove(server)
-        self.advised(status, server.text_of_log())
+        text = server.text_of_log()
+        late = "the log is another one, or does not reach back to the checkpoint: do what OPERATING says"
+        if "out of the log (its lease in etcd is over)" in text and late in text:
+            self.assertEqual(status, 4, text)
+        else:
+            self.advised(status, text)
 
     def wipe(self):
         self.members.wipe()

@@ -1,0 +1,11 @@
+mod Begun
+mod Refused
+mod Checked
+mod Named
+mod Texts
+mod Cuts
+mod Pieces
+mod Marks
+mod Lines
+mod Handed
+mod OneReading

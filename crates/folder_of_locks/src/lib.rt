@@ -1,0 +1,30 @@
+//! The locks of a folder: their names and sizes, and where their rings are.
+//!
+//! Lists of locks are texts with these names and sizes; so are the lines of the clients that get
+//! the holds which are open at a start, to whom these are handed.
+#![tactic(auto)]
+
+mod checks;
+mod faults;
+mod folder;
+mod handing;
+pub mod holder_laws;
+mod holder_reading;
+mod list_reading;
+mod lists;
+mod lock_names;
+mod locks;
+mod places;
+mod rings;
+mod sizes;
+mod writing;
+
+pub use checks::first_difference;
+pub use faults::StartFault;
+pub use folder::start_locks;
+pub use handing::hand_all;
+pub use holder_reading::{HoldersError, read_holders};
+pub use list_reading::{read_list_file, read_list_word};
+pub use locks::{ListError, ListedLock};
+pub use places::Start;
+pub use writing::put_list;

@@ -1,0 +1,40 @@
+//! What clients ask.
+
+/// What a client asks, by its numbers.
+#[derive(Clone, Copy, Debug, PartialEq, Eq)]
+pub enum Ask {
+    /// To hold a lock, with a label that the client chooses, or else to wait for it.
+    Acquire { lock: u64, label: u64 },
+    /// To hold a lock, and not to wait for it.
+    Try { lock: u64, label: u64 },
+    /// To hold a lock no more, of which this is the token.
+    Release { lock: u64, token: u64 },
+    /// To wait for a lock no more.
+    Cancel { lock: u64 },
+    /// To hold and to wait for none.
+    Leave,
+    /// A fault: a value is written into a machine of a lock's ring.
+    Corrupt { lock: u64, machine: u64, value: u64 },
+    /// What there is to say of a lock.
+    Stats { lock: u64 },
+}
+
+/// Why a line that a connection sent asks nothing.
+#[derive(Clone, Copy, Debug, PartialEq, Eq)]
+pub enum Fault {
+    /// It is spelled as no ask is, or has more than 8 KiB.
+    Syntax,
+    /// A number of it is 2 to the power 64 or more.
+    Number,
+}
+
+/// What is read of a line.
+#[derive(Clone, Copy, Debug, PartialEq, Eq)]
+pub enum Input {
+    /// A client asks this; its number is that of its connection.
+    Asked { client: u64, ask: Ask },
+    /// The line is this client's, and asks nothing.
+    Refused { client: u64, why: Fault },
+    /// The line does not begin with the number of a connection, so there is nobody to answer.
+    Nobody,
+}
