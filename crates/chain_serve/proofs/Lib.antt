@@ -1,4 +1,3 @@
 pub mod Fresh
 pub mod Known
 pub mod Recovering
-pub mod Parts

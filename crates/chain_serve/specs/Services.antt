@@ -2,6 +2,7 @@
 use Rattle.std.specs.Prelude.{◌≡◌, ℕ, ◌+◌, ◌≤◌, ◌^◌, ◌⊎◌, Bool, true, List, Option, None, Some, is_some}
 use Rattle.std.specs.List.{AllByRecursion}
 use Rattle.disks.specs.Held.{Held}
+use Rattle.segment_folder.specs.Names.{segment_file}
 use Rattle.segment_loop.specs.Segmenting.{Segmenting}
 use Rattle.segment_loop.specs.declared.segmented.EndFault.{EndFault}
 use Rattle.segment_loop.specs.declared.segmented.EndFault.TheVariants as end
@@ -11,21 +12,33 @@ use Rattle.ring_serve.specs.Standings.{Standing}
 use Rattle.ring_serve.specs.Saved.{IsRight}
 use Rattle.ring_serve.specs.Segments.{AreNext, IsFull}
 use Rattle.ring_serve.specs.Due.{is_due}
-use Rattle.ring_serve.specs.Permits.{Terms, is_shut, IsTied}
+use Rattle.ring_serve.specs.Permits.{Terms, terms_in, is_shut, IsTied}
 use Rattle.ring_serve.specs.Serving.{IsAnswered}
 use Rattle.chain_serve.specs.Texts.{segment_text, HaveNoText}
-use Rattle.chain_serve.specs.Segments.{file_of}
-use Rattle.chain_serve.specs.Service.{part_terms}
-use Rattle.chain_serve.specs.declared.segments.SegmentRules.{SegmentRules}
+use Rattle.chain_serve.specs.declared.segments.ChainRules.{ChainRules}
+
+-- the folder of the segments
+abbrev pub folder_of : ChainRules → List ℕ
+folder_of s = s.files.folder.now
+
+-- the file of the segment of this number
+abbrev pub file_of : ChainRules → ℕ → List ℕ
+file_of s number = segment_file (folder_of s) number
+
+-- the terms of lines that are answered in the segment of this number, or that are all refused
+abbrev pub part_terms : ChainRules → ℕ → Option Refusal → Terms
+part_terms s number refusing =
+    terms_in (Some (file_of s number)) s.permits
+    (Some (record { limit = s.limit; refusing = refusing }))
 
 -- the rules, the rings, the number of their segment, and what each line is refused with, if all are
 pub record ServiceView : Type 0 where
-  pub rules : SegmentRules
+  pub rules : ChainRules
   pub rings : List Standing
   pub number : ℕ
   pub refusing : Option Refusal
 
-abbrev pub service_of : SegmentRules → List Standing → ℕ → Option Refusal → ServiceView
+abbrev pub service_of : ChainRules → List Standing → ℕ → Option Refusal → ServiceView
 service_of rules rings number refusing = record {
   rules = rules;
   rings = rings;
@@ -47,7 +60,7 @@ may_save s = is_some s.rules.permits.saves
 
 -- what is known of the fields: a segment may have a line, the name is that of its file, and lines
 -- are refused only while it is due
-pub record IsKnown (rules : SegmentRules) (rings : List Standing) (number : ℕ)
+pub record IsKnown (rules : ChainRules) (rings : List Standing) (number : ℕ)
     (refusing : Option Refusal) (name : List ℕ) (shut : Bool) : Type 0 where
   pub limit : 1 ≤ rules.limit
   pub named : name ≡ file_of rules number

@@ -1,8 +1,6 @@
 //! How rings live in segments.
 
 ghost use Rattle.std.specs.Prelude.{◌≡◌, ◌⊎◌, IfOk, IfErr};
-ghost use Rattle.std.specs.List.{AllByRecursion};
-ghost use Rattle.ring_serve.specs.Saved.{IsRight};
 ghost use Rattle.ring_serve.specs.Segments.{AreNext, IsFull};
 ghost use Rattle.segment_loop.specs.declared.segmented.EndFault.TheVariants as end;
 ghost use Rattle.chain_serve.specs.Services.{refusal_of};
@@ -11,29 +9,25 @@ use crate::service::ChainService;
 use crate::texts::segment_text;
 use ring_endless::NextError;
 use ring_segments::DIGEST_DIGITS;
-use ring_serve::{Refusal, Served, are_right};
-use segment_folder::segment_file;
+use ring_serve::{Refusal, Served};
 use segment_loop::{EndFault, Segmented};
 use std::alloc::Global;
 
 /// The rings with their next segments.
 fn next_rings(alloc: Global, served: &Served) -> Result<Served, EndFault>
-    ensures next { IfOk result (λ next. AreNext served.now next × AllByRecursion IsRight next) }
+    ensures next { IfOk result (λ next. AreNext served.now next) }
     ensures why { IfErr result
         (λ e. ((e ≡ end.Full) × IsFull served.now) ⊎ (e ≡ end.OutOfMemory)) }
 {
     match served.next(alloc) {
-        Ok(next) => {
-            are_right(&next);
-            Ok(next)
-        }
+        Ok(next) => Ok(next),
         Err(NextError::Full) => Err(EndFault::Full),
         Err(NextError::OutOfMemory) => Err(EndFault::OutOfMemory),
     }
 }
 
 /// What each line is refused with while a segment is kept on.
-pub(crate) fn refusal_of(why: EndFault) -> Refusal
+fn refusal_of(why: EndFault) -> Refusal
     ensures { result ≡ refusal_of why }
 {
     match why {
@@ -66,10 +60,10 @@ impl Segmented for ChainService<'_> {
             return Err(EndFault::Full);
         }
         let number = self.number + 1;
-        let Ok(name) = segment_file(alloc, self.rules.folder, number) else {
-            return Err(EndFault::OutOfMemory);
-        };
-        Ok(ChainService::new(self.alloc, served, self.rules, number, name))
+        match ChainService::new(alloc, served, self.rules, number) {
+            Ok(next) => Ok(next),
+            Err(_) => Err(EndFault::OutOfMemory),
+        }
     }
 
     fn text(

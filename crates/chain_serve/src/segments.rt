@@ -1,16 +1,15 @@
-//! How lines are served in segments.
+//! How rings are served in segments.
 
 use ring_serve::Permits;
+use segment_loop::SegmentRules;
 
-/// How lines are served in segments.
+/// How rings are served in segments.
 #[derive(Clone, Copy)]
-pub struct SegmentRules<'n> {
-    /// The folder of the segments.
-    pub folder: &'n str,
+pub struct ChainRules<'n> {
+    /// The folder of the segments, and whether their files are synced.
+    pub files: SegmentRules<'n>,
     /// A segment is due once its journal has this number of lines.
     pub limit: u64,
-    /// Whether notes are put on the disk before their answers leave.
-    pub synced: bool,
     /// What a line may do beside calling the rings.
     pub permits: Permits<'n>,
 }

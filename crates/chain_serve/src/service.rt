@@ -1,23 +1,25 @@
 //! Rings that answer lines in the segments of a folder.
 
-ghost use Rattle.std.specs.Prelude.{◌≡◌, ◌≤◌, None, string_bytes};
-ghost use Rattle.chain_serve.specs.Segments.{file_of};
+ghost use Rattle.std.specs.Prelude.{◌≡◌, ◌≤◌, None, IfOk};
+ghost use Rattle.std.specs.List.{AllByRecursion};
+ghost use Rattle.ring_serve.specs.Saved.{IsRight};
 ghost use Rattle.chain_serve.specs.Services.{service_of};
 
-use crate::segments::SegmentRules;
+use crate::segments::ChainRules;
 use disks::Disk;
 use line_loop::{AnswersLines, Pending};
 use ring_serve::{Ends, Refusal, Served, answer_by, are_right, rules_in};
+use segment_folder::segment_file;
 use std::alloc::{AllocError, Global};
 use std::marker::Model;
 
 /// Rings that answer lines in the segment of this number. Contracts see the rings, the number, the rules, and what each line is
 /// refused with, if all are.
 #[derive(Drop)]
-pub(crate) struct ChainService<'n> {
+pub struct ChainService<'n> {
     pub(crate) alloc: Global,
     pub(crate) served: Served,
-    pub(crate) rules: SegmentRules<'n>,
+    pub(crate) rules: ChainRules<'n>,
     pub(crate) number: u64,
     /// The name of the segment's file.
     pub(crate) name: String,
@@ -39,20 +41,28 @@ impl<'n> Model for ChainService<'n> {
 }
 
 impl<'n> ChainService<'n> {
-    /// Rings in the segment of this number, whose file has this name.
-    pub(crate) fn new(
+    /// Rings in the segment of this number.
+    ///
+    /// # Errors
+    ///
+    /// Only if memory is short.
+    pub fn new(
         alloc: Global,
         served: Served,
-        rules: SegmentRules<'n>,
+        rules: ChainRules<'n>,
         number: u64,
-        name: String,
-    ) -> ChainService<'n>
-        requires limit { 1 ≤ rules.limit }
-        requires named { string_bytes name ≡ file_of rules number }
-        ensures { result ≡ service_of rules.entry served number None }
+    ) -> Result<ChainService<'n>, AllocError>
+        requires { 1 ≤ rules.limit }
+        ensures ok { IfOk result (λ service. service ≡ service_of rules.entry served number None) }
+        ensures right { IfOk result (λ service. AllByRecursion IsRight service.rings) }
     {
+        let name = match segment_file(alloc, rules.files.folder, number) {
+            Ok(name) => name,
+            Err(fault) => return Err(fault),
+        };
+        are_right(&served); // says: they are, at each moment
         let shut = served.is_due(rules.limit);
-        ChainService {
+        Ok(ChainService {
             alloc,
             served,
             rules,
@@ -60,11 +70,11 @@ impl<'n> ChainService<'n> {
             name,
             refusing: None,
             shut,
-        }
+        })
     }
 
     /// The rings, as they are.
-    pub(crate) fn into_rings(self) -> Served
+    pub fn into_rings(self) -> Served
         ensures { result ≡ self.entry.rings }
     {
         self.served

@@ -12,7 +12,7 @@ use Rattle.tool_parts.specs.Named.{IsFileRefusal}
 use Rattle.serve_commands.specs.Served.{journal_of, permits_of, history_of, IsHistoryRefusal, IsGivenRefusal, IsStartRefusal, IsFirstRefusal, IsJournalRefusal, IsUnbegun, IsMadeJournalRefusal, IsBrokenOff, IsRefusedFrom}
 use Rattle.serve_commands.specs.ServedFolder.{Place, IsLastRefusal, IsUnknownAmong, IsUnknown, IsUnlocked, IsRunRefused, IsRefusedIn}
 use Rattle.serve_commands.specs.ServeAnswer.{IsServedTo, IsRefusedTo, IsUntold, IsServeRefusal}
-use Rattle.chain_serve.specs.declared.segments.SegmentRules.{SegmentRules}
+use Rattle.chain_serve.specs.declared.segments.ChainRules.{ChainRules}
 use Rattle.ring_serve.specs.declared.permits.Permits.{Permits}
 use Rattle.ring_serve.specs.Standings.{Standing}
 use Rattle.tool_parts.specs.Worlds.{World}
@@ -90,7 +90,7 @@ of_lock : (words : ServeWords) (folder : List ℕ) (before after : Option Held) 
 of_lock words folder before after (inl h) = h.1
 of_lock words folder before after (inr h) = h.1
 
-of_run : (s : SegmentRules) (start : Place) (before after : Option Held) (was is old new : Option (List ℕ)) → IsRunRefused s start before after was is old new tool.BadList → ⊥
+of_run : (s : ChainRules) (start : Place) (before after : Option Held) (was is old new : Option (List ℕ)) → IsRunRefused s start before after was is old new tool.BadList → ⊥
 of_run s start before after was is old new (inl h) = h.2
 of_run s start before after was is old new (inr h) = h.0
 

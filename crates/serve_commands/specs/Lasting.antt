@@ -11,30 +11,31 @@ use Rattle.ring_serve.specs.Recovered.{AnsweredCallsAreRecovered}
 use Rattle.ring_serve.specs.Saved.{content_of}
 use Rattle.ring_serve.specs.Standings.{Standing}
 use Rattle.ring_serve.specs.Starting.{AreResumed}
-use Rattle.chain_serve.specs.declared.segments.SegmentRules.{SegmentRules}
-use Rattle.chain_serve.specs.Segments.{Moment}
-use Rattle.chain_serve.specs.Beginning.{HasBegun}
-use Rattle.chain_serve.specs.Recovered.{AnsweredCallsLast, EachSegmentLasts}
+use Rattle.chain_serve.specs.declared.segments.ChainRules.{ChainRules}
+use Rattle.chain_serve.specs.Services.{ServiceView, folder_of}
+use Rattle.chain_serve.specs.Recovered.{AnsweredCallsLast, CallsOfEachSegmentLast}
+use Rattle.segment_loop.specs.Segments.{Moment}
 use Rattle.ring_requests.specs.declared.requests.ServeWords.{ServeWords}
 use Rattle.tool_parts.specs.Locking.{IsLocked}
 use Rattle.tool_parts.specs.Worlds.{World, IsUnserved}
 use Rattle.serve_commands.specs.Served.{history_of, journal_of, permits_of, IsGivenHistory, IsNoted}
-use Rattle.serve_commands.specs.ServedFolder.{Place, StandsIn, AreRules}
+use Rattle.serve_commands.specs.ServedFolder.{Place, HasBegunAt, StandsIn, AreRules}
 
 -- ---- in a folder of segments
 
 -- From a place on: no line was served; or the first segment has begun, and this is left of the
 -- folder, with the notes of all lines that were delivered, and the call of each is in the rings
 -- that are recovered of it. Where no line may save, each segment that has ended since is left whole.
-abbrev pub RunLasts : SegmentRules → Place → Option Held → Option (List ℕ) → Option (List ℕ)
+abbrev pub RunLasts : ChainRules → Place → Option Held → Option (List ℕ) → Option (List ℕ)
     → Option (List ℕ) → Option (List ℕ) → Option Held → Type 0
 RunLasts s start files was is old new left =
     IsUnserved was is old new
-    ⊎ ((first : Moment)
-    × (end : List Standing)
-    × HasBegun s start.rings start.number start.behind files first
-    × AnsweredCallsLast s first end was is old new left
-    × (s.permits.saves ≡ None → EachSegmentLasts s first end was is old new left))
+    ⊎ ((first : Moment ServiceView)
+    × (end : ServiceView)
+    × HasBegunAt s start files first
+    × AnsweredCallsLast (folder_of s) first end was is old new left
+    × (s.permits.saves ≡ None
+    → CallsOfEachSegmentLast (folder_of s) first end was is old new left))
 
 -- In a folder: no line was served; or it was locked, the rings began at their place in it, and what
 -- was delivered lasts.
@@ -42,7 +43,7 @@ abbrev pub FolderLasts : ServeWords → List ℕ → Option Saved → Option Hel
     → Option (List ℕ) → Option (List ℕ) → Option (List ℕ) → Option Held → Type 0
 FolderLasts words folder saved before was is old new left =
     IsUnserved was is old new
-    ⊎ ((rules : SegmentRules)
+    ⊎ ((rules : ChainRules)
     × (there : Option Held)
     × (start : Place)
     × AreRules rules words folder

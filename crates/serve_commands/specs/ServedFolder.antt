@@ -1,7 +1,7 @@
 -- `serve` with a journal that is a folder of segments.
 use Rattle.std.specs.Prelude.{◌≡◌, ◌≢◌, ℕ, ◌⊎◌, max, List, Bool, true, false, Option, None, Some, IfSome, IsSome, Ok, Err, codes}
 use Rattle.std.specs.List.{AllByRecursion}
-use Rattle.disks.specs.Held.{Held, IsOneFile, Creates}
+use Rattle.disks.specs.Held.{Held, IsOneFile, Creates, Replaces}
 use Rattle.disks.specs.Folders.{Lists, is_among, names_of, path_in}
 use Rattle.disks.specs.declared.disk.FolderEntry.{FolderEntry}
 use Rattle.segment_folder.specs.Names.{list_name, segment_file}
@@ -16,11 +16,12 @@ use Rattle.ring_segments.specs.declared.errors.SegmentError.TheVariants as segme
 use Rattle.torn_ends.specs.Torn.{IsRightEnd}
 use Rattle.ring_serve.specs.Standings.{Standing}
 use Rattle.ring_serve.specs.Starting.{AreResumed, AreResumedAfter}
-use Rattle.chain_serve.specs.declared.segments.SegmentRules.{SegmentRules}
-use Rattle.chain_serve.specs.Segments.{Moment}
-use Rattle.chain_serve.specs.Beginning.{HasBegun, IsLeftUnbegun, IsSettled}
-use Rattle.chain_serve.specs.Service.{Part, ServesSegments, ServesSomeSegments}
+use Rattle.chain_serve.specs.declared.segments.ChainRules.{ChainRules}
+use Rattle.chain_serve.specs.Texts.{segment_text}
+use Rattle.chain_serve.specs.Services.{ServiceView, service_of, IsServed, segmenting, folder_of, file_of}
 use Rattle.chain_serve.specs.Recovered.{AnsweredCallsAreRecovered}
+use Rattle.segment_loop.specs.Segments.{Moment, HasBegun, IsLeftUnbegun}
+use Rattle.segment_loop.specs.Service.{Part, ServesSegments, ServesSomeSegments}
 use Rattle.ring_requests.specs.declared.requests.ServeWords.{ServeWords}
 use Rattle.serve_commands.specs.declared.serve_folder.Start.{Start}
 use Rattle.tool_parts.specs.declared.faults.ToolError.{ToolError}
@@ -83,22 +84,30 @@ pub record StandsIn (files : Option Held) (folder : List ℕ) (saved : Option Sa
 -- ---- the answer
 
 -- how lines are served in this folder: a segment has one line at least
-abbrev pub AreRules : SegmentRules → ServeWords → List ℕ → Type 0
+abbrev pub AreRules : ChainRules → ServeWords → List ℕ → Type 0
 AreRules s words folder =
-    (s.folder.now ≡ folder)
+    (folder_of s ≡ folder)
     × (s.limit ≡ max words.segment 1)
-    × (s.synced ≡ words.synced)
+    × (s.files.synced ≡ words.synced)
     × (s.permits ≡ permits_of words)
+
+-- The segment of a place has begun: its file was put there with the rings, which are served from
+-- there on.
+abbrev pub HasBegunAt : ChainRules → Place → Option Held → Moment ServiceView → Type 0
+HasBegunAt s start files first =
+    HasBegun segmenting (folder_of s) (service_of s start.rings start.number None) start.number
+    start.behind files first
 
 -- The lines were served from a place on: the file of its segment was put there with the rings, each
 -- call was noted in the segment that was being written before it was answered, and in the end the
 -- file of the last one holds all of that.
-pub record IsRun (s : SegmentRules) (start : Place) (first last : Moment) (end : List Standing)
-    (before after : Option Held) (was is old new : Option (List ℕ)) : Type 0 where
-  pub begun : HasBegun s start.rings start.number start.behind before first
-  pub served : ServesSegments s first last was is old new
-  pub rings : end ≡ last.rings
-  pub settled : IsSettled s last after
+pub record IsRun (s : ChainRules) (start : Place) (first last : Moment ServiceView)
+    (end : List Standing) (before after : Option Held) (was is old new : Option (List ℕ)) : Type 0
+  where
+    pub begun : HasBegunAt s start before first
+    pub served : ServesSegments IsServed segmenting (folder_of s) first last was is old new
+    pub rings : end ≡ last.service.rings
+    pub settled : Replaces last.files after (file_of s last.number) last.journal
 
 -- the folder that lines may save in, if there is one, is not this one
 abbrev pub SavesApart : ServeWords → List ℕ → Option Held → Type 0
@@ -108,7 +117,7 @@ SavesApart words folder files =
 
 -- The folder is locked when the first line of each part is read, and when its last one is answered; a
 -- file that a line saves changes no lock.
-abbrev pub AreUnderLock : List ℕ → List Part → Type 0
+abbrev pub AreUnderLock : List ℕ → List (Part ServiceView) → Type 0
 AreUnderLock folder parts =
     AllByRecursion (λ p. StandsLocked p.from.files folder × StandsLocked p.to.files folder) parts
 
@@ -117,15 +126,15 @@ AreUnderLock folder parts =
 pub record IsServedIn (words : ServeWords) (folder : List ℕ) (saved : Option Saved)
     (end : List Standing) (before after : Option Held) (was is old new : Option (List ℕ)) : Type 0
   where
-    pub rules : SegmentRules
+    pub rules : ChainRules
     pub by_words : AreRules rules words folder
     pub apart : SavesApart words folder before
     pub there : Option Held
     pub locked : IsLocked before there folder
     pub start : Place
     pub stands : StandsIn there folder saved start
-    pub first : Moment
-    pub last : Moment
+    pub first : Moment ServiceView
+    pub last : Moment ServiceView
     pub run : IsRun rules start first last end there after was is old new
     pub held : IsSome before → AreUnderLock folder run.served.parts
 
@@ -189,25 +198,28 @@ IsUnlocked words folder before after e =
 -- From a place on some lines were delivered, or all of them. The file of the segment that was being
 -- written has the notes of each delivered line in it, and the rings that are recovered of it have
 -- its call.
-pub record IsRunPart (s : SegmentRules) (start : Place) (before after : Option Held)
+pub record IsRunPart (s : ChainRules) (start : Place) (before after : Option Held)
     (was is old new : Option (List ℕ)) : Type 0 where
-  pub first : Moment
-  pub begun : HasBegun s start.rings start.number start.behind before first
-  pub end : List Standing
+  pub first : Moment ServiceView
+  pub begun : HasBegunAt s start before first
+  pub end : ServiceView
   pub journal : Option (List ℕ)
-  pub recovered : AnsweredCallsAreRecovered s first end was is old new journal
-  pub served : ServesSomeSegments s first end after was is old new
-      ⊎ ((last : Moment) × ServesSegments s first last was is old new × (after ≡ last.files))
+  pub recovered : AnsweredCallsAreRecovered (folder_of s) first end was is old new journal
+  pub served : ServesSomeSegments IsServed segmenting (folder_of s) first end after was is old new
+      ⊎ ((last : Moment ServiceView)
+      × ServesSegments IsServed segmenting (folder_of s) first last was is old new
+      × (after ≡ last.files))
 
 -- The segment with which they began cannot be begun, and no line is read: the files are as they
 -- were, or its whole file was put there. Or serving was broken off.
-abbrev pub IsRunRefused : SegmentRules → Place → Option Held → Option Held → Option (List ℕ)
+abbrev pub IsRunRefused : ChainRules → Place → Option Held → Option Held → Option (List ℕ)
     → Option (List ℕ) → Option (List ℕ) → Option (List ℕ) → ToolError → Type 0
 IsRunRefused s start before after was is old new e =
     (IsUnserved was is old new
-    × IsLeftUnbegun s start.rings start.number start.behind before after
-    × IsUnkeptFolder s.folder.now e)
-    ⊎ (IsServingFault (Some s.folder.now) e × IsRunPart s start before after was is old new)
+    × IsLeftUnbegun (folder_of s) start.number
+    (segment_text start.number start.behind start.rings) before after
+    × IsUnkeptFolder (folder_of s) e)
+    ⊎ (IsServingFault (Some (folder_of s)) e × IsRunPart s start before after was is old new)
 
 -- The folder is not locked, and no line is read. Or it is, no line is read, and no other file has
 -- changed, since it is not known where the rings are. Or the rings began at their place in it, and
@@ -219,7 +231,7 @@ IsRefusedIn words folder saved before after was is old new e =
     ⊎ ((there : Option Held)
     × IsLocked before there folder
     × ((IsUnserved was is old new × (after ≡ there) × IsUnknown there folder saved e)
-    ⊎ ((rules : SegmentRules)
+    ⊎ ((rules : ChainRules)
     × (start : Place)
     × AreRules rules words folder
     × StandsIn there folder saved start

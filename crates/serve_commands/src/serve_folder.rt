@@ -10,7 +10,8 @@ ghost use Rattle.ring_segments.specs.Spelling.{DigestFits};
 ghost use Rattle.torn_ends.specs.Torn.{IsRightEnd};
 ghost use Rattle.ring_chains.specs.Bases.{IsBase};
 ghost use Rattle.ring_serve.specs.Starting.{AreResumedAfter};
-ghost use Rattle.chain_serve.specs.Segments.{Moment};
+ghost use Rattle.chain_serve.specs.Services.{ServiceView};
+ghost use Rattle.segment_loop.specs.Segments.{Moment};
 ghost use Rattle.tool_parts.specs.Chained.{IsFolderFault};
 ghost use Rattle.serve_commands.specs.Served.{IsFirstRefusal};
 ghost use Rattle.serve_commands.specs.ServedFolder.{place_of, IsFirst, IsLast, StandsAmong, StandsIn, IsServedIn, IsLastFault, IsLastRefusal, IsRun, IsRunRefused, IsUnknownAmong, IsUnknown, SavesApart, IsSavesRefusal, IsRefusedIn};
@@ -19,15 +20,15 @@ ghost use Rattle.tool_parts.specs.Locking.{IsUnkeptFolder, IsLocked, IsLockLeft}
 
 use crate::resuming::{needed, resume_rings};
 use crate::serve::{permits_of, serving_refusal};
-use chain_serve::{SegmentRules, begin_segment, serve_segments};
+use chain_serve::{ChainRules, ChainService};
 use disks::{Disk, FolderEntry};
 use lock_folder::has_list;
 use ring_requests::ServeWords;
 use ring_saved::Saved;
 use ring_segments::{DIGEST_DIGITS, LastSegment, SegmentError};
-use ring_serve::{Refusal, Served};
+use ring_serve::Served;
 use segment_folder::{SegmentNumbers, list_name};
-use segment_loop::close_segment;
+use segment_loop::{EndFault, SegmentRules, begin_segment, close_segment, serve_segments};
 use std::alloc::{AllocError, Global};
 use std::io::{Read, Write};
 use tool_parts::chain::{folder_numbers, segment_bytes};
@@ -258,11 +259,11 @@ fn keep_saves_apart<'a, D: Disk>(
 }
 
 /// Returns the refusal for a segment that cannot be begun.
-fn begin_refusal<'a>(why: Refusal, folder: &'a str) -> ToolError<'a>
+fn begin_refusal<'a>(why: EndFault, folder: &'a str) -> ToolError<'a>
     ensures { IsUnkeptFolder folder.now result }
 {
     match why {
-        Refusal::OutOfMemory => ToolError::OutOfMemory,
+        EndFault::OutOfMemory => ToolError::OutOfMemory,
         _ => ToolError::Save(folder),
     }
 }
@@ -272,40 +273,46 @@ fn serve_from<'a, D: Disk, I: Read, W: Write>(
     alloc: Global,
     disk: &mut D,
     place: Start,
-    rules: SegmentRules<'a>,
+    rules: ChainRules<'a>,
     input: &mut I,
     out: &mut W,
 ) -> Result<Served, ToolError<'a>>
     requires limit { 1 ≤ rules.limit }
     requires digest { DigestFits place.behind }
     requires number { 0 < place.number }
-    ensures ok { IfOk result (λ end. (first : Moment)
-        × (last : Moment)
+    ensures ok { IfOk result (λ end. (first : Moment ServiceView)
+        × (last : Moment ServiceView)
         × IsRun rules.entry (place_of place) first last end (D.holds disk.old) (D.holds disk.new)
         (I.remaining input.old) (I.remaining input.new) (W.contents out.old) (W.contents out.new)) }
     ensures err { IfErr result (λ e. IsRunRefused rules.entry (place_of place) (D.holds disk.old)
         (D.holds disk.new) (I.remaining input.old) (I.remaining input.new) (W.contents out.old)
         (W.contents out.new) e) }
-    ensures lasts { outlives D.keeps_written rules.entry.synced ≡ true → IsSome (D.holds disk.old)
+    ensures lasts { outlives D.keeps_written rules.entry.files.synced ≡ true
+        → IsSome (D.holds disk.old)
         → RunLasts rules.entry (place_of place) (D.holds disk.old) (I.remaining input.old)
         (I.remaining input.new) (W.contents out.old) (W.contents out.new) (D.leaves disk.new) }
 {
     let Start {
-        mut served,
+        served,
         number,
         behind,
     } = place;
-    let first = match begin_segment(alloc, disk, &served, number, behind, rules) {
-        Ok(first) => first,
-        Err(why) => return Err(begin_refusal(why, rules.folder)),
+    let folder = rules.files.folder;
+    let mut service = match ChainService::new(alloc, served, rules, number) {
+        Ok(service) => service,
+        Err(_) => return Err(ToolError::OutOfMemory),
     };
-    let last = match serve_segments(alloc, &mut served, disk, first, rules, input, out) {
+    let first = match begin_segment(alloc, disk, &service, number, behind, rules.files) {
+        Ok(first) => first,
+        Err(why) => return Err(begin_refusal(why, folder)),
+    };
+    let last = match serve_segments(alloc, &mut service, disk, first, rules.files, input, out) {
         Ok(last) => last,
-        Err(fault) => return Err(serving_refusal(fault, Some(rules.folder))),
+        Err(fault) => return Err(serving_refusal(fault, Some(folder))),
     };
     match close_segment(disk, last) {
-        Ok(()) => Ok(served),
-        Err(_) => Err(ToolError::Save(rules.folder)),
+        Ok(()) => Ok(service.into_rings()),
+        Err(_) => Err(ToolError::Save(folder)),
     }
 }
 
@@ -343,10 +350,12 @@ pub(crate) fn run_in_folder<'a, D: Disk, I: Read, W: Write>(
         Ok(place) => place,
         Err(fault) => return Err(fault),
     };
-    let rules = SegmentRules {
-        folder,
+    let rules = ChainRules {
+        files: SegmentRules {
+            folder,
+            synced: words.synced,
+        },
         limit: (words.segment as u64).max(1),
-        synced: words.synced,
         permits: permits_of(words),
     };
     match serve_from(alloc, disk, place, rules, input, out) {

@@ -1,6 +1,6 @@
 -- What is there in the end, if a journal was kept in a file or in segments.
 use Rattle.std.proofs.Common.{◌≡◌, ◌+◌, ◌++◌, ℕ, List, [], ◌∷◌, Bool, true, false, Option, None, Some, refl, sym, ap, subst, ◌∙◌, inl, inr}
-use Rattle.std.specs.Prelude.{IsSome, IfSome, ◌⊎◌}
+use Rattle.std.specs.Prelude.{IsSome, IfSome}
 use Rattle.std.specs.Option.{is_some}
 use Rattle.std.specs.Io.KnownBytes.{Appends}
 use Rattle.std.proofs.lemmas.Bool.{false≢true, true≢false}
@@ -9,16 +9,18 @@ use Rattle.segment_folder.specs.Names.{segment_file}
 use Rattle.ring_saved.specs.declared.saved.Saved.{Saved}
 use Rattle.ring_serve.specs.declared.answers.Answer.{Answer}
 use Rattle.ring_serve.specs.declared.answers.Answer.TheVariants as answer
-use Rattle.ring_serve.specs.declared.answers.Refusal.{Refusal}
 use Rattle.ring_serve.specs.declared.permits.Permits.{Permits}
 use Rattle.ring_serve.specs.Permits.{Terms}
 use Rattle.ring_serve.specs.Standings.{Standing}
 use Rattle.ring_serve.specs.Serving.{IsSaved, IsSaveGiven, IsGiven, IsAnswered, Answers, name_in}
-use Rattle.chain_serve.specs.declared.segments.SegmentRules.{SegmentRules}
-use Rattle.chain_serve.specs.Segments.{Moment, IsReady, HasEnded, file_of}
+use Rattle.segment_loop.specs.declared.segmented.EndFault.{EndFault}
+use Rattle.segment_loop.specs.Segments.{Moment, IsReady, HasBegun}
+use Rattle.segment_loop.specs.Service.{Part, IsPart, AreParts}
+use Rattle.segment_loop.proofs.Changing.{HoldsSame, kept_file}
+use Rattle.chain_serve.specs.declared.segments.ChainRules.{ChainRules}
 use Rattle.chain_serve.specs.Texts.{segment_text}
-use Rattle.chain_serve.specs.Service.{part_terms, Part, IsPart, AreParts}
-use Rattle.chain_serve.specs.Beginning.{HasBegun}
+use Rattle.chain_serve.specs.Services.{ServiceView, terms_of, IsServed as IsLineServed, segmenting, file_of}
+use Rattle.chain_serve.proofs.Recovering.{part_answers}
 use Rattle.ring_requests.specs.declared.requests.ServeWords.{ServeWords}
 use Rattle.serve_commands.specs.Served.{journal_of, permits_of, IsNoted, BeginsAt, IsServedNoted, IsServed, IsServedFrom}
 use Rattle.serve_commands.specs.ServedFolder.{Place, IsRun, IsServedIn}
@@ -99,45 +101,48 @@ noted_there permits name start end before after was is old new k h =
 
 -- ---- a journal in segments
 
-record IsKnown (m : Moment) : Type 0 where
+record IsKnown (m : Moment ServiceView) : Type 0 where
   pub files : Known m.files
   pub journal : Has m.journal
 
-ready_known : (s : SegmentRules) (r : Option Refusal) (a b : Moment) → IsKnown a → IsReady s r a b → IsKnown b
-ready_known s None a b k (inl h) = subst IsKnown (sym h.1) k
-ready_known s None a b k (inr h) =
-    let e = h.1.file in
-    let between = known_after a.files e.between (file_of s a.number) a.journal k.files.0 k.journal.0 k.files.1 k.journal.1 e.settled in
-    record {
-      files = replaced_known e.between b.files (file_of s (a.number + 1)) _ between e.put;
-      journal = (segment_text b.number e.behind b.rings, if_some e.between between.0 (λ _. b.journal ≡ Some (segment_text b.number e.behind b.rings)) between.1 h.1.journal);
-    }
-ready_known s (Some why) a b k h = kept h.2.file
-  where
-    kept : ((b.files ≡ a.files) × (b.journal ≡ a.journal)) ⊎ (Replaces a.files b.files (file_of s a.number) a.journal × IfSome a.files (λ _. IfSome a.journal (λ bytes. b.journal ≡ Some bytes))) → IsKnown b
-    kept (inl f) = record { files = same_known a.files b.files k.files f.0; journal = (k.journal.0, f.1 ∙ k.journal.1) }
-    kept (inr f) = record {
-      files = known_after a.files b.files (file_of s a.number) a.journal k.files.0 k.journal.0 k.files.1 k.journal.1 f.0;
-      journal = (k.journal.0, if_some a.journal k.journal.0 (λ (bytes : List ℕ). b.journal ≡ Some bytes) k.journal.1 (if_some a.files k.files.0 (λ _. IfSome a.journal (λ (bytes : List ℕ). b.journal ≡ Some bytes)) k.files.1 f.1));
-    }
+module _ (folder : List ℕ) where
+  ready_known : (kept : Option EndFault) (a b : Moment ServiceView) → IsKnown a → IsReady segmenting folder kept a b → IsKnown b
+  ready_known None a b k (inl h) = subst IsKnown (sym h.1) k
+  ready_known None a b k (inr h) =
+      let e = h.1.file in
+      let text : List ℕ = segment_text b.number e.behind b.service.rings in
+      let between = known_after a.files e.between (segment_file folder a.number) a.journal k.files.0 k.journal.0 k.files.1 k.journal.1 e.settled in
+      record {
+        files = replaced_known e.between b.files (segment_file folder (a.number + 1)) _ between e.put;
+        journal = (text, if_some e.between between.0 (λ _. b.journal ≡ Some text) between.1 h.1.journal);
+      }
+  ready_known (Some why) a b k h = kept_known (kept_file segmenting folder why a b h.1)
+    where
+      kept_known : HoldsSame folder a b → IsKnown b
+      kept_known (inl f) = record { files = same_known a.files b.files k.files f.0; journal = (k.journal.0, f.1 ∙ k.journal.1) }
+      kept_known (inr f) = record {
+        files = known_after a.files b.files (segment_file folder a.number) a.journal k.files.0 k.journal.0 k.files.1 k.journal.1 f.0;
+        journal = (k.journal.0, if_some a.journal k.journal.0 (λ (bytes : List ℕ). b.journal ≡ Some bytes) k.journal.1 (if_some a.files k.files.0 (λ _. IfSome a.journal (λ (bytes : List ℕ). b.journal ≡ Some bytes)) k.files.1 f.1));
+      }
 
-part_known : (s : SegmentRules) (p : Part) → IsKnown p.from → IsPart s p → IsKnown p.to
-part_known s p k h = record {
-  files = answers_known (part_terms s p.from.number p.refusing) p.from.rings p.to.rings p.from.files p.to.files p.lines p.said p.noted k.files h.answers;
-  journal = appended_has p.from.journal p.to.journal p.noted k.journal h.wrote;
-}
+  part_known : (p : Part ServiceView) → IsKnown p.from → IsPart IsLineServed p → IsKnown p.to
+  part_known p k h = record {
+    files = answers_known (terms_of p.from.service) p.from.service.rings p.to.service.rings p.from.files p.to.files p.lines p.said p.noted k.files (part_answers p h);
+    journal = appended_has p.from.journal p.to.journal p.noted k.journal h.wrote;
+  }
 
-parts_known : (s : SegmentRules) (a b : Moment) (ps : List Part) → IsKnown a → AreParts s a ps b → IsKnown b
-parts_known s a b [] k h = subst IsKnown (sym h) k
-parts_known s a b (p ∷ ps) k h = parts_known s p.to b ps (part_known s p (ready_known s p.refusing a p.from k h.0) h.1) h.2
+  parts_known : (a b : Moment ServiceView) (ps : List (Part ServiceView)) → IsKnown a → AreParts IsLineServed segmenting folder a ps b → IsKnown b
+  parts_known a b [] k h = subst IsKnown (sym h) k
+  parts_known a b (p ∷ ps) k h = parts_known p.to b ps (part_known p (ready_known p.kept a p.from k h.0) h.1) h.2
 
-run_there : (s : SegmentRules) (start : Place) (first last : Moment) (end : List Standing) (before after : Option Held) (was is old new : Option (List ℕ)) → Known before → IsRun s start first last end before after was is old new → Holds after (file_of s last.number)
+run_there : (s : ChainRules) (start : Place) (first last : Moment ServiceView) (end : List Standing) (before after : Option Held) (was is old new : Option (List ℕ)) → Known before → IsRun s start first last end before after was is old new → Holds after (file_of s last.number)
 run_there s start first last end before after was is old new k h =
+    let text : List ℕ = segment_text start.number start.behind start.rings in
     let begun : IsKnown first = record {
-      files = replaced_known before first.files (file_of s start.number) _ k h.begun.file.put;
-      journal = (segment_text start.number start.behind start.rings, if_some before k.0 (λ _. first.journal ≡ Some (segment_text start.number start.behind start.rings)) k.1 h.begun.file.journal);
+      files = replaced_known before first.files (file_of s start.number) text k h.begun.file.put;
+      journal = (text, if_some before k.0 (λ _. first.journal ≡ Some text) k.1 h.begun.file.journal);
     } in
-    let ended = parts_known s first last h.served.parts begun h.served.served in
+    let ended = parts_known s.files.folder.now first last h.served.parts begun h.served.served in
     put_holds last.files after (file_of s last.number) last.journal ended.files ended.journal h.settled
 
 created_known : (was is : Option Held) (name : List ℕ) (made : Bool) → Known was → Creates was is name made → Known is
@@ -215,21 +220,22 @@ elsewhere was after name other bytes r apart none h is =
     let put : IsReplaced was h name bytes = subst (λ (x : Option Held). Replaces (Some was) x name (Some bytes)) is r in
     put.others other apart ∙ none
 
-pub begun_and_closed : (s : SegmentRules) (rings : List Standing) (behind : List ℕ) (held : Held) (before after : Option Held) (m : Moment) (name : List ℕ) → before ≡ Some held → HasBegun s rings 1 behind before m
-    → name ≡ file_of s m.number → Replaces m.files after name m.journal → is_there held s.folder.now ≡ false → (IsOneFile held (segment_file s.folder.now 1) s.folder.now → ⊥)
-    → (h : Held) → after ≡ Some h → bytes_of h s.folder.now ≡ None
-begun_and_closed s rings behind held before after m name files b named r nothing apart h is =
-    let text = segment_text 1 behind rings in
-    let there = subst (λ (x : Option Held). Replaces x m.files (file_of s 1) (Some text)) files b.file.put in
-    let mid = replaced_known (Some held) m.files (file_of s 1) text (held, refl) there in
-    let put : IsReplaced held mid.0 (file_of s 1) text = subst (λ (x : Option Held). Replaces (Some held) x (file_of s 1) (Some text)) mid.1 there in
+pub begun_and_closed : (folder : List ℕ) (v : ServiceView) (behind : List ℕ) (held : Held) (before after : Option Held) (m : Moment ServiceView) (name : List ℕ) → before ≡ Some held → HasBegun segmenting folder v 1 behind before m
+    → name ≡ segment_file folder m.number → Replaces m.files after name m.journal → is_there held folder ≡ false → (IsOneFile held (segment_file folder 1) folder → ⊥)
+    → (h : Held) → after ≡ Some h → bytes_of h folder ≡ None
+begun_and_closed folder v behind held before after m name files b named r nothing apart h is =
+    let first : List ℕ = segment_file folder 1 in
+    let text : List ℕ = segment_text 1 behind v.rings in
+    let there = subst (λ (x : Option Held). Replaces x m.files first (Some text)) files b.file.put in
+    let mid = replaced_known (Some held) m.files first text (held, refl) there in
+    let put : IsReplaced held mid.0 first text = subst (λ (x : Option Held). Replaces (Some held) x first (Some text)) mid.1 there in
     let journal = if_some before held (λ _. m.journal ≡ Some text) files b.file.journal in
-    let closed = subst (λ (x : Option Held). Replaces x after (file_of s 1) (Some text)) mid.1
-    (subst (λ (j : Option (List ℕ)). Replaces m.files after (file_of s 1) j) journal
-    (subst (λ (n : List ℕ). Replaces m.files after n m.journal) (named ∙ ap (λ (n : ℕ). file_of s n) b.number_is) r)) in
-    elsewhere mid.0 after (file_of s 1) s.folder.now text closed
-    (λ same. apart (sym (put.places (file_of s 1)) ∙ same ∙ put.places s.folder.now))
-    (put.others s.folder.now apart ∙ (nothing_there (held.at (held.place s.folder.now)) nothing).0) h is
+    let closed = subst (λ (x : Option Held). Replaces x after first (Some text)) mid.1
+    (subst (λ (j : Option (List ℕ)). Replaces m.files after first j) journal
+    (subst (λ (n : List ℕ). Replaces m.files after n m.journal) (named ∙ ap (λ (n : ℕ). segment_file folder n) b.number_is) r)) in
+    elsewhere mid.0 after first folder text closed
+    (λ same. apart (sym (put.places first) ∙ same ∙ put.places folder))
+    (put.others folder apart ∙ (nothing_there (held.at (held.place folder)) nothing).0) h is
 
 pub at_known : (files : Option Held) (P : Held → Type 0) → IsSome files → IfSome files P → (held : Held) × (files ≡ Some held) × P held
 at_known None P s p = absurd (false≢true s)

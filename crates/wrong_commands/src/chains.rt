@@ -1,23 +1,24 @@
 //! Wrong ways to serve lines in segments.
 
-ghost use Rattle.std.specs.Prelude.{◌≡◌, ◌≢◌, ◌≤◌, ◌+◌, ◌∷◌, ℕ, List, [], true, Some, IfSome};
+ghost use Rattle.std.specs.Prelude.{◌≡◌, ◌≢◌, ◌≤◌, ◌+◌, ◌∷◌, ℕ, List, [], true, None, Some, IfSome};
 ghost use Rattle.disks.specs.Held.{Held};
 ghost use Rattle.ring_segments.specs.Spelling.{digest_of, DigestFits};
 ghost use Rattle.ring_serve.specs.Due.{is_due};
 ghost use Rattle.ring_serve.specs.Standings.{standing_of};
 ghost use Rattle.segment_loop.specs.Digested.{hashed};
-ghost use Rattle.chain_serve.specs.Segments.{moment_of};
+ghost use Rattle.segment_loop.specs.Segments.{moment_of};
+ghost use Rattle.segment_loop.specs.Service.{ServesSegments};
 ghost use Rattle.chain_serve.specs.Texts.{segment_text};
-ghost use Rattle.chain_serve.specs.Service.{ServesSegments};
+ghost use Rattle.chain_serve.specs.Services.{ServiceView, service_of, IsServed, segmenting};
 
-use chain_serve::{SegmentRules, begin_segment, close_segment};
+use chain_serve::{ChainRules, ChainService};
 use disks::Disk;
 use ring_book::Till;
 use ring_chains::Base;
 use ring_endless::EndlessRing;
 use ring_segments::{DIGEST_DIGITS, digest};
 use ring_serve::{Journal, Served, serve};
-use segment_loop::OpenSegment;
+use segment_loop::{OpenSegment, begin_segment, close_segment};
 use std::alloc::Global;
 use std::io::Read;
 
@@ -34,14 +35,15 @@ pub fn answers_in_a_segment_that_is_due<D: Disk, I: Read>(
     served: &mut Served,
     disk: &mut D,
     first: OpenSegment<D::Grown>,
-    rules: SegmentRules<'_>,
+    rules: ChainRules<'_>,
     input: &mut I,
 ) -> Option<Told<D::Grown>>
     requires { is_due (Some rules.limit) served.old ≡ true }
-    ensures wrong { IfSome result (λ told. ServesSegments rules.entry
-        (moment_of served.old (D.holds disk.old) first.number
-        (hashed (D.Grown.contents first.writer.inner) first.writer.hasher))
-        (moment_of served.new (D.holds disk.new) told.segment.number
+    ensures wrong { IfSome result (λ told. (new : ServiceView) → new.rings ≡ served.new
+        → ServesSegments IsServed segmenting rules.entry.files.folder.now
+        (moment_of (service_of rules.entry served.old first.number None) (D.holds disk.old)
+        first.number (hashed (D.Grown.contents first.writer.inner) first.writer.hasher))
+        (moment_of new (D.holds disk.new) told.segment.number
         (hashed (D.Grown.contents told.segment.writer.inner) told.segment.writer.hasher))
         (I.remaining input.old) (I.remaining input.new) (Some []) (Some told.out.items) → ⊥) }
 {
@@ -91,7 +93,7 @@ fn cut<D: Disk>(
     disk: &mut D,
     first: OpenSegment<D::Grown>,
     behind: [u8; DIGEST_DIGITS],
-    rules: SegmentRules<'_>,
+    rules: ChainRules<'_>,
 ) -> Option<OpenSegment<D::Grown>>
     requires { DigestFits behind }
     ensures number { IfSome result (λ end. end.number ≡ first.number + 1) }
@@ -102,17 +104,23 @@ fn cut<D: Disk>(
         → hashed (D.Grown.contents end.writer.inner) end.writer.hasher
         ≡ Some (segment_text end.number behind next)) }
 {
+    if rules.limit == 0 {
+        return None;
+    }
     if first.number == u64::MAX {
         return None;
     }
     let number = first.number + 1;
+    let Ok(service) = ChainService::new(alloc, next, rules, number) else {
+        return None;
+    };
     match close_segment(disk, first) {
         Ok(()) => {}
         Err(_) => return None,
     }
-    match begin_segment(alloc, disk, &next, number, behind, rules) {
+    match begin_segment(alloc, disk, &service, number, behind, rules.files) {
         Ok(end) => {
-            *served = next;
+            *served = service.into_rings();
             Some(end)
         }
         Err(_) => None,
@@ -125,20 +133,21 @@ pub fn names_the_digest_of_the_head_alone<D: Disk>(
     served: &mut Served,
     disk: &mut D,
     first: OpenSegment<D::Grown>,
-    rules: SegmentRules<'_>,
+    rules: ChainRules<'_>,
     head: &[u8],
 ) -> Option<OpenSegment<D::Grown>>
     requires due { is_due (Some rules.limit) served.old ≡ true }
     requires apart { (bytes : List ℕ)
         → hashed (D.Grown.contents first.writer.inner) first.writer.hasher ≡ Some bytes
         → digest_of head.now ≢ digest_of bytes }
-    ensures wrong { IfSome result (λ end. (bytes : List ℕ) (held : Held)
+    ensures wrong { IfSome result (λ end. (bytes : List ℕ) (held : Held) (new : ServiceView)
+        → new.rings ≡ served.new
         → hashed (D.Grown.contents first.writer.inner) first.writer.hasher ≡ Some bytes
         → D.holds disk.old ≡ Some held
-        → ServesSegments rules.entry
-        (moment_of served.old (D.holds disk.old) first.number
-        (hashed (D.Grown.contents first.writer.inner) first.writer.hasher))
-        (moment_of served.new (D.holds disk.new) end.number
+        → ServesSegments IsServed segmenting rules.entry.files.folder.now
+        (moment_of (service_of rules.entry served.old first.number None) (D.holds disk.old)
+        first.number (hashed (D.Grown.contents first.writer.inner) first.writer.hasher))
+        (moment_of new (D.holds disk.new) end.number
         (hashed (D.Grown.contents end.writer.inner) end.writer.hasher))
         (Some []) (Some []) (Some []) (Some []) → ⊥) }
 {
@@ -158,19 +167,20 @@ pub fn ends_with_a_base_that_forgets_the_grants<D: Disk>(
     served: &mut Served,
     disk: &mut D,
     first: OpenSegment<D::Grown>,
-    rules: SegmentRules<'_>,
+    rules: ChainRules<'_>,
     ring: &EndlessRing,
 ) -> Option<OpenSegment<D::Grown>>
     requires due { is_due (Some rules.limit) served.old ≡ true }
     requires one { served.old ≡ standing_of ring.now ∷ [] }
     requires grants { 1 ≤ ring.now.base.grants }
-    ensures wrong { IfSome result (λ end. (bytes : List ℕ) (held : Held)
+    ensures wrong { IfSome result (λ end. (bytes : List ℕ) (held : Held) (new : ServiceView)
+        → new.rings ≡ served.new
         → hashed (D.Grown.contents first.writer.inner) first.writer.hasher ≡ Some bytes
         → D.holds disk.old ≡ Some held
-        → ServesSegments rules.entry
-        (moment_of served.old (D.holds disk.old) first.number
-        (hashed (D.Grown.contents first.writer.inner) first.writer.hasher))
-        (moment_of served.new (D.holds disk.new) end.number
+        → ServesSegments IsServed segmenting rules.entry.files.folder.now
+        (moment_of (service_of rules.entry served.old first.number None) (D.holds disk.old)
+        first.number (hashed (D.Grown.contents first.writer.inner) first.writer.hasher))
+        (moment_of new (D.holds disk.new) end.number
         (hashed (D.Grown.contents end.writer.inner) end.writer.hasher))
         (Some []) (Some []) (Some []) (Some []) → ⊥) }
 {
@@ -217,19 +227,20 @@ pub fn begins_one_call_late<D: Disk>(
     served: &mut Served,
     disk: &mut D,
     first: OpenSegment<D::Grown>,
-    rules: SegmentRules<'_>,
+    rules: ChainRules<'_>,
     ring: &EndlessRing,
     machine: u32,
 ) -> Option<OpenSegment<D::Grown>>
     requires due { is_due (Some rules.limit) served.old ≡ true }
     requires one { served.old ≡ standing_of ring.now ∷ [] }
-    ensures wrong { IfSome result (λ end. (bytes : List ℕ) (held : Held)
+    ensures wrong { IfSome result (λ end. (bytes : List ℕ) (held : Held) (new : ServiceView)
+        → new.rings ≡ served.new
         → hashed (D.Grown.contents first.writer.inner) first.writer.hasher ≡ Some bytes
         → D.holds disk.old ≡ Some held
-        → ServesSegments rules.entry
-        (moment_of served.old (D.holds disk.old) first.number
-        (hashed (D.Grown.contents first.writer.inner) first.writer.hasher))
-        (moment_of served.new (D.holds disk.new) end.number
+        → ServesSegments IsServed segmenting rules.entry.files.folder.now
+        (moment_of (service_of rules.entry served.old first.number None) (D.holds disk.old)
+        first.number (hashed (D.Grown.contents first.writer.inner) first.writer.hasher))
+        (moment_of new (D.holds disk.new) end.number
         (hashed (D.Grown.contents end.writer.inner) end.writer.hasher))
         (Some []) (Some []) (Some []) (Some []) → ⊥) }
 {

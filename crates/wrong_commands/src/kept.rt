@@ -11,11 +11,12 @@ ghost use Rattle.serve_commands.specs.Served.{journal_of};
 ghost use Rattle.serve_commands.specs.ServeAnswer.{IsServedTo, IsServeRefusal};
 ghost use Rattle.tool_parts.specs.Worlds.{world};
 
-use chain_serve::{SegmentRules, begin_segment, close_segment};
+use chain_serve::{ChainRules, ChainService};
 use disks::{Contents, ContentsFault, Disk, MemoryDisk, ReplaceFault, replace};
 use ring_requests::ServeWords;
 use ring_segments::DIGEST_DIGITS;
-use ring_serve::{Refusal, Served};
+use ring_serve::Served;
+use segment_loop::{EndFault, begin_segment, close_segment};
 use serve_commands::serve::run;
 use std::alloc::Global;
 use std::io::{Read, Write};
@@ -26,27 +27,33 @@ pub fn serves_a_new_name_as_a_folder<D: Disk>(
     alloc: Global,
     disk: &mut D,
     _words: &ServeWords<'_>,
-    served: &Served,
+    served: Served,
     behind: [u8; DIGEST_DIGITS],
-    rules: SegmentRules<'_>,
-) -> Result<(), Refusal>
+    rules: ChainRules<'_>,
+) -> Result<(), EndFault>
     requires digits { DigestFits behind }
-    requires named { journal_of _words.now ≡ Some rules.folder.now }
+    requires named { journal_of _words.now ≡ Some rules.files.folder.now }
     requires known { IsSome (D.holds disk.old) }
-    requires new { IfSome (D.holds disk.old) (λ held. is_there held rules.folder.now ≡ false) }
+    requires new { IfSome (D.holds disk.old) (λ held. is_there held rules.files.folder.now ≡ false) }
     requires apart { IfSome (D.holds disk.old) (λ held.
-        IsOneFile held (segment_file rules.folder.now 1) rules.folder.now → ⊥) }
+        IsOneFile held (segment_file rules.files.folder.now 1) rules.files.folder.now → ⊥) }
     ensures wrong { OnOk result ((saved : Option Saved) (end : List Standing)
         (was is old new : Option (List ℕ)) → IsServedTo _words.now saved end (D.holds disk.old)
         (D.holds disk.new) was is old new → ⊥) }
 {
-    let first = match begin_segment(alloc, disk, served, 1, behind, rules) {
+    if rules.limit == 0 {
+        return Err(EndFault::File);
+    }
+    let Ok(service) = ChainService::new(alloc, served, rules, 1) else {
+        return Err(EndFault::OutOfMemory);
+    };
+    let first = match begin_segment(alloc, disk, &service, 1, behind, rules.files) {
         Ok(first) => first,
         Err(why) => return Err(why),
     };
     match close_segment(disk, first) {
         Ok(()) => Ok(()),
-        Err(_) => Err(Refusal::File),
+        Err(_) => Err(EndFault::File),
     }
 }
 

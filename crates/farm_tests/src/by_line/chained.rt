@@ -5,11 +5,11 @@ ghost use Rattle.segment_loop.specs.Segments.{IsNamed};
 
 use super::streams::Drops;
 use super::{NOTHING, served};
-use chain_serve::{SegmentRules, close_segment, open_segment, serve_segments};
+use chain_serve::{ChainRules, ChainService};
 use disks::{Disk, FolderEntry, MemoryDisk, Stored, StoredEntry};
 use line_loop::LoopFault;
 use segment_folder::segment_file;
-use segment_loop::OpenSegment;
+use segment_loop::{OpenSegment, SegmentRules, close_segment, open_segment, serve_segments};
 use sha2::{Digest, Sha256};
 use std::alloc::Global;
 use std::io::{self, Cursor, ErrorKind, Read};
@@ -34,16 +34,28 @@ const SECOND_END: &[u8] =
 /// Three passes: the first two make the segment due.
 const LINES: &[u8] = b"pass 0 0 0 5\npass 0 0 0 1\npass 0 0 2 4\n";
 
-/// Two lines of the journal make a segment due.
-fn rules(folder: &str) -> SegmentRules<'_>
-    ensures limit { result.limit ≡ 2 }
-    ensures folder { result.folder.now ≡ folder.now }
+/// The rings in the first segment. Two lines of the journal make it due; `strict` says whether memory that is short is never reported.
+fn first_service(rt: &impl Abort, alloc: Global, strict: bool) -> ChainService<'static> {
+    let mut permits = NOTHING;
+    permits.strict = strict;
+    let rules = ChainRules {
+        files: files(FOLDER),
+        limit: 2,
+        permits,
+    };
+    match ChainService::new(alloc, served(rt, alloc), rules, 1) {
+        Ok(service) => service,
+        Err(_) => panic!(rt; "there is memory"),
+    }
+}
+
+/// The files of the segments are not synced.
+fn files(folder: &str) -> SegmentRules<'_>
+    ensures { result.folder.now ≡ folder.now }
 {
     SegmentRules {
         folder,
-        limit: 2,
         synced: false,
-        permits: NOTHING,
     }
 }
 
@@ -167,11 +179,19 @@ fn first_segment(
 /// Serves these lines to their end, and returns the answers. The last file is settled then.
 fn answers<I: Read + Drop>(rt: &impl Abort, disk: &mut Full, mut input: I) -> Vec<u8> {
     let alloc = disk.files.alloc;
-    let mut served = served(rt, alloc);
-    let rules = rules(FOLDER);
-    let first = first_segment(rt, alloc, disk, rules.folder);
+    let mut service = first_service(rt, alloc, false);
+    let files = files(FOLDER);
+    let first = first_segment(rt, alloc, disk, files.folder);
     let mut out = Vec::new(alloc);
-    match serve_segments(alloc, &mut served, disk, first, rules, &mut input, &mut out) {
+    match serve_segments(
+        alloc,
+        &mut service,
+        disk,
+        first,
+        files,
+        &mut input,
+        &mut out,
+    ) {
         Ok(last) => assert!(rt; close_segment(disk, last).is_ok()),
         Err(_) => panic!(rt; "the lines are served"),
     }
@@ -218,18 +238,17 @@ fn lines_are_refused_while_no_file_can_be_made(rt: HostRuntime) {
 fn no_line_is_answered_then_on_strict_terms(rt: HostRuntime) {
     let alloc = rt.alloc();
     let mut disk = disk_of(&rt, alloc, 2);
-    let mut served = served(&rt, alloc);
-    let mut rules = rules(FOLDER);
-    rules.permits.strict = true;
-    let first = first_segment(&rt, alloc, &mut disk, rules.folder);
+    let mut service = first_service(&rt, alloc, true);
+    let files = files(FOLDER);
+    let first = first_segment(&rt, alloc, &mut disk, files.folder);
     let mut input: &[u8] = LINES;
     let mut out = Vec::new(alloc);
     let ended = serve_segments(
         alloc,
-        &mut served,
+        &mut service,
         &mut disk,
         first,
-        rules,
+        files,
         &mut input,
         &mut out,
     );

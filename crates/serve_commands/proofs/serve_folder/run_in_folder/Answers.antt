@@ -1,5 +1,5 @@
 use Rattle.std.proofs.Common.{refl, inl, inr}
-use Rattle.chain_serve.specs.declared.segments.SegmentRules.{SegmentRules}
+use Rattle.chain_serve.specs.declared.segments.ChainRules.{ChainRules}
 use Rattle.tool_parts.proofs.LockedFolders.{locked_known}
 use Rattle.serve_commands.specs.ServedFolder.{place_of}
 use Rattle.serve_commands.proofs.UnderLock.{under_lock}
@@ -16,10 +16,9 @@ returns-in-Ok-serve_from-clause-ok g c =
     let there = g.D.Disk.holds c.lock_folder.new.disk in
     let start = place_of c.in-Ok-place_in.place in
     let locked = c.in-Ok-lock_folder.ensures.locked in
-    let rules : SegmentRules = record {
-      folder = c.args.folder;
+    let rules : ChainRules = record {
+      files = record { folder = c.args.folder; synced = c.args.words.now.synced };
       limit = c.max.result;
-      synced = c.args.words.now.synced;
       permits = c.permits_of.result;
     } in
     let served = c.in-Ok-serve_from.ensures.ok in record {
@@ -44,10 +43,9 @@ returns-in-Ok-serve_from-clause-lasts g c = λ synced some.
     let there = g.D.Disk.holds c.lock_folder.new.disk in
     let locked = c.in-Ok-lock_folder.ensures.locked in
     let known = locked_known (g.D.Disk.holds c.args.disk.now) there folder locked some in
-    let rules : SegmentRules = record {
-      folder = c.args.folder;
+    let rules : ChainRules = record {
+      files = record { folder = c.args.folder; synced = c.args.words.now.synced };
       limit = c.max.result;
-      synced = c.args.words.now.synced;
       permits = c.permits_of.result;
     } in
     inr (
@@ -66,10 +64,9 @@ returns-in-Err-serve_from-clause-lasts g c = λ synced some.
     let there = g.D.Disk.holds c.lock_folder.new.disk in
     let locked = c.in-Ok-lock_folder.ensures.locked in
     let known = locked_known (g.D.Disk.holds c.args.disk.now) there folder locked some in
-    let rules : SegmentRules = record {
-      folder = c.args.folder;
+    let rules : ChainRules = record {
+      files = record { folder = c.args.folder; synced = c.args.words.now.synced };
       limit = c.max.result;
-      synced = c.args.words.now.synced;
       permits = c.permits_of.result;
     } in
     inr (

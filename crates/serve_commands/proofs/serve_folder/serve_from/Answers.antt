@@ -1,9 +1,32 @@
-use Rattle.std.proofs.Common.{Some, refl, inr}
+use Rattle.std.proofs.Common.{List, ℕ, refl, subst, inl, inr}
 use Rattle.std.specs.Prelude.{string_bytes}
-use Rattle.segment_folder.specs.Names.{segment_file}
-use Rattle.segment_loop.proofs.Lasting.{begun_lasts, replaced_known, front_has, whole_has, whole_leaves}
-use Rattle.chain_serve.specs.Texts.{segment_text}
+use Rattle.disks.specs.Held.{Replaces}
+use Rattle.segment_loop.specs.Digested.{hashed}
+use Rattle.segment_loop.proofs.Lasting.{front_has, whole_leaves}
+use Rattle.chain_serve.proofs.Known.{first_lasts}
+use Rattle.chain_serve.proofs.Recovering.{recovered, lasts, each_lasts}
+use Rattle.serve_commands.specs.ServedFolder.{place_of}
+use Rattle.serve_commands.proofs.Beginnings.{begun_at, left_at, saves_none}
 use Rattle.serve_commands.proofs.serve_folder.serve_from.Goals as goal
+
+pub returns-in-Err-begin_segment-clause-err : goal.returns-in-Err-begin_segment-clause-err
+returns-in-Err-begin_segment-clause-err g c =
+    inl ((refl, refl), left_at c.args.rules (place_of c.args.place) c.in-Ok.service c.in-Ok.ensures.ok c.in-Err-begin_segment.ensures.left, c.begin_refusal.ensures)
+
+pub returns-in-Err-serve_segments-clause-err : goal.returns-in-Err-serve_segments-clause-err
+returns-in-Err-serve_segments-clause-err g c =
+    let noted = c.in-Err-serve_segments.ensures.noted in
+    inr (
+      c.serving_refusal.ensures,
+      record {
+        first = _;
+        begun = begun_at c.args.rules (place_of c.args.place) c.in-Ok.service c.in-Ok.ensures.ok c.in-Ok-begin_segment.ensures.ok;
+        end = _;
+        journal = noted.0;
+        recovered = recovered noted.1 c.in-Ok.ensures.right;
+        served = inl c.in-Err-serve_segments.ensures.err;
+      },
+    )
 
 pub returns-clause-err : goal.returns-clause-err
 returns-clause-err g c =
@@ -11,11 +34,24 @@ returns-clause-err g c =
       refl,
       record {
         first = _;
-        begun = c.in-Ok.ensures.ok;
+        begun = begun_at c.args.rules (place_of c.args.place) c.in-Ok.service c.in-Ok.ensures.ok c.in-Ok-begin_segment.ensures.ok;
         end = _;
         journal = _;
-        recovered = c.in-Ok-serve_segments.ensures.recovered;
+        recovered = recovered c.in-Ok-serve_segments.ensures.noted c.in-Ok.ensures.right;
         served = inr (_, c.in-Ok-serve_segments.ensures.ok, c.in-Err-close_segment.ensures.kept);
+      },
+    )
+
+pub returns-in-Ok-close_segment-clause-ok : goal.returns-in-Ok-close_segment-clause-ok
+returns-in-Ok-close_segment-clause-ok g c =
+    let w = c.in-Ok-serve_segments.last.writer in (
+      _,
+      _,
+      record {
+        begun = begun_at c.args.rules (place_of c.args.place) c.in-Ok.service c.in-Ok.ensures.ok c.in-Ok-begin_segment.ensures.ok;
+        served = c.in-Ok-serve_segments.ensures.ok;
+        rings = c.into_rings.ensures;
+        settled = subst (λ (n : List ℕ). Replaces (g.D.Disk.holds c.serve_segments.new.disk) (g.D.Disk.holds c.close_segment.new.disk) n (hashed (g.D.Grown.Grow.contents w.inner) w.hasher)) c.in-Ok-serve_segments.ensures.named c.in-Ok-close_segment.ensures.ok;
       },
     )
 
@@ -23,42 +59,60 @@ returns-clause-err g c =
 
 pub returns-in-Err-serve_segments-clause-lasts : goal.returns-in-Err-serve_segments-clause-lasts
 returns-in-Err-serve_segments-clause-lasts g c = λ synced some.
-    let begun = c.in-Ok.ensures.ok in
-    let p = c.args.place in
-    let w = c.in-Ok.first.writer in
-    let was = g.D.Disk.holds c.args.disk.now in
-    let text = segment_text p.number p.behind p.served in
-    let known = replaced_known was (g.D.Disk.holds c.begin_segment.new.disk) (segment_file c.args.rules.folder.now p.number) (Some text) begun.file.put some in
-    let all = begun_lasts was (g.D.Grown.Grow.contents w.inner) (g.D.Grown.Grow.lasting w.inner) w.hasher text begun.file.journal some (c.in-Ok.ensures.lasts synced) in
-    inr (_, _, begun, c.in-Err-serve_segments.ensures.lasts synced known all, λ none. c.in-Err-serve_segments.ensures.earlier none synced known all)
+    let s = c.args.rules in
+    let start = place_of c.args.place in
+    let v = c.in-Ok.service in
+    let e = c.in-Ok.ensures.ok in
+    let w = c.in-Ok-begin_segment.first.writer in
+    let begun = c.in-Ok-begin_segment.ensures.ok in
+    let first = first_lasts s v start.number start.behind (g.D.Disk.holds c.args.disk.now) (g.D.Disk.holds c.begin_segment.new.disk) c.in-Ok-begin_segment.first.number (g.D.Grown.Grow.contents w.inner) (g.D.Grown.Grow.lasting w.inner) w.hasher begun some (c.in-Ok-begin_segment.ensures.lasts synced) in
+    inr (
+      _,
+      _,
+      begun_at s start v e begun,
+      lasts (c.in-Err-serve_segments.ensures.lasts synced first.0 first.1) c.in-Ok.ensures.right,
+      λ none. each_lasts (c.in-Err-serve_segments.ensures.earlier (saves_none s start v e none) synced first.0 first.1) c.in-Ok.ensures.right,
+    )
 
 pub returns-in-Ok-close_segment-clause-lasts : goal.returns-in-Ok-close_segment-clause-lasts
 returns-in-Ok-close_segment-clause-lasts g c = λ synced some.
-    let begun = c.in-Ok.ensures.ok in
-    let p = c.args.place in
-    let w = c.in-Ok.first.writer in
-    let was = g.D.Disk.holds c.args.disk.now in
-    let text = segment_text p.number p.behind p.served in
-    let known = replaced_known was (g.D.Disk.holds c.begin_segment.new.disk) (segment_file c.args.rules.folder.now p.number) (Some text) begun.file.put some in
-    let all = begun_lasts was (g.D.Grown.Grow.contents w.inner) (g.D.Grown.Grow.lasting w.inner) w.hasher text begun.file.journal some (c.in-Ok.ensures.lasts synced) in
+    let s = c.args.rules in
+    let start = place_of c.args.place in
+    let v = c.in-Ok.service in
+    let e = c.in-Ok.ensures.ok in
+    let w = c.in-Ok-begin_segment.first.writer in
+    let begun = c.in-Ok-begin_segment.ensures.ok in
+    let first = first_lasts s v start.number start.behind (g.D.Disk.holds c.args.disk.now) (g.D.Disk.holds c.begin_segment.new.disk) c.in-Ok-begin_segment.first.number (g.D.Grown.Grow.contents w.inner) (g.D.Grown.Grow.lasting w.inner) w.hasher begun some (c.in-Ok-begin_segment.ensures.lasts synced) in
     let last = c.in-Ok-serve_segments.last in
     let left = g.D.Disk.leaves c.close_segment.new.disk in
-    let there = whole_has (g.D.Disk.leaves c.serve_segments.new.disk) left (string_bytes last.name) (g.D.Grown.Grow.contents last.writer.inner) (g.D.Grown.Grow.lasting last.writer.inner) last.writer.hasher
-    c.in-Ok-close_segment.ensures.lasts (c.in-Ok-serve_segments.ensures.whole synced known all) in
-    let settled = whole_leaves (g.D.Disk.leaves c.serve_segments.new.disk) left (string_bytes last.name) (g.D.Grown.Grow.contents last.writer.inner) (g.D.Grown.Grow.lasting last.writer.inner) last.writer.hasher
-    c.in-Ok-close_segment.ensures.lasts (c.in-Ok-serve_segments.ensures.whole synced known all) in
-    inr (_, _, begun, c.in-Ok-serve_segments.ensures.lasts synced known all left there, λ none. c.in-Ok-serve_segments.ensures.earlier none synced known all left settled)
+    let kept = whole_leaves (g.D.Disk.leaves c.serve_segments.new.disk) left (string_bytes last.name) (g.D.Grown.Grow.contents last.writer.inner) (g.D.Grown.Grow.lasting last.writer.inner) last.writer.hasher
+    c.in-Ok-close_segment.ensures.lasts (c.in-Ok-serve_segments.ensures.whole synced first.0 first.1) in
+    let there = front_has (g.D.Disk.leaves c.serve_segments.new.disk) left (string_bytes last.name) (g.D.Grown.Grow.lasting last.writer.inner) kept in
+    inr (
+      _,
+      _,
+      begun_at s start v e begun,
+      lasts (c.in-Ok-serve_segments.ensures.lasts synced first.0 first.1 left there) c.in-Ok.ensures.right,
+      λ none. each_lasts (c.in-Ok-serve_segments.ensures.earlier (saves_none s start v e none) synced first.0 first.1 left kept) c.in-Ok.ensures.right,
+    )
 
 pub returns-clause-lasts : goal.returns-clause-lasts
 returns-clause-lasts g c = λ synced some.
-    let begun = c.in-Ok.ensures.ok in
-    let p = c.args.place in
-    let w = c.in-Ok.first.writer in
-    let was = g.D.Disk.holds c.args.disk.now in
-    let text = segment_text p.number p.behind p.served in
-    let known = replaced_known was (g.D.Disk.holds c.begin_segment.new.disk) (segment_file c.args.rules.folder.now p.number) (Some text) begun.file.put some in
-    let all = begun_lasts was (g.D.Grown.Grow.contents w.inner) (g.D.Grown.Grow.lasting w.inner) w.hasher text begun.file.journal some (c.in-Ok.ensures.lasts synced) in
+    let s = c.args.rules in
+    let start = place_of c.args.place in
+    let v = c.in-Ok.service in
+    let e = c.in-Ok.ensures.ok in
+    let w = c.in-Ok-begin_segment.first.writer in
+    let begun = c.in-Ok-begin_segment.ensures.ok in
+    let first = first_lasts s v start.number start.behind (g.D.Disk.holds c.args.disk.now) (g.D.Disk.holds c.begin_segment.new.disk) c.in-Ok-begin_segment.first.number (g.D.Grown.Grow.contents w.inner) (g.D.Grown.Grow.lasting w.inner) w.hasher begun some (c.in-Ok-begin_segment.ensures.lasts synced) in
     let last = c.in-Ok-serve_segments.last in
     let left = g.D.Disk.leaves c.close_segment.new.disk in
-    let there = front_has (g.D.Disk.leaves c.serve_segments.new.disk) left (string_bytes last.name) (g.D.Grown.Grow.lasting last.writer.inner) c.in-Err-close_segment.ensures.left in
-    inr (_, _, begun, c.in-Ok-serve_segments.ensures.lasts synced known all left there, λ none. c.in-Ok-serve_segments.ensures.earlier none synced known all left c.in-Err-close_segment.ensures.left)
+    let kept = c.in-Err-close_segment.ensures.left in
+    let there = front_has (g.D.Disk.leaves c.serve_segments.new.disk) left (string_bytes last.name) (g.D.Grown.Grow.lasting last.writer.inner) kept in
+    inr (
+      _,
+      _,
+      begun_at s start v e begun,
+      lasts (c.in-Ok-serve_segments.ensures.lasts synced first.0 first.1 left there) c.in-Ok.ensures.right,
+      λ none. each_lasts (c.in-Ok-serve_segments.ensures.earlier (saves_none s start v e none) synced first.0 first.1 left kept) c.in-Ok.ensures.right,
+    )

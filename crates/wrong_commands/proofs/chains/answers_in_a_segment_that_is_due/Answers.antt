@@ -11,4 +11,4 @@ returns g c =
     let many = eqb-false c.serve.new.out.len 0 (sym c.is_empty.ensures ∙ c.if-is_empty.false) in
     let some : 0 < length out = omega (arith, many, full) in
     let letter = c.if-index-ne103.false in
-    record { wrong = λ h. not_granted c.requires refl (starts out y c.index.ensures some (omega (arith, letter))) h }
+    record { wrong = λ service rings h. not_granted h c.requires refl (starts out y c.index.ensures some (omega (arith, letter))) }

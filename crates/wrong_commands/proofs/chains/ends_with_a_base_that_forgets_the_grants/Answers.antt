@@ -6,9 +6,9 @@ use Rattle.wrong_commands.proofs.chains.ends_with_a_base_that_forgets_the_grants
 
 pub returns-in-Some-cut : goal.returns-in-Some-cut
 returns-in-Some-cut g c = record {
-  wrong = λ bytes held known files h.
-      let cut = is_cut c.requires.due c.in-Some-cut.ensures.number known files h in
-      let rings : c.cut.new.served ≡ standing_of c.in-Some.ring ∷ [] = c.in-Some-cut.ensures.rings ∙ (c.in-Ok-add.ensures.ok ∙ ap (λ (x : List Standing). x ++ standing_of c.in-Some.ring ∷ []) c.none-next.ensures) in
+  wrong = λ bytes held service now known files h.
+      let cut = is_cut h c.requires.due c.in-Some-cut.ensures.number known files in
+      let rings : service.rings ≡ standing_of c.in-Some.ring ∷ [] = now ∙ (c.in-Some-cut.ensures.rings ∙ (c.in-Ok-add.ensures.ok ∙ ap (λ (x : List Standing). x ++ standing_of c.in-Some.ring ∷ []) c.none-next.ensures)) in
       not_forgotten (standing_of c.args.ring.now) (standing_of c.in-Some.ring) [] c.requires.grants c.in-Some.ensures
       (subst (λ (x : List Standing). AreNext x (standing_of c.in-Some.ring ∷ [])) c.requires.one (subst (λ (x : List Standing). AreNext c.args.served.now x) rings cut.next));
 }
