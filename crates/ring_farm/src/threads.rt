@@ -34,6 +34,14 @@ impl<N: Name> Promise<Work<N>> for Does {
         → actions_of p.ring w.seat.log ≡ planned p.ring p.plan.value.actions.items) };
 }
 
+/// The ring that threads drive, the gate that they come to before each action, and the ring's number among those of the farm.
+#[derive_where(Clone, Copy)]
+struct DrivenRing<'a, N: Name, R: Resource + Drop, G: Gate> {
+    ring: &'a Ring<N, R>,
+    gate: &'a G,
+    number: u32,
+}
+
 /// Starts a thread for the seat, with this plan. None where it could not be started.
 fn spawn_one<
     's,
@@ -45,17 +53,19 @@ fn spawn_one<
 >(
     scope: &Scope<'s, E>,
     rt: &'s W,
-    ring: &'s Ring<N, R>,
-    gate: &'s G,
-    number: u32,
+    driven: &DrivenRing<'s, N, R, G>,
     plan: &'s Plan,
     seat: Seat<N>,
 ) -> Option<PromisedHandle<Work<N>, Does>>
     requires few { IsShort plan.now }
-    requires possible { IsPlanOn number N.start plan.now }
+    requires possible { IsPlanOn driven.now.number N.start plan.now }
     requires new { seat.log ≡ [] }
-    ensures { IfSome result (λ h. IsPromised number seat.number plan.entry.now h.promise) }
+    ensures { IfSome result
+        (λ h. IsPromised driven.now.number seat.number plan.entry.now h.promise) }
 {
+    let ring = driven.ring;
+    let gate = driven.gate;
+    let number = driven.number;
     let promise = Does {
         ring: number,
         number: seat.number(),
@@ -82,9 +92,7 @@ fn spawn_all<
 >(
     scope: &Scope<'s, E>,
     rt: &'s W,
-    ring: &'s Ring<N, R>,
-    gate: &'s G,
-    number: u32,
+    driven: &DrivenRing<'s, N, R, G>,
     plans: &'s Vec<Plan>,
     seats: Vec<Seat<N>>,
     mut handles: Vec<PromisedHandle<Work<N>, Does>>,
@@ -92,18 +100,19 @@ fn spawn_all<
     requires room { vec_len seats ≤ vec_capacity handles }
     requires empty { handles.items ≡ [] }
     requires few { All IsShort plans.now.items }
-    requires possible { All (IsPlanOn number N.start) plans.now.items }
+    requires possible { All (IsPlanOn driven.now.number N.start) plans.now.items }
     requires fresh { AreFresh (length plans.now.items) seats.items }
     ensures room { vec_len result.0 ≤ vec_len plans.entry.now }
     ensures all { IsTrue result.1 → vec_len result.0 ≡ vec_len plans.entry.now }
     ensures promises { IsTrue result.1
-        → Pairs (IsPromised number) plans.entry.now.items (map (λ h. h.promise) result.0.items) }
+        → Pairs (IsPromised driven.now.number) plans.entry.now.items
+        (map (λ h. h.promise) result.0.items) }
 {
     let mut all = true;
     let mut i = 0;
     for seat in seats {
         let plan = &plans[i];
-        match spawn_one(scope, rt, ring, gate, number, plan, seat) {
+        match spawn_one(scope, rt, driven, plan, seat) {
             Some(handle) => handles.push_reserved(handle),
             None => all = false,
         }
@@ -144,33 +153,31 @@ fn run_in_scope<
     W: Threads + Wait + Sync,
 >(
     rt: &W,
-    ring: &Ring<N, R>,
-    gate: &G,
-    number: u32,
+    driven: &DrivenRing<'_, N, R, G>,
     plans: &Vec<Plan>,
     seats: Vec<Seat<N>>,
     handles: Vec<PromisedHandle<Work<N>, Does>>,
     back: Vec<Seat<N>>,
 ) -> Result<Vec<Seat<N>>, FarmError>
-    requires ready { AreReady number N.start plans.now.items seats.items }
+    requires ready { AreReady driven.now.number N.start plans.now.items seats.items }
     requires room { (vec_len seats ≤ vec_capacity handles) × (vec_len seats ≤ vec_capacity back) }
     requires empty { (handles.items ≡ []) × (back.items ≡ []) }
-    ensures { IfOk result
-        (λ v. (vec_len v ≡ vec_len plans.now) × Pairs (IsDone number) plans.now.items v.items) }
+    ensures { IfOk result (λ v. (vec_len v ≡ vec_len plans.now)
+        × Pairs (IsDone driven.now.number) plans.now.items v.items) }
 {
     thread::scope(
         thread::scope_env(),
         rt,
         |scope| -> Result<Vec<Seat<N>>, FarmError>
-            requires { AreReady number N.start plans.now.items seats.items
+            requires { AreReady driven.now.number N.start plans.now.items seats.items
                 × (vec_len seats ≤ vec_capacity handles)
                 × (vec_len seats ≤ vec_capacity back)
                 × (handles.items ≡ [])
                 × (back.items ≡ []) }
             ensures { IfOk result (λ v. (vec_len v ≡ vec_len plans.entry.now)
-                × Pairs (IsDone number) plans.entry.now.items v.items) }
+                × Pairs (IsDone driven.entry.now.number) plans.entry.now.items v.items) }
         {
-            let (handles, all) = spawn_all(scope, rt, ring, gate, number, plans, seats, handles);
+            let (handles, all) = spawn_all(scope, rt, driven, plans, seats, handles);
             let joined = join_all(rt, handles, back);
             if !all {
                 return Err(FarmError::Spawn);
@@ -212,5 +219,6 @@ pub(crate) fn run_threads<
     let Ok(back) = Vec::with_capacity(alloc, plans.len()) else {
         return Err(want_of_memory());
     };
-    run_in_scope(rt, ring, gate, number, plans, seats, handles, back)
+    let driven = DrivenRing { ring, gate, number };
+    run_in_scope(rt, &driven, plans, seats, handles, back)
 }

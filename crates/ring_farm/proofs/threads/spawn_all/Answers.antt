@@ -34,7 +34,7 @@ loop-seat-preserved g c =
                 let seat = t.1 ∙ get_or_from_slice_get c.args.seats.items (length c.loop-seat.yielded) _ c.in-Some.seat this.1 in
                 let number = ap (λ (s : Client). s.number) seat ∙ ap (λ (s : Client). s.number) this.2 in (
                   omega arith,
-                  rw p.items (Pairs-map-next (λ h. h.promise) (IsPromised c.args.number) c.args.plans.now.items c.loop-seat.handles.items c.index-plan.result.now w.in-Some-spawn_one.handle at k.1
+                  rw p.items (Pairs-map-next (λ h. h.promise) (IsPromised c.args.driven.now.number) c.args.plans.now.items c.loop-seat.handles.items c.index-plan.result.now w.in-Some-spawn_one.handle at k.1
                       (m.0, m.1 ∙ (number ∙ (sym i0 ∙ sym n)), m.2)),
                 )),
           ))

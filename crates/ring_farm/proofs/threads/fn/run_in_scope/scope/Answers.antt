@@ -16,5 +16,5 @@ returns g c =
     let n : length hs ≡ length ps = omega arith in
     let promised = c.spawn_all-handles.ensures.promises c.if-not-all.false in
     ok_both _ _ _ c.join_all-joined.result
-    (λ v count kept. (count ∙ all, done_of c.captures.number ps (map (λ h. h.promise) hs) v.items (length-map hs (λ h. h.promise) ∙ n) promised kept))
+    (λ v count kept. (count ∙ all, done_of c.captures.driven.now.number ps (map (λ h. h.promise) hs) v.items (length-map hs (λ h. h.promise) ∙ n) promised kept))
     c.join_all-joined.ensures.count c.join_all-joined.ensures.kept
