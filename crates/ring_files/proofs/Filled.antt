@@ -86,10 +86,6 @@ up_to_more a b c p q r text x left h f = (h.0 ++ x, h.1 ∙ sym (append_assoc h.
 pub up_to_all : (a b : List ℕ) (p q : ℕ) (text : List ℕ) → FilledUpTo a b p q text [] → Fills a b p q text
 up_to_all a b p q text h = fills_same h.0 text (sym (h.1 ∙ append-nil h.0)) h.2
 
--- the last piece
-pub up_to_last : (a b c : List ℕ) (p q r : ℕ) (text x : List ℕ) → FilledUpTo a b p q text x → Fills b c q r x → Fills a c p r text
-up_to_last a b c p q r text x h f = fills_same (h.0 ++ x) text (sym h.1) (fills_then h.0 x h.2 f)
-
 -- the next of numbers on one line
 pub number_more : (between end : List ℕ) (values : List ℕ) (i x after : ℕ) (a b c : List ℕ) (p q r : ℕ) → i < length values → x ≡ get_or values i 0 → after ≡ length values - i - 1 →
     FilledUpTo a b p q (numbers_text between end values) (numbers_text between end (drop i values)) → Fills b c q r (decimal x ++ stop_text between end after) →
@@ -108,9 +104,6 @@ number_more between end values i x after a b c p q r lt is many h f =
 pub record FilledBelow {X : Type 0} (spell : ℕ → List X → List ℕ) (Fits : ℕ → List X → Type 0) (a b : List ℕ) (p q : ℕ) (xs : List X) (i : ℕ) : Type 0 where
   pub filled : FilledUpTo a b p q (spell 0 xs) (spell i (drop i xs))
   pub fits : Fits i (drop i xs) → Fits 0 xs
-
-pub below_none : {X : Type 0} (spell : ℕ → List X → List ℕ) (Fits : ℕ → List X → Type 0) (a : List ℕ) (p : ℕ) (xs : List X) → p < 2 ^ 64 → FilledBelow spell Fits a a p p xs 0
-below_none spell Fits a p xs small = record { filled = up_to_none a p (spell 0 xs) small; fits = λ h. h }
 
 module _ {X : Type 0} {piece : ℕ → X → List ℕ} {spell : ℕ → List X → List ℕ} {Fit : ℕ → X → Type 0} {Fits : ℕ → List X → Type 0} (law : Spelled piece spell Fit Fits) {xs : List X} {i : ℕ} {a b : List ℕ} {p q : ℕ} (so_far : FilledBelow spell Fits a b p q xs i) where
   pub below_more : (c : List ℕ) (r : ℕ) (x d : X) → x ≡ get_or xs i d → i < length xs → Fills b c q r (piece i x) → Fit i x → FilledBelow spell Fits a c p r xs (i + 1)

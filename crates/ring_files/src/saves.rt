@@ -1,12 +1,8 @@
 //! The saved text of a ring, written into bytes of a caller. It takes no memory.
 
-ghost use Rattle.std.specs.Prelude.{◌++◌, length, map};
-ghost use Rattle.std.specs.List.{flat_map};
-ghost use Rattle.ring_saved.specs.Versions.{latest_version};
-ghost use Rattle.ring_saved.specs.Spelling.{event_line, end_line, block_text, text, BlockFits, Fits};
-ghost use Rattle.ring_blocks.specs.SavedOf.{saved_event};
+ghost use Rattle.ring_saved.specs.Spelling.{text, Fits};
 ghost use Rattle.ring_check.specs.Legal.{IsLegalText};
-ghost use Rattle.ring_desk.specs.Texts.{saved_block, saved_alone};
+ghost use Rattle.ring_desk.specs.Texts.{saved_alone};
 ghost use Rattle.ring_files.specs.Filling.{Fills};
 
 use crate::fills::{put_clients, put_events, put_size, put_start, put_word};
@@ -14,26 +10,17 @@ use ring_book::Till;
 use ring_desk::OneThreadRing;
 use ring_saved::LATEST_VERSION;
 
-/// Puts the block of the only ring of a text.
-fn put_block(out: &mut [u8], place: usize, ring: &OneThreadRing<Till>) -> usize
-    ensures written { Fills out.old out.new place result (block_text (saved_block 0 ring.now)) }
-    ensures fits { BlockFits latest_version (saved_block 0 ring.now) }
-{
-    let sized = put_size(out, place, 0, ring.start());
-    let started = put_start(out, sized, ring.start());
-    let passed = put_events(out, started, ring.history());
-    let ended = put_word(out, passed, b"end ", ring.history_length());
-    put_clients(out, ended, ring.clients())
-}
-
 /// Puts the saved text of a ring at this place, if there is room for it; returns the place after it.
 pub(crate) fn put_text(out: &mut [u8], place: usize, ring: &OneThreadRing<Till>) -> usize
     ensures written { Fills out.old out.new place result (text (saved_alone ring.now)) }
     ensures fits { Fits (saved_alone ring.now) }
     ensures legal { IsLegalText (saved_alone ring.now) }
 {
-    ring.clients(); // says: it is a one-thread ring
     let headed = put_word(out, place, b"ringfarm ", LATEST_VERSION as u64);
-    let ended = put_block(out, headed, ring);
-    put_word(out, ended, b"done ", 1)
+    let sized = put_size(out, headed, 0, ring.start());
+    let started = put_start(out, sized, ring.start());
+    let passed = put_events(out, started, ring.history());
+    let ended = put_word(out, passed, b"end ", ring.history_length());
+    let surveyed = put_clients(out, ended, ring.clients());
+    put_word(out, surveyed, b"done ", 1)
 }

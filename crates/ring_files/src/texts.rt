@@ -2,7 +2,7 @@
 
 ghost use Rattle.std.specs.Prelude.{◌≡◌, ◌<◌, ◌++◌, drop, IfOk};
 ghost use Rattle.text_lines.specs.Spelling.{spaced, ended};
-ghost use Rattle.ring_segments.specs.Spelling.{number_line, behind_line, head_text, BaseFits, HeadFits};
+ghost use Rattle.ring_segments.specs.Spelling.{head_text, BaseFits, HeadFits};
 ghost use Rattle.ring_blocks.specs.Journals.{event_lines};
 ghost use Rattle.ring_files.specs.Files.{head_at, file_text, IsTextAt, survey_lines};
 ghost use Rattle.ring_files.specs.Filling.{Fills};
@@ -18,23 +18,6 @@ use ring_model::Event;
 use ring_saved::{event_line, survey_line};
 use std::alloc::{AllocError, Global};
 use text_lines::Line;
-
-/// Puts the first line of a file of one ring.
-fn put_number(out: &mut [u8], place: usize, number: u64) -> usize
-    ensures { Fills out.old out.new place result (number_line number 1) }
-{
-    let behind = put(out, place, b"ringsegment 1 ");
-    put(out, behind, last_two(number, 1).as_bytes())
-}
-
-/// Puts the line of the digest of the file before.
-fn put_behind(out: &mut [u8], place: usize, digits: &[u8]) -> usize
-    ensures { Fills out.old out.new place result (behind_line digits.now) }
-{
-    let named = put(out, place, b"behind ");
-    let told = put(out, named, digits);
-    put(out, told, b"\n")
-}
 
 /// The numbers of what came before, each of which is within its range by its type.
 fn base_numbers(base: Base) -> Line
@@ -56,9 +39,12 @@ fn put_head(out: &mut [u8], file: &FilePlace, base: Base) -> usize
     ensures fits { HeadFits (head_at file.now base) }
 {
     let digits = file.behind();
-    let numbered = put_number(out, 0, file.number());
-    let linked = put_behind(out, numbered, &digits);
-    let named = put(out, linked, b"base ");
+    let begun = put(out, 0, b"ringsegment 1 ");
+    let numbered = put(out, begun, last_two(file.number(), 1).as_bytes());
+    let linked = put(out, numbered, b"behind ");
+    let told = put(out, linked, &digits);
+    let ended = put(out, told, b"\n");
+    let named = put(out, ended, b"base ");
     put(out, named, base_numbers(base).as_bytes())
 }
 
