@@ -32,12 +32,17 @@ fn tell_size(whole: usize, room: usize, size: &mut u64) -> u32
     0
 }
 
-/// The saved text of the segment of a ring without end, at the front of the bytes, if there is room. Reports its size.
-fn save_ring(ring: &FileRing, out: &mut [u8], size: &mut u64) -> u32
+/// The saved text of the segment of what C holds, if it is a ring over a till, at the front of the bytes, if there is room. Reports
+/// its size.
+pub fn save(kept: &Kept, out: &mut [u8], size: &mut u64) -> u32
     ensures { (answer : Result (List ℕ) TextError)
-        × IsTextAnswer (Kept.Till ring.now) answer
+        × IsTextAnswer kept.now answer
         × IsSaveReport answer result out.old out.new size.old size.new }
 {
+    let ring = match kept {
+        Kept::Till(ring) => ring,
+        Kept::Idle(_) => return text_code(TextError::NoTill),
+    };
     let code = tell_size(ring.save(&mut []), out.len(), size);
     if code == 0 {
         ring.save(out);
@@ -45,24 +50,16 @@ fn save_ring(ring: &FileRing, out: &mut [u8], size: &mut u64) -> u32
     code
 }
 
-/// The same of what C holds, if it is a ring over a till.
-pub fn save(kept: &Kept, out: &mut [u8], size: &mut u64) -> u32
+/// The text of the file of that segment, in the same way.
+fn put_file(kept: &Kept, out: &mut [u8], size: &mut u64) -> u32
     ensures { (answer : Result (List ℕ) TextError)
-        × IsTextAnswer kept.now answer
+        × IsFileAnswer kept.now answer
         × IsSaveReport answer result out.old out.new size.old size.new }
 {
-    match kept {
-        Kept::Till(ring) => save_ring(ring, out, size),
-        Kept::Idle(_) => text_code(TextError::NoTill),
-    }
-}
-
-/// The text of the file of the segment of a ring without end, at the front of the bytes, if there is room. Reports its size.
-fn put_ring_file(ring: &FileRing, out: &mut [u8], size: &mut u64) -> u32
-    ensures { (answer : Result (List ℕ) TextError)
-        × IsFileAnswer (Kept.Till ring.now) answer
-        × IsSaveReport answer result out.old out.new size.old size.new }
-{
+    let ring = match kept {
+        Kept::Till(ring) => ring,
+        Kept::Idle(_) => return text_code(TextError::NoTill),
+    };
     let code = tell_size(ring.put_file(&mut []), out.len(), size);
     if code == 0 {
         ring.put_file(out);
@@ -70,25 +67,16 @@ fn put_ring_file(ring: &FileRing, out: &mut [u8], size: &mut u64) -> u32
     code
 }
 
-/// The same of what C holds, if it is a ring over a till.
-fn put_file(kept: &Kept, out: &mut [u8], size: &mut u64) -> u32
+/// The lines that the journal of that segment does not have, if one is kept, in the same way.
+fn put_lines(kept: &Kept, out: &mut [u8], size: &mut u64) -> u32
     ensures { (answer : Result (List ℕ) TextError)
-        × IsFileAnswer kept.now answer
+        × IsLinesAnswer kept.now answer
         × IsSaveReport answer result out.old out.new size.old size.new }
 {
-    match kept {
-        Kept::Till(ring) => put_ring_file(ring, out, size),
-        Kept::Idle(_) => text_code(TextError::NoTill),
-    }
-}
-
-/// The lines of a ring without end that its journal does not have, if one is kept, at the front of the bytes, if there is room.
-/// Reports their size.
-fn put_ring_lines(ring: &FileRing, out: &mut [u8], size: &mut u64) -> u32
-    ensures { (answer : Result (List ℕ) TextError)
-        × IsLinesAnswer (Kept.Till ring.now) answer
-        × IsSaveReport answer result out.old out.new size.old size.new }
-{
+    let ring = match kept {
+        Kept::Till(ring) => ring,
+        Kept::Idle(_) => return text_code(TextError::NoTill),
+    };
     if !ring.is_kept() {
         return text_code(TextError::NoJournal);
     }
@@ -97,18 +85,6 @@ fn put_ring_lines(ring: &FileRing, out: &mut [u8], size: &mut u64) -> u32
         ring.put_lines(out);
     }
     code
-}
-
-/// The same of what C holds.
-fn put_lines(kept: &Kept, out: &mut [u8], size: &mut u64) -> u32
-    ensures { (answer : Result (List ℕ) TextError)
-        × IsLinesAnswer kept.now answer
-        × IsSaveReport answer result out.old out.new size.old size.new }
-{
-    match kept {
-        Kept::Till(ring) => put_ring_lines(ring, out, size),
-        Kept::Idle(_) => text_code(TextError::NoTill),
-    }
 }
 
 /// Hands out the text of the file of the segment, all of it so far, as the beginning of its journal. From now on a journal is kept.
