@@ -1,35 +1,27 @@
 -- A line that is too long is kept only so far.
-use Rattle.std.proofs.Common.{◌≡◌, ℕ, ◌+◌, ◌<◌, ◌≤◌, List, [], ◌∷◌, ◌++◌, length, take, sym, ap, ◌∙◌, length-append, arith}
-use Rattle.std.proofs.lemmas.List.{take_all, take-append-le, length-take}
+use Rattle.std.proofs.Common.{◌≡◌, ℕ, ◌+◌, ◌-◌, List, [], ◌++◌, length, take, sym, ap, ◌∙◌, append-nil, inl, inr, arith}
+use Rattle.std.proofs.Math.Seq.{take-append-add}
+use Rattle.std.proofs.lemmas.Bool.{cases_lt}
+use Rattle.std.proofs.lemmas.List.{take_all, take-append-le, length-take-le}
 use Rattle.line_parts.specs.Limits.{line_limit}
 use Rattle.line_loop.specs.Answering.{cut}
 
-cut_more : (n b : ℕ) (begun : List ℕ) → length begun ≤ n → take (n + 1) (begun ++ b ∷ []) ≡ begun ++ b ∷ []
-cut_more n b begun l = take_all (n + 1) (begun ++ b ∷ []) (omega (arith, length-append begun (b ∷ [])))
-
--- a byte more of a line that is not too long so far
-pub kept_byte : (b : ℕ) (begun line : List ℕ) → line ≡ cut begun → length line ≤ line_limit → line ++ b ∷ [] ≡ cut (begun ++ b ∷ [])
+-- a piece more of a line: of it is kept what a line may have, and one byte
+pub kept_piece : (piece begun line : List ℕ) → line ≡ cut begun → line ++ take (line_limit + 1 - length line) piece ≡ cut (begun ++ piece)
 unfolding cut
-kept_byte b begun line e l = go line_limit e l
+kept_piece piece begun line e = go (line_limit + 1) e
   where
-    go : (n : ℕ) → line ≡ take (n + 1) begun → length line ≤ n → line ++ b ∷ [] ≡ take (n + 1) (begun ++ b ∷ [])
-    go n e l =
-        let long = length-take (n + 1) begun in
-        let size : length line ≡ length (take (n + 1) begun) = ap (λ (x : List ℕ). length x) e in
-        let few : length begun ≤ n = omega (arith, long, size) in
-        let whole : line ≡ begun = e ∙ take_all (n + 1) begun (omega arith) in
-        ap (λ (x : List ℕ). x ++ b ∷ []) whole ∙ sym (cut_more n b begun few)
-
--- and of one that is
-pub dropped_byte : (b : ℕ) (begun line : List ℕ) → line ≡ cut begun → line_limit < length line → line ≡ cut (begun ++ b ∷ [])
-unfolding cut
-dropped_byte b begun line e l = go line_limit e l
-  where
-    go : (n : ℕ) → line ≡ take (n + 1) begun → n < length line → line ≡ take (n + 1) (begun ++ b ∷ [])
-    go n e l =
-        let long = length-take (n + 1) begun in
-        let size : length line ≡ length (take (n + 1) begun) = ap (λ (x : List ℕ). length x) e in
-        e ∙ sym (take-append-le (n + 1) begun (b ∷ []) (omega (arith, long, size)))
+    go : (n : ℕ) → line ≡ take n begun → line ++ take (n - length line) piece ≡ take n (begun ++ piece)
+    go n e = elim (cases_lt n (length begun)) [
+      | inl l ↦
+          let size : length line ≡ n = ap (λ (x : List ℕ). length x) e ∙ length-take-le n begun (omega (arith, l)) in
+          let none : n - length line ≡ 0 = omega (arith, size) in
+          ap (λ (m : ℕ). line ++ take m piece) none ∙ (append-nil line ∙ (e ∙ sym (take-append-le n begun piece (omega (arith, l)))))
+      | inr l ↦
+          let whole : line ≡ begun = e ∙ take_all n begun l in
+          let room : length begun + (n - length begun) ≡ n = omega (arith, l) in
+          ap (λ (x : List ℕ). x ++ take (n - length x) piece) whole ∙ (sym (take-append-add begun piece (n - length begun)) ∙ ap (λ (m : ℕ). take m (begun ++ piece)) room)
+    ]
 
 pub cut_nil : [] ≡ cut []
 unfolding cut

@@ -1,6 +1,6 @@
 -- Parts of the lines that are served, block by block.
-use Rattle.std.proofs.Common.{◌≡◌, ℕ, ◌+◌, ◌-◌, ◌≤◌, Bool, List, [], ◌++◌, length, take, drop, Option, sym, ap, subst, ◌∙◌, append_assoc, arith}
-use Rattle.std.proofs.lemmas.List.{append-nil, drop-drop, drop-take, length-take}
+use Rattle.std.proofs.Common.{◌≡◌, ℕ, ◌+◌, ◌-◌, ◌≤◌, Bool, false, List, [], ◌++◌, length, take, drop, Option, sym, ap, subst, ◌∙◌, append_assoc, arith}
+use Rattle.std.proofs.lemmas.List.{append-nil, drop_all, drop-drop, drop-take, length-take, take-append-drop}
 use Rattle.std.specs.Io.KnownBytes.{Consumes}
 use Rattle.text_lines.proofs.Writing.{appends_nil}
 use Rattle.line_loop.specs.Answering.{Answering, HasBegun}
@@ -68,6 +68,18 @@ going_filled {unread = unread} {read = read} {left = left} more none h = record 
 
 pub going_part : {S : Type 0} {A : Answering S} {old new : S} {begun unread read left line : List ℕ} {before after : Written} {input rest : Option (List ℕ)} {end : Ending} → Consumes input rest read → HasRead end read → Going A old begun unread read left line before after new → ServesPart end A old new begun unread left line input rest before after
 going_part {read = read} c some h = record { read = read; taken = h.taken; consumed = c; reads = some; split = h.split; rests = h.rests }
+
+-- so many of the unread bytes were taken
+pub block_taken : (unread bytes left : List ℕ) (n : ℕ) (over : Bool) (serves : List ℕ → Type 0) → bytes ≡ unread → left ≡ drop n unread → (over ≡ false → n ≡ length bytes) → serves (take n bytes) → IsTaken over unread left serves
+block_taken unread bytes left n over serves e skips all served = (
+  take n unread,
+  sym (take-append-drop n unread) ∙ ap (λ (x : List ℕ). take n unread ++ x) (sym skips),
+  (λ f.
+      let size : length bytes ≡ length unread = ap (λ (x : List ℕ). length x) e in
+      let whole : n ≡ length bytes = all f in
+      skips ∙ drop_all n unread (omega (arith, size, whole))),
+  subst (λ (x : List ℕ). serves (take n x)) e served,
+)
 
 -- the rest of a block was not taken
 pub block_stops : {S : Type 0} {A : Answering S} {old new : S} {before after : Written} (bytes unread taken left : List ℕ) → unread ≡ taken ++ left → Stops A old before after (bytes ++ taken) new → Stops A old before after (bytes ++ unread) new

@@ -1,7 +1,8 @@
 -- Lines that are answered, one after the other, and then delivered.
-use Rattle.std.proofs.Common.{◌≡◌, ◌≢◌, ℕ, ◌+◌, ◌<◌, ◌≤◌, List, [], ◌∷◌, ◌++◌, length, take, drop, get_or, Option, Some, None, Result, Ok, Err, refl, sym, ap, subst, ◌∙◌, inl, inr, ◌⊎◌, append_assoc, arith}
+use Rattle.std.proofs.Common.{◌≡◌, ◌≢◌, ℕ, ◌+◌, ◌-◌, ◌<◌, ◌≤◌, List, [], ◌∷◌, ◌++◌, length, take, get_or, Option, Some, None, Result, Ok, Err, refl, sym, ap, subst, ◌∙◌, inl, inr, ◌⊎◌, append_assoc, length-append, arith}
 use Rattle.std.specs.Prelude.{OnOk}
-use Rattle.std.proofs.lemmas.List.{append-nil, take-append-drop, take_more, take_all}
+use Rattle.std.proofs.Math.Seq.{take-append_seam}
+use Rattle.std.proofs.lemmas.List.{append-nil, take_more, take_all}
 use Rattle.std.proofs.lemmas.Bool.{cases_lt}
 use Rattle.std.specs.List.{AllByRecursion}
 use Rattle.std.specs.Io.KnownBytes.{Appends, Keeps, Consumes}
@@ -86,48 +87,48 @@ answered_more {rest = rest} more a = record {
 pub told_more : {S : Type 0} {A : Answering S} {old new : S} {before after : Written} {bytes rest : List ℕ} (more : List ℕ) → AreTold A old before after bytes rest new → AreTold A old before after (bytes ++ more) (rest ++ more) new
 told_more more t = record { said = t.said; noted = t.noted; answered = answered_more more t.answered; wrote = t.wrote; wrote_notes = t.wrote_notes }
 
--- ---- a byte more
+-- ---- a piece more of a line
 
-line_ends : (begun : List ℕ) → HasNoEnd begun → IsLine (begun ++ 10 ∷ [])
-line_ends [] h = refl
-line_ends (b ∷ []) h = (h.0, refl)
-line_ends (b ∷ c ∷ bs) h = (h.0, line_ends (c ∷ bs) h.1)
+line_ends : (begun piece : List ℕ) → HasNoEnd begun → IsLine piece → IsLine (begun ++ piece)
+line_ends [] piece h l = l
+line_ends (b ∷ []) [] h l = absurd l
+line_ends (b ∷ []) (x ∷ piece) h l = (h.0, l)
+line_ends (b ∷ c ∷ bs) piece h l = (h.0, line_ends (c ∷ bs) piece h.1 l)
 
-no_end_more : (begun : List ℕ) (b : ℕ) → HasNoEnd begun → b ≢ 10 → HasNoEnd (begun ++ b ∷ [])
-no_end_more [] b h n = (n, tt)
-no_end_more (x ∷ begun) b h n = (h.0, no_end_more begun b h.1 n)
+no_end_more : (begun piece : List ℕ) → HasNoEnd begun → HasNoEnd piece → HasNoEnd (begun ++ piece)
+no_end_more [] piece h n = n
+no_end_more (x ∷ begun) piece h n = (h.0, no_end_more begun piece h.1 n)
 
 -- within a line
-pub byte_more : {S : Type 0} {A : Answering S} {old new : S} {before after : Written} {bytes line : List ℕ} {pending : Pending} (b : ℕ) (line' : List ℕ) (g : GoesOn A old before after bytes new line pending) → b ≢ 10 → line' ≡ cut (g.begun ++ b ∷ []) →
-    GoesOn A old before after (bytes ++ b ∷ []) new line' pending
-byte_more b line' g n e = record {
+pub piece_more : {S : Type 0} {A : Answering S} {old new : S} {before after : Written} {bytes line : List ℕ} {pending : Pending} (piece line' : List ℕ) (g : GoesOn A old before after bytes new line pending) → HasNoEnd piece → line' ≡ cut (g.begun ++ piece) →
+    GoesOn A old before after (bytes ++ piece) new line' pending
+piece_more piece line' g n e = record {
   mid = g.mid;
-  behind = g.behind ++ b ∷ [];
-  begun = g.begun ++ b ∷ [];
-  told = told_more (b ∷ []) g.told;
-  untold = answered_more (b ∷ []) g.untold;
-  partial = no_end_more g.begun b g.partial n;
+  behind = g.behind ++ piece;
+  begun = g.begun ++ piece;
+  told = told_more piece g.told;
+  untold = answered_more piece g.untold;
+  partial = no_end_more g.begun piece g.partial n;
   kept = e;
 }
 
--- the line that a byte ends, after those that were answered
-line_more : {S : Type 0} {A : Answering S} {mid now new : S} {behind begun later notes said noted : List ℕ} → IsByStart A → (b : ℕ) → b ≡ 10 → HasNoEnd begun → AreAnswered A mid behind begun later notes now → A now (cut (begun ++ b ∷ [])) said noted new →
-    AreAnswered A mid (behind ++ b ∷ []) [] (later ++ said) (notes ++ noted) new
-line_more {begun = begun} law b e partial u a =
-    let ends : IsLine (begun ++ b ∷ []) = subst (λ (x : ℕ). IsLine (begun ++ x ∷ [])) (sym e) (line_ends begun partial) in
-    answered_then (answered_more (b ∷ []) u) (one_answered (begun ++ b ∷ []) ends (whole_answer law (begun ++ b ∷ []) a))
+-- the line that a piece ends, after those that were answered
+line_more : {S : Type 0} {A : Answering S} {mid now new : S} {behind begun later notes said noted : List ℕ} → IsByStart A → (piece : List ℕ) → IsLine piece → HasNoEnd begun → AreAnswered A mid behind begun later notes now → A now (cut (begun ++ piece)) said noted new →
+    AreAnswered A mid (behind ++ piece) [] (later ++ said) (notes ++ noted) new
+line_more {begun = begun} law piece l partial u a =
+    answered_then (answered_more piece u) (one_answered (begun ++ piece) (line_ends begun piece partial l) (whole_answer law (begun ++ piece) a))
 
-pub line_pending : {S : Type 0} {A : Answering S} {old new new' : S} {before after : Written} {bytes line said noted : List ℕ} {pending : Pending} → IsByStart A → (b : ℕ) (g : GoesOn A old before after bytes new line pending) → b ≡ 10 → A new (cut (g.begun ++ b ∷ [])) said noted new' →
-    (pending' : Pending) (line' : List ℕ) → pending'.answers.items ≡ pending.answers.items ++ said → pending'.notes.items ≡ pending.notes.items ++ noted → line' ≡ [] → GoesOn A old before after (bytes ++ b ∷ []) new' line' pending'
-line_pending {S} {A} {new' = new'} {said = said} {noted = noted} {pending = pending} law b g e a pending' line' p q r =
-    let u : AreAnswered A g.mid (g.behind ++ b ∷ []) [] (pending.answers.items ++ said) (pending.notes.items ++ noted) new' = line_more law b e g.partial g.untold a in
-    let v = subst (λ (x : List ℕ). AreAnswered A g.mid (g.behind ++ b ∷ []) [] x (pending.notes.items ++ noted) new') (sym p) u in
+pub line_pending : {S : Type 0} {A : Answering S} {old new new' : S} {before after : Written} {bytes line said noted : List ℕ} {pending : Pending} → IsByStart A → (piece : List ℕ) (g : GoesOn A old before after bytes new line pending) → IsLine piece → A new (cut (g.begun ++ piece)) said noted new' →
+    (pending' : Pending) (line' : List ℕ) → pending'.answers.items ≡ pending.answers.items ++ said → pending'.notes.items ≡ pending.notes.items ++ noted → line' ≡ [] → GoesOn A old before after (bytes ++ piece) new' line' pending'
+line_pending {S} {A} {new' = new'} {said = said} {noted = noted} {pending = pending} law piece g l a pending' line' p q r =
+    let u : AreAnswered A g.mid (g.behind ++ piece) [] (pending.answers.items ++ said) (pending.notes.items ++ noted) new' = line_more law piece l g.partial g.untold a in
+    let v = subst (λ (x : List ℕ). AreAnswered A g.mid (g.behind ++ piece) [] x (pending.notes.items ++ noted) new') (sym p) u in
     record {
       mid = g.mid;
-      behind = g.behind ++ b ∷ [];
+      behind = g.behind ++ piece;
       begun = [];
-      told = told_more (b ∷ []) g.told;
-      untold = subst (λ (x : List ℕ). AreAnswered A g.mid (g.behind ++ b ∷ []) [] pending'.answers.items x new') (sym q) v;
+      told = told_more piece g.told;
+      untold = subst (λ (x : List ℕ). AreAnswered A g.mid (g.behind ++ piece) [] pending'.answers.items x new') (sym q) v;
       partial = tt;
       kept = r ∙ cut_nil;
     }
@@ -169,9 +170,9 @@ pub rests_stops : {S : Type 0} {A : Answering S} {old new : S} {before after : W
 rests_stops r = told_stops r.told
 
 -- a line was answered, and not all of that is pending
-pub line_stops : {S : Type 0} {A : Answering S} {old new new' : S} {before after : Written} {bytes line said noted : List ℕ} {pending : Pending} → IsByStart A → (b : ℕ) (g : GoesOn A old before after bytes new line pending) → b ≡ 10 → A new (cut (g.begun ++ b ∷ [])) said noted new' →
-    Stops A old before after (bytes ++ b ∷ []) new'
-line_stops law b g e a = stops_untold (told_more (b ∷ []) g.told) (line_more law b e g.partial g.untold a)
+pub line_stops : {S : Type 0} {A : Answering S} {old new new' : S} {before after : Written} {bytes line said noted : List ℕ} {pending : Pending} → IsByStart A → (piece : List ℕ) (g : GoesOn A old before after bytes new line pending) → IsLine piece → A new (cut (g.begun ++ piece)) said noted new' →
+    Stops A old before after (bytes ++ piece) new'
+line_stops law piece g l a = stops_untold (told_more piece g.told) (line_more law piece l g.partial g.untold a)
 
 -- the bytes that were not read any more
 pub stops_more : {S : Type 0} {A : Answering S} {old new : S} {before after : Written} {bytes : List ℕ} (more : List ℕ) → Stops A old before after bytes new → Stops A old before after (bytes ++ more) new
@@ -271,15 +272,34 @@ none_told A old before = record {
   kept = cut_nil;
 }
 
--- ---- the bytes of a block
+-- ---- the pieces of a block
 
-pub block_more : (bytes block : List ℕ) (i : ℕ) → i < length block → (bytes ++ take i block) ++ get_or block i 0 ∷ [] ≡ bytes ++ take (i + 1) block
-block_more bytes block i l = append_assoc bytes (take i block) (get_or block i 0 ∷ []) ∙ ap (λ (x : List ℕ). bytes ++ x) (sym (take_more block i 0 l))
+-- no LF before a place, and none there
+pub no_end_next : (xs : List ℕ) (i : ℕ) → i < length xs → HasNoEnd (take i xs) → get_or xs i 0 ≢ 10 → HasNoEnd (take (i + 1) xs)
+no_end_next xs i l h n = subst HasNoEnd (sym (take_more xs i 0 l)) (no_end_more (take i xs) (get_or xs i 0 ∷ []) h (n, tt))
 
-pub block_rest : (bytes block : List ℕ) (i : ℕ) → i < length block → ((bytes ++ take i block) ++ get_or block i 0 ∷ []) ++ drop (i + 1) block ≡ bytes ++ block
-block_rest bytes block i l =
-    ap (λ (x : List ℕ). x ++ drop (i + 1) block) (block_more bytes block i l)
-    ∙ (append_assoc bytes (take (i + 1) block) (drop (i + 1) block) ∙ ap (λ (x : List ℕ). bytes ++ x) (take-append-drop (i + 1) block))
+-- or one
+pub line_at : (xs : List ℕ) (i : ℕ) → i < length xs → HasNoEnd (take i xs) → get_or xs i 0 ≡ 10 → IsLine (take (i + 1) xs)
+line_at xs i l h e = subst IsLine (sym (take_more xs i 0 l)) (line_ends (take i xs) (get_or xs i 0 ∷ []) h e)
+
+pub no_end_all : (xs : List ℕ) (i : ℕ) → length xs ≤ i → HasNoEnd (take i xs) → HasNoEnd xs
+no_end_all xs i l h = subst HasNoEnd (take_all i xs l) h
+
+-- a piece was taken of the rest of a block
+pub piece_taken : (block taken rest piece more : List ℕ) → block ≡ taken ++ rest → rest ≡ piece ++ more → block ≡ (taken ++ piece) ++ more
+piece_taken block taken rest piece more e f = e ∙ (ap (λ (x : List ℕ). taken ++ x) f ∙ sym (append_assoc taken piece more))
+
+pub block_rest : (bytes block taken rest piece more : List ℕ) → block ≡ taken ++ rest → rest ≡ piece ++ more → ((bytes ++ taken) ++ piece) ++ more ≡ bytes ++ block
+block_rest bytes block taken rest piece more e f =
+    append_assoc (bytes ++ taken) piece more
+    ∙ (ap (λ (x : List ℕ). (bytes ++ taken) ++ x) (sym f) ∙ (append_assoc bytes taken rest ∙ ap (λ (x : List ℕ). bytes ++ x) (sym e)))
+
+-- the front of a block, by how many bytes it has
+pub front_taken : (block front more : List ℕ) (n : ℕ) → block ≡ front ++ more → n ≡ length block - length more → take n block ≡ front
+front_taken block front more n e k =
+    let long : length block ≡ length front + length more = ap (λ (x : List ℕ). length x) e ∙ length-append front more in
+    let size : n ≡ length front = omega (arith, long, k) in
+    ap (λ (m : ℕ). take m block) size ∙ (ap (λ (x : List ℕ). take (length front) x) e ∙ take-append_seam front more)
 
 -- ---- the bytes that a reader gave
 
@@ -317,7 +337,7 @@ not_long fault.OutOfMemory unread rest n = tt
 not_long fault.TooLong unread rest n = absurd (n refl)
 
 -- a line could not be answered, or not all of that is pending
-pub fails_line : {S : Type 0} {A : Answering S} {old new new' : S} {before after : Written} {bytes line : List ℕ} {pending : Pending} → IsByStart A → (b : ℕ) (g : GoesOn A old before after bytes new line pending) → b ≡ 10 → (x : List ℕ) → x ≡ cut (g.begun ++ b ∷ []) →
-    (new' ≡ new) ⊎ ((said : List ℕ) × (noted : List ℕ) × A new x said noted new') → Stops A old before after (bytes ++ b ∷ []) new'
-fails_line {S} {A} {old} {new} {new'} {before} {after} {bytes} law b g e x same (inl q) = subst (λ (s : S). Stops A old before after (bytes ++ b ∷ []) s) (sym q) (stops_more (b ∷ []) (goes_stops g))
-fails_line {S} {A} law b g e x same (inr a) = line_stops law b g e (same_line A same a.2)
+pub fails_line : {S : Type 0} {A : Answering S} {old new new' : S} {before after : Written} {bytes line : List ℕ} {pending : Pending} → IsByStart A → (piece : List ℕ) (g : GoesOn A old before after bytes new line pending) → IsLine piece → (x : List ℕ) → x ≡ cut (g.begun ++ piece) →
+    (new' ≡ new) ⊎ ((said : List ℕ) × (noted : List ℕ) × A new x said noted new') → Stops A old before after (bytes ++ piece) new'
+fails_line {S} {A} {old} {new} {new'} {before} {after} {bytes} law piece g l x same (inl q) = subst (λ (s : S). Stops A old before after (bytes ++ piece) s) (sym q) (stops_more piece (goes_stops g))
+fails_line {S} {A} law piece g l x same (inr a) = line_stops law piece g l (same_line A same a.2)

@@ -3,7 +3,7 @@
 ghost use Rattle.std.specs.Prelude.{◌≡◌, ◌≢◌, ℕ, List, [], ◌++◌, false, OnOk, OnErr, IfOk, IfErr, MatchResult, is_some};
 ghost use Rattle.line_loop.specs.declared.faults.LoopFault.TheVariants as fault;
 ghost use Rattle.line_loop.specs.Answering.{HasBegun};
-ghost use Rattle.line_loop.specs.Loop.{Written, GoesOn, Rests, Stops, IsTaken, ServesPart, IsEnding, ServesSomeOf, held_by, AllLasts, IsFaultOf};
+ghost use Rattle.line_loop.specs.Loop.{Written, Rests, Stops, IsTaken, ServesPart, IsEnding, ServesSomeOf, held_by, AllLasts, IsFaultOf};
 ghost use Rattle.line_loop.specs.Stands.{Stand, by_stand, stand};
 
 use crate::answering::AnswersLines;
@@ -16,37 +16,7 @@ use disks::{Disk, Grow};
 use std::alloc::{AllocError, Global};
 use std::io::{Read, Write};
 
-/// Takes what is left of a block, up to the line after which it is over, if there is one. Says whether it is.
-fn take_block<S: AnswersLines, D: Disk>(
-    service: &mut S,
-    disk: &mut D,
-    line: &mut Vec<u8>,
-    unread: &mut Unread,
-    pending: &mut Pending,
-) -> Result<bool, AllocError>
-    requires { S.is_over service.old ≡ false }
-    ensures over { IfOk result (λ over. over ≡ S.is_over service.new) }
-    ensures serves { (old : Stand S) (before after : Written) (bytes : List ℕ)
-        → GoesOn (by_stand S.is_answered) old before after bytes
-        (stand service.old (D.holds disk.old)) line.old.items pending.old
-        → MatchResult result (λ over. IsTaken over unread.old unread.new
-        (λ taken. GoesOn (by_stand S.is_answered) old before after (bytes ++ taken)
-        (stand service.new (D.holds disk.new)) line.new.items pending.new))
-        (λ _. Stops (by_stand S.is_answered) old before after (bytes ++ unread.old)
-        (stand service.new (D.holds disk.new))) }
-    ensures unchanged { S.changes_files service.old ≡ false
-        → (D.leaves disk.new ≡ D.leaves disk.old) × (S.changes_files service.new ≡ false) }
-{
-    match take_bytes(service, disk, line, unread.bytes(), pending) {
-        Ok(taken) => {
-            unread.skip(taken.count);
-            Ok(taken.over)
-        }
-        Err(fault) => Err(fault),
-    }
-}
-
-/// The same, and all answers leave.
+/// Takes what is left of a block, up to the line after which it is over, if there is one, and all answers leave. Says whether it is.
 fn serve_block<S: AnswersLines, D: Disk, J: Grow, W: Write>(
     service: &mut S,
     disk: &mut D,
@@ -92,12 +62,13 @@ fn serve_block<S: AnswersLines, D: Disk, J: Grow, W: Write>(
     ensures unchanged { S.changes_files service.old ≡ false
         → (D.leaves disk.new ≡ D.leaves disk.old) × (S.changes_files service.new ≡ false) }
 {
-    let over = match take_block(service, disk, line, unread, pending) {
-        Ok(over) => over,
+    let taken = match take_bytes(service, disk, line, unread.bytes(), pending) {
+        Ok(taken) => taken,
         Err(AllocError) => return Err(LoopFault::OutOfMemory),
     };
+    unread.skip(taken.count);
     match put_pending::<S, J, W>(pending, journal, out) {
-        Ok(()) => Ok(over),
+        Ok(()) => Ok(taken.over),
         Err(fault) => Err(fault),
     }
 }

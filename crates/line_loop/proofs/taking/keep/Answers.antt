@@ -1,16 +1,14 @@
-use Rattle.std.proofs.Common.{◌≡◌, ◌<◌, ◌≤◌, [], ◌∷◌, ◌++◌, length, ◌∙◌, arith}
-use Rattle.std.proofs.lemmas.Grind.{common_steps}
+use Rattle.std.proofs.Common.{◌≡◌, ℕ, ◌+◌, ◌-◌, List, ◌++◌, length, take, ◌∙◌, ap, arith}
 use Rattle.line_parts.specs.Limits.{line_limit}
-use Rattle.line_loop.proofs.LongLines.{kept_byte, dropped_byte}
+use Rattle.line_loop.proofs.LongLines.{kept_piece}
 use Rattle.line_loop.proofs.taking.keep.Goals as goal
 
-pub returns-then-len-gt-LINE_LIMIT : goal.returns-then-len-gt-LINE_LIMIT
-returns-then-len-gt-LINE_LIMIT c =
-    let l : line_limit < length c.args.line.now.items = grind (arith, common_steps) in
-    λ begun e. dropped_byte c.args.byte begun c.args.line.now.items e l
-
 pub returns : goal.returns
-returns c =
-    let l : length c.args.line.now.items ≤ line_limit = grind (arith, common_steps) in
-    let p : c.push.new.self.items ≡ c.args.line.now.items ++ c.args.byte ∷ [] = grind (arith, common_steps) in
-    λ begun e. p ∙ kept_byte c.args.byte begun c.args.line.now.items e l
+returns c = λ begun e.
+    let line = c.args.line.now.items in
+    let piece = c.args.piece.now in
+    let n = c.len.ensures in
+    let k = c.args.line.now.ok.0 in
+    let size : c.len.result ≡ length line = omega (arith, n, k) in
+    c.in_ok-extend_from_slice.ensures.items
+    ∙ (ap (λ (x : List ℕ). line ++ x) (c.kept_part-kept.ensures ∙ ap (λ (m : ℕ). take (line_limit + 1 - m) piece) size) ∙ kept_piece piece begun line e)
