@@ -1,5 +1,5 @@
 -- A line with a key and a number is taken by what follows them.
-use Rattle.std.proofs.Common.{◌≡◌, ℕ, Bool, true, false, cond, List, [], Option, Some, None, inl, inr, refl, subst}
+use Rattle.std.proofs.Common.{◌≡◌, ℕ, Bool, true, false, cond, List, [], Option, Some, None, inl, inr, ◌⊎◌, refl, subst}
 use Rattle.disks.specs.Held.{Held}
 use Rattle.line_loop.specs.Stands.{AnsweringWith}
 use Rattle.ring_segments.specs.Remarks.{remark_of}
@@ -11,6 +11,11 @@ use Rattle.line_replica.specs.Keys.{Table, with_told, forgotten_if}
 use Rattle.line_replica.specs.Reading.{did_at, is_forget, kept_text}
 use Rattle.line_replica.specs.State.{kept_line}
 use Rattle.line_replica.specs.Replies.{IsTold, IsAnsweredOnce, IsTagTaken, IsAnsweredOrNot, turn_of, forget_note}
+
+-- the service inside could not answer
+pub inside_or_not : {S : Type 0} (A : AnsweringWith S) {s t : S} {f h : Option Held} {line : List ℕ} → ((t ≡ s) × (h ≡ f)) ⊎ ((said : List ℕ) × (noted : List ℕ) × A s f line said noted t h) → (noted : List ℕ) × IsAnsweredOrNot A s f line noted t h
+inside_or_not A (inl same) = ([], inl (refl, same.0, same.1))
+inside_or_not A (inr a) = (a.1, inr (a.0, a.2))
 
 module _ {S : Type 0} (A : AnsweringWith S) (tag : Tag) (old new : Numbered S) (was is : Option Held) (rest said noted : List ℕ) where
   pub keeps : (text : List ℕ) → Some text ≡ did_at rest → IsTold [] (with_told old.keys tag.key tag.number (kept_text text)) (remark_of (kept_line tag (kept_text text))) old was said noted new is → IsTagTaken A (did_at rest) tag old was rest said noted new is

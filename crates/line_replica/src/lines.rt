@@ -1,7 +1,7 @@
 //! Lines are answered by a replica.
 
 ghost use Rattle.std.specs.Prelude.{◌≡◌, ◌⊎◌, List, ℕ, false, OnOk, OnErr};
-ghost use Rattle.line_replica.specs.Reading.{heard, of_tagged, of_place, of_digest, place_at, digest_at};
+ghost use Rattle.line_replica.specs.Reading.{heard};
 ghost use Rattle.line_replica.specs.Replies.{IsReplied, IsHeard, IsAnsweredOrNot, IsAdded, input_of};
 
 use crate::reading::{place, place_with_digest, tagged};
@@ -10,37 +10,6 @@ use disks::Disk;
 use line_loop::{AnswersLines, Pending};
 use line_parts::LINE_LIMIT;
 use std::alloc::AllocError;
-
-/// Answers a line without a key, of a place or plain.
-fn answer_untagged<S: AnswersLines, D: Disk>(
-    replica: &mut Replica<S>,
-    disk: &mut D,
-    line: &[u8],
-    pending: &mut Pending,
-) -> Result<(), AllocError>
-    requires { S.is_over replica.old.numbered.inner ≡ false }
-    ensures ok { OnOk result ((said : List ℕ)
-        × (noted : List ℕ)
-        × IsHeard S.is_answered (of_place (place_at line.now) line.now) replica.old
-        (D.holds disk.old) line.now said noted replica.new (D.holds disk.new)
-        × IsAdded pending.old pending.new said noted) }
-    ensures err { OnErr result ((noted : List ℕ)
-        × IsAnsweredOrNot S.is_answered replica.old.numbered.inner (D.holds disk.old)
-        (input_of (of_place (place_at line.now) line.now) line.now)
-        noted replica.new.numbered.inner (D.holds disk.new)) }
-    ensures lost { replica.new.lost ≡ replica.old.lost }
-    ensures unchanged { S.changes_files replica.old.numbered.inner ≡ false
-        → (D.leaves disk.new ≡ D.leaves disk.old)
-        × (S.changes_files replica.new.numbered.inner ≡ false) }
-{
-    match place(line) {
-        Some(place) => tell_place(replica, place, pending),
-        None => match place_with_digest(line) {
-            Some((place, digest)) => set_place(replica, place, digest, pending),
-            None => answer_plain(replica, disk, line, pending),
-        },
-    }
-}
 
 /// Answers a line as one hears it.
 fn answer_heard<S: AnswersLines, D: Disk>(
@@ -69,7 +38,13 @@ fn answer_heard<S: AnswersLines, D: Disk>(
     }
     match tagged(line) {
         Some((tag, rest)) => answer_numbered(replica, disk, tag, rest, pending),
-        None => answer_untagged(replica, disk, line, pending),
+        None => match place(line) {
+            Some(place) => tell_place(replica, place, pending),
+            None => match place_with_digest(line) {
+                Some((place, digest)) => set_place(replica, place, digest, pending),
+                None => answer_plain(replica, disk, line, pending),
+            },
+        },
     }
 }
 

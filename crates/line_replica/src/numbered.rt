@@ -3,7 +3,7 @@
 ghost use Rattle.std.specs.Prelude.{◌≡◌, ◌++◌, ◌≤◌, List, ℕ, [], false, length, codes, OnOk, OnErr};
 ghost use Rattle.line_replica.specs.Keys.{line_to_asker};
 ghost use Rattle.line_replica.specs.Reading.{did_at};
-ghost use Rattle.line_replica.specs.Replies.{IsPassedOn, IsDone, IsAnsweredOnce, IsTagTaken, IsAnsweredOrNot, IsAdded, past_line, turn_of};
+ghost use Rattle.line_replica.specs.Replies.{IsDone, IsAnsweredOnce, IsTagTaken, IsAnsweredOrNot, IsAdded, past_line, turn_of};
 
 use crate::keys::{Keys, Turn, first_line};
 use crate::reading::{Tag, did, is_forget, is_to_asker, kept_text};
@@ -44,29 +44,6 @@ fn tell_past(key: u64, last: u64, text: &mut Vec<u8>) -> Result<(), AllocError>
     text.extend_from_slice(line.as_bytes())
 }
 
-/// The service inside answers a line.
-pub(crate) fn answer_inside<S: AnswersLines, D: Disk>(
-    numbered: &mut Numbered<S>,
-    disk: &mut D,
-    line: &[u8],
-    pending: &mut Pending,
-) -> Result<(), AllocError>
-    requires { S.is_over numbered.old.inner ≡ false }
-    ensures ok { OnOk result ((said : List ℕ)
-        × (noted : List ℕ)
-        × IsPassedOn S.is_answered numbered.old (D.holds disk.old) line.now said noted
-        numbered.new (D.holds disk.new)
-        × IsAdded pending.old pending.new said noted) }
-    ensures err { OnErr result ((noted : List ℕ)
-        × IsAnsweredOrNot S.is_answered numbered.old.inner (D.holds disk.old) line.now noted
-        numbered.new.inner (D.holds disk.new)) }
-    ensures unchanged { S.changes_files numbered.old.inner ≡ false
-        → (D.leaves disk.new ≡ D.leaves disk.old)
-        × (S.changes_files numbered.new.inner ≡ false) }
-{
-    numbered.inner.answer(disk, line, pending)
-}
-
 /// The service inside answers a line whose number is new, and the first line of its answer is kept, if it is for the client that asked.
 fn answer_fresh<S: AnswersLines, D: Disk>(
     numbered: &mut Numbered<S>,
@@ -89,7 +66,7 @@ fn answer_fresh<S: AnswersLines, D: Disk>(
         × (S.changes_files numbered.new.inner ≡ false) }
 {
     let place = pending.answers.len();
-    match answer_inside(numbered, disk, input, pending) {
+    match numbered.inner.answer(disk, input, pending) {
         Ok(()) => {}
         Err(AllocError) => return Err(AllocError),
     }

@@ -8,7 +8,7 @@ ghost use Rattle.line_replica.specs.State.{own_lines, remarks_of};
 ghost use Rattle.line_replica.specs.Running.{at_place, next_of, place_line};
 
 use crate::keys::Keys;
-use crate::numbered::{Numbered, answer_inside, answer_tagged};
+use crate::numbered::{Numbered, answer_tagged};
 use crate::reading::Tag;
 use crate::running::{Running, put_place};
 use disks::Disk;
@@ -46,7 +46,7 @@ pub(crate) fn answer_plain<S: AnswersLines, D: Disk>(
         × (S.changes_files replica.new.numbered.inner ≡ false) }
 {
     let place = pending.answers.len();
-    match answer_inside(&mut replica.numbered, disk, line, pending) {
+    match replica.numbered.inner.answer(disk, line, pending) {
         Ok(()) => replica.running.take_in(&pending.answers[place..]),
         Err(AllocError) => Err(AllocError),
     }
