@@ -69,7 +69,7 @@ going_filled {unread = unread} {read = read} {left = left} more none h = record 
 pub going_part : {S : Type 0} {A : Answering S} {old new : S} {begun unread read left line : List ℕ} {before after : Written} {input rest : Option (List ℕ)} {end : Ending} → Consumes input rest read → HasRead end read → Going A old begun unread read left line before after new → ServesPart end A old new begun unread left line input rest before after
 going_part {read = read} c some h = record { read = read; taken = h.taken; consumed = c; reads = some; split = h.split; rests = h.rests }
 
--- so many of the unread bytes were taken
+-- the first n of the unread bytes were taken
 pub block_taken : (unread bytes left : List ℕ) (n : ℕ) (over : Bool) (serves : List ℕ → Type 0) → bytes ≡ unread → left ≡ drop n unread → (over ≡ false → n ≡ length bytes) → serves (take n bytes) → IsTaken over unread left serves
 block_taken unread bytes left n over serves e skips all served = (
   take n unread,

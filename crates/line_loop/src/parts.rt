@@ -16,7 +16,8 @@ use disks::{Disk, Grow};
 use std::alloc::{AllocError, Global};
 use std::io::{Read, Write};
 
-/// Takes what is left of a block, up to the line after which it is over, if there is one, and all answers leave. Says whether it is.
+/// Takes what is left of a block, up to the line after which it is over, if there is one, and all answers leave. Says whether it
+/// is over.
 fn serve_block<S: AnswersLines, D: Disk, J: Grow, W: Write>(
     service: &mut S,
     disk: &mut D,

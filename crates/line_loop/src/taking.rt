@@ -12,7 +12,7 @@ use disks::Disk;
 use line_parts::LINE_LIMIT;
 use std::alloc::AllocError;
 
-/// What is kept of a piece after so many bytes of its line.
+/// What is kept of a piece after `kept` bytes of its line.
 fn kept_part(piece: &[u8], kept: usize) -> &[u8]
     ensures { result.now ≡ take (line_limit + 1 - kept) piece.now }
 {
