@@ -1,7 +1,7 @@
 -- The turns of one lock, of what was done to its ring and its line.
-use Rattle.std.proofs.Common.{◌≡◌, ℕ, suc, ◌+◌, ◌≤◌, Bool, true, false, cond, not, List, [], ◌∷◌, ◌++◌, map, length, length-append, arith, refl, sym, ◌∙◌, ap, subst, inl, inr, Option, Some, None, IsSome, is_some, MatchOption}
-use Rattle.std.specs.Prelude.{slice_index, ◌==◌, if◌then◌else◌, ◌⊎◌}
-use Rattle.std.proofs.lemmas.Bool.{false≢true, true≢false, or_parts}
+use Rattle.std.proofs.Common.{◌≡◌, ℕ, suc, ◌+◌, ◌≤◌, Bool, true, false, cond, not, List, [], ◌∷◌, ◌++◌, map, length, length-append, arith, refl, sym, ◌∙◌, ap, subst, Option, Some, None, IsSome, MatchOption}
+use Rattle.std.specs.Prelude.{slice_index, ◌==◌, if◌then◌else◌}
+use Rattle.std.proofs.lemmas.Bool.{false≢true, or_parts}
 use Rattle.ring_model.specs.History.{State, next, after}
 use Rattle.ring_model.specs.Resources.{till}
 use Rattle.ring_model.specs.declared.events.Event.{Event}
@@ -15,11 +15,11 @@ use Rattle.ring_locks.specs.declared.answers.Answers.{Answers}
 use Rattle.ring_locks.specs.declared.answers.HoldEnd.{HoldEnd}
 use Rattle.ring_locks.specs.declared.answers.Refusal.TheVariants as refusal
 use Rattle.ring_locks.specs.Lines.{Lock, stands, without, is_held_by}
-use Rattle.ring_locks.specs.Locks.{Leave, Cancel, turn, Turn, Call, called, first_pass, fault, told, granted, joined, tried_of, ended, dropped, faulted}
+use Rattle.ring_locks.specs.Locks.{Leave, Cancel, turn, Call, called, first_pass, fault, told, granted, joined, ended, dropped, faulted}
 use Rattle.ring_locks.specs.Kept.{LockView, state_of, lock_of, IsKeptRing, IsKeptLock, AreMade, own_answer, answers_of}
-use Rattle.ring_locks.specs.Parts.{IsMade, IsTurned, IsWanting, IsTurnedIn, IsWantingIn, IsEntryOf, Unchanged, Begun, Passed, Dropped}
+use Rattle.ring_locks.specs.Parts.{IsMade, IsTurned, IsTurnedIn, IsEntryOf, Unchanged, Begun, Passed, Dropped}
 use Rattle.ring_locks.proofs.Rings.{events_of_calls}
-use Rattle.ring_locks.proofs.Calls.{made_state, same_state, same_itself}
+use Rattle.ring_locks.proofs.Calls.{made_state, made_of_same, same_state, same_itself}
 
 lock_is : (a b : State ℕ) (x y : List Waiter) (h k : Option Holder) → a ≡ b → x ≡ y → h ≡ k → ◌≡◌ {A = Lock} (record { ring = a; line = x; holder = h }) (record { ring = b; line = y; holder = k })
 lock_is a b x y h k e f g = ap (λ (z : State ℕ). record { ring = z; line = x; holder = h }) e ∙ ap (λ (z : List Waiter). record { ring = b; line = z; holder = h }) f ∙ ap (λ (z : Option Holder). record { ring = b; line = y; holder = z }) g
@@ -95,38 +95,23 @@ passed_turned number v ring line w others c token own end es fs k room e f s m t
 
 -- ---- turns in which nobody comes into the line or goes out of it
 
-pub line_same : (number : ℕ) (v w : LockView) (es : List (ℕ × ℕ)) (c : ℕ) (t : Turn) (r : Answers) → t.lock.line ≡ v.line → IsTurned v w c t r → IsTurnedIn number v w es es c t r
-line_same number v w es c t r e d = record { turned = d; waits = Unchanged (ap (λ (x : Lock). x.line) d.lock ∙ e) refl }
-
-pub told_in : (number : ℕ) (v : LockView) (es : List (ℕ × ℕ)) (c : ℕ) (a : Answer) (r : Answers) → IsKeptLock v → r ≡ record { own = Some a; ended = None; granted = None } → IsTurnedIn number v v es es c (told (lock_of v) c a) r
-told_in number v es c a r k e = record {
-  turned = record { lock = refl; marks = same_itself v.ring; answers = ap (λ (x : Answers). answers_of c x) e; ended = ap (λ (x : Answers). x.ended) e; kept = k };
-  waits = Unchanged refl refl;
-}
-
-pub grant_in : (number : ℕ) (v w : LockView) (es : List (ℕ × ℕ)) (x : Waiter) (r : Answers) → IsTurned v w x.client (granted (state_of v.ring) v.line x) r ⊎ IsWanting v w (length v.line + 1) r →
-    IsTurnedIn number v w es es x.client (granted (state_of v.ring) v.line x) r ⊎ IsWantingIn v w es es (length v.line + 1) r
-grant_in number v w es x r d = elim d [
-  | inl p ↦ inl (line_same number v w es x.client (granted (state_of v.ring) v.line x) r refl p)
-  | inr p ↦ inr (record { wanting = p; waits = λ c. refl })
-]
-
--- by whether the lock is free
-pub free_none : (h : Option Holder) → is_some h ≡ false → h ≡ None
-free_none None e = refl
-free_none (Some h) e = absurd (true≢false e)
-
-pub joined_free : (l : Lock) (w : Waiter) (h : Option Holder) → is_some h ≡ false → joined l w h ≡ granted l.ring l.line w
-joined_free l w None e = refl
-joined_free l w (Some h) e = absurd (true≢false e)
-
-pub tried_free : (l : Lock) (w : Waiter) (h : Option Holder) → is_some h ≡ false → tried_of l w h ≡ granted l.ring l.line w
-tried_free l w None e = refl
-tried_free l w (Some h) e = absurd (true≢false e)
-
-pub tried_busy : (l : Lock) (w : Waiter) (h : Option Holder) → is_some h ≡ true → tried_of l w h ≡ told l w.client answer.Busy
-tried_busy l w None e = absurd (false≢true e)
-tried_busy l w (Some h) e = refl
+-- a grant, once there is room for it
+pub granted_is : (v : LockView) (now ring : EndlessView) (w : Waiter) (token : ℕ) (r : Answers) → IsKeptLock (record { ring = ring; line = v.line; holder = Some (record { client = w.client; token = token }) }) → IsSameEndless v.ring now → IsMade now ring 0 (first_pass (state_of now) w.order) → token ≡ (state_of now).grants + 1 →
+    r ≡ record { own = Some (answer.Granted token); ended = None; granted = None } →
+    IsTurned v (record { ring = ring; line = v.line; holder = Some (record { client = w.client; token = token }) }) w.client (granted (state_of v.ring) v.line w) r
+granted_is v now ring w token r k same made t e =
+    let state : state_of now ≡ state_of v.ring = same_state v.ring now same in
+    let marks = Call (called (state_of v.ring) 0 (first_pass (state_of v.ring) w.order)) ∷ [] in
+    let all : AreMade v.ring marks ring = made_of_same v.ring now ring marks same (subst (λ (a : State ℕ). AreMade now (Call (called a 0 (first_pass a w.order)) ∷ []) ring) state made) in
+    let number : token ≡ (state_of v.ring).grants + 1 = t ∙ ap (λ (a : State ℕ). a.grants + 1) state in
+    record {
+      lock = lock_is (state_of ring) (next till (state_of v.ring) (first_pass (state_of v.ring) w.order)) v.line v.line (Some (record { client = w.client; token = token })) (Some (record { client = w.client; token = (state_of v.ring).grants + 1 }))
+          (made_state v.ring ring marks all) refl (ap (λ (x : ℕ). Some (record { client = w.client; token = x })) number);
+      marks = all;
+      answers = ap (λ (x : Answers). answers_of w.client x) e ∙ ap (λ (x : ℕ). (w.client, answer.Granted x) ∷ []) number;
+      ended = ap (λ (x : Answers). x.ended) e;
+      kept = k;
+    }
 
 -- a line in which the client is not
 pub without_absent : (c : ℕ) (line : List Waiter) → stands c line ≡ false → without c line ≡ line

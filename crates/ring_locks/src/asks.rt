@@ -4,7 +4,7 @@ ghost use Rattle.std.specs.Prelude.{◌≡◌, ℕ, ◌+◌, ◌⊎◌, List, []
 ghost use Rattle.std.specs.Prelude.{true, false, length, IsTrue};
 ghost use Rattle.ring_model.specs.Ring.{is_settled};
 ghost use Rattle.ring_locks.specs.Lines.{stands, is_held_by, is_held_with};
-ghost use Rattle.ring_locks.specs.Locks.{Release, Cancel, Leave, Corrupt, Stats as Asks_stats, acquired, joined, tried, turn};
+ghost use Rattle.ring_locks.specs.Locks.{Release, Cancel, Leave, Corrupt, Stats as Asks_stats, acquired, tried, turn};
 ghost use Rattle.ring_locks.specs.Kept.{state_of, lock_of, need, IsKeptLock};
 ghost use Rattle.ring_locks.specs.Waiting.{lock_in};
 ghost use Rattle.ring_locks.specs.Parts.{view_of, IsTurnedIn, IsWantingIn};
@@ -35,23 +35,6 @@ pub(crate) fn is_held_with(client: u64, token: u64, holder: Option<Holder>) -> b
     }
 }
 
-/// A client that may wait acquires the lock.
-#[inline(always)]
-fn join(lock: &mut LockParts, waits: &mut Waits, number: u32, waiter: Waiter) -> Answers
-    requires kept { IsKeptLock (view_of lock.old) }
-    requires settled { is_settled (state_of lock.old.ring).ring.values ≡ true }
-    requires free { lock_in waits.old waiter.client ≡ None }
-    ensures { IsTurnedIn number (view_of lock.old) (view_of lock.new) waits.old waits.new
-        waiter.client (joined (lock_of (view_of lock.old)) waiter lock.old.holder) result
-        ⊎ IsWantingIn (view_of lock.old) (view_of lock.new) waits.old waits.new
-        (length lock.old.line.items + 1) result }
-{
-    if lock.holder.is_some() {
-        return wait(lock, waits, number, waiter);
-    }
-    grant(lock, waiter)
-}
-
 /// A client acquires the lock, if nothing is against it.
 #[inline(always)]
 pub(crate) fn acquire(
@@ -69,10 +52,13 @@ pub(crate) fn acquire(
         ⊎ IsWantingIn (view_of lock.old) (view_of lock.new) waits.old waits.new
         (length lock.old.line.items + 1) result }
 {
-    match why {
-        Some(why) => refused(why),
-        None => join(lock, waits, number, waiter),
+    if let Some(why) = why {
+        return refused(why);
     }
+    if lock.holder.is_some() {
+        return wait(lock, waits, number, waiter);
+    }
+    grant(lock, waiter)
 }
 
 /// A client tries to acquire the lock, if nothing is against it.

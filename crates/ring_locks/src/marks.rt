@@ -86,7 +86,7 @@ fn likely(ring: &EndlessRing) -> u32
 
 /// The privileged machine of a settled ring. It is searched for only where the likely one is not privileged.
 #[inline(always)]
-fn privileged(ring: &EndlessRing) -> u32
+pub(crate) fn privileged(ring: &EndlessRing) -> u32
     requires kept { IsKeptRing ring.now }
     requires settled { is_settled (state_of ring.now).ring.values ≡ true }
     ensures { result ≡ first_privileged (state_of ring.now).ring.values }
@@ -171,57 +171,6 @@ pub(crate) fn pass(ring: &mut EndlessRing, seat: u32, order: u64) -> Result<u64,
 {
     let first = first(ring);
     pass_first(ring, seat, first, order)
-}
-
-/// The same, of a ring that is settled.
-///
-/// # Errors
-///
-/// `Full`, `Memory`; neither if there is room for an event. Nothing has changed then.
-#[inline(always)]
-fn pass_settled(ring: &mut EndlessRing, seat: u32, order: u64) -> Result<u64, Refusal>
-    requires kept { IsKeptRing ring.old }
-    requires settled { is_settled (state_of ring.old).ring.values ≡ true }
-    requires seat { seat < seat_count }
-    ensures number { IfOk result (λ number. number ≡ (state_of ring.old).grants + 1) }
-    ensures made { OnOk result
-        (IsMade ring.old ring.new seat (first_pass (state_of ring.old) order)) }
-    ensures kept { IsKeptRing ring.new }
-    ensures err { OnErr result (ring.new ≡ ring.old) }
-    ensures why { IfErr result (λ e. IsWantOf ring.old 1 e) }
-    ensures succeeds { 1 ≤ ring.old.ring.book.room → IsOk result }
-    ensures room { OnOk result (ring.old.ring.book.room ≤ ring.new.ring.book.room + 1) }
-{
-    let first = privileged(ring);
-    pass_first(ring, seat, first, order)
-}
-
-/// A pass of the first privileged machine of a settled ring on seat 0, with room left for an event for each client that waits. Answers its number.
-///
-/// # Errors
-///
-/// `Full`, `Memory`. Nothing has changed then.
-#[inline(always)]
-pub(crate) fn grant(ring: &mut EndlessRing, waiting: usize, order: u64) -> Result<u64, Refusal>
-    requires kept { IsKeptRing ring.old }
-    requires settled { is_settled (state_of ring.old).ring.values ≡ true }
-    requires room { waiting ≤ ring.old.ring.book.room }
-    ensures number { IfOk result (λ number. number ≡ (state_of ring.old).grants + 1) }
-    ensures made { OnOk result
-        (IsMade ring.old ring.new 0 (first_pass (state_of ring.old) order)) }
-    ensures kept { IsKeptRing ring.new }
-    ensures err { OnErr result (ring.new ≡ ring.old) }
-    ensures why { IfErr result (λ e. IsWantOf ring.old (waiting + 1) e) }
-    ensures room { waiting ≤ ring.new.ring.book.room }
-{
-    match reserve(ring, waiting, 1) {
-        Ok(()) => {}
-        Err(why) => return Err(why),
-    }
-    match pass_settled(ring, 0, order) {
-        Ok(number) => Ok(number),
-        Err(_) => unreachable!(),
-    }
 }
 
 /// The ring with its next segment, which has no events.

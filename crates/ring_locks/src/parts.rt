@@ -45,7 +45,7 @@ pub(crate) fn refused(why: Refusal) -> Answers
     told(Answer::Refused(why))
 }
 
-/// Grants the lock to a client.
+/// Grants the lock to a client, with room left for a grant to each that waits.
 #[inline(always)]
 pub(crate) fn grant(lock: &mut LockParts, waiter: Waiter) -> Answers
     requires kept { IsKeptLock (view_of lock.old) }
@@ -54,7 +54,12 @@ pub(crate) fn grant(lock: &mut LockParts, waiter: Waiter) -> Answers
         (granted (state_of lock.old.ring) lock.old.line.items waiter) result
         ⊎ IsWanting (view_of lock.old) (view_of lock.new) (length lock.old.line.items + 1) result }
 {
-    match marks::grant(&mut lock.ring, lock.line.len(), waiter.order) {
+    match marks::reserve(&mut lock.ring, lock.line.len(), 1) {
+        Ok(()) => {}
+        Err(why) => return refused(why),
+    }
+    let first = marks::privileged(&lock.ring);
+    match marks::pass_first(&mut lock.ring, 0, first, waiter.order) {
         Ok(token) => {
             lock.holder = Some(Holder {
                 client: waiter.client,
@@ -62,7 +67,7 @@ pub(crate) fn grant(lock: &mut LockParts, waiter: Waiter) -> Answers
             });
             told(Answer::Granted(token))
         }
-        Err(why) => refused(why),
+        Err(_) => unreachable!(),
     }
 }
 
