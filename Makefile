@@ -4,7 +4,7 @@ PREFIX = /usr/local
 export PREFIX DESTDIR LIBDIR INCLUDEDIR CC
 
 library:
-	cd crates/ring_desk_c && rt lib
+	cd crates/wozgirt_c && rt lib
 
 install:
 	release/install

@@ -7,8 +7,8 @@ set -eu
 . "$(dirname "$0")/common.sh"
 library=${1:-}
 if [ -z "$library" ]; then
-    echo "proving and building ring_desk_c"
-    (cd "$top/crates/ring_desk_c" && rt lib >"$out/ring_desk_c-build.log" 2>&1) || { cat "$out/ring_desk_c-build.log"; exit 1; }
+    echo "proving and building wozgirt_c"
+    (cd "$top/crates/wozgirt_c" && rt lib >"$out/wozgirt_c-build.log" 2>&1) || { cat "$out/wozgirt_c-build.log"; exit 1; }
     "$top/release/library" "$out/calls"
     library=$out/calls/libwozgirt.a
 fi

@@ -11,8 +11,8 @@ tool=${1:-}
 [ -n "$tool" ] || { build ring_tool --help; tool=$top/crates/ring_tool/out/ring_tool; }
 case $tool in /*) ;; *) tool=$PWD/$tool ;; esac
 
-echo "proving and building ring_desk_c"
-(cd "$top/crates/ring_desk_c" && rt lib >"$out/ring_desk_c-build.log" 2>&1) || { cat "$out/ring_desk_c-build.log"; exit 1; }
+echo "proving and building wozgirt_c"
+(cd "$top/crates/wozgirt_c" && rt lib >"$out/wozgirt_c-build.log" 2>&1) || { cat "$out/wozgirt_c-build.log"; exit 1; }
 folder=$out/languages
 mkdir -p "$folder"
 "$top/release/library" "$folder"

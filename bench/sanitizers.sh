@@ -13,7 +13,7 @@ folder=$out/sanitizers
 mkdir -p "$folder"
 library=${1:-$folder}/libwozgirt.a
 if [ -z "${1:-}" ]; then
-    (cd "$top/crates/ring_desk_c" && rt lib) >"$out/ring_desk_c-build.log" 2>&1 || { cat "$out/ring_desk_c-build.log"; exit 1; }
+    (cd "$top/crates/wozgirt_c" && rt lib) >"$out/wozgirt_c-build.log" 2>&1 || { cat "$out/wozgirt_c-build.log"; exit 1; }
     "$top/release/library" "$folder" || exit 1
 fi
 strict="-std=c11 -Wall -Wextra -Wpedantic -Werror -I$top/include -g -O1 -pthread"

@@ -24,7 +24,7 @@ TESTS = re.compile(r"^#\[cfg\(test\)\]\nmod \w+ \{", re.M)
 
 #: what is judged: the name of the kind, its files, and what of them is read
 KINDS = (
-    ("help of ring_tool", ("crates/ring_cli/src/*.rt",), "texts"),
+    ("help of ring_tool", ("crates/command_line/src/*.rt",), "texts"),
     ("texts of the server and the command", ("server/*/src/**/*.rs",), "texts"),
     ("texts of the clients", ("python/wozgirt/*.py", "rust/*/src/*.rs", "include/*.h", "include/*.c"), "texts"),
     ("comments of the C headers", ("include/*.h", "include/*.c"), "comments"),

@@ -1,5 +1,5 @@
 /* Wozgirt for C and C++, and for each language that calls C: Dijkstra's token rings, one ring for each resource, the
- * separate checker of their saved histories, and locks over such rings. The static library is `ring_desk_c`;
+ * separate checker of their saved histories, and locks over such rings. The static library is `wozgirt_c`;
  * docs/CLIENTS.md says how it is built, and what is proved of it.
  *
  * The caller has to keep these rules, since nothing checks them:

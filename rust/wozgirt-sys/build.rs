@@ -11,8 +11,8 @@ fn link_in(folder: &Path) -> bool {
         &["static=wozgirt"]
     } else if has("libwozgirt.so") {
         &["dylib=wozgirt"]
-    } else if has("libring_desk_c.a") && has("liblibc_c.a") {
-        &["static=ring_desk_c", "static=libc_c"]
+    } else if has("libwozgirt_c.a") && has("liblibc_c.a") {
+        &["static=wozgirt_c", "static=libc_c"]
     } else {
         return false;
     };

@@ -91,7 +91,7 @@ class Clauses(unittest.TestCase):
         self.assertEqual(self.wrong("The clause `headline` of `run_nothing`.\n"), ["no function `run_nothing`", "no clause `headline` of `run_nothing`"])
 
     def test_laws(self):
-        self.assertEqual(self.wrong("The laws `exclusion` and `tokens_rise` of `ring_locks`.\n"), [])
+        self.assertEqual(self.wrong("The laws `exclusion` and `tokens_rise` of `held_locks`.\n"), [])
         self.assertEqual(self.wrong("The law `nobody_dies`.\n"), ["no law `nobody_dies`"])
 
     def test_in_a_table(self):

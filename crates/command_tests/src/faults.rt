@@ -1,9 +1,9 @@
 //! The line of each fault, also of those that no command line causes, and the words of the checker's answers.
 
+use journal::RecoverError;
 use ring_check::{CheckError, Kind};
-use ring_journal::RecoverError;
-use ring_segments::SegmentError;
 use ring_settings::{Field, RingCause};
+use segment_files::SegmentError;
 use std::test::Fail;
 use tool_parts::endings::tell;
 use tool_parts::faults::ToolError;

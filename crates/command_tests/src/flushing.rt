@@ -6,7 +6,6 @@ use disks::MemoryDisk;
 use folder_commands::recover;
 use lock_commands::locks;
 use ring_check::Kind;
-use ring_requests::{LocksWords, PictureWords, RecoverWords, ServeWords};
 use serve_commands::serve;
 use std::alloc::Global;
 use std::io::{self, ErrorKind, Write};
@@ -16,6 +15,7 @@ use text_commands::check_all::check_all_bytes;
 use text_commands::picture;
 use tool_parts::endings::finish;
 use tool_parts::faults::ToolError;
+use tool_parts::requests::{LocksWords, PictureWords, RecoverWords, ServeWords};
 
 /// A writer into memory, which can be flushed so often, and then no more.
 #[derive(Drop)]

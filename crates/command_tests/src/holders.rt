@@ -1,6 +1,6 @@
 //! Lines of holders with the greatest numbers, which no hold has.
 
-use lock_holders::read_holders;
+use lock_folder::read_holders;
 
 #[test]
 fn reads_lines(rt: HostRuntime) {

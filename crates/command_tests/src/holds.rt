@@ -1,7 +1,7 @@
 //! Histories of locks that are not legal, which the command `holds` refuses before it reads them, and the sums of a chain.
 
-use ring_holds::{ChainHoldError, Choice, HoldChain, holds_of_saved, put_holds};
-use ring_saved::{Saved, read_saved};
+use chain_readers::{ChainHoldError, Choice, HoldChain, holds_of_saved, put_holds};
+use saved_history::{Saved, read_saved};
 use std::alloc::Global;
 use std::process::Abort;
 

@@ -1,6 +1,6 @@
 //! A list as `step` reads it, with the greatest number, and a history with as many events as one can have.
 
-use ring_commands::step::step_lines;
+use run_commands::step::step_lines;
 use std::test::Fail;
 use tool_parts::faults::ToolError;
 use tool_parts::lists::read_list;

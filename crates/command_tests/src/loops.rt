@@ -2,7 +2,7 @@
 
 use crate::files::memory::no_files;
 use disks::{Disk, Grow};
-use line_loop::{AnswersLines, Ending, LoopFault, Pending, Unread, serve_part};
+use line_service::{AnswersLines, Ending, LoopFault, Pending, Unread, serve_part};
 use std::alloc::{AllocError, Global};
 
 #[derive(Drop)]

@@ -5,11 +5,11 @@ use crate::files::memory::{bytes_of, make_folder, no_files, put};
 use crate::reading::Giver;
 use disks::{Disk, KeepingCalls, LosingCalls, SystemDisk};
 use lock_commands::locks;
-use ring_requests::{LocksWords, ServeWords};
 use serve_commands::serve;
 use std::alloc::Global;
 use std::io;
 use std::test::Fail;
+use tool_parts::requests::{LocksWords, ServeWords};
 
 /// A journal as it begins.
 const BEGUN: &str = "ringjournal 1\nringfarm 2\nring 0 3 3\nstart 0 0 0\nend 0\ndone 1\n";

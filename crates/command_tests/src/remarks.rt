@@ -1,7 +1,7 @@
 //! The first file of the chain in [`segments`](crate::segments), with remarks.
 
 use crate::segments::FIRST;
-use ring_segments::{has_remark, put_remark, without_remarks};
+use segment_files::{has_remark, put_remark, without_remarks};
 use std::test::Fail;
 
 const REMARKED: &str = "ringsegment 1 1 2\n\

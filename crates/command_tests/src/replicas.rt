@@ -4,10 +4,9 @@ ghost use Rattle.std.specs.Prelude.{◌≡◌, false};
 
 use crate::files::memory::no_files;
 use disks::Disk;
-use line_loop::{AnswersLines, Ending, Pending, Unread, serve_part};
 use line_replica::{HasState, Replica, Restorable};
-use ring_segments::{DIGEST_DIGITS, digest};
-use segment_loop::{EndFault, Segmented};
+use line_service::{AnswersLines, EndFault, Ending, Pending, Segmented, Unread, serve_part};
+use segment_files::{DIGEST_DIGITS, digest};
 use std::alloc::{AllocError, Global};
 
 /// A segment is due once more lines were answered than this, and lines are answered all the same.
@@ -51,7 +50,7 @@ impl Segmented for Count {
     ghost use Rattle.std.specs.Prelude.{◌≡◌, refl, nat_lt, [], ◌∷◌, Option, IsSome};
     ghost use Rattle.std.proofs.Common.{subst, sym};
     ghost use Rattle.disks.specs.Held.{Held};
-    ghost use Rattle.segment_loop.specs.declared.segmented.EndFault.TheVariants as end;
+    ghost use Rattle.line_service.specs.declared.segmented.EndFault.TheVariants as end;
 
     ghost segmenting = { record {
       text = λ s number behind. 116 ∷ 10 ∷ [];

@@ -1,15 +1,15 @@
 //! A service that says the same to each line, in segments that are due after a number of lines.
 
 ghost use Rattle.std.specs.Prelude.{◌≡◌};
-ghost use Rattle.segment_loop.specs.Segments.{IsNamed};
+ghost use Rattle.line_service.specs.Segments.{IsNamed};
 
 use crate::files::memory::no_files;
 use disks::{Disk, FolderEntry, MemoryDisk};
-use line_loop::{AnswersLines, Pending};
-use ring_segments::DIGEST_DIGITS;
-use segment_loop::{
-    EndFault, SegmentRules, Segmented, begin_segment, close_segment, serve_segments,
+use line_service::{
+    AnswersLines, EndFault, Pending, SegmentRules, Segmented, begin_segment, close_segment,
+    serve_segments,
 };
+use segment_files::DIGEST_DIGITS;
 use std::alloc::{AllocError, Global};
 use std::io::{self, Cursor, ErrorKind, Read};
 use std::process::Abort;
@@ -61,7 +61,7 @@ impl AnswersLines for Tally {
 impl Segmented for Tally {
     ghost use Rattle.std.specs.Prelude.{◌≡◌, ◌<◌, ◌∷◌, ◌++◌, ◌&&◌, Bool, [], Option, Some, IsSome, is_none, nat_lt};
     ghost use Rattle.std.proofs.Common.{ap, subst, sym};
-    ghost use Rattle.segment_loop.specs.declared.segmented.EndFault.TheVariants as end;
+    ghost use Rattle.line_service.specs.declared.segmented.EndFault.TheVariants as end;
     ghost use Rattle.disks.specs.Held.{Held};
 
     ghost segmenting = { record {

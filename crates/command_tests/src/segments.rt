@@ -1,8 +1,8 @@
 //! A chain of three files: the two rings of the example of journals, a corruption, and a ring more in the last file, whose
 //! end is cut. The digests are those of another program.
 
-use ring_chains::Base;
-use ring_segments::{
+use ring_model::Base;
+use segment_files::{
     Chain, ChainSums, DIGEST_DIGITS, SegmentError, SegmentHead, digest, digits, put_head, read_head,
 };
 use std::test::Fail;

@@ -1,17 +1,16 @@
 //! Locks whose segment is kept on, on strict terms too, and the beginning of a journal: what no row of `tests/rows` shows.
 
-ghost use Rattle.ring_locks.specs.Kept.{IsKeptRing};
+ghost use Rattle.held_locks.specs.Kept.{IsKeptRing};
 
 use crate::files::memory::no_files;
-use line_loop::{AnswersLines, Ending, Pending, Unread, serve_part};
-use lock_serve::{LockService, Terms};
+use endless_ring::EndlessRing;
+use held_locks::Locks;
+use line_service::{AnswersLines, EndFault, Ending, Pending, Segmented, Unread, serve_part};
+use lock_service::{LockService, Terms};
+use one_thread_ring::OneThreadRing;
 use ring_book::Till;
-use ring_chains::Base;
-use ring_desk::OneThreadRing;
-use ring_endless::EndlessRing;
-use ring_locks::Locks;
-use ring_segments::digest;
-use segment_loop::{EndFault, Segmented};
+use ring_model::Base;
+use segment_files::digest;
 use std::alloc::Global;
 use std::process::Abort;
 

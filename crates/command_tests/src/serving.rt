@@ -2,7 +2,6 @@
 
 use crate::files::memory::{bytes_of, no_files, put};
 use disks::{Disk, FolderEntry, Grow, MemoryDisk};
-use ring_requests::ServeWords;
 use serve_commands::serve::run;
 use std::alloc::Global;
 use std::cell::Cell;
@@ -10,6 +9,7 @@ use std::io::{self, Cursor, ErrorKind, Read};
 use std::process::Abort;
 use std::test::Fail;
 use tool_parts::faults::ToolError;
+use tool_parts::requests::ServeWords;
 
 /// A journal that records no call.
 const BEGUN: &str = "ringjournal 1\nringfarm 2\nring 0 3 3\nstart 0 0 0\nend 0\ndone 1\n";

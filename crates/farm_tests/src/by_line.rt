@@ -6,11 +6,11 @@ mod files;
 mod journals;
 mod streams;
 
+use endless_ring::EndlessRing;
+use one_thread_ring::OneThreadRing;
 use ring_book::Till;
-use ring_chains::Base;
-use ring_desk::OneThreadRing;
-use ring_endless::EndlessRing;
-use ring_serve::{Permits, Served};
+use ring_model::Base;
+use ring_service::{Permits, Served};
 use std::alloc::Global;
 use std::process::Abort;
 

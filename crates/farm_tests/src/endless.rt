@@ -1,13 +1,12 @@
 //! A ring that is cut after its first three calls.
 
 ghost use Rattle.ring_model.specs.Resources.{till};
-ghost use Rattle.ring_desk.specs.Rings.{IsOneThreadRing};
+ghost use Rattle.one_thread_ring.specs.Rings.{IsOneThreadRing};
 
+use endless_ring::EndlessRing;
+use one_thread_ring::{CallError, OneThreadRing};
 use ring_book::Till;
-use ring_chains::Base;
-use ring_desk::{CallError, OneThreadRing};
-use ring_endless::EndlessRing;
-use ring_model::{Receipt, Reply, Survey};
+use ring_model::{Base, Receipt, Reply, Survey};
 use std::alloc::Global;
 use std::process::Abort;
 

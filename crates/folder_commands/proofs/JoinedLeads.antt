@@ -2,17 +2,17 @@
 use Rattle.std.proofs.Common.{◌≡◌, ℕ, ◌+◌, ◌<◌, List, [], ◌∷◌, ◌++◌, length, Bool, true, false, eqb, Option, Some, None, refl, sym, ap, subst, ◌∙◌, arith, length-append, eqb-true, eq-eqb}
 use Rattle.std.proofs.lemmas.Bool.{false_from_ne_true}
 use Rattle.disks.specs.Held.{Held}
-use Rattle.segment_folder.specs.declared.numbers.SegmentNumbers.{SegmentNumbers}
-use Rattle.segment_folder.specs.Names.{segment_file}
-use Rattle.ring_saved.specs.Content.{Block}
-use Rattle.ring_segments.specs.declared.sums.ChainSums.{ChainSums}
-use Rattle.ring_segments.specs.Files.{File, AreChained}
-use Rattle.ring_segments.specs.Sums.{no_sums, sums_after}
-use Rattle.ring_segments.specs.Chain.{State, LeadTo, sums_at}
-use Rattle.ring_segments.proofs.Adding.{chained, led_on}
-use Rattle.ring_joins.specs.Joining.{with_file, with_files}
-use Rattle.ring_joins.specs.Joins.{Joined, IsJoinedWith, IsCount}
-use Rattle.ring_joins.proofs.RingCounts.{files_more, joined_have_rings}
+use Rattle.line_service.specs.declared.segment_numbers.SegmentNumbers.{SegmentNumbers}
+use Rattle.line_service.specs.SegmentNames.{segment_file}
+use Rattle.saved_history.specs.Content.{Block}
+use Rattle.segment_files.specs.declared.sums.ChainSums.{ChainSums}
+use Rattle.segment_files.specs.Files.{File, AreChained}
+use Rattle.segment_files.specs.Sums.{no_sums, sums_after}
+use Rattle.segment_files.specs.Chain.{State, LeadTo, sums_at}
+use Rattle.segment_files.proofs.Adding.{chained, led_on}
+use Rattle.chain_readers.specs.Joining.{with_file, with_files}
+use Rattle.chain_readers.specs.Joins.{Joined, IsJoinedWith, IsCount}
+use Rattle.chain_readers.proofs.RingCounts.{files_more, joined_have_rings}
 use Rattle.tool_parts.specs.declared.faults.ToolError.{ToolError}
 use Rattle.tool_parts.specs.Named.{IsHeld}
 use Rattle.folder_commands.specs.JoinedFolder.{IsUnjoined, IsJoinRefused}

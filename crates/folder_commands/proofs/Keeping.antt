@@ -6,22 +6,22 @@ use Rattle.std.proofs.lemmas.Option.{none-some}
 use Rattle.std.proofs.lemmas.List.{length-take}
 use Rattle.text_lines.specs.declared.answer.ReadError.{ReadError}
 use Rattle.text_lines.specs.declared.answer.ReadError.TheVariants as reading
-use Rattle.ring_saved.specs.Content.{Content}
+use Rattle.saved_history.specs.Content.{Content}
 use Rattle.ring_check.specs.Lines.{lines}
-use Rattle.ring_journal.specs.declared.errors.RecoverError.{RecoverError}
-use Rattle.ring_journal.specs.declared.errors.RecoverError.TheVariants.{Truncated, Syntax, Bad, OutOfMemory}
-use Rattle.ring_journal.specs.Beginnings.{CanBeSaved}
-use Rattle.ring_journal.specs.Recovery.{IsRecovered, IsRightRecovery}
-use Rattle.ring_journal.proofs.Savings.{can_be_saved}
-use Rattle.ring_salvage.specs.Salvaging.{IsSalvaged, IsLost, IsRightSalvage}
-use Rattle.ring_segments.specs.Spelling.{Head, HeadFits, head_text}
-use Rattle.ring_segments.specs.Meaning.{IsRightHead}
-use Rattle.ring_segments.specs.Files.{File}
-use Rattle.ring_segments.specs.Chain.{head_lines, refused_head, refused_journal, line_in, IsRightRefusal}
-use Rattle.ring_segments.specs.Remarks.{lines_in, without_remarks, line_among}
-use Rattle.ring_segments.proofs.LineBounds.{recovery_within}
-use Rattle.ring_segments.proofs.RemarkSteps.{without_within}
-use Rattle.ring_segments.proofs.Refusing.{journal_refused, line_room, number_room}
+use Rattle.journal.specs.declared.errors.RecoverError.{RecoverError}
+use Rattle.journal.specs.declared.errors.RecoverError.TheVariants.{Truncated, Syntax, Bad, OutOfMemory}
+use Rattle.journal.specs.Beginnings.{CanBeSaved}
+use Rattle.journal.specs.Recovery.{IsRecovered, IsRightRecovery}
+use Rattle.journal.proofs.Savings.{can_be_saved}
+use Rattle.journal.specs.Salvaging.{IsSalvaged, IsLost, IsRightSalvage}
+use Rattle.segment_files.specs.Spelling.{Head, HeadFits, head_text}
+use Rattle.segment_files.specs.Meaning.{IsRightHead}
+use Rattle.segment_files.specs.Files.{File}
+use Rattle.segment_files.specs.Chain.{head_lines, refused_head, refused_journal, line_in, IsRightRefusal}
+use Rattle.segment_files.specs.Remarks.{lines_in, without_remarks, line_among}
+use Rattle.segment_files.proofs.LineBounds.{recovery_within}
+use Rattle.segment_files.proofs.RemarkSteps.{without_within}
+use Rattle.segment_files.proofs.Refusing.{journal_refused, line_room, number_room}
 use Rattle.tool_parts.specs.LastPlace.{last_place, kept_lines}
 use Rattle.tool_parts.specs.Kept.{IsKept, IsUnkept, left_line, bad_in, IsFileKept, file_left, file_place, IsLostFile}
 use Rattle.folder_commands.specs.SegmentRecovered.{IsFileFault}

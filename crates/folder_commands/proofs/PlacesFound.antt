@@ -1,7 +1,7 @@
 -- The last place among some lines of a text.
 use Rattle.std.proofs.Common.{◌≡◌, ℕ, zero, suc, ◌+◌, ◌-◌, ◌<◌, ◌≤◌, Bool, true, false, cond, eqb, List, [], ◌∷◌, length, take, refl, sym, ap, subst, ◌∙◌, arith}
 use Rattle.std.proofs.lemmas.List.{take_all}
-use Rattle.ring_segments.specs.Remarks.{lines_in, with_byte}
+use Rattle.segment_files.specs.Remarks.{lines_in, with_byte}
 use Rattle.tool_parts.specs.LastPlace.{tells_place, place_after, last_place}
 
 -- ---- the loop

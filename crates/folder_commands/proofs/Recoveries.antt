@@ -1,15 +1,15 @@
 -- A recovered history has fewer lines than the journal has bytes.
 use Rattle.std.proofs.Common.{◌≡◌, ℕ, ◌+◌, ◌≤◌, List, ◌++◌, length, refl, ap, length-append, arith}
 use Rattle.std.specs.List.{flat_map}
-use Rattle.ring_saved.specs.Content.{Content}
-use Rattle.ring_saved.specs.Spelling.{text}
+use Rattle.saved_history.specs.Content.{Content}
+use Rattle.saved_history.specs.Spelling.{text}
 use Rattle.ring_check.specs.Lines.{lines}
 use Rattle.ring_check.proofs.SavedLines.{lines_some}
-use Rattle.ring_journal.specs.Spelling.{first_line, head_text, journal_line, journal_text}
-use Rattle.ring_journal.specs.ContentAfter.{content_after}
-use Rattle.ring_journal.specs.Recovery.{IsRecovered}
-use Rattle.ring_journal.proofs.Countings.{lines_after}
-use Rattle.ring_journal.proofs.Heads.{calls_within}
+use Rattle.journal.specs.Spelling.{first_line, head_text, journal_line, journal_text}
+use Rattle.journal.specs.ContentAfter.{content_after}
+use Rattle.journal.specs.Recovery.{IsRecovered}
+use Rattle.journal.proofs.Countings.{lines_after}
+use Rattle.journal.proofs.Heads.{calls_within}
 
 pub recovered_lines : (bytes : List ℕ) (c : Content) → IsRecovered bytes c → length (lines c) + 1 ≤ length bytes
 recovered_lines bytes c r =

@@ -1,7 +1,7 @@
 -- The lines that are handed out with a segment.
 use Rattle.std.proofs.Common.{◌≡◌, ℕ, List, subst}
 use Rattle.tool_parts.specs.declared.faults.ToolError.{ToolError}
-use Rattle.ring_segments.specs.Files.{File}
+use Rattle.segment_files.specs.Files.{File}
 use Rattle.folder_commands.specs.SegmentRecovered.{IsSegmentHanded, IsSegmentUnhanded}
 use Rattle.tool_parts.specs.Worlds.{World}
 

@@ -1,10 +1,10 @@
 -- The steps of `join`.
 use Rattle.std.specs.Prelude.{◌≡◌, ℕ, ◌+◌, List, [], length, Option, None}
 use Rattle.disks.specs.Held.{Held}
-use Rattle.ring_segments.specs.Files.{File, AreChained}
-use Rattle.ring_segments.specs.Chain.{LeadTo, sums_at}
-use Rattle.ring_joins.specs.Joining.{with_files}
-use Rattle.ring_joins.specs.Joins.{Joined, IsCount}
+use Rattle.segment_files.specs.Files.{File, AreChained}
+use Rattle.segment_files.specs.Chain.{LeadTo, sums_at}
+use Rattle.chain_readers.specs.Joining.{with_files}
+use Rattle.chain_readers.specs.Joins.{Joined, IsCount}
 use Rattle.tool_parts.specs.Chained.{sums_of, AreHeldFrom}
 
 -- files of a folder from this number on, up to the next one, that were joined

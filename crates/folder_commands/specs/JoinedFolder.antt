@@ -2,15 +2,15 @@
 use Rattle.std.specs.Prelude.{◌≡◌, ◌≢◌, ℕ, ◌+◌, ◌==◌, List, [], length, Bool, Option, None, Some, Ok, ◌⊎◌}
 use Rattle.disks.specs.Held.{Held}
 use Rattle.disks.specs.declared.disk.FolderEntry.{FolderEntry}
-use Rattle.segment_folder.specs.Names.{segment_file}
-use Rattle.segment_folder.specs.Numbers.{IsRightNumbers}
-use Rattle.segment_folder.specs.declared.numbers.SegmentNumbers.{SegmentNumbers}
-use Rattle.ring_saved.specs.Spelling.{text}
+use Rattle.line_service.specs.SegmentNames.{segment_file}
+use Rattle.line_service.specs.SegmentNumbers.{IsRightNumbers}
+use Rattle.line_service.specs.declared.segment_numbers.SegmentNumbers.{SegmentNumbers}
+use Rattle.saved_history.specs.Spelling.{text}
 use Rattle.ring_check.specs.Legal.{IsLegalText, summary_of}
-use Rattle.ring_segments.specs.Files.{File}
-use Rattle.ring_segments.specs.Chain.{LeadTo}
-use Rattle.ring_joins.specs.Joining.{with_files, joined}
-use Rattle.ring_joins.specs.Joins.{Joined, IsOverfull}
+use Rattle.segment_files.specs.Files.{File}
+use Rattle.segment_files.specs.Chain.{LeadTo}
+use Rattle.chain_readers.specs.Joining.{with_files, joined}
+use Rattle.chain_readers.specs.Joins.{Joined, IsOverfull}
 use Rattle.tool_parts.specs.Chained.{AreHeldFrom, IsChainIn, IsFolder, IsAddRefusal, IsNamedWrong, IsNoSegment, AreNamesRefused}
 use Rattle.tool_parts.specs.CheckText.{legal_line}
 use Rattle.tool_parts.specs.Handed.{IsHanded, IsHandRefusal}
@@ -18,7 +18,7 @@ use Rattle.tool_parts.specs.Named.{IsHeld}
 use Rattle.tool_parts.specs.Outside.{IsOutside, IsOutsideRefusal}
 use Rattle.tool_parts.specs.Handed.{file_of}
 use Rattle.tool_parts.specs.Worlds.{World}
-use Rattle.ring_requests.specs.declared.requests.JoinWords.{JoinWords}
+use Rattle.tool_parts.specs.declared.requests.JoinWords.{JoinWords}
 use Rattle.tool_parts.specs.declared.faults.ToolError.{ToolError}
 use Rattle.tool_parts.specs.declared.faults.ToolError.TheVariants as tool
 

@@ -1,10 +1,10 @@
 -- The answer of `recover`.
 use Rattle.std.specs.Prelude.{◌≡◌, ℕ, ◌-◌, false, Bool, List, ◌++◌, length, Option, Some, ◌⊎◌}
 use Rattle.disks.specs.Held.{Held}
-use Rattle.ring_saved.specs.Content.{Content}
-use Rattle.ring_saved.specs.Spelling.{text}
+use Rattle.saved_history.specs.Content.{Content}
+use Rattle.saved_history.specs.Spelling.{text}
 use Rattle.ring_check.specs.Legal.{summary_of}
-use Rattle.ring_journal.specs.declared.errors.RecoverError.{RecoverError}
+use Rattle.journal.specs.declared.errors.RecoverError.{RecoverError}
 use Rattle.tool_parts.specs.CheckText.{legal_line}
 use Rattle.tool_parts.specs.Faults.{fault_of_recovery}
 use Rattle.tool_parts.specs.Handed.{IsHanded, IsHandRefusal}
@@ -14,7 +14,7 @@ use Rattle.tool_parts.specs.Handed.{file_of}
 use Rattle.tool_parts.specs.Reading.{names_stream}
 use Rattle.folder_commands.specs.SegmentRecovered.{IsFolderRecovered, IsFolderKept, IsFolderUnrecovered}
 use Rattle.tool_parts.specs.Worlds.{World}
-use Rattle.ring_requests.specs.declared.requests.RecoverWords.{RecoverWords}
+use Rattle.tool_parts.specs.declared.requests.RecoverWords.{RecoverWords}
 use Rattle.tool_parts.specs.declared.faults.ToolError.{ToolError}
 
 -- the file that is made, if one is named

@@ -3,19 +3,19 @@ use Rattle.std.specs.Prelude.{◌≡◌, ℕ, List, ◌++◌, Bool, true, false,
 use Rattle.std.specs.Io.KnownBytes.{Appends}
 use Rattle.disks.specs.Held.{Held}
 use Rattle.disks.specs.declared.disk.FolderEntry.{FolderEntry}
-use Rattle.segment_folder.specs.Names.{segment_file}
-use Rattle.segment_folder.specs.Numbers.{IsRightNumbers}
-use Rattle.segment_folder.specs.declared.numbers.SegmentNumbers.{SegmentNumbers}
-use Rattle.ring_saved.specs.declared.saved.Saved.{Saved}
-use Rattle.ring_saved.specs.Content.{content}
-use Rattle.ring_saved.specs.Spelling.{text}
+use Rattle.line_service.specs.SegmentNames.{segment_file}
+use Rattle.line_service.specs.SegmentNumbers.{IsRightNumbers}
+use Rattle.line_service.specs.declared.segment_numbers.SegmentNumbers.{SegmentNumbers}
+use Rattle.saved_history.specs.declared.saved.Saved.{Saved}
+use Rattle.saved_history.specs.Content.{content}
+use Rattle.saved_history.specs.Spelling.{text}
 use Rattle.ring_check.specs.Legal.{summary_of}
-use Rattle.ring_segments.specs.Spelling.{Head, head_of, head_text}
-use Rattle.ring_segments.specs.declared.errors.SegmentError.{SegmentError}
-use Rattle.ring_segments.specs.declared.errors.SegmentError.TheVariants as segment
-use Rattle.ring_segments.specs.declared.heads.SegmentHead.{SegmentHead}
-use Rattle.ring_segments.specs.Files.{File}
-use Rattle.ring_segments.specs.Chain.{IsRightRefusal}
+use Rattle.segment_files.specs.Spelling.{Head, head_of, head_text}
+use Rattle.segment_files.specs.declared.errors.SegmentError.{SegmentError}
+use Rattle.segment_files.specs.declared.errors.SegmentError.TheVariants as segment
+use Rattle.segment_files.specs.declared.heads.SegmentHead.{SegmentHead}
+use Rattle.segment_files.specs.Files.{File}
+use Rattle.segment_files.specs.Chain.{IsRightRefusal}
 use Rattle.tool_parts.specs.Chained.{IsFolder, IsUnreadSegment, AreNamesRefused}
 use Rattle.tool_parts.specs.CheckText.{legal_line}
 use Rattle.tool_parts.specs.Handed.{IsHanded, IsHandRefusal}
@@ -28,7 +28,7 @@ use Rattle.tool_parts.specs.Worlds.{World}
 use Rattle.tool_parts.specs.Written.{AppendsFront}
 use Rattle.folder_commands.specs.declared.last_file.LastFile.{LastFile}
 use Rattle.folder_commands.specs.declared.last_segment.RecoveredSegment.{RecoveredSegment}
-use Rattle.ring_requests.specs.declared.requests.RecoverWords.{RecoverWords}
+use Rattle.tool_parts.specs.declared.requests.RecoverWords.{RecoverWords}
 use Rattle.tool_parts.specs.declared.faults.ToolError.{ToolError}
 use Rattle.tool_parts.specs.declared.faults.ToolError.TheVariants as tool
 

@@ -1,15 +1,15 @@
 //! `join`: the whole history of a folder of segments.
 
 ghost use Rattle.std.specs.Prelude.{◌≡◌, ◌≢◌, ◌⊎◌, ◌≤◌, ℕ, List, Option, true, false, None, Some, Ok, OnOk, IfOk, IfErr};
-ghost use Rattle.segment_folder.specs.Names.{segment_file};
-ghost use Rattle.segment_folder.specs.Numbers.{IsRightNumbers};
-ghost use Rattle.segment_folder.specs.declared.numbers.SegmentNumbers.{SegmentNumbers};
-ghost use Rattle.ring_saved.specs.Content.{content};
+ghost use Rattle.line_service.specs.SegmentNames.{segment_file};
+ghost use Rattle.line_service.specs.SegmentNumbers.{IsRightNumbers};
+ghost use Rattle.line_service.specs.declared.segment_numbers.SegmentNumbers.{SegmentNumbers};
+ghost use Rattle.saved_history.specs.Content.{content};
 ghost use Rattle.ring_check.specs.Legal.{IsLegalText, summary_of};
-ghost use Rattle.ring_journal.specs.Beginnings.{CanBeSaved};
-ghost use Rattle.ring_segments.specs.Files.{File};
-ghost use Rattle.ring_joins.specs.Joining.{joined};
-ghost use Rattle.ring_joins.specs.Joins.{IsJoinedWith};
+ghost use Rattle.journal.specs.Beginnings.{CanBeSaved};
+ghost use Rattle.segment_files.specs.Files.{File};
+ghost use Rattle.chain_readers.specs.Joining.{joined};
+ghost use Rattle.chain_readers.specs.Joins.{IsJoinedWith};
 ghost use Rattle.tool_parts.specs.Chained.{IsChainIn, IsFolder, AreNamesRefused};
 ghost use Rattle.folder_commands.specs.JoinedFolder.{IsLaterBegin, IsUnjoined, IsJoinRefused, AreUnjoined, IsJoinable, IsJoinAnswer, IsJoinRefusal};
 ghost use Rattle.folder_commands.specs.JoinSteps.{JoinLeads, JoinEnds};
@@ -17,19 +17,19 @@ ghost use Rattle.tool_parts.specs.Named.{IsHeld};
 ghost use Rattle.tool_parts.specs.Reading.{names_stream};
 ghost use Rattle.tool_parts.specs.Worlds.{world};
 
+use chain_readers::{Join, JoinError};
 use disks::{Disk, FolderEntry};
+use line_service::SegmentNumbers;
 use ring_check::Summary;
-use ring_joins::{Join, JoinError};
-use ring_requests::JoinWords;
-use ring_saved::Saved;
-use ring_segments::SegmentError;
-use segment_folder::SegmentNumbers;
+use saved_history::Saved;
+use segment_files::SegmentError;
 use std::alloc::Global;
 use std::io::Write;
 use tool_parts::chain::{entries_of, folder_numbers, segment_bytes};
 use tool_parts::faults::ToolError;
 use tool_parts::handing::hand_over;
 use tool_parts::outside::keep_outside;
+use tool_parts::requests::JoinWords;
 
 /// Joins the file of a segment, which may be the last one, to those before it.
 ///

@@ -3,11 +3,11 @@
 ghost use Rattle.std.specs.Prelude.{◌≡◌, ◌≢◌, ◌+◌, ◌-◌, ◌<◌, ◌^◌, ◌⊎◌, ◌++◌, ℕ, List, length, Option, true, false, None, OnOk, IfOk, IfErr};
 ghost use Rattle.text_lines.specs.Writing.{Writes};
 ghost use Rattle.ring_check.specs.Legal.{summary_of};
-ghost use Rattle.ring_saved.specs.Content.{content};
-ghost use Rattle.ring_journal.specs.Beginnings.{CanBeSaved};
-ghost use Rattle.ring_segments.specs.Spelling.{HeadFits, head_of, head_text};
-ghost use Rattle.ring_segments.specs.Chain.{refused_head, refused_journal, line_in};
-ghost use Rattle.ring_segments.specs.Remarks.{lines_in, without_remarks, line_among};
+ghost use Rattle.saved_history.specs.Content.{content};
+ghost use Rattle.journal.specs.Beginnings.{CanBeSaved};
+ghost use Rattle.segment_files.specs.Spelling.{HeadFits, head_of, head_text};
+ghost use Rattle.segment_files.specs.Chain.{refused_head, refused_journal, line_in};
+ghost use Rattle.segment_files.specs.Remarks.{lines_in, without_remarks, line_among};
 ghost use Rattle.tool_parts.specs.Chained.{IsFolder};
 ghost use Rattle.tool_parts.specs.Kept.{IsKept, IsUnkept, IsFileKept, file_left, file_place, left_line};
 ghost use Rattle.tool_parts.specs.Reading.{names_stream};
@@ -18,11 +18,10 @@ use crate::last_file::last_file;
 use crate::place_remarks::last_place;
 use crate::recover::kept_of;
 use disks::{Disk, FolderEntry};
+use journal::RecoverError;
 use ring_check::{Summary, check_saved};
-use ring_journal::RecoverError;
-use ring_requests::RecoverWords;
-use ring_saved::Saved;
-use ring_segments::{
+use saved_history::Saved;
+use segment_files::{
     ReadError, SegmentError, SegmentHead, WriteFault, has_remark, line_among, put_head, read_head,
     without_remarks,
 };
@@ -34,6 +33,7 @@ use tool_parts::handing::hand_over_kept;
 use tool_parts::left::{LeftOut, bad_in};
 use tool_parts::outside::keep_outside;
 use tool_parts::reading::names_stream;
+use tool_parts::requests::RecoverWords;
 
 /// The file of a segment, as it is recovered.
 #[derive(Drop)]

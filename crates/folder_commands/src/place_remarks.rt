@@ -1,12 +1,12 @@
 //! The last place in a log that the remarks of a file give.
 
 ghost use Rattle.std.specs.Prelude.{◌≡◌, ◌<◌, ◌^◌, length, take, cond, IfSome};
-ghost use Rattle.ring_segments.specs.Chain.{line_in};
-ghost use Rattle.ring_segments.specs.Remarks.{lines_in, line_among};
+ghost use Rattle.segment_files.specs.Chain.{line_in};
+ghost use Rattle.segment_files.specs.Remarks.{lines_in, line_among};
 ghost use Rattle.tool_parts.specs.LastPlace.{tells_place, last_place, kept_lines};
 
-use ring_journal::RecoverError;
-use ring_segments::{line_among, split_line};
+use journal::RecoverError;
+use segment_files::{line_among, split_line};
 
 /// Whether a line is a whole remark of a place.
 fn tells_place(line: &[u8]) -> bool

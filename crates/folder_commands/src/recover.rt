@@ -2,8 +2,8 @@
 
 ghost use Rattle.std.specs.Prelude.{◌≡◌, ◌≢◌, ◌⊎◌, ◌-◌, ℕ, length, true, false, Some, OnOk, IfOk, IfErr};
 ghost use Rattle.ring_check.specs.Legal.{summary_of};
-ghost use Rattle.ring_saved.specs.Content.{content};
-ghost use Rattle.ring_journal.specs.Beginnings.{CanBeSaved};
+ghost use Rattle.saved_history.specs.Content.{content};
+ghost use Rattle.journal.specs.Beginnings.{CanBeSaved};
 ghost use Rattle.tool_parts.specs.Kept.{IsKept, IsUnkept};
 ghost use Rattle.tool_parts.specs.Named.{IsApart, IsApartRefusal};
 ghost use Rattle.tool_parts.specs.Handed.{file_of};
@@ -13,11 +13,9 @@ ghost use Rattle.tool_parts.specs.Worlds.{world};
 
 use crate::last_segment::recover_folder;
 use disks::Disk;
+use journal::{RecoverError, recover_journal, salvage_journal};
 use ring_check::{Summary, check_saved};
-use ring_journal::{RecoverError, recover_journal};
-use ring_requests::RecoverWords;
-use ring_salvage::salvage_journal;
-use ring_saved::Saved;
+use saved_history::Saved;
 use std::alloc::Global;
 use std::io::{Read, Write};
 use tool_parts::chain::entries_of;
@@ -25,6 +23,7 @@ use tool_parts::faults::ToolError;
 use tool_parts::handing::hand_over_kept;
 use tool_parts::left::LeftOut;
 use tool_parts::reading::{keep_apart, names_stream, read_named};
+use tool_parts::requests::RecoverWords;
 
 /// The history that is kept of the bytes of a journal, and what is left out of it.
 ///

@@ -6,8 +6,8 @@ use Rattle.std.specs.Option.{option_map}
 use Rattle.std.specs.Cmp.{nat_cmp_is}
 use Rattle.std.specs.declared.cmp.Ordering.TheVariants.{Equal}
 use Rattle.disks.specs.Held.{Held}
-use Rattle.line_loop.specs.Answering.{Answers}
-use Rattle.line_loop.specs.Stands.{Stand, AnsweringWith, by_stand, stand}
+use Rattle.line_service.specs.Answering.{Answers}
+use Rattle.line_service.specs.Stands.{Stand, AnsweringWith, by_stand, stand}
 use Rattle.line_replica.specs.declared.keys.Turn.{Turn}
 use Rattle.line_replica.specs.declared.keys.Turn.TheVariants as turn
 use Rattle.line_replica.specs.declared.reading.Tag.{Tag}

@@ -2,7 +2,7 @@
 use Rattle.std.proofs.Common.{◌≡◌, ℕ, ◌+◌, ◌<◌, ◌≤◌, ◌&&◌, true, false, List, length, drop, get_or, ap, ◌∙◌}
 use Rattle.std.proofs.lemmas.List.{drop_more, drop_all}
 use Rattle.std.specs.List.{list_all}
-use Rattle.ring_segments.specs.Spelling.{is_digit}
+use Rattle.segment_files.specs.Spelling.{is_digit}
 
 pub digits_more : (xs : List ℕ) (i : ℕ) → i < length xs → is_digit (get_or xs i 0) ≡ true → list_all is_digit (drop i xs) ≡ list_all is_digit (drop (i + 1) xs)
 digits_more xs i lt e = ap (λ (u : List ℕ). list_all is_digit u) (drop_more xs i 0 lt) ∙ ap (λ b. b && list_all is_digit (drop (i + 1) xs)) e

@@ -1,7 +1,7 @@
 -- What is heard of a line, from what is read of it.
 use Rattle.std.proofs.Common.{◌≡◌, ℕ, ◌≤◌, List, length, cond, Option, Some, None, sym, ap, ◌∙◌}
 use Rattle.std.proofs.lemmas.Bool.{le-ltb}
-use Rattle.line_parts.specs.Limits.{line_limit}
+use Rattle.text_lines.specs.Limits.{line_limit}
 use Rattle.line_replica.specs.declared.reading.Tag.{Tag}
 use Rattle.line_replica.specs.Reading.{Tagged, Place, Digest, Plain, heard, of_tagged, of_place, of_digest, tagged_at, place_at, digest_at}
 

@@ -1,6 +1,6 @@
 -- Lines that are joined, one after the other.
 use Rattle.std.proofs.Common.{◌≡◌, ℕ, List, [], ◌∷◌, ◌++◌, append_assoc, refl, ap, sym, ◌∙◌}
-use Rattle.line_loop.specs.Answering.{joined_lines}
+use Rattle.line_service.specs.Answering.{joined_lines}
 
 pub joined_append : (xs ys : List (List ℕ)) → joined_lines (xs ++ ys) ≡ joined_lines xs ++ joined_lines ys
 joined_append [] ys = refl

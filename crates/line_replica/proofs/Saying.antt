@@ -2,9 +2,9 @@
 use Rattle.std.proofs.Common.{◌≡◌, ℕ, Bool, true, false, cond, List, [], ◌∷◌, ◌++◌, Option, Some, None, inl, inr, ◌⊎◌, refl, ap, sym, subst, ◌∙◌, append-nil}
 use Rattle.std.specs.List.{AllByRecursion}
 use Rattle.disks.specs.Held.{Held}
-use Rattle.line_loop.specs.Stands.{AnsweringWith, stand}
-use Rattle.line_loop.proofs.Standing.{same_stand}
-use Rattle.ring_segments.specs.Remarks.{remark_of}
+use Rattle.line_service.specs.Stands.{AnsweringWith, stand}
+use Rattle.line_service.proofs.Standing.{same_stand}
+use Rattle.segment_files.specs.Remarks.{remark_of}
 use Rattle.line_replica.specs.declared.keys.Turn.{Turn}
 use Rattle.line_replica.specs.declared.keys.Turn.TheVariants as turn
 use Rattle.line_replica.specs.declared.reading.Tag.{Tag}

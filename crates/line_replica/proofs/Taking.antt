@@ -1,8 +1,8 @@
 -- A line with a key and a number is taken by what follows them.
 use Rattle.std.proofs.Common.{◌≡◌, ℕ, Bool, true, false, cond, List, [], Option, Some, None, inl, inr, ◌⊎◌, refl, subst}
 use Rattle.disks.specs.Held.{Held}
-use Rattle.line_loop.specs.Stands.{AnsweringWith}
-use Rattle.ring_segments.specs.Remarks.{remark_of}
+use Rattle.line_service.specs.Stands.{AnsweringWith}
+use Rattle.segment_files.specs.Remarks.{remark_of}
 use Rattle.line_replica.specs.declared.keys.Turn.{Turn}
 use Rattle.line_replica.specs.declared.keys.Turn.TheVariants as turn
 use Rattle.line_replica.specs.declared.reading.Tag.{Tag}

@@ -3,8 +3,8 @@
 use Rattle.std.proofs.Common.{◌≡◌, ℕ, Bool, true, false, cond, List, [], Option, Some, None, inl, inr, ◌⊎◌, subst, sym}
 use Rattle.std.specs.Prelude.{IsSome}
 use Rattle.disks.specs.Held.{Held}
-use Rattle.line_loop.specs.Stands.{AnsweringWith}
-use Rattle.segment_loop.specs.Segmenting.{KeepsKnown}
+use Rattle.line_service.specs.Stands.{AnsweringWith}
+use Rattle.line_service.specs.Segmenting.{KeepsKnown}
 use Rattle.line_replica.specs.declared.keys.Turn.{Turn}
 use Rattle.line_replica.specs.declared.keys.Turn.TheVariants as turn
 use Rattle.line_replica.specs.declared.reading.Tag.{Tag}

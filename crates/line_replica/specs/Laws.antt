@@ -2,8 +2,8 @@
 use Rattle.std.specs.Prelude.{◌≡◌, ◌≢◌, ℕ, true, false, List, [], ◌∷◌, ◌++◌, Option, None, Some}
 use Rattle.std.specs.List.{AllByRecursion}
 use Rattle.disks.specs.Held.{Held}
-use Rattle.line_loop.specs.Answering.{Answers}
-use Rattle.line_loop.specs.Stands.{AnsweringWith, by_stand, stand}
+use Rattle.line_service.specs.Answering.{Answers}
+use Rattle.line_service.specs.Stands.{AnsweringWith, by_stand, stand}
 use Rattle.line_replica.specs.declared.keys.Turn.TheVariants as turn
 use Rattle.line_replica.specs.declared.reading.Tag.{Tag}
 use Rattle.line_replica.specs.declared.replica.Replica.{Replica}

@@ -1,8 +1,8 @@
 -- The notes of a replica: those of the service inside, and remarks (this project's own).
 use Rattle.std.specs.Prelude.{◌≡◌, ℕ, List, [], ◌∷◌, ◌++◌, ◌⊎◌}
 use Rattle.std.specs.List.{AllByRecursion}
-use Rattle.line_loop.specs.Answering.{Answers}
-use Rattle.line_loop.specs.Stands.{Stand, AnsweringWith, by_stand}
+use Rattle.line_service.specs.Answering.{Answers}
+use Rattle.line_service.specs.Stands.{Stand, AnsweringWith, by_stand}
 use Rattle.line_replica.specs.declared.reading.Tag.{Tag}
 use Rattle.line_replica.specs.Log.{Numbers, given_of, numbers_after}
 use Rattle.line_replica.specs.Reading.{heard}

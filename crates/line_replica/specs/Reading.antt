@@ -3,9 +3,9 @@ use Rattle.std.specs.Prelude.{ℕ, Bool, true, false, cond, nat_lt, ◌+◌, Lis
 use Rattle.std.specs.List.{list_all}
 use Rattle.text_lines.specs.declared.fault.Fault.{Fault}
 use Rattle.text_lines.specs.Reading.{word_at}
-use Rattle.line_parts.specs.Limits.{line_limit}
-use Rattle.line_parts.specs.Numbers.{order_at}
-use Rattle.ring_segments.specs.Spelling.{digest_digits, is_digit}
+use Rattle.text_lines.specs.Limits.{line_limit}
+use Rattle.text_lines.specs.LongNumbers.{order_at}
+use Rattle.segment_files.specs.Spelling.{digest_digits, is_digit}
 use Rattle.line_replica.specs.declared.reading.Tag.{Tag}
 
 abbrev pub on_read : {X : Type 0} → Result (List ℕ) Fault → X → (List ℕ → X) → X

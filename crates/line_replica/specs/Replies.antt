@@ -2,9 +2,9 @@
 use Rattle.std.specs.Prelude.{◌≡◌, ℕ, true, false, List, [], ◌++◌, Option, None, Some, ◌⊎◌, codes, cond}
 use Rattle.text_lines.specs.Spelling.{spaced, ended}
 use Rattle.disks.specs.Held.{Held}
-use Rattle.line_loop.specs.declared.pending.Pending.{Pending}
-use Rattle.line_loop.specs.Stands.{AnsweringWith}
-use Rattle.ring_segments.specs.Remarks.{remark_of}
+use Rattle.line_service.specs.declared.pending.Pending.{Pending}
+use Rattle.line_service.specs.Stands.{AnsweringWith}
+use Rattle.segment_files.specs.Remarks.{remark_of}
 use Rattle.line_replica.specs.declared.keys.Turn.{Turn}
 use Rattle.line_replica.specs.declared.keys.Turn.TheVariants as turn
 use Rattle.line_replica.specs.declared.reading.Tag.{Tag}

@@ -4,11 +4,11 @@ use Rattle.std.proofs.Common.{◌≡◌, ℕ, ◌<◌, Bool, true, false, cond, 
 use Rattle.std.proofs.lemmas.Bool.{lt-ltb}
 use Rattle.std.specs.Prelude.{codes}
 use Rattle.text_lines.specs.Reading.{word_at}
-use Rattle.line_parts.specs.Limits.{line_limit}
-use Rattle.line_loop.specs.Answering.{cut, IsByStart}
-use Rattle.line_loop.specs.Stands.{AnsweringWith, by_stand, stand}
+use Rattle.text_lines.specs.Limits.{line_limit}
+use Rattle.line_service.specs.Answering.{cut, IsByStart}
+use Rattle.line_service.specs.Stands.{AnsweringWith, by_stand, stand}
 use Rattle.disks.specs.Held.{Held}
-use Rattle.segment_loop.specs.Segmenting.{Segmenting, KeepsKnown}
+use Rattle.line_service.specs.Segmenting.{Segmenting, KeepsKnown}
 use Rattle.line_replica.specs.declared.restorable.Restorable.{Restorable}
 use Rattle.line_replica.specs.Reading.{on_read, is_none_left}
 use Rattle.line_replica.specs.Starts.{long_cut}

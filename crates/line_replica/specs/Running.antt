@@ -1,7 +1,7 @@
 -- The running digest of all that is answered (this project's own).
 use Rattle.std.specs.Prelude.{ℕ, List, [], ◌∷◌, ◌++◌, codes}
 use Rattle.text_lines.specs.Spelling.{spaced}
-use Rattle.ring_segments.specs.Spelling.{digest_of, no_digest}
+use Rattle.segment_files.specs.Spelling.{digest_of, no_digest}
 
 -- the last place, and what the next digest is of: the digest at that place, and all that was
 -- answered since; nothing before the first

@@ -1,7 +1,7 @@
 -- How a replica lives in segments (this project's own).
 use Rattle.std.specs.Prelude.{◌≡◌, ◌++◌, ◌⊎◌}
-use Rattle.segment_loop.specs.Segmenting.{Segmenting}
-use Rattle.segment_loop.specs.declared.segmented.EndFault.TheVariants as end
+use Rattle.line_service.specs.Segmenting.{Segmenting}
+use Rattle.line_service.specs.declared.segmented.EndFault.TheVariants as end
 use Rattle.line_replica.specs.declared.replica.Replica.{Replica}
 use Rattle.line_replica.specs.State.{own_lines, remarks_of}
 

@@ -2,9 +2,9 @@
 use Rattle.std.proofs.Common.{◌≡◌, ℕ, ◌+◌, ◌<◌, List, length, take, cond, inl, inr, ◌⊎◌, subst, sym, ap, arith}
 use Rattle.std.proofs.lemmas.Bool.{lt-ltb}
 use Rattle.std.proofs.lemmas.List.{length-take}
-use Rattle.line_parts.specs.Limits.{line_limit}
-use Rattle.line_loop.specs.Answering.{cut, IsByStart}
-use Rattle.line_loop.specs.Stands.{Stand, AnsweringWith, by_stand, stand}
+use Rattle.text_lines.specs.Limits.{line_limit}
+use Rattle.line_service.specs.Answering.{cut, IsByStart}
+use Rattle.line_service.specs.Stands.{Stand, AnsweringWith, by_stand, stand}
 use Rattle.line_replica.specs.declared.replica.Replica.{Replica}
 use Rattle.line_replica.specs.Reading.{Heard, Plain, heard, of_tagged, tagged_at}
 use Rattle.line_replica.specs.Replies.{IsReplied, IsHeard, IsWhole, IsLost, IsAnsweredOrNot, input_of}

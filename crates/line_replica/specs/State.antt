@@ -4,11 +4,11 @@ use Rattle.std.specs.List.{flat_map}
 use Rattle.text_lines.specs.Spelling.{spaced, ended}
 use Rattle.text_lines.specs.Reading.{word_at}
 use Rattle.disks.specs.Held.{Held}
-use Rattle.line_parts.specs.Limits.{line_limit}
-use Rattle.line_loop.specs.Answering.{joined_lines}
-use Rattle.line_loop.specs.Stands.{AnsweringWith}
-use Rattle.ring_segments.specs.Remarks.{remark_of}
-use Rattle.ring_segments.specs.Spelling.{digest_digits}
+use Rattle.text_lines.specs.Limits.{line_limit}
+use Rattle.line_service.specs.Answering.{joined_lines}
+use Rattle.line_service.specs.Stands.{AnsweringWith}
+use Rattle.segment_files.specs.Remarks.{remark_of}
+use Rattle.segment_files.specs.Spelling.{digest_digits}
 use Rattle.line_replica.specs.declared.reading.Tag.{Tag}
 use Rattle.line_replica.specs.declared.replica.Replica.{Replica}
 use Rattle.line_replica.specs.declared.restorable.Restorable.{Restorable}

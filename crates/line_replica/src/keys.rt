@@ -1,21 +1,20 @@
 //! What is kept of each key.
 
 ghost use Rattle.std.specs.Prelude.{◌≡◌, ◌++◌, ◌<◌, ◌^◌, [], length, OnOk, OnErr, IfOk};
-ghost use Rattle.line_loop.specs.Answering.{joined_lines};
-ghost use Rattle.ring_segments.specs.Remarks.{remark_of};
+ghost use Rattle.line_service.specs.Answering.{joined_lines};
+ghost use Rattle.segment_files.specs.Remarks.{remark_of};
 ghost use Rattle.line_replica.specs.State.{key_line, key_lines, kept_line, forget_line, remarks_of};
 ghost use Rattle.std.specs.Ordering.{nat_cmp};
 ghost use Rattle.line_replica.specs.Keys.{told_of, last_of, with_told, without, turn_by, turn_after, first_of, first_line, forgotten_if};
 ghost use Rattle.line_replica.specs.Replies.{forget_note};
 
 use crate::reading::Tag;
-use line_parts::put_word;
-use ring_segments::put_remark;
+use segment_files::put_remark;
 use std::alloc::{AllocError, Global};
 use std::cmp::Ordering;
 use std::collections::BTreeMap;
 use std::marker::Model;
-use text_lines::Line;
+use text_lines::{Line, put_word};
 
 /// The last number of a key, and the first line of its answer, which is sent again. Contracts see both.
 #[derive(Drop)]

@@ -2,7 +2,7 @@
 
 ghost use Rattle.line_replica.specs.Laws.{HasTheHistoryWithoutThem, IsLostAtTheEnd, IsToldAgain, IsAnsweredAsBefore, IsDeterminedSo};
 
-use line_loop::AnswersLines;
+use line_service::AnswersLines;
 
 /// A log with lines that were sent again has the history of the log without them, as long as memory suffices; and where it does
 /// not, the line is not answered, and neither is any later one.

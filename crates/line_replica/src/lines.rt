@@ -7,9 +7,9 @@ ghost use Rattle.line_replica.specs.Replies.{IsReplied, IsHeard, IsAnsweredOrNot
 use crate::reading::{place, place_with_digest, tagged};
 use crate::replica::{Replica, answer_numbered, answer_plain, set_place, tell_place};
 use disks::Disk;
-use line_loop::{AnswersLines, Pending};
-use line_parts::LINE_LIMIT;
+use line_service::{AnswersLines, Pending};
 use std::alloc::AllocError;
+use text_lines::LINE_LIMIT;
 
 /// Answers a line as one hears it.
 fn answer_heard<S: AnswersLines, D: Disk>(

@@ -8,10 +8,9 @@ ghost use Rattle.line_replica.specs.Replies.{IsDone, IsAnsweredOnce, IsTagTaken,
 use crate::keys::{Keys, Turn, first_line};
 use crate::reading::{Tag, did, is_forget, is_to_asker, kept_text};
 use disks::Disk;
-use line_loop::{AnswersLines, Pending};
-use line_parts::put_word;
+use line_service::{AnswersLines, Pending};
 use std::alloc::AllocError;
-use text_lines::Line;
+use text_lines::{Line, put_word};
 
 /// A service that answers lines, with the last number of each key and the first line of its answer, which is sent again.
 #[derive(Drop)]

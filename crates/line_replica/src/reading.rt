@@ -3,12 +3,12 @@
 ghost use Rattle.std.specs.Prelude.{◌≡◌, Option, None, Some, List, ℕ, cond, take, length, ◌≤◌};
 ghost use Rattle.std.specs.List.{list_all};
 ghost use Rattle.std.specs.Option.{option_map};
-ghost use Rattle.line_parts.specs.Numbers.{order_at};
-ghost use Rattle.ring_segments.specs.Spelling.{is_digit, digest_digits};
+ghost use Rattle.text_lines.specs.LongNumbers.{order_at};
+ghost use Rattle.segment_files.specs.Spelling.{is_digit, digest_digits};
 ghost use Rattle.line_replica.specs.Reading.{with_number, tagged_at, did_at, is_forget, is_some_number, may_follow_by, may_follow, is_to, is_to_asker, kept_text, place_at, digest_at, last_number, with_digest, is_last_digest, of_tagged, of_place, of_digest, heard};
 
-use line_parts::{LINE_LIMIT, fixed_word, number as decimal};
-use ring_segments::DIGEST_DIGITS;
+use segment_files::DIGEST_DIGITS;
+use text_lines::{LINE_LIMIT, fixed_word, number as decimal};
 
 /// Whose line it is, and which of theirs.
 #[derive(Clone, Copy)]

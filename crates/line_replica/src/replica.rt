@@ -3,7 +3,7 @@
 ghost use Rattle.std.specs.Prelude.{◌≡◌, ◌++◌, List, ℕ, [], false, OnOk, OnErr};
 ghost use Rattle.line_replica.specs.Reading.{did_at};
 ghost use Rattle.line_replica.specs.Replies.{IsPassedOn, IsTagTaken, IsTakenIn, IsPlaced, IsAnsweredOrNot, IsAdded};
-ghost use Rattle.ring_segments.specs.Remarks.{remark_of};
+ghost use Rattle.segment_files.specs.Remarks.{remark_of};
 ghost use Rattle.line_replica.specs.State.{own_lines, remarks_of};
 ghost use Rattle.line_replica.specs.Running.{at_place, next_of, place_line};
 
@@ -12,7 +12,7 @@ use crate::numbered::{Numbered, answer_tagged};
 use crate::reading::Tag;
 use crate::running::{Running, put_place};
 use disks::Disk;
-use line_loop::{AnswersLines, Pending};
+use line_service::{AnswersLines, Pending};
 use std::alloc::{AllocError, Global};
 
 /// A service that answers lines, with what is kept of keys, and the running digest of all that is answered.

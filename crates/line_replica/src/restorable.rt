@@ -5,11 +5,10 @@ ghost use Rattle.line_replica.specs.State.{is_state, state_text};
 
 use crate::stating::HasState;
 use disks::Disk;
-use line_loop::{AnswersLines, Pending};
-use line_parts::{LINE_LIMIT, fixed_word, with_number};
-use ring_segments::DIGEST_DIGITS;
-use segment_loop::{EndFault, Segmented};
+use line_service::{AnswersLines, EndFault, Pending, Segmented};
+use segment_files::DIGEST_DIGITS;
 use std::alloc::{AllocError, Global};
+use text_lines::{LINE_LIMIT, fixed_word, with_number};
 
 /// A service that answers lines, and the line `state` with the lines that bring it back.
 #[derive(Drop)]

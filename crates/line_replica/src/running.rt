@@ -1,13 +1,13 @@
 //! The running digest of all that is answered.
 
 ghost use Rattle.std.specs.Prelude.{◌≡◌, ◌≤◌, ◌++◌, [], length, take, OnOk, IfOk};
-ghost use Rattle.line_loop.specs.Answering.{joined_lines};
-ghost use Rattle.ring_segments.specs.Remarks.{remark_of};
+ghost use Rattle.line_service.specs.Answering.{joined_lines};
+ghost use Rattle.segment_files.specs.Remarks.{remark_of};
 ghost use Rattle.line_replica.specs.State.{lines_at, remarks_of};
 ghost use Rattle.line_replica.specs.Running.{with_said, next_of, at_place, grown, place_line};
 
 use itoa::Buffer;
-use ring_segments::{DIGEST_DIGITS, digest, put_remark};
+use segment_files::{DIGEST_DIGITS, digest, put_remark};
 use std::alloc::{AllocError, Global};
 use std::marker::Model;
 

@@ -4,8 +4,8 @@ ghost use Rattle.std.specs.Prelude.{◌≡◌};
 
 use crate::numbered::Numbered;
 use crate::replica::{Replica, note_own};
-use ring_segments::DIGEST_DIGITS;
-use segment_loop::{EndFault, Segmented};
+use line_service::{EndFault, Segmented};
+use segment_files::DIGEST_DIGITS;
 use std::alloc::{AllocError, Global};
 
 impl<S: Segmented> Segmented for Replica<S> {

@@ -1,10 +1,10 @@
 //! What answers lines, and can be brought back by lines.
 
 ghost use Rattle.std.specs.Prelude.{◌≡◌, ◌++◌, ◌<◌, ◌≤◌, ◌+◌, ◌^◌, ℕ, List, length, IfOk, OnOk};
-ghost use Rattle.line_loop.specs.Answering.{joined_lines};
+ghost use Rattle.line_service.specs.Answering.{joined_lines};
 
 use crate::replica::Replica;
-use line_loop::AnswersLines;
+use line_service::AnswersLines;
 use std::alloc::AllocError;
 
 /// How many lines there are. A number of lines that no memory holds is reported as out of memory.

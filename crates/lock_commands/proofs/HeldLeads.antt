@@ -2,16 +2,16 @@
 use Rattle.std.proofs.Common.{◌≡◌, ℕ, ◌+◌, ◌<◌, List, [], ◌∷◌, ◌++◌, length, true, false, eqb, Option, Some, None, refl, sym, ap, subst, ◌∙◌, arith, length-append, eqb-true, eq-eqb}
 use Rattle.std.proofs.lemmas.Bool.{false_from_ne_true}
 use Rattle.disks.specs.Held.{Held}
-use Rattle.segment_folder.specs.declared.numbers.SegmentNumbers.{SegmentNumbers}
-use Rattle.segment_folder.specs.Names.{segment_file}
-use Rattle.ring_segments.specs.declared.sums.ChainSums.{ChainSums}
-use Rattle.ring_segments.specs.Files.{File}
-use Rattle.ring_segments.specs.Sums.{no_sums, sums_after}
-use Rattle.ring_segments.specs.Chain.{State, sums_at}
-use Rattle.ring_segments.specs.Chain as segments
-use Rattle.ring_segments.proofs.Adding.{chained, led_on}
-use Rattle.ring_holds.specs.Chains.{HoldsSoFar, IsHeldWith}
-use Rattle.ring_holds.proofs.Files.{told_on}
+use Rattle.line_service.specs.declared.segment_numbers.SegmentNumbers.{SegmentNumbers}
+use Rattle.line_service.specs.SegmentNames.{segment_file}
+use Rattle.segment_files.specs.declared.sums.ChainSums.{ChainSums}
+use Rattle.segment_files.specs.Files.{File}
+use Rattle.segment_files.specs.Sums.{no_sums, sums_after}
+use Rattle.segment_files.specs.Chain.{State, sums_at}
+use Rattle.segment_files.specs.Chain as segments
+use Rattle.segment_files.proofs.Adding.{chained, led_on}
+use Rattle.chain_readers.specs.Chains.{HoldsSoFar, IsHeldWith}
+use Rattle.chain_readers.proofs.Files.{told_on}
 use Rattle.tool_parts.specs.declared.faults.ToolError.{ToolError}
 use Rattle.tool_parts.specs.Named.{IsHeld}
 use Rattle.tool_parts.proofs.Leads.{led_sums, sums_more, held_more, held_at}

@@ -3,12 +3,12 @@ use Rattle.std.proofs.Common.{◌≡◌, ℕ, Bool, true, false, List, refl, sym
 use Rattle.std.specs.List.{flat_map}
 use Rattle.std.specs.Ordering.{nat_cmp}
 use Rattle.std.specs.BTreeMap.{BTreeMap, IsOrdered}
-use Rattle.ring_holds.specs.declared.holds.Hold.{Hold}
-use Rattle.ring_holds.specs.declared.labels.LabelCounts.{LabelCounts}
-use Rattle.ring_holds.specs.declared.lines.Choice.{Choice}
-use Rattle.ring_holds.specs.Lines.{all_lines}
-use Rattle.ring_holds.specs.Labels.{all_chosen, AreCounted, label_line}
-use Rattle.ring_requests.specs.declared.requests.HoldsWords.{HoldsWords}
+use Rattle.chain_readers.specs.declared.holds.Hold.{Hold}
+use Rattle.chain_readers.specs.declared.labels.LabelCounts.{LabelCounts}
+use Rattle.chain_readers.specs.declared.hold_lines.Choice.{Choice}
+use Rattle.chain_readers.specs.HoldLines.{all_lines}
+use Rattle.chain_readers.specs.Labels.{all_chosen, AreCounted, label_line}
+use Rattle.tool_parts.specs.declared.requests.HoldsWords.{HoldsWords}
 use Rattle.lock_commands.specs.HoldsAnswer.{choice_of, IsTextBy, IsHoldsText}
 
 pub by_label : (words : HoldsWords) (choice : Choice) (holds : List (List Hold)) (counts : BTreeMap ℕ LabelCounts) → words.by_label ≡ true → choice ≡ choice_of words

@@ -1,21 +1,21 @@
 -- What a run reported is part of a life of locks.
 use Rattle.std.proofs.Common.{◌≡◌, ℕ, false, List, ◌++◌, Option, sym, ap, subst, ◌∙◌}
 use Rattle.disks.specs.Held.{Held}
-use Rattle.ring_saved.specs.Spelling.{Fits}
-use Rattle.ring_locks.specs.Kept.{LockView, AreKept}
-use Rattle.segment_loop.specs.Notes.{ToldLinesAreNoted}
-use Rattle.segment_loop.specs.Segments.{Moment, HasBegun}
+use Rattle.saved_history.specs.Spelling.{Fits}
+use Rattle.held_locks.specs.Kept.{LockView, AreKept}
+use Rattle.line_service.specs.Notes.{ToldLinesAreNoted}
+use Rattle.line_service.specs.Segments.{Moment, HasBegun}
 use Rattle.lock_folder.specs.Folders.{Place}
-use Rattle.lock_serve.specs.declared.service.Terms.{Terms}
-use Rattle.lock_serve.specs.Segments.{content_of}
-use Rattle.lock_serve.specs.Serving.{IsServed}
-use Rattle.lock_laws.specs.Begun.{HaveBegun}
-use Rattle.lock_laws.specs.KeysBack.{IsSound}
-use Rattle.lock_laws.specs.Runs.{inside, IsPlain}
-use Rattle.lock_laws.proofs.SoundKeys.{fresh_is_sound}
-use Rattle.lock_laws.proofs.Stages.{parts_are_stages}
-use Rattle.lock_laws.proofs.PutSegments.{put_segments_are_stages}
-use Rattle.ring_requests.specs.declared.requests.LocksWords.{LocksWords}
+use Rattle.lock_service.specs.declared.service.Terms.{Terms}
+use Rattle.lock_service.specs.Segments.{content_of}
+use Rattle.lock_service.specs.Serving.{IsServed}
+use Rattle.lock_service.specs.Begun.{HaveBegun}
+use Rattle.lock_service.specs.KeysBack.{IsSound}
+use Rattle.lock_service.specs.Runs.{inside, IsPlain}
+use Rattle.lock_service.proofs.SoundKeys.{fresh_is_sound}
+use Rattle.lock_service.proofs.Stages.{parts_are_stages}
+use Rattle.lock_service.proofs.PutSegments.{put_segments_are_stages}
+use Rattle.tool_parts.specs.declared.requests.LocksWords.{LocksWords}
 use Rattle.lock_commands.specs.Locks.{folder_of, terms_of, Service, answering, by_segments, BeginsWith, HasStarted}
 use Rattle.lock_commands.specs.Life.{IsLived}
 

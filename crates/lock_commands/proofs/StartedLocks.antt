@@ -2,10 +2,10 @@
 use Rattle.std.proofs.Common.{◌≡◌, ℕ, List, Option, None, Some, sym, subst}
 use Rattle.std.specs.Prelude.{IsSome}
 use Rattle.disks.specs.Held.{Held}
-use Rattle.ring_locks.specs.declared.handing.Handover.{Handover}
-use Rattle.lock_lists.specs.Lists.{Listed, file_text}
+use Rattle.held_locks.specs.declared.handing.Handover.{Handover}
+use Rattle.lock_folder.specs.Lists.{Listed, file_text}
 use Rattle.lock_folder.specs.Folders.{Place, AreStarted, IsListSaved, locks_file}
-use Rattle.segment_loop.proofs.Lasting.{replaced_known}
+use Rattle.line_service.proofs.SegmentLasting.{replaced_known}
 
 saved_known : (folder : List ℕ) (word : Option (List ℕ)) (locks : List Listed) (before after : Option Held) → IsListSaved folder word locks before after → IsSome before → IsSome after
 saved_known folder None locks before after same some = subst (λ (x : Option Held). IsSome x) (sym same) some

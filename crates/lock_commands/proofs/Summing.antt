@@ -3,9 +3,9 @@ use Rattle.std.proofs.Common.{◌≡◌, ℕ, ◌+◌, ◌<◌, ◌≤◌, List,
 use Rattle.std.specs.List.{sum_by}
 use Rattle.std.proofs.lemmas.List.Sums.{sum_by_more, sum_by_more_le}
 use Rattle.std.proofs.lemmas.Option.{get_or_from_slice_get}
-use Rattle.ring_endless.specs.Endless.{EndlessView}
-use Rattle.ring_locks.proofs.AllLeft.{there_is}
-use Rattle.ring_locks.specs.Kept.{LockView}
+use Rattle.endless_ring.specs.Endless.{EndlessView}
+use Rattle.held_locks.proofs.AllLeft.{there_is}
+use Rattle.held_locks.specs.Kept.{LockView}
 use Rattle.lock_commands.specs.declared.totals.Sums.{Sums}
 use Rattle.lock_commands.specs.Totals.{events_of, grants_of, sums_of, with_ring, AreTooLarge}
 

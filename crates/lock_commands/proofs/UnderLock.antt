@@ -2,22 +2,22 @@
 use Rattle.std.proofs.Common.{◌≡◌, ◌∙◌, ◌+◌, ◌++◌, ℕ, List, [], ◌∷◌, Option, None, Some, sym, ap, subst, ◌⊎◌, inl, inr}
 use Rattle.std.specs.Prelude.{IsSome, IfSome}
 use Rattle.disks.specs.Held.{Held, Replaces}
-use Rattle.segment_folder.specs.Names.{segment_file}
-use Rattle.line_loop.specs.Answering.{Answers}
-use Rattle.line_loop.specs.Stands.{Stand, stand, by_stand}
-use Rattle.ring_locks.specs.declared.handing.Handover.{Handover}
-use Rattle.lock_lists.specs.Lists.{Listed, file_text}
+use Rattle.line_service.specs.SegmentNames.{segment_file}
+use Rattle.line_service.specs.Answering.{Answers}
+use Rattle.line_service.specs.Stands.{Stand, stand, by_stand}
+use Rattle.held_locks.specs.declared.handing.Handover.{Handover}
+use Rattle.lock_folder.specs.Lists.{Listed, file_text}
 use Rattle.lock_folder.specs.Folders.{Place, AreStarted, IsListSaved, locks_file}
-use Rattle.lock_serve.specs.Serving.{IsServed}
-use Rattle.lock_serve.specs.State.{state_lines}
+use Rattle.lock_service.specs.Serving.{IsServed}
+use Rattle.lock_service.specs.State.{state_lines}
 use Rattle.line_replica.specs.Replies.{IsReplied}
 use Rattle.line_replica.specs.State.{lines_of}
 use Rattle.line_replica.specs.Knows.{replied_leads}
 use Rattle.line_replica.specs.Restoring.{restored_leads}
-use Rattle.segment_loop.specs.declared.segmented.EndFault.{EndFault}
-use Rattle.segment_loop.specs.Segments.{Moment, IsUnprepared, IsFileCause, IsReady, IsLeft, stand_of}
-use Rattle.segment_loop.specs.Service.{Part, IsPart, AreParts, IsStopped}
-use Rattle.ring_requests.specs.declared.requests.LocksWords.{LocksWords}
+use Rattle.line_service.specs.declared.segmented.EndFault.{EndFault}
+use Rattle.line_service.specs.Segments.{Moment, IsUnprepared, IsFileCause, IsReady, IsLeft, stand_of}
+use Rattle.line_service.specs.Service.{Part, IsPart, AreParts, IsStopped}
+use Rattle.tool_parts.specs.declared.requests.LocksWords.{LocksWords}
 use Rattle.tool_parts.specs.Locking.{IsLocked, StandsLocked}
 use Rattle.tool_parts.proofs.LockedFolders.{Stands, stands_locked, same_locked, put_locked, settled_locked, if_held, ended_stand, kept_stand, added_stand}
 use Rattle.lock_commands.specs.Locks.{folder_of, list_of, Service, answering, by_segments, HasStarted, IsRun, IsRunRefused, AreUnderLock, StaysLocked}

@@ -4,24 +4,24 @@ use Rattle.std.proofs.lemmas.Bool.{false≢true}
 use Rattle.std.specs.Prelude.{slice_get, codes}
 use Rattle.disks.specs.Held.{Held}
 use Rattle.disks.specs.Folders.{is_among, names_of}
-use Rattle.segment_folder.specs.declared.errors.FolderError.{FolderError}
-use Rattle.segment_folder.specs.declared.errors.FolderError.TheVariants as names
-use Rattle.segment_folder.specs.declared.numbers.SegmentNumbers.{SegmentNumbers}
-use Rattle.line_loop.specs.declared.faults.LoopFault.{LoopFault}
-use Rattle.line_loop.specs.declared.faults.LoopFault.TheVariants as loop
-use Rattle.segment_loop.specs.declared.segmented.EndFault.{EndFault}
-use Rattle.segment_loop.specs.declared.segmented.EndFault.TheVariants as end
-use Rattle.ring_chains.specs.declared.bases.Base.{Base}
-use Rattle.ring_saved.specs.declared.saved.SavedRing.{SavedRing}
-use Rattle.lock_lists.specs.declared.locks.ListError.{ListError}
-use Rattle.lock_lists.specs.declared.locks.ListError.TheVariants as list
-use Rattle.lock_lists.specs.Lists.{Listed, IsWordFault}
-use Rattle.ring_locks.specs.declared.handing.Handover.{Handover}
+use Rattle.line_service.specs.declared.folder_errors.FolderError.{FolderError}
+use Rattle.line_service.specs.declared.folder_errors.FolderError.TheVariants as names
+use Rattle.line_service.specs.declared.segment_numbers.SegmentNumbers.{SegmentNumbers}
+use Rattle.line_service.specs.declared.faults.LoopFault.{LoopFault}
+use Rattle.line_service.specs.declared.faults.LoopFault.TheVariants as loop
+use Rattle.line_service.specs.declared.segmented.EndFault.{EndFault}
+use Rattle.line_service.specs.declared.segmented.EndFault.TheVariants as end
+use Rattle.ring_model.specs.declared.bases.Base.{Base}
+use Rattle.saved_history.specs.declared.saved.SavedRing.{SavedRing}
+use Rattle.lock_folder.specs.declared.locks.ListError.{ListError}
+use Rattle.lock_folder.specs.declared.locks.ListError.TheVariants as list
+use Rattle.lock_folder.specs.Lists.{Listed, IsWordFault}
+use Rattle.held_locks.specs.declared.handing.Handover.{Handover}
 use Rattle.lock_folder.specs.declared.faults.StartFault.{StartFault}
 use Rattle.lock_folder.specs.declared.faults.StartFault.TheVariants as start
 use Rattle.lock_folder.specs.Folders.{Place, IsFileRefusal, IsListless, IsPlaceFault, IsHandingFault, IsStartRefusal, AreUnstarted}
 use Rattle.lock_folder.specs.Rings.{IsRingFault, IsFull, AreRingsRefused}
-use Rattle.ring_requests.specs.declared.requests.LocksWords.{LocksWords}
+use Rattle.tool_parts.specs.declared.requests.LocksWords.{LocksWords}
 use Rattle.tool_parts.specs.Chained.{IsFolderFault}
 use Rattle.tool_parts.specs.Worlds.{World}
 use Rattle.tool_parts.specs.declared.faults.ToolError.{ToolError}

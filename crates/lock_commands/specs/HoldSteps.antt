@@ -1,9 +1,9 @@
 -- The steps of `holds` over the files of a folder.
 use Rattle.std.specs.Prelude.{◌≡◌, ℕ, ◌+◌, List, [], length, Option, None}
 use Rattle.disks.specs.Held.{Held}
-use Rattle.ring_segments.specs.Files.{File, AreChained}
-use Rattle.ring_segments.specs.Chain as segments
-use Rattle.ring_holds.specs.Chains.{HoldsSoFar, LeadTo}
+use Rattle.segment_files.specs.Files.{File, AreChained}
+use Rattle.segment_files.specs.Chain as segments
+use Rattle.chain_readers.specs.Chains.{HoldsSoFar, LeadTo}
 use Rattle.tool_parts.specs.Chained.{sums_of, AreHeldFrom}
 
 -- files of a folder from this number on, up to the next one, whose holds were read

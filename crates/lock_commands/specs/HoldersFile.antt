@@ -2,9 +2,9 @@
 use Rattle.std.specs.Prelude.{◌≡◌, ℕ, List, [], Option, None, Some, ◌⊎◌}
 use Rattle.std.specs.Option.{option_map}
 use Rattle.disks.specs.Held.{Held}
-use Rattle.ring_locks.specs.declared.handing.Handover.{Handover}
-use Rattle.lock_holders.specs.Holders.{AreHolders, IsBadLine}
-use Rattle.ring_requests.specs.declared.requests.LocksWords.{LocksWords}
+use Rattle.held_locks.specs.declared.handing.Handover.{Handover}
+use Rattle.lock_folder.specs.Holders.{AreHolders, IsBadLine}
+use Rattle.tool_parts.specs.declared.requests.LocksWords.{LocksWords}
 use Rattle.tool_parts.specs.Named.{IsHeld, IsFileRefusal}
 use Rattle.tool_parts.specs.declared.faults.ToolError.{ToolError}
 use Rattle.tool_parts.specs.declared.faults.ToolError.TheVariants as tool

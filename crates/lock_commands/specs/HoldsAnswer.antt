@@ -6,23 +6,23 @@ use Rattle.std.specs.BTreeMap.{BTreeMap, IsOrdered}
 use Rattle.std.specs.Io.KnownBytes.{Appends}
 use Rattle.disks.specs.Held.{Held}
 use Rattle.disks.specs.declared.disk.FolderEntry.{FolderEntry}
-use Rattle.segment_folder.specs.Names.{segment_file}
-use Rattle.segment_folder.specs.Numbers.{IsRightNumbers}
-use Rattle.segment_folder.specs.declared.numbers.SegmentNumbers.{SegmentNumbers}
-use Rattle.ring_saved.specs.Content.{Block}
+use Rattle.line_service.specs.SegmentNames.{segment_file}
+use Rattle.line_service.specs.SegmentNumbers.{IsRightNumbers}
+use Rattle.line_service.specs.declared.segment_numbers.SegmentNumbers.{SegmentNumbers}
+use Rattle.saved_history.specs.Content.{Block}
 use Rattle.ring_check.specs.declared.answers.Summary.{Summary}
-use Rattle.ring_segments.specs.Files.{File}
-use Rattle.ring_segments.specs.Chain as segments
-use Rattle.ring_holds.specs.declared.errors.ChainHoldError.TheVariants as unheld
-use Rattle.ring_holds.specs.declared.holds.Hold.{Hold}
-use Rattle.ring_holds.specs.declared.labels.LabelCounts.{LabelCounts}
-use Rattle.ring_holds.specs.declared.lines.Choice.{Choice}
-use Rattle.ring_holds.specs.Known.{Known, all_holds}
-use Rattle.ring_holds.specs.Chains.{HoldsSoFar, LeadTo, IsHoldRefusal, of_blocks}
-use Rattle.ring_holds.specs.ChainSteps.{AreBlocksHeld}
-use Rattle.ring_holds.specs.Lines.{all_lines}
-use Rattle.ring_holds.specs.Labels.{all_chosen, AreCounted, label_line}
-use Rattle.ring_requests.specs.declared.requests.HoldsWords.{HoldsWords}
+use Rattle.segment_files.specs.Files.{File}
+use Rattle.segment_files.specs.Chain as segments
+use Rattle.chain_readers.specs.declared.hold_errors.ChainHoldError.TheVariants as unheld
+use Rattle.chain_readers.specs.declared.holds.Hold.{Hold}
+use Rattle.chain_readers.specs.declared.labels.LabelCounts.{LabelCounts}
+use Rattle.chain_readers.specs.declared.hold_lines.Choice.{Choice}
+use Rattle.chain_readers.specs.Known.{Known, all_holds}
+use Rattle.chain_readers.specs.Chains.{HoldsSoFar, LeadTo, IsHoldRefusal, of_blocks}
+use Rattle.chain_readers.specs.ChainSteps.{AreBlocksHeld}
+use Rattle.chain_readers.specs.HoldLines.{all_lines}
+use Rattle.chain_readers.specs.Labels.{all_chosen, AreCounted, label_line}
+use Rattle.tool_parts.specs.declared.requests.HoldsWords.{HoldsWords}
 use Rattle.tool_parts.specs.Chained.{AreHeldFrom, IsChainIn, IsFolder, IsAddRefusal, IsFileRefused, IsNamedWrong, AreNamesRefused}
 use Rattle.tool_parts.specs.Checked.{IsLegalSavedText, IsSavedTextRefusal}
 use Rattle.tool_parts.specs.Named.{IsHeld, IsNamed, IsNamedRefusal}

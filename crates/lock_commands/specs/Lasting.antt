@@ -1,11 +1,11 @@
 -- What a loss of power, or an end of the process, leaves of a folder's locks (this project's own).
 use Rattle.std.specs.Prelude.{ℕ, ◌⊎◌, List, Option}
 use Rattle.disks.specs.Held.{Held}
-use Rattle.ring_locks.specs.declared.handing.Handover.{Handover}
+use Rattle.held_locks.specs.declared.handing.Handover.{Handover}
 use Rattle.lock_folder.specs.Folders.{Place, AreStarted}
-use Rattle.segment_loop.specs.Segments.{Moment}
-use Rattle.segment_loop.specs.Lasting.{EachSegmentLasts}
-use Rattle.ring_requests.specs.declared.requests.LocksWords.{LocksWords}
+use Rattle.line_service.specs.Segments.{Moment}
+use Rattle.line_service.specs.Lasting.{EachSegmentLasts}
+use Rattle.tool_parts.specs.declared.requests.LocksWords.{LocksWords}
 use Rattle.tool_parts.specs.Locking.{IsLocked}
 use Rattle.tool_parts.specs.Worlds.{World, IsUnserved}
 use Rattle.lock_commands.specs.HoldersFile.{holders_word, AreHoldersOf}

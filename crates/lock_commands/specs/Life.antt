@@ -1,13 +1,13 @@
 -- What a run of `locks` reported, as part of a life of locks (this project's own).
 use Rattle.std.specs.Prelude.{◌≡◌, false, ◌⊎◌, List, [], ◌++◌, ℕ, Option}
 use Rattle.disks.specs.Held.{Held}
-use Rattle.ring_locks.specs.declared.handing.Handover.{Handover}
+use Rattle.held_locks.specs.declared.handing.Handover.{Handover}
 use Rattle.lock_folder.specs.Folders.{Place, AreStarted}
-use Rattle.segment_loop.specs.Segments.{Moment, IsPut}
-use Rattle.segment_loop.specs.Service.{all_said}
-use Rattle.segment_loop.specs.Notes.{ToldLinesAreNoted}
-use Rattle.lock_laws.specs.Runs.{inside, lines_in, IsInStages, moment_after}
-use Rattle.ring_requests.specs.declared.requests.LocksWords.{LocksWords}
+use Rattle.line_service.specs.Segments.{Moment, IsPut}
+use Rattle.line_service.specs.Service.{all_said}
+use Rattle.line_service.specs.Notes.{ToldLinesAreNoted}
+use Rattle.lock_service.specs.Runs.{inside, lines_in, IsInStages, moment_after}
+use Rattle.tool_parts.specs.declared.requests.LocksWords.{LocksWords}
 use Rattle.tool_parts.specs.Locking.{IsLocked}
 use Rattle.tool_parts.specs.Worlds.{World, IsUnserved}
 use Rattle.lock_commands.specs.HoldersFile.{holders_word, AreHoldersOf}
@@ -16,7 +16,7 @@ use Rattle.lock_commands.specs.Locks.{folder_of, list_of, Service, answering, by
 -- A run from where the locks start, wherever it ended: of the lines that were reported, in parts,
 -- the output has a prefix of what was said, and nothing else. If no answer was lost up to the last
 -- of them, they are stages of a life of locks, which begins with the locks that start: a `Run` of
--- `specs/OneLife.antt` of `lock_laws`, once it is known what was left of it; also where the run ended
+-- `specs/OneLife.antt` of `lock_service`, once it is known what was left of it; also where the run ended
 -- when the file of the next segment had been put there.
 pub record IsLived (words : LocksWords) (start : Place) (files : Option Held)
     (was is old new : Option (List ℕ)) : Type 0 where

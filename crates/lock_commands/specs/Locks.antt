@@ -4,26 +4,26 @@ use Rattle.std.specs.List.{AllByRecursion}
 use Rattle.std.specs.Option.{option_map}
 use Rattle.std.specs.Io.KnownBytes.{Appends}
 use Rattle.disks.specs.Held.{Held, Replaces}
-use Rattle.segment_folder.specs.Names.{segment_file}
-use Rattle.line_loop.specs.declared.faults.LoopFault.{LoopFault}
-use Rattle.line_loop.specs.declared.faults.LoopFault.TheVariants as loop
-use Rattle.ring_locks.specs.declared.handing.Handover.{Handover}
-use Rattle.ring_locks.specs.Kept.{LockView}
+use Rattle.line_service.specs.SegmentNames.{segment_file}
+use Rattle.line_service.specs.declared.faults.LoopFault.{LoopFault}
+use Rattle.line_service.specs.declared.faults.LoopFault.TheVariants as loop
+use Rattle.held_locks.specs.declared.handing.Handover.{Handover}
+use Rattle.held_locks.specs.Kept.{LockView}
 use Rattle.lock_folder.specs.declared.faults.StartFault.{StartFault}
 use Rattle.lock_folder.specs.Folders.{Place, AreStarted, AreUnstarted}
-use Rattle.lock_serve.specs.declared.service.LockService.{LockService}
-use Rattle.lock_serve.specs.declared.service.Stage.TheVariants as stage
-use Rattle.lock_serve.specs.declared.service.Terms.{Terms}
-use Rattle.lock_serve.specs.Counting.{IsStart}
-use Rattle.lock_serve.specs.Segmented.{segmenting}
-use Rattle.lock_serve.specs.Serving.{IsServed, is_past, stage_after}
-use Rattle.lock_serve.specs.State.{state_lines}
-use Rattle.segment_loop.specs.declared.segmented.EndFault.{EndFault}
-use Rattle.line_loop.specs.Stands.{AnsweringWith}
-use Rattle.segment_loop.specs.Segmenting.{Segmenting}
-use Rattle.segment_loop.specs.Segments.{Moment, HasBegun, IsLeftUnbegun}
-use Rattle.segment_loop.specs.Service.{Part, ServesSegments, ServesSomeSegments, IsFaultOf}
-use Rattle.segment_loop.specs.Notes.{ToldLinesAreNoted}
+use Rattle.lock_service.specs.declared.service.LockService.{LockService}
+use Rattle.lock_service.specs.declared.service.Stage.TheVariants as stage
+use Rattle.lock_service.specs.declared.service.Terms.{Terms}
+use Rattle.lock_service.specs.Counting.{IsStart}
+use Rattle.lock_service.specs.Segmented.{segmenting}
+use Rattle.lock_service.specs.Serving.{IsServed, is_past, stage_after}
+use Rattle.lock_service.specs.State.{state_lines}
+use Rattle.line_service.specs.declared.segmented.EndFault.{EndFault}
+use Rattle.line_service.specs.Stands.{AnsweringWith}
+use Rattle.line_service.specs.Segmenting.{Segmenting}
+use Rattle.line_service.specs.Segments.{Moment, HasBegun, IsLeftUnbegun}
+use Rattle.line_service.specs.Service.{Part, ServesSegments, ServesSomeSegments, IsFaultOf}
+use Rattle.line_service.specs.Notes.{ToldLinesAreNoted}
 use Rattle.line_replica.specs.declared.replica.Replica.{Replica}
 use Rattle.line_replica.specs.declared.restorable.Restorable.{Restorable}
 use Rattle.line_replica.specs.Replies.{IsReplied}
@@ -31,8 +31,8 @@ use Rattle.line_replica.specs.Running.{at_place}
 use Rattle.line_replica.specs.Segmented as around
 use Rattle.line_replica.specs.Restoring as behind
 use Rattle.line_replica.specs.State.{lines_of, IsRestorable}
-use Rattle.lock_laws.specs.Begun.{HaveBegun}
-use Rattle.ring_requests.specs.declared.requests.LocksWords.{LocksWords}
+use Rattle.lock_service.specs.Begun.{HaveBegun}
+use Rattle.tool_parts.specs.declared.requests.LocksWords.{LocksWords}
 use Rattle.tool_parts.specs.declared.faults.ToolError.{ToolError}
 use Rattle.tool_parts.specs.declared.faults.ToolError.TheVariants as tool
 use Rattle.tool_parts.specs.Worlds.{IsUnserved}

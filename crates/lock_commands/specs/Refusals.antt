@@ -4,15 +4,15 @@ use Rattle.ring_state.specs.declared.sizes.ParamsError.{ParamsError}
 use Rattle.ring_state.specs.declared.sizes.ParamsError.TheVariants as params
 use Rattle.ring_settings.specs.declared.faults.RingCause.{RingCause}
 use Rattle.ring_settings.specs.declared.faults.RingCause.TheVariants as ring
-use Rattle.line_loop.specs.declared.faults.LoopFault.{LoopFault}
-use Rattle.line_loop.specs.declared.faults.LoopFault.TheVariants as loop
-use Rattle.lock_lists.specs.declared.locks.ListError.{ListError}
-use Rattle.lock_lists.specs.declared.locks.ListError.TheVariants as list
-use Rattle.lock_lists.specs.Lists.{Listed, IsLockList, IsWordFault}
+use Rattle.line_service.specs.declared.faults.LoopFault.{LoopFault}
+use Rattle.line_service.specs.declared.faults.LoopFault.TheVariants as loop
+use Rattle.lock_folder.specs.declared.locks.ListError.{ListError}
+use Rattle.lock_folder.specs.declared.locks.ListError.TheVariants as list
+use Rattle.lock_folder.specs.Lists.{Listed, IsLockList, IsWordFault}
 use Rattle.lock_folder.specs.declared.faults.StartFault.{StartFault}
 use Rattle.lock_folder.specs.declared.faults.StartFault.TheVariants as start
-use Rattle.segment_loop.specs.declared.segmented.EndFault.{EndFault}
-use Rattle.segment_loop.specs.declared.segmented.EndFault.TheVariants as end
+use Rattle.line_service.specs.declared.segmented.EndFault.{EndFault}
+use Rattle.line_service.specs.declared.segmented.EndFault.TheVariants as end
 use Rattle.tool_parts.specs.declared.faults.ToolError.{ToolError}
 use Rattle.tool_parts.specs.declared.faults.ToolError.TheVariants as tool
 use Rattle.tool_parts.specs.Chained.{IsFolderFault}

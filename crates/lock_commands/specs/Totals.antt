@@ -1,8 +1,8 @@
 -- The sums over locks (this project's own).
 use Rattle.std.specs.Prelude.{◌≡◌, ℕ, ◌+◌, ◌^◌, ◌≤◌, List, ◌++◌, length, decimal, codes, Option, ◌⊎◌}
 use Rattle.std.specs.List.{sum_by}
-use Rattle.ring_endless.specs.Endless.{EndlessView}
-use Rattle.ring_locks.specs.Kept.{LockView}
+use Rattle.endless_ring.specs.Endless.{EndlessView}
+use Rattle.held_locks.specs.Kept.{LockView}
 use Rattle.tool_parts.specs.Written.{AppendsFront}
 use Rattle.tool_parts.specs.declared.faults.ToolError.{ToolError}
 use Rattle.tool_parts.specs.declared.faults.ToolError.TheVariants as tool

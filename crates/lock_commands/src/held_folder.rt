@@ -1,17 +1,17 @@
 //! The holds of the locks whose segments a folder has: its files are read one after the other.
 
 ghost use Rattle.std.specs.Prelude.{◌≡◌, ◌≤◌, List, ℕ, map, IfOk, IfErr};
-ghost use Rattle.segment_folder.specs.Names.{segment_file};
-ghost use Rattle.ring_holds.specs.Chains.{IsHeldWith};
+ghost use Rattle.line_service.specs.SegmentNames.{segment_file};
+ghost use Rattle.chain_readers.specs.Chains.{IsHeldWith};
 ghost use Rattle.tool_parts.specs.Chained.{IsFolder};
 ghost use Rattle.tool_parts.specs.Named.{IsHeld};
 ghost use Rattle.lock_commands.specs.HoldsAnswer.{AreFilesHolds, AreFolderHolds, IsUnheld, IsFileUnheld, AreFilesUnheld, IsFolderUnheld};
 ghost use Rattle.lock_commands.specs.HoldSteps.{HoldLeads, HoldEnds};
 
+use chain_readers::{ChainHoldError, Hold, HoldChain};
 use disks::{Disk, FolderEntry};
-use ring_holds::{ChainHoldError, Hold, HoldChain};
-use ring_segments::SegmentError;
-use segment_folder::SegmentNumbers;
+use line_service::SegmentNumbers;
+use segment_files::SegmentError;
 use std::alloc::Global;
 use tool_parts::chain::{chain_in, folder_numbers, segment_bytes};
 use tool_parts::faults::ToolError;

@@ -5,8 +5,8 @@ ghost use Rattle.tool_parts.specs.Chained.{IsFolder};
 ghost use Rattle.lock_commands.specs.HoldsAnswer.{AreFolderHolds, IsFolderUnheld};
 
 use crate::held_folder::folder_holds;
+use chain_readers::Hold;
 use disks::{Disk, FolderEntry};
-use ring_holds::Hold;
 use std::alloc::Global;
 use tool_parts::chain::folder_entries;
 use tool_parts::faults::ToolError;

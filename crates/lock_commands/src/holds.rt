@@ -6,17 +6,17 @@ ghost use Rattle.tool_parts.specs.Worlds.{world};
 ghost use Rattle.lock_commands.specs.HoldsAnswer.{choice_of, AreHoldsTold, AreHoldsUntold, AreTextHolds, IsTextUnheld, AreNamedHolds, IsNamedUnheld, IsHoldsAnswer, IsHoldsRefusal};
 
 use crate::held_looks::holds_in;
-use disks::Disk;
-use ring_holds::{
+use chain_readers::{
     ChainHoldError, Choice, Hold, count_labels, holds_of_saved, put_holds, put_labels,
 };
-use ring_requests::HoldsWords;
+use disks::Disk;
 use std::alloc::Global;
 use std::io::{Read, Write};
 use tool_parts::chain::entries_of;
 use tool_parts::faults::ToolError;
 use tool_parts::legal::legal_saved;
 use tool_parts::reading::read_named;
+use tool_parts::requests::HoldsWords;
 
 /// Which holds are wanted.
 fn choice_of(words: &HoldsWords<'_>) -> Choice

@@ -2,10 +2,10 @@
 
 ghost use Rattle.std.specs.Prelude.{◌≡◌, ◌<◌, ℕ, List, true, false, OnOk, IfOk, IfErr, IsSome};
 ghost use Rattle.std.specs.Option.{option_map};
-ghost use Rattle.ring_saved.specs.Spelling.{Fits};
-ghost use Rattle.ring_segments.specs.Spelling.{DigestFits};
-ghost use Rattle.ring_locks.specs.Kept.{AreKept};
-ghost use Rattle.lock_serve.specs.Segments.{content_of};
+ghost use Rattle.saved_history.specs.Spelling.{Fits};
+ghost use Rattle.segment_files.specs.Spelling.{DigestFits};
+ghost use Rattle.held_locks.specs.Kept.{AreKept};
+ghost use Rattle.lock_service.specs.Segments.{content_of};
 ghost use Rattle.lock_folder.specs.Folders.{place_of};
 ghost use Rattle.tool_parts.specs.Worlds.{world};
 ghost use Rattle.lock_commands.specs.Refusals.{IsListIf, IsNoListFor};
@@ -13,23 +13,22 @@ ghost use Rattle.lock_commands.specs.Locks.{terms_of, BeginsWith, IsRun, IsServe
 ghost use Rattle.lock_commands.specs.Lasting.{RunLasts, FolderLasts, ToldLocksLast};
 ghost use Rattle.disks.specs.Lasting.{outlives};
 ghost use Rattle.lock_commands.specs.Life.{RunLives, FolderLives, ToldLocksLive};
-ghost use Rattle.lock_laws.specs.Begun.{HaveBegun};
+ghost use Rattle.lock_service.specs.Begun.{HaveBegun};
 
 use crate::holders::{holders_of, name_of};
 use crate::refusals::{begin_refusal, list_refusal, serving_refusal, start_refusal};
 use crate::totals::tell_totals;
 use disks::Disk;
+use held_locks::{Handover, Locks};
 use line_replica::{Replica, Restorable};
-use lock_folder::{Start, start_locks};
-use lock_lists::read_list_word;
-use lock_serve::{LockService, Terms};
-use ring_locks::{Handover, Locks};
-use ring_requests::LocksWords;
-use segment_loop::{SegmentRules, begin_segment, close_segment, serve_segments};
+use line_service::{SegmentRules, begin_segment, close_segment, serve_segments};
+use lock_folder::{Start, read_list_word, start_locks};
+use lock_service::{LockService, Terms};
 use std::alloc::Global;
 use std::io::{Read, Write};
 use tool_parts::faults::ToolError;
 use tool_parts::locking::lock_folder;
+use tool_parts::requests::LocksWords;
 
 /// The terms on which lines are answered.
 fn terms_of(words: &LocksWords<'_>) -> Terms

@@ -4,13 +4,10 @@ ghost use Rattle.std.specs.Prelude.{◌≡◌};
 ghost use Rattle.tool_parts.specs.Chained.{IsFolderFault};
 ghost use Rattle.lock_commands.specs.Refusals.{cause_of, fault_of_list, IsStartName, IsBeginName, IsLoopName};
 
-use line_loop::LoopFault;
-use lock_folder::StartFault;
-use lock_lists::ListError;
+use line_service::{EndFault, FolderError, LoopFault};
+use lock_folder::{ListError, StartFault};
 use ring_settings::RingCause;
 use ring_state::ParamsError;
-use segment_folder::FolderError;
-use segment_loop::EndFault;
 use tool_parts::faults::ToolError;
 
 /// The fault of a size.

@@ -5,11 +5,10 @@ ghost use Rattle.std.specs.Io.KnownBytes.{Appends};
 ghost use Rattle.text_lines.specs.Writing.{Writes};
 ghost use Rattle.lock_commands.specs.Totals.{sums_of, with_ring, AreTooLarge, sums_line, total_line, IsUntold};
 
-use line_parts::put_word;
-use ring_endless::EndlessRing;
-use ring_locks::Locks;
+use endless_ring::EndlessRing;
+use held_locks::Locks;
 use std::io::Write;
-use text_lines::{Line, WriteFault, put};
+use text_lines::{Line, WriteFault, put, put_word};
 use tool_parts::faults::ToolError;
 
 /// The events and the grants of rings, over all their segments.

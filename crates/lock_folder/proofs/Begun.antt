@@ -5,13 +5,13 @@ use Rattle.std.proofs.Math.ListN.{get_or-append}
 use Rattle.std.proofs.Math.Seq.{get_or-append_seam}
 use Rattle.std.proofs.lemmas.Bool.{cases_lt}
 use Rattle.std.proofs.lemmas.Option.{slice_get-map, slice_get-get_or, slice_get_within, get_or_from_slice_get}
-use Rattle.ring_saved.specs.declared.saved.SavedRing.{SavedRing}
-use Rattle.ring_chains.specs.declared.bases.Base.{Base}
-use Rattle.ring_endless.specs.Endless.{EndlessView}
-use Rattle.ring_locks.specs.Kept.{LockView, IsKeptRing}
-use Rattle.ring_locks.specs.Opened.{IsAdded, HaveNoRoom, holder_behind, open_in}
-use Rattle.lock_lists.specs.declared.locks.ListedLock.{ListedLock}
-use Rattle.lock_lists.specs.Lists.{Listed, listed}
+use Rattle.saved_history.specs.declared.saved.SavedRing.{SavedRing}
+use Rattle.ring_model.specs.declared.bases.Base.{Base}
+use Rattle.endless_ring.specs.Endless.{EndlessView}
+use Rattle.held_locks.specs.Kept.{LockView, IsKeptRing}
+use Rattle.held_locks.specs.Opened.{IsAdded, HaveNoRoom, holder_behind, open_in}
+use Rattle.lock_folder.specs.declared.locks.ListedLock.{ListedLock}
+use Rattle.lock_folder.specs.Lists.{Listed, listed}
 use Rattle.lock_folder.specs.declared.faults.StartFault.{StartFault}
 use Rattle.lock_folder.specs.declared.faults.StartFault.TheVariants as fault
 use Rattle.lock_folder.specs.Rings.{IsRingOf, Starts, AreEachBegun, AreRingsRefused}

@@ -1,3 +1,13 @@
 mod Entries
 mod Begun
 mod Refused
+mod Numbers
+mod Checked
+mod Named
+mod Texts
+mod Cuts
+mod Pieces
+mod Marks
+mod Lines
+mod Handed
+mod OneReading

@@ -1,9 +1,9 @@
 -- Why named locks do not start.
 use Rattle.std.proofs.Common.{◌≡◌, ◌⊎◌, inl, inr, ℕ, List, Bool, true, false, Option, Some, None, sym, subst}
 use Rattle.disks.specs.Held.{Held}
-use Rattle.segment_folder.specs.declared.numbers.SegmentNumbers.{SegmentNumbers}
-use Rattle.lock_lists.specs.Lists.{Listed, IsLockList}
-use Rattle.ring_locks.specs.declared.handing.Handover.{Handover}
+use Rattle.line_service.specs.declared.segment_numbers.SegmentNumbers.{SegmentNumbers}
+use Rattle.lock_folder.specs.Lists.{Listed, IsLockList}
+use Rattle.held_locks.specs.declared.handing.Handover.{Handover}
 use Rattle.lock_folder.specs.declared.faults.StartFault.{StartFault}
 use Rattle.lock_folder.specs.declared.faults.StartFault.TheVariants as fault
 use Rattle.lock_folder.specs.Folders.{IsOfFile, Continues, AreLocksOf, IsHandingFault, IsWordRefusal, IsStartRefusal}

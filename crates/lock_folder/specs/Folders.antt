@@ -4,22 +4,22 @@ use Rattle.std.specs.Str.{IsUtf8}
 use Rattle.disks.specs.Held.{Held, bytes_of, Replaces}
 use Rattle.disks.specs.Folders.{Lists, is_among, names_of, path_in}
 use Rattle.disks.specs.declared.disk.FolderEntry.{FolderEntry}
-use Rattle.segment_folder.specs.Names.{list_name, segment_file}
-use Rattle.segment_folder.specs.Numbers.{IsRightNumbers}
-use Rattle.segment_folder.specs.declared.errors.FolderError.{FolderError}
-use Rattle.segment_folder.specs.declared.errors.FolderError.TheVariants as folders
-use Rattle.segment_folder.specs.declared.numbers.SegmentNumbers.{SegmentNumbers}
-use Rattle.ring_segments.specs.Spelling.{no_digest}
-use Rattle.ring_segments.specs.declared.last.LastSegment.{LastSegment}
-use Rattle.ring_segments.specs.declared.errors.SegmentError.TheVariants as segment
-use Rattle.torn_ends.specs.Torn.{IsRightEnd}
-use Rattle.ring_locks.specs.declared.handing.Handover.{Handover}
-use Rattle.ring_locks.specs.Kept.{LockView}
-use Rattle.ring_locks.specs.Handed.{AreHanded}
-use Rattle.lock_holders.specs.Holders.{IsNotHanded}
-use Rattle.lock_lists.specs.declared.locks.ListError.{ListError}
-use Rattle.lock_lists.specs.declared.locks.ListError.TheVariants as lists
-use Rattle.lock_lists.specs.Lists.{Listed, IsLockList, IsLockFile, IsWordFault, IsFileFault, file_text}
+use Rattle.line_service.specs.SegmentNames.{list_name, segment_file}
+use Rattle.line_service.specs.SegmentNumbers.{IsRightNumbers}
+use Rattle.line_service.specs.declared.folder_errors.FolderError.{FolderError}
+use Rattle.line_service.specs.declared.folder_errors.FolderError.TheVariants as folders
+use Rattle.line_service.specs.declared.segment_numbers.SegmentNumbers.{SegmentNumbers}
+use Rattle.segment_files.specs.Spelling.{no_digest}
+use Rattle.segment_files.specs.declared.last.LastSegment.{LastSegment}
+use Rattle.segment_files.specs.declared.errors.SegmentError.TheVariants as segment
+use Rattle.segment_files.specs.Torn.{IsRightEnd}
+use Rattle.held_locks.specs.declared.handing.Handover.{Handover}
+use Rattle.held_locks.specs.Kept.{LockView}
+use Rattle.held_locks.specs.Handed.{AreHanded}
+use Rattle.lock_folder.specs.Holders.{IsNotHanded}
+use Rattle.lock_folder.specs.declared.locks.ListError.{ListError}
+use Rattle.lock_folder.specs.declared.locks.ListError.TheVariants as lists
+use Rattle.lock_folder.specs.Lists.{Listed, IsLockList, IsLockFile, IsWordFault, IsFileFault, file_text}
 use Rattle.lock_folder.specs.declared.faults.StartFault.{StartFault}
 use Rattle.lock_folder.specs.declared.faults.StartFault.TheVariants as fault
 use Rattle.lock_folder.specs.declared.places.Start.{Start}

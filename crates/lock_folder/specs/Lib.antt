@@ -1,2 +1,6 @@
 pub mod Rings
 pub mod Folders
+pub mod Lists
+pub mod ListSteps
+pub mod Holders
+pub mod HolderSteps

@@ -1,18 +1,18 @@
 -- Where the rings of locks are when these start (this project's own).
 use Rattle.std.specs.Prelude.{◌≡◌, ℕ, ◌<◌, ◌≤◌, List, [], length, map, replicate, slice_get, Option, Some, None, ◌⊎◌}
 use Rattle.ring_model.specs.Ring.{ring_with}
-use Rattle.ring_saved.specs.declared.saved.SavedRing.{SavedRing}
+use Rattle.saved_history.specs.declared.saved.SavedRing.{SavedRing}
 use Rattle.ring_check.specs.Table.{event_of}
-use Rattle.ring_chains.specs.declared.bases.Base.{Base}
-use Rattle.ring_chains.specs.Bases.{no_base}
-use Rattle.ring_desk.specs.Texts.{surveys_told}
-use Rattle.ring_desk.specs.Rings.{AreFresh}
-use Rattle.ring_endless.specs.Endless.{EndlessView}
-use Rattle.ring_locks.specs.Grants.{most_passes, repairs}
-use Rattle.ring_locks.specs.Locks.{Call}
-use Rattle.ring_locks.specs.Opened.{open_in, holder_behind, HaveNoRoom}
-use Rattle.ring_locks.specs.Kept.{LockView, IsKeptRing, AreMade, state_of, seat_count}
-use Rattle.lock_lists.specs.Lists.{Listed}
+use Rattle.ring_model.specs.declared.bases.Base.{Base}
+use Rattle.ring_model.specs.Bases.{no_base}
+use Rattle.one_thread_ring.specs.Texts.{surveys_told}
+use Rattle.one_thread_ring.specs.Rings.{AreFresh}
+use Rattle.endless_ring.specs.Endless.{EndlessView}
+use Rattle.held_locks.specs.Grants.{most_passes, repairs}
+use Rattle.held_locks.specs.Locks.{Call}
+use Rattle.held_locks.specs.Opened.{open_in, holder_behind, HaveNoRoom}
+use Rattle.held_locks.specs.Kept.{LockView, IsKeptRing, AreMade, state_of, seat_count}
+use Rattle.lock_folder.specs.Lists.{Listed}
 use Rattle.lock_folder.specs.declared.faults.StartFault.{StartFault}
 use Rattle.lock_folder.specs.declared.faults.StartFault.TheVariants as fault
 

@@ -1,8 +1,8 @@
 //! Why the locks of a folder do not start.
 
-use lock_lists::ListError;
-use ring_segments::SegmentError;
-use segment_folder::FolderError;
+use crate::locks::ListError;
+use line_service::FolderError;
+use segment_files::SegmentError;
 
 /// Why the locks of a folder do not start. Places are from 0.
 #[derive(Clone, Copy)]

@@ -3,17 +3,17 @@
 ghost use Rattle.std.specs.Prelude.{◌≡◌, ◌⊎◌, ◌<◌, map, true, false, Some, IfOk, IfErr, OnErr};
 ghost use Rattle.std.specs.Option.{option_map};
 ghost use Rattle.disks.specs.Held.{Replaces};
-ghost use Rattle.ring_segments.specs.Spelling.{DigestFits};
-ghost use Rattle.lock_lists.specs.Lists.{listed, file_text};
+ghost use Rattle.segment_files.specs.Spelling.{DigestFits};
+ghost use Rattle.lock_folder.specs.Lists.{listed, file_text};
 ghost use Rattle.lock_folder.specs.Folders.{AreStarted, AreUnstarted, AreStartedIn, IsStartRefusal, IsHandingFault, IsOfFile, StandsHanded, locks_file, place_of};
 
 use crate::faults::StartFault;
 use crate::lists::{check_continues, has_list, list_bytes, list_in, list_named, save_list};
+use crate::locks::ListedLock;
 use crate::places::{Start, place_handed};
 use disks::Disk;
-use lock_lists::ListedLock;
-use ring_locks::Handover;
-use segment_folder::{FolderError, SegmentNumbers, numbers_among};
+use held_locks::Handover;
+use line_service::{FolderError, SegmentNumbers, numbers_among};
 use std::alloc::Global;
 
 /// The locks of a list that is named, after its file is replaced.

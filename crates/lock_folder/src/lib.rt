@@ -1,13 +1,32 @@
 //! The locks of a folder: their names and sizes, and where their rings are.
+//!
+//! Lists of locks, as texts: the names of the locks, and the sizes of their rings.
+//!
+//! The clients that get the holds which are open at a start: lines of them, and the hand-over.
 #![tactic(auto)]
 
+mod checks;
 mod faults;
 mod folder;
+mod handing;
+pub mod holder_laws;
+mod holder_reading;
+mod list_reading;
 mod lists;
+mod lock_names;
+mod locks;
 mod places;
 mod rings;
+mod sizes;
+mod writing;
 
+pub use checks::{LOCK_LIMIT, first_difference};
 pub use faults::StartFault;
 pub use folder::start_locks;
+pub use handing::hand_all;
+pub use holder_reading::{HoldersError, read_holders};
+pub use list_reading::{read_list_file, read_list_word};
 pub use lists::has_list;
+pub use locks::{ListError, ListedLock};
 pub use places::Start;
+pub use writing::put_list;

@@ -3,15 +3,16 @@
 ghost use Rattle.std.specs.Prelude.{◌≡◌, ◌⊎◌, map, string_bytes, OnOk, OnErr, IfOk, IfErr, Some};
 ghost use Rattle.disks.specs.Folders.{is_among, names_of};
 ghost use Rattle.disks.specs.Held.{Replaces};
-ghost use Rattle.segment_folder.specs.Names.{list_name};
-ghost use Rattle.lock_lists.specs.Lists.{listed, file_text, IsLockFile, IsLockList};
+ghost use Rattle.line_service.specs.SegmentNames.{list_name};
+ghost use Rattle.lock_folder.specs.Lists.{listed, file_text, IsLockFile, IsLockList};
 ghost use Rattle.lock_folder.specs.Folders.{IsHeld, locks_file, IsTextFault, IsWordRefusal, IsDifference, Continues};
 
+use crate::checks::first_difference;
 use crate::faults::StartFault;
+use crate::list_reading::{read_list_file, read_list_word};
+use crate::locks::{ListError, ListedLock};
+use crate::writing::put_list;
 use disks::{Contents, ContentsFault, Disk, FolderEntry, ReplaceFault, replace};
-use lock_lists::{
-    ListError, ListedLock, first_difference, put_list, read_list_file, read_list_word,
-};
 use std::alloc::{AllocError, Global};
 use std::io::{Read, Write};
 
@@ -123,8 +124,8 @@ struct ListFile<'t> {
 
 impl Contents for ListFile<'_> {
     ghost use Rattle.std.specs.Prelude.{map};
-    ghost use Rattle.segment_folder.specs.Names.{list_name};
-    ghost use Rattle.lock_lists.specs.Lists.{listed, file_text};
+    ghost use Rattle.line_service.specs.SegmentNames.{list_name};
+    ghost use Rattle.lock_folder.specs.Lists.{listed, file_text};
 
     ghost bytes = { λ f. file_text (map listed f.list.now) };
 

@@ -1,25 +1,24 @@
 //! Where the locks of a folder start.
 
 ghost use Rattle.std.specs.Prelude.{◌≡◌, ◌<◌, map, length, All, IfOk, IfErr, Ok};
-ghost use Rattle.segment_folder.specs.Names.{segment_file};
-ghost use Rattle.ring_chains.specs.Bases.{IsBase};
-ghost use Rattle.ring_segments.specs.Spelling.{DigestFits};
-ghost use Rattle.torn_ends.specs.Torn.{IsRightEnd};
-ghost use Rattle.lock_lists.specs.Lists.{listed};
-ghost use Rattle.ring_locks.specs.Handed.{AreHanded};
+ghost use Rattle.line_service.specs.SegmentNames.{segment_file};
+ghost use Rattle.ring_model.specs.Bases.{IsBase};
+ghost use Rattle.segment_files.specs.Spelling.{DigestFits};
+ghost use Rattle.segment_files.specs.Torn.{IsRightEnd};
+ghost use Rattle.lock_folder.specs.Lists.{listed};
+ghost use Rattle.held_locks.specs.Handed.{AreHanded};
 ghost use Rattle.lock_folder.specs.Folders.{IsHeld, IsUnread, IsNoEnd, IsSegmentFault, IsAtFirst, IsAtLast, IsAfter, StandsAt, StandsHanded, place_of, IsFirstFault, IsLastFault, IsPlaceFault, IsUnhanded, IsHandingFault};
 
 use crate::faults::StartFault;
+use crate::handing::hand_all;
 use crate::lists::file_bytes;
+use crate::locks::ListedLock;
 use crate::rings::locks_of;
 use disks::Disk;
-use lock_holders::hand_all;
-use lock_lists::ListedLock;
-use ring_locks::{Handover, Locks};
-use ring_segments::{DIGEST_DIGITS, LastSegment, SegmentError};
-use segment_folder::{SegmentNumbers, segment_file};
+use held_locks::{Handover, Locks};
+use line_service::{SegmentNumbers, segment_file};
+use segment_files::{DIGEST_DIGITS, LastSegment, SegmentError, read_end};
 use std::alloc::Global;
-use torn_ends::read_end;
 
 /// Where the locks of a folder start.
 #[derive(Drop)]

@@ -1,20 +1,20 @@
 //! The rings with which locks start.
 
 ghost use Rattle.std.specs.Prelude.{◌≡◌, ◌⊎◌, ◌<◌, length, map, slice_get, Some, All, IfOk, IfErr, OnOk};
-ghost use Rattle.ring_chains.specs.Bases.{IsBase};
-ghost use Rattle.ring_locks.specs.Kept.{IsKeptRing};
-ghost use Rattle.ring_locks.specs.Opened.{IsAdded, HaveNoRoom};
-ghost use Rattle.lock_lists.specs.Lists.{listed};
+ghost use Rattle.ring_model.specs.Bases.{IsBase};
+ghost use Rattle.held_locks.specs.Kept.{IsKeptRing};
+ghost use Rattle.held_locks.specs.Opened.{IsAdded, HaveNoRoom};
+ghost use Rattle.lock_folder.specs.Lists.{listed};
 ghost use Rattle.lock_folder.specs.Rings.{IsResumed, IsFreshRing, IsRingOf, AreBegun, IsRingFault, AreRingsRefused};
 
 use crate::faults::StartFault;
-use lock_lists::ListedLock;
+use crate::locks::ListedLock;
+use endless_ring::EndlessRing;
+use held_locks::{Locks, Refusal};
+use one_thread_ring::{OneThreadRing, from_saved};
 use ring_book::Till;
-use ring_chains::Base;
-use ring_desk::{OneThreadRing, from_saved};
-use ring_endless::EndlessRing;
-use ring_locks::{Locks, Refusal};
-use ring_saved::SavedRing;
+use ring_model::Base;
+use saved_history::SavedRing;
 use std::alloc::Global;
 
 /// How many seats the ring of a lock has.

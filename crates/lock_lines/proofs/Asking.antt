@@ -3,9 +3,9 @@ use Rattle.std.proofs.Common.{◌≡◌, ℕ, List, [], ◌++◌, Option, Ok, re
 use Rattle.std.specs.Prelude.{codes}
 use Rattle.text_lines.specs.Reading.{Reader, nothing_at, or_at, none_at, word_at, whole_at}
 use Rattle.text_lines.proofs.Basics.{ok_is}
-use Rattle.line_parts.specs.Numbers.{spaced, ended, in_64_bits, order_at}
-use Rattle.line_parts.proofs.Spellings.{Any, Hears, both_hear, order_hears}
-use Rattle.line_parts.proofs.Commands.{Kind, Takes, kind_takes, kind_again, or_takes, none_takes, behind_takes, line_takes, line_again}
+use Rattle.text_lines.specs.LongNumbers.{spaced, ended, in_64_bits, order_at}
+use Rattle.text_lines.proofs.Spellings.{Any, Hears, both_hear, order_hears}
+use Rattle.text_lines.proofs.Commands.{Kind, Takes, kind_takes, kind_again, or_takes, none_takes, behind_takes, line_takes, line_again}
 use Rattle.lock_lines.specs.Asks.{Ask, acquire, try, release, cancel, leave, corrupt, stats, ask_text, heard}
 use Rattle.lock_lines.specs.Readers.{acquire_of, acquire_at, try_of, try_at, release_of, release_at, cancel_of, cancel_at, corrupt_of, corrupt_at, c_at, leave_of, leave_at, stats_of, stats_at, ask_at}
 

@@ -6,11 +6,11 @@ use Rattle.std.proofs.lemmas.List.{take_all, length-take}
 use Rattle.text_lines.specs.declared.fault.Fault.{Fault}
 use Rattle.text_lines.specs.declared.fault.Fault.TheVariants.{Bad}
 use Rattle.text_lines.proofs.Basics.{ok_is}
-use Rattle.line_parts.specs.Numbers.{spaced, ended, in_64_bits, order_at}
-use Rattle.line_parts.proofs.Decimals.{in_some, in_none}
-use Rattle.line_parts.proofs.Numerals.{decimal_fails}
-use Rattle.line_parts.proofs.Spellings.{order_hears}
-use Rattle.line_parts.specs.Limits.{line_limit}
+use Rattle.text_lines.specs.LongNumbers.{spaced, ended, in_64_bits, order_at}
+use Rattle.text_lines.proofs.LongDecimals.{in_some, in_none}
+use Rattle.text_lines.proofs.Numerals.{decimal_fails}
+use Rattle.text_lines.proofs.Spellings.{order_hears}
+use Rattle.text_lines.specs.Limits.{line_limit}
 use Rattle.lock_lines.specs.Inputs.{front_of, IsFront, IsOf}
 
 -- ---- results that differ

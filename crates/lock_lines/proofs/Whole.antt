@@ -5,15 +5,15 @@ use Rattle.std.proofs.lemmas.List.{take-take, length-take}
 use Rattle.text_lines.specs.declared.fault.Fault.{Fault as Stop}
 use Rattle.text_lines.specs.Reading.{whole_at}
 use Rattle.text_lines.proofs.Basics.{ok_is}
-use Rattle.line_parts.specs.Numbers.{spaced, in_64_bits, order_at}
-use Rattle.line_parts.proofs.Decimals.{in_some, in_none}
+use Rattle.text_lines.specs.LongNumbers.{spaced, in_64_bits, order_at}
+use Rattle.text_lines.proofs.LongDecimals.{in_some, in_none}
 use Rattle.lock_lines.specs.declared.inputs.Ask.{Ask as Read}
 use Rattle.lock_lines.specs.declared.inputs.Ask.TheVariants as reads
 use Rattle.lock_lines.specs.declared.inputs.Input.{Input}
 use Rattle.lock_lines.specs.declared.inputs.Input.TheVariants as input
 use Rattle.lock_lines.specs.declared.inputs.Fault.TheVariants as fault
 use Rattle.lock_lines.specs.Asks.{Ask, acquire, try, release, cancel, leave, corrupt, stats, ask_text, of_one, of_two, of_three, heard, seen}
-use Rattle.line_parts.specs.Limits.{line_limit}
+use Rattle.text_lines.specs.Limits.{line_limit}
 use Rattle.lock_lines.specs.Inputs.{front_of, IsFront, IsOf, IsInput, input_line, IsReadAs, OneReading, OneLineEach}
 use Rattle.lock_lines.specs.Readers.{ask_at, IsAskedAs, IsUnread}
 use Rattle.lock_lines.proofs.Asking.{whole_takes, whole_again}

@@ -1,11 +1,11 @@
 -- What clients are answered, and the lines that it is (this project's own).
 use Rattle.std.specs.Prelude.{ℕ, List, ◌++◌, codes, Option, None, Some}
 use Rattle.text_lines.specs.Spelling.{spaced, ended}
-use Rattle.ring_locks.specs.declared.answers.Holder.{Holder}
-use Rattle.ring_locks.specs.declared.answers.Answer.{Answer}
-use Rattle.ring_locks.specs.declared.answers.Answer.TheVariants as answer
-use Rattle.ring_locks.specs.declared.answers.Refusal.{Refusal}
-use Rattle.ring_locks.specs.declared.answers.Refusal.TheVariants as refusal
+use Rattle.held_locks.specs.declared.answers.Holder.{Holder}
+use Rattle.held_locks.specs.declared.answers.Answer.{Answer}
+use Rattle.held_locks.specs.declared.answers.Answer.TheVariants as answer
+use Rattle.held_locks.specs.declared.answers.Refusal.{Refusal}
+use Rattle.held_locks.specs.declared.answers.Refusal.TheVariants as refusal
 use Rattle.lock_lines.specs.declared.answers.Denial.{Denial}
 use Rattle.lock_lines.specs.declared.answers.Denial.TheVariants as denial
 

@@ -1,6 +1,6 @@
 -- What clients ask of locks, and how it is spelled (this project's own).
 use Rattle.std.specs.Prelude.{ℕ, List, ◌++◌, codes, Option, Some, None}
-use Rattle.line_parts.specs.Numbers.{spaced, ended, in_64_bits}
+use Rattle.text_lines.specs.LongNumbers.{spaced, ended, in_64_bits}
 use Rattle.lock_lines.specs.declared.inputs.Ask.{Ask as Read}
 use Rattle.lock_lines.specs.declared.inputs.Ask.TheVariants as reads
 

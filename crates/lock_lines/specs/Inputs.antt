@@ -1,7 +1,7 @@
 -- The lines of inputs: the number of a connection, and what it asks (this project's own).
 use Rattle.std.specs.Prelude.{◌≡◌, ℕ, ◌<◌, ◌≤◌, ◌^◌, List, ◌++◌, length, take, None, Some, ◌⊎◌}
-use Rattle.line_parts.specs.Limits.{line_limit}
-use Rattle.line_parts.specs.Numbers.{spaced, ended}
+use Rattle.text_lines.specs.Limits.{line_limit}
+use Rattle.text_lines.specs.LongNumbers.{spaced, ended}
 use Rattle.lock_lines.specs.declared.inputs.Input.{Input}
 use Rattle.lock_lines.specs.declared.inputs.Input.TheVariants as input
 use Rattle.lock_lines.specs.declared.inputs.Fault.TheVariants as fault

@@ -3,7 +3,7 @@
 use Rattle.std.specs.Prelude.{◌≡◌, ℕ, ◌<◌, ◌^◌, List, [], ◌∷◌, codes, Option, None, Some, Ok, Err}
 use Rattle.text_lines.specs.declared.fault.Fault.{Fault as Stop}
 use Rattle.text_lines.specs.Reading.{Reader, nothing_at, after_at, then_at, as_at, branch, choice_at, whole_at}
-use Rattle.line_parts.specs.Numbers.{order_at}
+use Rattle.text_lines.specs.LongNumbers.{order_at}
 use Rattle.lock_lines.specs.declared.inputs.Input.{Input}
 use Rattle.lock_lines.specs.declared.inputs.Input.TheVariants as input
 use Rattle.lock_lines.specs.declared.inputs.Fault.TheVariants as fault

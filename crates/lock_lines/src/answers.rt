@@ -3,13 +3,12 @@
 ghost use Rattle.std.specs.Prelude.{◌≡◌, ◌≤◌, ◌+◌, ◌++◌, List, ℕ, codes, length, OnOk, OnErr};
 ghost use Rattle.std.specs.Fmt.{decimal};
 ghost use Rattle.text_lines.specs.Spelling.{spaced, ended};
-ghost use Rattle.ring_locks.specs.declared.answers.Answer.TheVariants as answer;
+ghost use Rattle.held_locks.specs.declared.answers.Answer.TheVariants as answer;
 ghost use Rattle.lock_lines.specs.Answers.{refusal_text, holder_text, answer_text, answer_line, denial_text, denial_line};
 
-use line_parts::put_word;
-use ring_locks::{Answer, Holder, Refusal, Stats};
+use held_locks::{Answer, Holder, Refusal, Stats};
 use std::alloc::AllocError;
-use text_lines::Line;
+use text_lines::{Line, put_word};
 
 /// Why an input is refused before a lock is asked.
 #[derive(Clone, Copy, Debug, PartialEq, Eq)]
@@ -22,7 +21,7 @@ pub enum Denial {
     Off,
 }
 
-/// Puts the word before a line, as [`line_parts::put_word`] does. If the word is known, no loop is left.
+/// Puts the word before a line, as [`text_lines::put_word`] does. If the word is known, no loop is left.
 #[inline(always)]
 fn put_front(line: &mut Line, word: &[u8])
     requires { length line.old + length word.now ≤ 128 }

@@ -3,18 +3,17 @@
 ghost use Rattle.std.specs.Prelude.{◌≡◌, ◌≤◌, ◌<◌, List, ℕ, ◌^◌, length, Err, IfSome, IsNone};
 ghost use Rattle.std.specs.Option.{option_map};
 ghost use Rattle.text_lines.specs.Reading.{whole_at};
-ghost use Rattle.line_parts.specs.Limits.{line_limit};
-ghost use Rattle.line_parts.specs.Exact.{Returns};
+ghost use Rattle.text_lines.specs.Limits.{line_limit};
+ghost use Rattle.text_lines.specs.Exact.{Returns};
 ghost use Rattle.lock_lines.specs.Asks.{seen};
 ghost use Rattle.text_lines.specs.declared.fault.Fault.{Fault as Stop};
-ghost use Rattle.line_parts.specs.Numbers.{order_at};
+ghost use Rattle.text_lines.specs.LongNumbers.{order_at};
 ghost use Rattle.lock_lines.specs.Inputs.{front_of, IsFront, IsReadAs};
 ghost use Rattle.lock_lines.specs.Readers.{IsAskedAs, IsUnread};
 ghost use Rattle.lock_lines.specs.Readers.{acquire_at, try_at, release_at, cancel_at, corrupt_at, c_at, leave_at, stats_at, ask_at};
 
 use crate::inputs::{Ask, Fault as InputFault, Input};
-use line_parts::{LINE_LIMIT, fixed_word, number};
-use text_lines::Fault;
+use text_lines::{Fault, LINE_LIMIT, fixed_word, number};
 
 #[tactic(auto, unfolding(crate::specs::Readers::acquire_at))]
 fn acquire(bytes: &[u8]) -> Result<(Option<Ask>, &[u8]), Fault>

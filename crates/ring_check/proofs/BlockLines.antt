@@ -5,8 +5,8 @@ use Rattle.std.specs.List.{flat_map}
 use Rattle.std.proofs.lemmas.List.{length-map, take_more, drop_more, take-append-drop, take_all}
 use Rattle.std.proofs.lemmas.List.Folds.{length-flat_map-take}
 use Rattle.std.proofs.lemmas.Grind.{flat_map-append}
-use Rattle.ring_saved.specs.declared.saved.SavedRing.{SavedRing}
-use Rattle.ring_saved.specs.Content.{Block, Content, block_of}
+use Rattle.saved_history.specs.declared.saved.SavedRing.{SavedRing}
+use Rattle.saved_history.specs.Content.{Block, Content, block_of}
 use Rattle.ring_check.specs.declared.answers.Kind.{Kind}
 use Rattle.ring_check.specs.declared.answers.Kind.TheVariants.{Count}
 use Rattle.ring_check.specs.declared.answers.Summary.{Summary}

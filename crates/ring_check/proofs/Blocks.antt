@@ -5,10 +5,10 @@ use Rattle.std.specs.List.{list_all}
 use Rattle.std.proofs.lemmas.List.{length-map}
 use Rattle.ring_model.specs.Limits.{machine_limit, value_limit}
 use Rattle.ring_model.specs.Ring.{ring_with, IsRing}
-use Rattle.ring_saved.specs.declared.saved.SavedEvent.{SavedEvent}
-use Rattle.ring_saved.specs.declared.saved.SavedSurvey.{SavedSurvey}
-use Rattle.ring_saved.specs.Versions.{first_version}
-use Rattle.ring_saved.specs.Content.{Block}
+use Rattle.saved_history.specs.declared.saved.SavedEvent.{SavedEvent}
+use Rattle.saved_history.specs.declared.saved.SavedSurvey.{SavedSurvey}
+use Rattle.saved_history.specs.Versions.{first_version}
+use Rattle.saved_history.specs.Content.{Block}
 use Rattle.ring_check.specs.declared.answers.Kind.{Kind}
 use Rattle.ring_check.specs.declared.answers.Kind.TheVariants.{Parameter, Range, Count}
 use Rattle.ring_check.specs.declared.answers.CheckError.{CheckError}

@@ -9,7 +9,7 @@ use Rattle.ring_model.specs.Resources.{till}
 use Rattle.ring_model.proofs.Histories.{IsLegal-push}
 use Rattle.ring_model.specs.Groups.{left_of}
 use Rattle.ring_model.specs.Scanning.{opened}
-use Rattle.ring_saved.specs.declared.saved.SavedEvent.{SavedEvent}
+use Rattle.saved_history.specs.declared.saved.SavedEvent.{SavedEvent}
 use Rattle.ring_check.specs.declared.answers.Kind.{Kind}
 use Rattle.ring_check.specs.declared.replay.Replay.{Replay}
 use Rattle.ring_check.specs.Lines.{EventLine}

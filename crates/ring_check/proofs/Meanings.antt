@@ -16,10 +16,10 @@ use Rattle.ring_model.specs.Resources.{till}
 use Rattle.ring_model.specs.Surveys.{survey_at}
 use Rattle.ring_model.proofs.Histories.{after-push}
 use Rattle.ring_model.proofs.Scanning.{whole_by_events}
-use Rattle.ring_saved.specs.declared.saved.SavedEvent.{SavedEvent}
-use Rattle.ring_saved.specs.declared.saved.SavedSurvey.{SavedSurvey}
-use Rattle.ring_saved.specs.declared.saved.SavedRing.{SavedRing}
-use Rattle.ring_saved.specs.Content.{Block, block_of}
+use Rattle.saved_history.specs.declared.saved.SavedEvent.{SavedEvent}
+use Rattle.saved_history.specs.declared.saved.SavedSurvey.{SavedSurvey}
+use Rattle.saved_history.specs.declared.saved.SavedRing.{SavedRing}
+use Rattle.saved_history.specs.Content.{Block, block_of}
 use Rattle.ring_check.specs.declared.answers.Kind.{Kind}
 use Rattle.ring_check.specs.declared.answers.Kind.TheVariants.{Range, Count, Parameter, Survey as SurveyKind, Group}
 use Rattle.ring_check.specs.Lines.{EventLine, SurveyLine, block_lines, lines}

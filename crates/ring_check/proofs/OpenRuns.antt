@@ -10,7 +10,7 @@ use Rattle.ring_model.specs.declared.events.Op.TheVariants.{Pass, Member, Corrup
 use Rattle.ring_model.specs.declared.events.Event.{Event}
 use Rattle.ring_check.specs.Members.{run_behind, run_of, machines_of, is_member_of, goes_on, is_in_order, call_may_come}
 use Rattle.ring_check.proofs.Booleans.{both, joined, same, below, eq_true, lt_true}
-use Rattle.ring_saved.specs.declared.saved.SavedEvent.{SavedEvent}
+use Rattle.saved_history.specs.declared.saved.SavedEvent.{SavedEvent}
 use Rattle.ring_check.specs.Table.{event_of}
 use Rattle.ring_check.specs.Meaning.{MembersMean}
 use Rattle.ring_check.proofs.GroupOrders.{order_means, order_true}

@@ -7,7 +7,7 @@ use Rattle.ring_model.specs.History.{State, Step, next, after, IsLegal}
 use Rattle.ring_model.specs.Resources.{till}
 use Rattle.ring_model.specs.Surveys.{calm, survey_at}
 use Rattle.ring_model.proofs.Histories.{calm_next, after-push, legal_step, calm-push}
-use Rattle.ring_saved.specs.declared.saved.SavedEvent.{SavedEvent}
+use Rattle.saved_history.specs.declared.saved.SavedEvent.{SavedEvent}
 use Rattle.ring_check.specs.declared.replay.Replay.{Replay}
 use Rattle.ring_check.specs.Table.{event_of, first_state}
 use Rattle.ring_model.specs.declared.events.Survey.{Survey}

@@ -14,8 +14,8 @@ use Rattle.ring_model.specs.declared.events.Reply.TheVariants.{Granted, NotPrivi
 use Rattle.ring_model.specs.declared.events.Event.{Event}
 use Rattle.ring_model.specs.History.{State, Step, StepOf, granted_state, next, reply, after}
 use Rattle.ring_model.specs.Resources.{till}
-use Rattle.ring_saved.specs.declared.saved.SavedEvent.{SavedEvent}
-use Rattle.ring_saved.specs.declared.saved.SavedEvent.TheVariants as saved
+use Rattle.saved_history.specs.declared.saved.SavedEvent.{SavedEvent}
+use Rattle.saved_history.specs.declared.saved.SavedEvent.TheVariants as saved
 use Rattle.ring_check.specs.declared.answers.Kind.TheVariants.{Range, Reply as ReplyKind, Group}
 use Rattle.ring_check.specs.Members.{may_come}
 use Rattle.ring_check.specs.Table.{event_of, first_state, same_reply, is_replied, op_in_range, in_range, event_fault}

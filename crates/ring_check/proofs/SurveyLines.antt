@@ -9,8 +9,8 @@ use Rattle.ring_model.specs.declared.events.Survey.{Survey}
 use Rattle.ring_model.specs.Resources.{till}
 use Rattle.ring_model.specs.Surveys.{survey_at}
 use Rattle.ring_model.specs.Groups.{left_after}
-use Rattle.ring_saved.specs.declared.saved.SavedEvent.{SavedEvent}
-use Rattle.ring_saved.specs.declared.saved.SavedSurvey.{SavedSurvey}
+use Rattle.saved_history.specs.declared.saved.SavedEvent.{SavedEvent}
+use Rattle.saved_history.specs.declared.saved.SavedSurvey.{SavedSurvey}
 use Rattle.ring_check.specs.declared.answers.Kind.{Kind}
 use Rattle.ring_check.specs.declared.answers.Kind.TheVariants.{Range, Survey as SurveyKind}
 use Rattle.ring_check.specs.declared.surveys.Reading.{Reading}

@@ -5,9 +5,9 @@ use Rattle.std.proofs.lemmas.List.{length-map, take_all}
 use Rattle.std.proofs.lemmas.List.Sums.{sum_by_more, sum_by-cons, sum_by_more_le, count_by-le-length}
 use Rattle.ring_model.specs.declared.events.Event.{Event}
 use Rattle.ring_model.specs.Surveys.{is_granted, is_corrupted, granted_count, corrupted_count}
-use Rattle.ring_saved.specs.declared.saved.SavedEvent.{SavedEvent}
-use Rattle.ring_saved.specs.declared.saved.SavedRing.{SavedRing}
-use Rattle.ring_saved.specs.Content.{Block, block_of}
+use Rattle.saved_history.specs.declared.saved.SavedEvent.{SavedEvent}
+use Rattle.saved_history.specs.declared.saved.SavedRing.{SavedRing}
+use Rattle.saved_history.specs.Content.{Block, block_of}
 use Rattle.ring_check.specs.Lines.{block_lines}
 use Rattle.ring_check.specs.Table.{event_of}
 use Rattle.ring_check.specs.Legal.{history}

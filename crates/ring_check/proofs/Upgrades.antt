@@ -1,6 +1,6 @@
 -- A text of the latest version may have whatever one of an earlier version has.
 use Rattle.std.proofs.Common.{◌≡◌, ℕ, List, [], ◌∷◌, Bool, true, false, cond, Option, Some, None, refl, ◌∙◌, ap, arith, eqb}
-use Rattle.ring_saved.specs.Versions.{latest_version}
+use Rattle.saved_history.specs.Versions.{latest_version}
 use Rattle.ring_check.specs.declared.answers.Kind.{Kind}
 use Rattle.ring_check.specs.declared.answers.Kind.TheVariants.{Parameter, Count}
 use Rattle.ring_check.specs.Lines.{Line, RingLine, StartLine, EventLine, EndLine, SurveyLine, DoneLine}

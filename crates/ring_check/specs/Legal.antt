@@ -4,7 +4,7 @@ use Rattle.std.specs.Prelude.{◌≡◌, ◌≢◌, ℕ, ◌+◌, List, ◌∷�
 use Rattle.std.specs.List.{sum_by}
 use Rattle.ring_model.specs.declared.events.Event.{Event}
 use Rattle.ring_model.specs.Surveys.{granted_count, corrupted_count}
-use Rattle.ring_saved.specs.Content.{Content, Block, upgraded}
+use Rattle.saved_history.specs.Content.{Content, Block, upgraded}
 use Rattle.ring_check.specs.declared.answers.Kind.{Kind}
 use Rattle.ring_check.specs.declared.answers.Summary.{Summary}
 use Rattle.ring_check.specs.declared.answers.CheckError.{CheckError}

@@ -1,7 +1,7 @@
 -- How large the rings of a text may be, by the version of the text (this project's own).
 use Rattle.std.specs.Prelude.{ℕ, cond, ◌==◌}
 use Rattle.ring_model.specs.Limits.{machine_limit, value_limit}
-use Rattle.ring_saved.specs.Versions.{first_version}
+use Rattle.saved_history.specs.Versions.{first_version}
 
 -- the most machines and the most values of a ring of the first version
 abbrev pub first_version_machine_limit : ℕ

@@ -1,12 +1,12 @@
 -- A saved text as its lines, except for the first one, which says its version (this project's own).
 use Rattle.std.specs.Prelude.{ℕ, ◌+◌, ◌≤◌, ◌<◌, ◌^◌, List, [], ◌∷◌, ◌++◌, map, length, Ok}
 use Rattle.std.specs.List.{flat_map}
-use Rattle.ring_saved.specs.declared.saved.SavedEvent.{SavedEvent}
-use Rattle.ring_saved.specs.declared.saved.SavedSurvey.{SavedSurvey}
-use Rattle.ring_saved.specs.declared.saved.Saved.{Saved}
-use Rattle.ring_saved.specs.Content.{Content, Block, content}
-use Rattle.ring_saved.specs.Spelling.{text}
-use Rattle.ring_saved.specs.Meaning.{IsRightRead}
+use Rattle.saved_history.specs.declared.saved.SavedEvent.{SavedEvent}
+use Rattle.saved_history.specs.declared.saved.SavedSurvey.{SavedSurvey}
+use Rattle.saved_history.specs.declared.saved.Saved.{Saved}
+use Rattle.saved_history.specs.Content.{Content, Block, content}
+use Rattle.saved_history.specs.Spelling.{text}
+use Rattle.saved_history.specs.Meaning.{IsRightRead}
 
 -- a line with what it says: R, N and K; the start values; an event; how many events; a survey; how
 -- many blocks

@@ -9,8 +9,8 @@ use Rattle.ring_model.specs.Groups.{IsHistory}
 use Rattle.ring_model.specs.Scanning.{MayCome}
 use Rattle.ring_model.specs.Resources.{till}
 use Rattle.ring_model.specs.Logs.{IsSurvey}
-use Rattle.ring_saved.specs.declared.saved.SavedSurvey.{SavedSurvey}
-use Rattle.ring_saved.specs.Content.{Content, Block}
+use Rattle.saved_history.specs.declared.saved.SavedSurvey.{SavedSurvey}
+use Rattle.saved_history.specs.Content.{Content, Block}
 use Rattle.ring_check.specs.Limits.{machine_limit_of, value_limit_of}
 use Rattle.ring_check.specs.Members.{run_of, may_come}
 use Rattle.ring_check.specs.Table.{first_state}

@@ -6,7 +6,7 @@ use Rattle.ring_model.specs.Ring.{Ring, ring_with, IsRing, privileged_count, fir
 use Rattle.ring_model.specs.History.{State, after}
 use Rattle.ring_model.specs.Resources.{till}
 use Rattle.ring_model.specs.Surveys.{calm}
-use Rattle.ring_saved.specs.declared.saved.SavedEvent.{SavedEvent}
+use Rattle.saved_history.specs.declared.saved.SavedEvent.{SavedEvent}
 use Rattle.ring_check.specs.declared.replay.Replay.{Replay}
 use Rattle.ring_check.specs.declared.gauge.Gauge.{Gauge}
 use Rattle.ring_check.specs.declared.surveys.Reading.{Reading}

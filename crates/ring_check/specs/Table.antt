@@ -14,9 +14,9 @@ use Rattle.ring_model.specs.History.{State, opening, after, reply}
 use Rattle.ring_model.specs.Resources.{till}
 use Rattle.ring_model.specs.Surveys.{survey_at}
 use Rattle.ring_model.specs.Groups.{left_after}
-use Rattle.ring_saved.specs.declared.saved.SavedEvent.{SavedEvent}
-use Rattle.ring_saved.specs.declared.saved.SavedEvent.TheVariants as saved
-use Rattle.ring_saved.specs.declared.saved.SavedSurvey.{SavedSurvey}
+use Rattle.saved_history.specs.declared.saved.SavedEvent.{SavedEvent}
+use Rattle.saved_history.specs.declared.saved.SavedEvent.TheVariants as saved
+use Rattle.saved_history.specs.declared.saved.SavedSurvey.{SavedSurvey}
 use Rattle.ring_check.specs.declared.answers.Kind.{Kind}
 use Rattle.ring_check.specs.declared.answers.Kind.TheVariants.{Parameter, Range, Reply as ReplyKind, Count, Survey as SurveyKind, Group}
 use Rattle.ring_check.specs.Limits.{machine_limit_of, value_limit_of}

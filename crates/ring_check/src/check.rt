@@ -1,7 +1,7 @@
 //! The check of a whole text.
 
 ghost use Rattle.std.specs.Prelude.{◌+◌, ◌<◌, ◌^◌, length, IfOk};
-ghost use Rattle.ring_saved.specs.Content.{content};
+ghost use Rattle.saved_history.specs.Content.{content};
 ghost use Rattle.ring_check.specs.Lines.{lines};
 ghost use Rattle.ring_check.specs.Legal.{IsRightCheck};
 ghost use Rattle.ring_check.specs.Meaning.{IsRightText};
@@ -9,7 +9,7 @@ ghost use Rattle.ring_check.specs.Meaning.{IsRightText};
 use crate::answers::{CheckError, Kind, Summary};
 use crate::rings::check_rings;
 use crate::sums::sums_of;
-use ring_saved::Saved;
+use saved_history::Saved;
 use std::alloc::Global;
 
 /// Checks a saved text: whether each of its rings has one legal history from its start, on one thread over a till

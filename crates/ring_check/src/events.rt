@@ -11,7 +11,7 @@ ghost use Rattle.ring_check.specs.Scan.{first_fault, Finds, in_block};
 use crate::answers::CheckError;
 use crate::group_lines::left_of;
 use crate::replay::Replay;
-use ring_saved::SavedEvent;
+use saved_history::SavedEvent;
 use std::alloc::Global;
 
 /// Finds the first event with a fault; `line` is the number of lines before the events.

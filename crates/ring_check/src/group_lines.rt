@@ -6,7 +6,7 @@ ghost use Rattle.ring_model.specs.Replay.{machine_of};
 ghost use Rattle.ring_check.specs.Members.{machines_of, least_of, is_in_order, goes_on, may_come};
 ghost use Rattle.ring_check.specs.Table.{event_of};
 
-use ring_saved::SavedEvent;
+use saved_history::SavedEvent;
 
 /// How many members of its group come after an event.
 pub(crate) fn left_of(event: &SavedEvent) -> u32

@@ -4,7 +4,7 @@ ghost use Rattle.std.specs.Prelude.{◌≡◌};
 ghost use Rattle.ring_check.specs.Limits.{first_version_machine_limit, first_version_value_limit, machine_limit_of, value_limit_of};
 
 use ring_model::limits::{MACHINE_LIMIT, VALUE_LIMIT};
-use ring_saved::FIRST_VERSION;
+use saved_history::FIRST_VERSION;
 
 /// The most machines of a ring in a text of the first version.
 pub const FIRST_VERSION_MACHINE_LIMIT: u32 = 256;

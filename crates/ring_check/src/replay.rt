@@ -15,7 +15,7 @@ use crate::group_lines::may_come;
 use crate::measures::is_privileged;
 use ring_model::Survey;
 use ring_model::limits::SEAT_LIMIT;
-use ring_saved::SavedEvent;
+use saved_history::SavedEvent;
 use std::alloc::{AllocError, Global};
 
 /// A ring over a till as some events of a block leave it.

@@ -2,7 +2,7 @@
 
 ghost use Rattle.std.specs.Prelude.{◌≡◌, ◌+◌, ◌<◌, ◌^◌, length, map, nat_lt, IfOk};
 ghost use Rattle.std.specs.List.{flat_map, list_all};
-ghost use Rattle.ring_saved.specs.Content.{block_of};
+ghost use Rattle.saved_history.specs.Content.{block_of};
 ghost use Rattle.ring_check.specs.Lines.{block_lines};
 ghost use Rattle.ring_check.specs.Table.{Before, nothing, event_of, are_parameters, end_fault};
 ghost use Rattle.ring_check.specs.Scan.{first_fault, Finds};
@@ -12,7 +12,7 @@ use crate::events::check_events;
 use crate::group_lines::left_after;
 use crate::limits::{machine_limit_of, value_limit_of};
 use crate::surveys::check_surveys;
-use ring_saved::SavedRing;
+use saved_history::SavedRing;
 use std::alloc::Global;
 
 /// Whether a ring in a text of this version may have n machines and K values.

@@ -3,13 +3,13 @@
 ghost use Rattle.std.specs.Prelude.{◌≡◌, ℕ, ◌+◌, ◌<◌, ◌^◌, length, map};
 ghost use Rattle.std.specs.List.{flat_map};
 ghost use Rattle.ring_model.specs.Surveys.{granted_count, corrupted_count};
-ghost use Rattle.ring_saved.specs.Content.{block_of};
+ghost use Rattle.saved_history.specs.Content.{block_of};
 ghost use Rattle.ring_check.specs.Lines.{block_lines};
 ghost use Rattle.ring_check.specs.Table.{event_of};
 ghost use Rattle.ring_check.specs.Legal.{summary_of};
 
 use crate::answers::Summary;
-use ring_saved::{SavedEvent, SavedRing};
+use saved_history::{SavedEvent, SavedRing};
 
 /// How many events of a block are granted passes, and how many are corruptions.
 #[derive(Clone, Copy)]

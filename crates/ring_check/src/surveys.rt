@@ -9,7 +9,7 @@ ghost use Rattle.ring_model.specs.declared.events.Reply.TheVariants.{NotPrivileg
 ghost use Rattle.ring_model.specs.Replay.{machine_of};
 ghost use Rattle.ring_model.proofs.Histories.{calm_next};
 ghost use Rattle.ring_model.specs.Resources.{till};
-ghost use Rattle.ring_saved.specs.declared.saved.SavedEvent.{SavedEvent};
+ghost use Rattle.saved_history.specs.declared.saved.SavedEvent.{SavedEvent};
 ghost use Rattle.ring_check.specs.Lines.{SurveyLine};
 ghost use Rattle.ring_check.specs.Table.{event_of, first_state, same_survey, is_onward};
 ghost use Rattle.ring_check.specs.Scan.{first_fault, Finds, in_block};
@@ -21,7 +21,7 @@ use crate::group_lines::left_after;
 use crate::replay::Replay;
 use ring_model::Survey;
 use ring_model::limits::SEAT_LIMIT;
-use ring_saved::{SavedEvent, SavedSurvey};
+use saved_history::{SavedEvent, SavedSurvey};
 use std::alloc::{AllocError, Global};
 
 /// The survey of a ring at some place of its history, the replay that is there, and a gauge of its ring.

@@ -35,3 +35,8 @@ pub mod LongestRepair
 pub mod Progress
 mod Steps
 mod Worked
+pub mod Shifts
+pub mod ChainHistories
+pub mod Tallied
+pub mod Seen
+mod WorkedChains

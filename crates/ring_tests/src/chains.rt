@@ -1,9 +1,8 @@
-//! Replies and receipts after a base: of the chain that is worked by hand in `ring_chains` (`specs/Worked.antt`), and of a full till.
+//! Replies and receipts after a base: of the chain that is worked by hand in `ring_model` (`specs/WorkedChains.antt`), and of a full till.
 //! The bases themselves are rows of `tests/rows` (`bases`).
 
 use crate::events::granted;
-use ring_chains::Base;
-use ring_model::{Event, Op, Receipt, Reply};
+use ring_model::{Base, Event, Op, Receipt, Reply};
 
 #[test]
 fn shifts_replies_and_receipts(rt: HostRuntime) {

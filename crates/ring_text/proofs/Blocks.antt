@@ -2,10 +2,10 @@
 use Rattle.std.proofs.Common.{ℕ, List, refl}
 use Rattle.std.specs.List.{flat_map, AllByRecursion}
 use Rattle.ring_logs.specs.declared.outcomes.RingOutcome.{RingOutcome}
-use Rattle.ring_saved.specs.Versions.{latest_version}
-use Rattle.ring_saved.specs.Spelling.{block_text, BlockFits}
-use Rattle.ring_saved.proofs.Passing.{Spelled}
-use Rattle.ring_blocks.specs.SavedOf.{block_at}
+use Rattle.saved_history.specs.Versions.{latest_version}
+use Rattle.saved_history.specs.Spelling.{block_text, BlockFits}
+use Rattle.saved_history.proofs.Passing.{Spelled}
+use Rattle.one_thread_ring.specs.SavedOf.{block_at}
 use Rattle.ring_text.specs.SavedOf.{blocks_from}
 
 abbrev pub blocks_text : ℕ → List RingOutcome → List ℕ

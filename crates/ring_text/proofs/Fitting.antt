@@ -4,8 +4,8 @@ use Rattle.std.specs.List.{AllByRecursion}
 use Rattle.ring_settings.specs.Limits.{ring_limit}
 use Rattle.ring_farm.specs.declared.outcomes.Outcome.{Outcome}
 use Rattle.ring_logs.specs.declared.outcomes.RingOutcome.{RingOutcome}
-use Rattle.ring_saved.specs.Versions.{latest_version}
-use Rattle.ring_saved.specs.Spelling.{BlockFits, Fits}
+use Rattle.saved_history.specs.Versions.{latest_version}
+use Rattle.saved_history.specs.Spelling.{BlockFits, Fits}
 use Rattle.ring_text.specs.SavedOf.{blocks_from, saved_of}
 
 pub blocks_count : (place : ℕ) (rs : List RingOutcome) → length (blocks_from place rs) ≡ length rs

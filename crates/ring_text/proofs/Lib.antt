@@ -5,3 +5,6 @@ pub mod BookEnds
 pub mod RingLines
 pub mod WrittenTexts
 pub mod Promised
+pub mod Ends
+pub mod Numbers
+pub mod Pieces

@@ -18,7 +18,7 @@ use Rattle.ring_farm.specs.Runs.{ring_of_data}
 use Rattle.ring_farm.specs.Headline.{IsFarmRing, IsFarmOf}
 use Rattle.ring_farm.proofs.Lawful.{is_whole}
 use Rattle.ring_text.specs.Written.{OutcomeIsLegal, OutcomeIsRight}
-use Rattle.ring_blocks.specs.Runs.{IsRightRun}
+use Rattle.one_thread_ring.specs.Runs.{IsRightRun}
 use Rattle.ring_text.proofs.WrittenTexts.{written_is_legal, written_is_right}
 
 -- a ring of settings is one of an allowed size

@@ -5,9 +5,9 @@ use Rattle.ring_model.specs.Surveys.{granted_count}
 use Rattle.ring_farm.specs.Log.{Log}
 use Rattle.ring_logs.specs.declared.outcomes.RingOutcome.{RingOutcome}
 use Rattle.ring_text.specs.declared.counts.Counts.{Counts}
-use Rattle.ring_blocks.specs.declared.counts.Totals.{Totals}
+use Rattle.one_thread_ring.specs.declared.counts.Totals.{Totals}
 use Rattle.ring_text.specs.Report.{entries_of, counts_of, surveys_in, totals_of}
-use Rattle.ring_blocks.specs.Counts.{is_survey, survey_count}
+use Rattle.one_thread_ring.specs.Counts.{is_survey, survey_count}
 
 -- ---- surveys are entries
 

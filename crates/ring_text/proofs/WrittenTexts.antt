@@ -3,13 +3,13 @@ use Rattle.std.proofs.Common.{◌≡◌, ℕ, ◌+◌, List, [], ◌∷◌, leng
 use Rattle.std.specs.List.{All}
 use Rattle.std.proofs.lemmas.List.Elements.{All-cons, All-head, All-tail}
 use Rattle.ring_logs.specs.declared.outcomes.RingOutcome.{RingOutcome}
-use Rattle.ring_saved.specs.Versions.{latest_version}
-use Rattle.ring_saved.specs.Content.{Block}
+use Rattle.saved_history.specs.Versions.{latest_version}
+use Rattle.saved_history.specs.Content.{Block}
 use Rattle.ring_check.specs.Meaning.{AreRightBlocks}
 use Rattle.ring_check.proofs.Meanings.{legal_means}
-use Rattle.ring_blocks.specs.SavedOf.{block_at}
-use Rattle.ring_blocks.specs.Runs.{IsRightRun}
-use Rattle.ring_blocks.proofs.WrittenBlocks.{run_right}
+use Rattle.one_thread_ring.specs.SavedOf.{block_at}
+use Rattle.one_thread_ring.specs.Runs.{IsRightRun}
+use Rattle.one_thread_ring.proofs.WrittenBlocks.{run_right}
 use Rattle.ring_text.specs.SavedOf.{blocks_from, saved_of}
 use Rattle.ring_text.specs.Written.{WrittenIsLegal, WrittenIsRight}
 

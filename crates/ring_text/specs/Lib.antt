@@ -1,3 +1,4 @@
 pub mod SavedOf
 pub mod Report
 pub mod Written
+pub mod SavedReport

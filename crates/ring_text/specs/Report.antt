@@ -17,10 +17,10 @@ use Rattle.ring_book.specs.BookView.{BookView}
 use Rattle.ring_farm.specs.Log.{Log}
 use Rattle.ring_farm.specs.declared.outcomes.Outcome.{Outcome}
 use Rattle.ring_logs.specs.declared.outcomes.RingOutcome.{RingOutcome}
-use Rattle.ring_blocks.specs.declared.counts.Totals.{Totals}
-use Rattle.ring_blocks.specs.Counts.{survey_count}
+use Rattle.one_thread_ring.specs.declared.counts.Totals.{Totals}
+use Rattle.one_thread_ring.specs.Counts.{survey_count}
 use Rattle.ring_text.specs.declared.counts.Counts.{Counts}
-use Rattle.ring_blocks.specs.declared.counts.Totals.{Totals}
+use Rattle.one_thread_ring.specs.declared.counts.Totals.{Totals}
 
 -- ---- the counts
 

@@ -2,9 +2,9 @@
 use Rattle.std.specs.Prelude.{ℕ, ◌+◌, List, [], ◌∷◌, length}
 use Rattle.ring_farm.specs.declared.outcomes.Outcome.{Outcome}
 use Rattle.ring_logs.specs.declared.outcomes.RingOutcome.{RingOutcome}
-use Rattle.ring_saved.specs.Versions.{latest_version}
-use Rattle.ring_saved.specs.Content.{Content, Block}
-use Rattle.ring_blocks.specs.SavedOf.{block_at}
+use Rattle.saved_history.specs.Versions.{latest_version}
+use Rattle.saved_history.specs.Content.{Content, Block}
+use Rattle.one_thread_ring.specs.SavedOf.{block_at}
 
 -- the blocks of the rings, each at its place, the first at the given one
 abbrev pub blocks_from : ℕ → List RingOutcome → List Block

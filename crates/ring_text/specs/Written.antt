@@ -4,10 +4,10 @@ use Rattle.std.specs.List.{All}
 use Rattle.ring_settings.specs.Contents.{SettingsData}
 use Rattle.ring_farm.specs.declared.outcomes.Outcome.{Outcome}
 use Rattle.ring_farm.specs.Headline.{IsFarmOf}
-use Rattle.ring_saved.specs.Content.{Content}
+use Rattle.saved_history.specs.Content.{Content}
 use Rattle.ring_check.specs.Legal.{IsLegalText}
 use Rattle.ring_check.specs.Meaning.{IsRightText}
-use Rattle.ring_blocks.specs.Runs.{IsRightRun}
+use Rattle.one_thread_ring.specs.Runs.{IsRightRun}
 use Rattle.ring_text.specs.SavedOf.{saved_of}
 
 -- the saved text of right runs is legal

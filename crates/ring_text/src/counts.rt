@@ -5,9 +5,9 @@ ghost use Rattle.ring_model.specs.Surveys.{corrupted_count};
 ghost use Rattle.ring_model.specs.Limits.{event_limit};
 ghost use Rattle.ring_settings.specs.Limits.{ring_limit};
 ghost use Rattle.ring_text.specs.Report.{refused_count, entries_of, entries_among, counts_of, surveys_in, totals_of};
-ghost use Rattle.ring_blocks.specs.Counts.{survey_count};
+ghost use Rattle.one_thread_ring.specs.Counts.{survey_count};
 
-use ring_blocks::{Totals, granted};
+use one_thread_ring::{Totals, granted};
 use ring_farm::{Log, RingOutcome};
 use ring_model::{Entry, Event, Reply};
 

@@ -4,15 +4,15 @@ ghost use Rattle.std.specs.Prelude.{◌≤◌, IfOk, length};
 ghost use Rattle.std.specs.List.{flat_map, AllByRecursion};
 ghost use Rattle.ring_settings.specs.Limits.{ring_limit};
 ghost use Rattle.text_lines.specs.Writing.{Writes};
-ghost use Rattle.ring_saved.specs.Spelling.{block_text, text, BlockFits, Fits};
-ghost use Rattle.ring_saved.specs.Versions.{latest_version};
+ghost use Rattle.saved_history.specs.Spelling.{block_text, text, BlockFits, Fits};
+ghost use Rattle.saved_history.specs.Versions.{latest_version};
 ghost use Rattle.ring_text.specs.SavedOf.{blocks_from, saved_of};
-ghost use Rattle.ring_blocks.specs.SavedOf.{block_at};
+ghost use Rattle.one_thread_ring.specs.SavedOf.{block_at};
 
-use ring_blocks::put_block;
+use one_thread_ring::put_block;
 use ring_farm::{Outcome, RingOutcome};
-use ring_saved::LATEST_VERSION;
-use ring_saved::put_lines::{put_done_line, put_first_line};
+use saved_history::LATEST_VERSION;
+use saved_history::put_lines::{put_done_line, put_first_line};
 use std::io::Write;
 use text_lines::WriteFault;
 

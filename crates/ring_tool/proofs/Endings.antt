@@ -3,8 +3,8 @@ use Rattle.std.proofs.Common.{◌≡◌, ◌∙◌, ◌≢◌, ◌≤◌, ℕ, L
 use Rattle.std.specs.Prelude.{OnOk, IfErr}
 use Rattle.std.proofs.lemmas.Bool.{false≢true}
 use Rattle.disks.specs.Held.{Held}
-use Rattle.ring_requests.specs.declared.requests.Request.{Request}
-use Rattle.ring_requests.specs.declared.requests.Request.TheVariants as asked
+use Rattle.tool_parts.specs.declared.requests.Request.{Request}
+use Rattle.tool_parts.specs.declared.requests.Request.TheVariants as asked
 use Rattle.ring_tool.specs.Answered.{IsAnswer, IsRefusal, IsOfLines, IsOfFile, MakesNoFile, IsSilent}
 use Rattle.ring_tool.specs.Ended.{IsRefused, HasEnded}
 use Rattle.ring_tool.specs.Left.{HasFront, HasLine, HasEndedAnswered}

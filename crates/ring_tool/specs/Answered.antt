@@ -1,12 +1,12 @@
 -- What each command answers to its words: by the world that it met, and the one that it leaves.
 use Rattle.std.specs.Prelude.{◌≡◌, ◌≢◌, true, false, None, Result, OnOk, IfErr}
-use Rattle.ring_commands.specs.Stepped.{IsStepAnswer, IsStepWordsRefusal}
-use Rattle.ring_commands.specs.Saved.{IsRunAnswer}
-use Rattle.ring_commands.specs.Ran.{history_file, IsRunRefusal}
+use Rattle.run_commands.specs.Stepped.{IsStepAnswer, IsStepWordsRefusal}
+use Rattle.run_commands.specs.Saved.{IsRunAnswer}
+use Rattle.run_commands.specs.Ran.{history_file, IsRunRefusal}
 use Rattle.tool_parts.specs.Checked.{IsCheckAnswer, IsCheckRunRefusal}
 use Rattle.text_commands.specs.CheckedAll.{IsCheckAllAnswer, IsCheckAllRefusal}
 use Rattle.folder_commands.specs.JoinedFolder.{IsJoinAnswer, IsJoinRefusal}
-use Rattle.ring_commands.specs.New.{IsNewAnswer, IsNewRefusal}
+use Rattle.run_commands.specs.New.{IsNewAnswer, IsNewRefusal}
 use Rattle.text_commands.specs.Pictured.{IsPictureAnswer, IsPictureRefusal}
 use Rattle.tool_parts.specs.Reading.{names_stream}
 use Rattle.folder_commands.specs.Recovered.{IsRecoverAnswer, IsRecoverRefusal}
@@ -18,8 +18,8 @@ use Rattle.tool_parts.specs.declared.faults.ToolError.{ToolError}
 use Rattle.tool_parts.specs.declared.faults.ToolError.TheVariants as tool
 use Rattle.lock_commands.specs.Locks.{IsLocksAnswer, IsLocksRefusal}
 use Rattle.lock_commands.specs.HoldsAnswer.{IsHoldsAnswer, IsHoldsRefusal}
-use Rattle.ring_requests.specs.declared.requests.Request.{Request}
-use Rattle.ring_requests.specs.declared.requests.Request.TheVariants as request
+use Rattle.tool_parts.specs.declared.requests.Request.{Request}
+use Rattle.tool_parts.specs.declared.requests.Request.TheVariants as request
 
 -- a world without standard error, for a command that is not given it
 abbrev pub unheard : World → World

@@ -5,7 +5,7 @@ use Rattle.tool_parts.specs.Faults.{is_bad_list}
 use Rattle.tool_parts.specs.Worlds.{World, world}
 use Rattle.tool_parts.specs.declared.faults.ToolError.{ToolError}
 use Rattle.tool_parts.specs.declared.faults.ToolError.TheVariants as tool
-use Rattle.ring_requests.specs.declared.requests.Request.{Request}
+use Rattle.tool_parts.specs.declared.requests.Request.{Request}
 use Rattle.ring_tool.specs.Answered.{IsAnswer, IsRefusal, IsOfLines, IsOfFile, MakesNoFile, IsSilent}
 use Rattle.ring_tool.specs.Left.{HasFront, IsCut, HasLine}
 

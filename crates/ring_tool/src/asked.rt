@@ -4,9 +4,9 @@ ghost use Rattle.ring_tool.specs.Run.{IsAskedBy};
 
 use clap::Error;
 use clap::error::ErrorKind;
-use ring_cli::read_words;
-use ring_requests::Request;
+use command_line::read_words;
 use std::alloc::Global;
+use tool_parts::requests::Request;
 
 /// What words ask of the program.
 #[derive(Drop)]

@@ -1,4 +1,4 @@
-//! The program: `ring_cli` reads its words, and it does the command that they ask for and prints what the command answers.
+//! The program: `command_line` reads its words, and it does the command that they ask for and prints what the command answers.
 #![tactic(auto)]
 
 mod asked;

@@ -10,14 +10,14 @@ use crate::ends::{Ending, done, fail};
 use disks::Disk;
 use folder_commands::{join, recover};
 use lock_commands::{holds, locks};
-use ring_commands::{fresh, run, step};
-use ring_requests::Request;
+use run_commands::{fresh, run, step};
 use serve_commands::serve;
 use std::io::{BufWriter, Read, Write};
 use std::sync::Wait;
 use std::thread::Threads;
 use text_commands::{check, check_all, picture, report, upgrade};
 use tool_parts::faults::ToolError;
+use tool_parts::requests::Request;
 
 /// Does the command, over the files of a disk. A word `-` for a source names `input`, which else stays as it was. A word `-`
 /// for a text that is made names `out`; the output that would be printed there goes to `err`, which else stays as it was.

@@ -3,10 +3,10 @@ use Rattle.std.proofs.Common.{◌≡◌, List, ℕ, false, Option, None, ap, sub
 use Rattle.std.specs.Prelude.{is_some}
 use Rattle.std.specs.Borrow.{Bor}
 use Rattle.disks.specs.Held.{Held}
-use Rattle.segment_loop.specs.Segments.{Moment, HasBegun, IsLeftUnbegun}
-use Rattle.chain_serve.specs.declared.segments.ChainRules.{ChainRules}
-use Rattle.chain_serve.specs.Texts.{segment_text}
-use Rattle.chain_serve.specs.Services.{ServiceView, service_of, may_save, segmenting}
+use Rattle.line_service.specs.Segments.{Moment, HasBegun, IsLeftUnbegun}
+use Rattle.ring_service.specs.declared.chain_segments.ChainRules.{ChainRules}
+use Rattle.ring_service.specs.Texts.{segment_text}
+use Rattle.ring_service.specs.ChainServices.{ServiceView, service_of, may_save, segmenting}
 use Rattle.serve_commands.specs.ServedFolder.{Place, HasBegunAt}
 
 module _ (s : ChainRules) (start : Place) (v : ServiceView) (e : v ≡ service_of s start.rings start.number None) where

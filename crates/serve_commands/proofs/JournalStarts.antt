@@ -1,17 +1,17 @@
 -- A value that was read or recovered has as many rings as a journal can begin with, and so have the rings that resume it.
 use Rattle.std.proofs.Common.{◌≡◌, ◌∙◌, ℕ, ◌<◌, ◌^◌, suc, List, [], ◌∷◌, length, ap, sym, subst}
 use Rattle.std.proofs.lemmas.List.{length-map}
-use Rattle.ring_saved.specs.declared.saved.Saved.{Saved}
-use Rattle.ring_saved.specs.declared.saved.SavedRing.{SavedRing}
-use Rattle.ring_saved.specs.Content.{Content, content, block_of}
+use Rattle.saved_history.specs.declared.saved.Saved.{Saved}
+use Rattle.saved_history.specs.declared.saved.SavedRing.{SavedRing}
+use Rattle.saved_history.specs.Content.{Content, content, block_of}
 use Rattle.ring_check.specs.declared.answers.Summary.{Summary}
 use Rattle.ring_check.specs.Legal.{IsLegalText}
 use Rattle.ring_check.specs.Meaning.{IsRightText}
 use Rattle.ring_check.proofs.Meanings.{legal_means, whole_of}
-use Rattle.ring_journal.specs.Recovery.{IsRecovered}
-use Rattle.ring_journal.proofs.Savings.{can_be_saved}
-use Rattle.ring_serve.specs.Standings.{Standing}
-use Rattle.ring_serve.specs.Starting.{AreResumed}
+use Rattle.journal.specs.Recovery.{IsRecovered}
+use Rattle.journal.proofs.Savings.{can_be_saved}
+use Rattle.ring_service.specs.Standings.{Standing}
+use Rattle.ring_service.specs.Starting.{AreResumed}
 use Rattle.tool_parts.specs.Checked.{IsLegalSavedText}
 use Rattle.serve_commands.specs.Served.{CanBegin}
 

@@ -5,12 +5,12 @@ use Rattle.std.specs.Io.KnownBytes.{Appends}
 use Rattle.std.proofs.lemmas.List.{append-nil}
 use Rattle.disks.specs.Held.{Held, Grows}
 use Rattle.disks.specs.Lasting.{bytes_in, HasFront, Leaves}
-use Rattle.ring_serve.specs.declared.serving.Journal.{Journal}
-use Rattle.ring_serve.specs.Permits.{Terms}
-use Rattle.ring_serve.specs.Recovered.{AnsweredCallsAreRecovered}
-use Rattle.ring_serve.specs.Serving.{held_by}
-use Rattle.ring_serve.specs.Standings.{Standing}
-use Rattle.segment_loop.proofs.Lasting.{appended_known}
+use Rattle.ring_service.specs.declared.serving.Journal.{Journal}
+use Rattle.ring_service.specs.Permits.{Terms}
+use Rattle.ring_service.specs.Recovered.{AnsweredCallsAreRecovered}
+use Rattle.ring_service.specs.Serving.{held_by}
+use Rattle.ring_service.specs.Standings.{Standing}
+use Rattle.line_service.proofs.SegmentLasting.{appended_known}
 
 none_some : (m : List ℕ) → None ≡ Some m → ⊥
 none_some m e = cc

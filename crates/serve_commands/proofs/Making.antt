@@ -7,13 +7,13 @@ use Rattle.std.specs.Str.{bytes_eq}
 use Rattle.std.proofs.lemmas.Bool.{false≢true}
 use Rattle.std.proofs.lemmas.Slice.Eq.{bytes_eq-Decides}
 use Rattle.disks.specs.Held.{Held, file_bytes, bytes_of, IsReplaced, IsRemoved, Creates, Discards, Replaces}
-use Rattle.ring_saved.specs.declared.saved.Saved.{Saved}
-use Rattle.ring_saved.specs.Content.{Content, content}
-use Rattle.ring_journal.specs.Spelling.{head_text}
-use Rattle.ring_journal.specs.Recovery.{IsRecovered}
-use Rattle.ring_serve.specs.Standings.{Standing}
-use Rattle.ring_serve.specs.Saved.{content_of}
-use Rattle.ring_serve.specs.Starting.{AreResumed}
+use Rattle.saved_history.specs.declared.saved.Saved.{Saved}
+use Rattle.saved_history.specs.Content.{Content, content}
+use Rattle.journal.specs.Spelling.{head_text}
+use Rattle.journal.specs.Recovery.{IsRecovered}
+use Rattle.ring_service.specs.Standings.{Standing}
+use Rattle.ring_service.specs.Saved.{content_of}
+use Rattle.ring_service.specs.Starting.{AreResumed}
 use Rattle.serve_commands.specs.Served.{IsNoted, IsSame, AreAsBefore, IsUntouched}
 
 -- nothing is recovered of no bytes

@@ -2,19 +2,19 @@
 use Rattle.std.proofs.Common.{◌⊎◌, ℕ, List, Option, None, Some, inl, inr}
 use Rattle.disks.specs.Held.{Held}
 use Rattle.disks.specs.declared.disk.FolderEntry.{FolderEntry}
-use Rattle.segment_folder.specs.declared.errors.FolderError.{FolderError}
-use Rattle.segment_folder.specs.declared.errors.FolderError.TheVariants as names
-use Rattle.ring_saved.specs.declared.saved.Saved.{Saved}
-use Rattle.ring_saved.specs.declared.saved.SavedRing.{SavedRing}
-use Rattle.ring_requests.specs.declared.requests.ServeWords.{ServeWords}
+use Rattle.line_service.specs.declared.folder_errors.FolderError.{FolderError}
+use Rattle.line_service.specs.declared.folder_errors.FolderError.TheVariants as names
+use Rattle.saved_history.specs.declared.saved.Saved.{Saved}
+use Rattle.saved_history.specs.declared.saved.SavedRing.{SavedRing}
+use Rattle.tool_parts.specs.declared.requests.ServeWords.{ServeWords}
 use Rattle.tool_parts.specs.Chained.{IsFolderFault}
 use Rattle.tool_parts.specs.Named.{IsFileRefusal}
 use Rattle.serve_commands.specs.Served.{journal_of, permits_of, history_of, IsHistoryRefusal, IsGivenRefusal, IsStartRefusal, IsFirstRefusal, IsJournalRefusal, IsUnbegun, IsMadeJournalRefusal, IsBrokenOff, IsRefusedFrom}
 use Rattle.serve_commands.specs.ServedFolder.{Place, IsLastRefusal, IsUnknownAmong, IsUnknown, IsUnlocked, IsRunRefused, IsRefusedIn}
 use Rattle.serve_commands.specs.ServeAnswer.{IsServedTo, IsRefusedTo, IsUntold, IsServeRefusal}
-use Rattle.chain_serve.specs.declared.segments.ChainRules.{ChainRules}
-use Rattle.ring_serve.specs.declared.permits.Permits.{Permits}
-use Rattle.ring_serve.specs.Standings.{Standing}
+use Rattle.ring_service.specs.declared.chain_segments.ChainRules.{ChainRules}
+use Rattle.ring_service.specs.declared.permits.Permits.{Permits}
+use Rattle.ring_service.specs.Standings.{Standing}
 use Rattle.tool_parts.specs.Worlds.{World}
 use Rattle.tool_parts.specs.declared.faults.ToolError.TheVariants as tool
 

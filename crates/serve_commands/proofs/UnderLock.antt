@@ -2,21 +2,21 @@
 use Rattle.std.proofs.Common.{◌≡◌, ℕ, List, [], ◌∷◌, Option, None, Some, sym, subst, inl, inr}
 use Rattle.std.specs.Prelude.{IsSome}
 use Rattle.disks.specs.Held.{Held}
-use Rattle.segment_folder.specs.Names.{segment_file}
-use Rattle.ring_serve.specs.declared.answers.Answer.{Answer}
-use Rattle.ring_serve.specs.declared.answers.Answer.TheVariants as answer
-use Rattle.ring_serve.specs.Permits.{Terms}
-use Rattle.ring_serve.specs.Standings.{Standing}
-use Rattle.ring_serve.specs.Serving.{IsSaveGiven, IsGiven, name_in}
-use Rattle.line_loop.specs.Answering.{Answers}
-use Rattle.line_loop.specs.Stands.{Stand, by_stand}
-use Rattle.segment_loop.specs.declared.segmented.EndFault.{EndFault}
-use Rattle.segment_loop.specs.Segments.{Moment, IsReady, stand_of}
-use Rattle.segment_loop.specs.Service.{Part, AreParts}
-use Rattle.segment_loop.proofs.Changing.{kept_file}
-use Rattle.chain_serve.specs.declared.segments.ChainRules.{ChainRules}
-use Rattle.chain_serve.specs.Texts.{segment_text}
-use Rattle.chain_serve.specs.Services.{ServiceView, terms_of, IsServed, segmenting}
+use Rattle.line_service.specs.SegmentNames.{segment_file}
+use Rattle.ring_service.specs.declared.answers.Answer.{Answer}
+use Rattle.ring_service.specs.declared.answers.Answer.TheVariants as answer
+use Rattle.ring_service.specs.Permits.{Terms}
+use Rattle.ring_service.specs.Standings.{Standing}
+use Rattle.ring_service.specs.Serving.{IsSaveGiven, IsGiven, name_in}
+use Rattle.line_service.specs.Answering.{Answers}
+use Rattle.line_service.specs.Stands.{Stand, by_stand}
+use Rattle.line_service.specs.declared.segmented.EndFault.{EndFault}
+use Rattle.line_service.specs.Segments.{Moment, IsReady, stand_of}
+use Rattle.line_service.specs.Service.{Part, AreParts}
+use Rattle.line_service.proofs.Changing.{kept_file}
+use Rattle.ring_service.specs.declared.chain_segments.ChainRules.{ChainRules}
+use Rattle.ring_service.specs.Texts.{segment_text}
+use Rattle.ring_service.specs.ChainServices.{ServiceView, terms_of, IsServed, segmenting}
 use Rattle.tool_parts.specs.Locking.{IsLocked, StandsLocked}
 use Rattle.tool_parts.proofs.LockedFolders.{Stands, stands_locked, same_locked, put_locked, if_held, ended_stand, kept_stand, added_stand}
 use Rattle.serve_commands.specs.ServedFolder.{Place, IsRun, AreUnderLock}

@@ -3,19 +3,19 @@
 use Rattle.std.specs.Prelude.{◌≡◌, ℕ, ◌⊎◌, List, Option, None, Some, IfSome, ⊤}
 use Rattle.disks.specs.Held.{Held, LeadsToFolder, Replaces}
 use Rattle.disks.specs.Lasting.{HasFront}
-use Rattle.ring_saved.specs.declared.saved.Saved.{Saved}
-use Rattle.ring_journal.specs.Spelling.{head_text}
-use Rattle.ring_serve.specs.declared.permits.Permits.{Permits}
-use Rattle.ring_serve.specs.Permits.{terms_of}
-use Rattle.ring_serve.specs.Recovered.{AnsweredCallsAreRecovered}
-use Rattle.ring_serve.specs.Saved.{content_of}
-use Rattle.ring_serve.specs.Standings.{Standing}
-use Rattle.ring_serve.specs.Starting.{AreResumed}
-use Rattle.chain_serve.specs.declared.segments.ChainRules.{ChainRules}
-use Rattle.chain_serve.specs.Services.{ServiceView, folder_of}
-use Rattle.chain_serve.specs.Recovered.{AnsweredCallsLast, CallsOfEachSegmentLast}
-use Rattle.segment_loop.specs.Segments.{Moment}
-use Rattle.ring_requests.specs.declared.requests.ServeWords.{ServeWords}
+use Rattle.saved_history.specs.declared.saved.Saved.{Saved}
+use Rattle.journal.specs.Spelling.{head_text}
+use Rattle.ring_service.specs.declared.permits.Permits.{Permits}
+use Rattle.ring_service.specs.Permits.{terms_of}
+use Rattle.ring_service.specs.Recovered.{AnsweredCallsAreRecovered}
+use Rattle.ring_service.specs.Saved.{content_of}
+use Rattle.ring_service.specs.Standings.{Standing}
+use Rattle.ring_service.specs.Starting.{AreResumed}
+use Rattle.ring_service.specs.declared.chain_segments.ChainRules.{ChainRules}
+use Rattle.ring_service.specs.ChainServices.{ServiceView, folder_of}
+use Rattle.ring_service.specs.ChainRecovered.{AnsweredCallsLast, CallsOfEachSegmentLast}
+use Rattle.line_service.specs.Segments.{Moment}
+use Rattle.tool_parts.specs.declared.requests.ServeWords.{ServeWords}
 use Rattle.tool_parts.specs.Locking.{IsLocked}
 use Rattle.tool_parts.specs.Worlds.{World, IsUnserved}
 use Rattle.serve_commands.specs.Served.{history_of, journal_of, permits_of, IsGivenHistory, IsNoted}

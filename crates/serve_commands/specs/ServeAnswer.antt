@@ -2,16 +2,16 @@
 use Rattle.std.specs.Prelude.{◌≡◌, ℕ, ◌⊎◌, ◌≤◌, ◌^◌, List, length, Option, Some}
 use Rattle.std.specs.Io.KnownBytes.{Appends}
 use Rattle.disks.specs.Held.{Held, LeadsToFolder}
-use Rattle.ring_saved.specs.declared.saved.Saved.{Saved}
+use Rattle.saved_history.specs.declared.saved.Saved.{Saved}
 use Rattle.ring_text.specs.Report.{total_line}
-use Rattle.ring_serve.specs.Standings.{Standing}
-use Rattle.ring_serve.specs.Totals.{totals_of, AreTooLarge}
+use Rattle.ring_service.specs.Standings.{Standing}
+use Rattle.ring_service.specs.Totals.{totals_of, AreTooLarge}
 use Rattle.serve_commands.specs.Served.{history_of, journal_of, permits_of, IsGivenHistory, IsServedFrom, IsGivenRefusal, IsRefusedFrom}
 use Rattle.tool_parts.specs.Worlds.{IsUnserved}
 use Rattle.serve_commands.specs.ServedFolder.{IsServedIn, IsRefusedIn}
 use Rattle.tool_parts.specs.Worlds.{World}
 use Rattle.tool_parts.specs.Written.{AppendsFront}
-use Rattle.ring_requests.specs.declared.requests.ServeWords.{ServeWords}
+use Rattle.tool_parts.specs.declared.requests.ServeWords.{ServeWords}
 use Rattle.tool_parts.specs.declared.faults.ToolError.{ToolError}
 use Rattle.tool_parts.specs.declared.faults.ToolError.TheVariants as tool
 

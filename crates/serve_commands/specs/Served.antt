@@ -2,26 +2,26 @@
 use Rattle.std.specs.Prelude.{◌≡◌, ℕ, ◌≤◌, ◌<◌, ◌^◌, ◌⊎◌, List, [], length, codes, Bool, true, Option, None, Some, IfSome, Err, ⊤}
 use Rattle.std.specs.Option.{option_map}
 use Rattle.disks.specs.Held.{Held, HaveFolders, bytes_of, LeadsToNoFolder, Creates, Grows, Replaces}
-use Rattle.ring_saved.specs.declared.saved.Saved.{Saved}
-use Rattle.ring_saved.specs.declared.saved.SavedRing.{SavedRing}
-use Rattle.ring_saved.specs.Content.{content}
+use Rattle.saved_history.specs.declared.saved.Saved.{Saved}
+use Rattle.saved_history.specs.declared.saved.SavedRing.{SavedRing}
+use Rattle.saved_history.specs.Content.{content}
 use Rattle.ring_check.specs.declared.answers.Summary.{Summary}
-use Rattle.ring_journal.specs.Spelling.{head_text}
-use Rattle.ring_journal.specs.Recovery.{IsRecovered, IsRightRecovery}
-use Rattle.ring_serve.specs.Standings.{Standing}
-use Rattle.ring_serve.specs.Saved.{content_of}
-use Rattle.ring_serve.specs.declared.starting.StartError.TheVariants as start
-use Rattle.ring_serve.specs.Starting.{AreResumed, IsStartFault}
-use Rattle.ring_serve.specs.declared.permits.Permits.{Permits}
-use Rattle.ring_serve.specs.Permits.{Terms, terms_of}
-use Rattle.ring_serve.specs.Serving.{ServesAll}
-use Rattle.ring_serve.specs.Recovered.{AnsweredCallsAreRecovered}
+use Rattle.journal.specs.Spelling.{head_text}
+use Rattle.journal.specs.Recovery.{IsRecovered, IsRightRecovery}
+use Rattle.ring_service.specs.Standings.{Standing}
+use Rattle.ring_service.specs.Saved.{content_of}
+use Rattle.ring_service.specs.declared.starting.StartError.TheVariants as start
+use Rattle.ring_service.specs.Starting.{AreResumed, IsStartFault}
+use Rattle.ring_service.specs.declared.permits.Permits.{Permits}
+use Rattle.ring_service.specs.Permits.{Terms, terms_of}
+use Rattle.ring_service.specs.Serving.{ServesAll}
+use Rattle.ring_service.specs.Recovered.{AnsweredCallsAreRecovered}
 use Rattle.tool_parts.specs.Checked.{IsLegalSavedText, IsSavedTextRefusal}
 use Rattle.tool_parts.specs.Named.{IsHeld, IsFileRefusal}
 use Rattle.tool_parts.specs.Handed.{IsSaveRefusal}
 use Rattle.tool_parts.specs.Locking.{IsUnopenedJournal}
 use Rattle.tool_parts.specs.Worlds.{IsUnserved}
-use Rattle.ring_requests.specs.declared.requests.ServeWords.{ServeWords}
+use Rattle.tool_parts.specs.declared.requests.ServeWords.{ServeWords}
 use Rattle.tool_parts.specs.declared.faults.ToolError.{ToolError}
 use Rattle.tool_parts.specs.declared.faults.ToolError.TheVariants as tool
 

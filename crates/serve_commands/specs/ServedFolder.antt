@@ -4,25 +4,25 @@ use Rattle.std.specs.List.{AllByRecursion}
 use Rattle.disks.specs.Held.{Held, IsOneFile, Creates, Replaces}
 use Rattle.disks.specs.Folders.{Lists, is_among, names_of, path_in}
 use Rattle.disks.specs.declared.disk.FolderEntry.{FolderEntry}
-use Rattle.segment_folder.specs.Names.{list_name, segment_file}
-use Rattle.segment_folder.specs.Numbers.{IsRightNumbers, shown}
-use Rattle.segment_folder.specs.declared.errors.FolderError.{FolderError}
-use Rattle.segment_folder.specs.declared.errors.FolderError.TheVariants as names
-use Rattle.segment_folder.specs.declared.numbers.SegmentNumbers.{SegmentNumbers}
-use Rattle.ring_saved.specs.declared.saved.Saved.{Saved}
-use Rattle.ring_segments.specs.Spelling.{no_digest}
-use Rattle.ring_segments.specs.declared.last.LastSegment.{LastSegment}
-use Rattle.ring_segments.specs.declared.errors.SegmentError.TheVariants as segment
-use Rattle.torn_ends.specs.Torn.{IsRightEnd}
-use Rattle.ring_serve.specs.Standings.{Standing}
-use Rattle.ring_serve.specs.Starting.{AreResumed, AreResumedAfter}
-use Rattle.chain_serve.specs.declared.segments.ChainRules.{ChainRules}
-use Rattle.chain_serve.specs.Texts.{segment_text}
-use Rattle.chain_serve.specs.Services.{ServiceView, service_of, IsServed, segmenting, folder_of, file_of}
-use Rattle.chain_serve.specs.Recovered.{AnsweredCallsAreRecovered}
-use Rattle.segment_loop.specs.Segments.{Moment, HasBegun, IsLeftUnbegun}
-use Rattle.segment_loop.specs.Service.{Part, ServesSegments, ServesSomeSegments}
-use Rattle.ring_requests.specs.declared.requests.ServeWords.{ServeWords}
+use Rattle.line_service.specs.SegmentNames.{list_name, segment_file}
+use Rattle.line_service.specs.SegmentNumbers.{IsRightNumbers, shown}
+use Rattle.line_service.specs.declared.folder_errors.FolderError.{FolderError}
+use Rattle.line_service.specs.declared.folder_errors.FolderError.TheVariants as names
+use Rattle.line_service.specs.declared.segment_numbers.SegmentNumbers.{SegmentNumbers}
+use Rattle.saved_history.specs.declared.saved.Saved.{Saved}
+use Rattle.segment_files.specs.Spelling.{no_digest}
+use Rattle.segment_files.specs.declared.last.LastSegment.{LastSegment}
+use Rattle.segment_files.specs.declared.errors.SegmentError.TheVariants as segment
+use Rattle.segment_files.specs.Torn.{IsRightEnd}
+use Rattle.ring_service.specs.Standings.{Standing}
+use Rattle.ring_service.specs.Starting.{AreResumed, AreResumedAfter}
+use Rattle.ring_service.specs.declared.chain_segments.ChainRules.{ChainRules}
+use Rattle.ring_service.specs.Texts.{segment_text}
+use Rattle.ring_service.specs.ChainServices.{ServiceView, service_of, IsServed, segmenting, folder_of, file_of}
+use Rattle.ring_service.specs.ChainRecovered.{AnsweredCallsAreRecovered}
+use Rattle.line_service.specs.Segments.{Moment, HasBegun, IsLeftUnbegun}
+use Rattle.line_service.specs.Service.{Part, ServesSegments, ServesSomeSegments}
+use Rattle.tool_parts.specs.declared.requests.ServeWords.{ServeWords}
 use Rattle.serve_commands.specs.declared.serve_folder.Start.{Start}
 use Rattle.tool_parts.specs.declared.faults.ToolError.{ToolError}
 use Rattle.tool_parts.specs.declared.faults.ToolError.TheVariants as tool

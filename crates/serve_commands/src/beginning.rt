@@ -3,18 +3,18 @@
 ghost use Rattle.std.specs.Prelude.{◌≡◌, ◌⊎◌, ◌≤◌, ◌<◌, ◌^◌, true, Some, IsFalse, OnOk, OnErr, IfOk, IfErr, length};
 ghost use Rattle.text_lines.specs.Writing.{Writes};
 ghost use Rattle.disks.specs.Held.{Replaces, Discards};
-ghost use Rattle.ring_saved.specs.declared.saved.Saved.{Saved};
-ghost use Rattle.ring_journal.specs.Spelling.{head_text};
-ghost use Rattle.ring_serve.specs.Saved.{content_of};
-ghost use Rattle.ring_serve.specs.Starting.{AreResumed};
+ghost use Rattle.saved_history.specs.declared.saved.Saved.{Saved};
+ghost use Rattle.journal.specs.Spelling.{head_text};
+ghost use Rattle.ring_service.specs.Saved.{content_of};
+ghost use Rattle.ring_service.specs.Starting.{AreResumed};
 ghost use Rattle.tool_parts.specs.Handed.{IsSaveRefusal};
 ghost use Rattle.serve_commands.specs.Served.{CanBegin, CanBeginWith, IsNoted, IsUnbegun, IsMadeJournalRefusal, IsUntouched};
 
 use crate::resuming::{resume_rings, value_to_resume};
 use disks::{Contents, ContentsFault, Disk, replace};
-use ring_journal::put_first_line;
-use ring_saved::Saved;
-use ring_serve::{Served, write_rings};
+use journal::put_first_line;
+use ring_service::{Served, write_rings};
+use saved_history::Saved;
 use std::alloc::Global;
 use std::io::Write;
 use text_lines::WriteFault;
@@ -43,8 +43,8 @@ struct Beginning<'a> {
 
 impl Contents for Beginning<'_> {
     ghost use Rattle.std.specs.Prelude.{◌≤◌, ◌<◌, ◌^◌, length};
-    ghost use Rattle.ring_journal.specs.Spelling.{head_text};
-    ghost use Rattle.ring_serve.specs.Saved.{content_of};
+    ghost use Rattle.journal.specs.Spelling.{head_text};
+    ghost use Rattle.ring_service.specs.Saved.{content_of};
 
     ghost ready = { λ s. (1 ≤ length s.served.now) × (length s.served.now < 2 ^ 32) };
 

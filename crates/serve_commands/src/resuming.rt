@@ -2,13 +2,13 @@
 
 ghost use Rattle.std.specs.Prelude.{◌≡◌, Some, IfOk, IfErr, length};
 ghost use Rattle.std.specs.Option.{option_map};
-ghost use Rattle.ring_serve.specs.Starting.{AreResumed};
+ghost use Rattle.ring_service.specs.Starting.{AreResumed};
 ghost use Rattle.serve_commands.specs.Served.{CanBegin, CanBeginWith, IsHistory, IsGivenHistory, IsNoted, IsHistoryRefusal, IsGivenRefusal, IsUngiven, IsJournalRefusal, IsStartRefusal};
 
 use disks::Disk;
-use ring_journal::recover_journal;
-use ring_saved::Saved;
-use ring_serve::{Served, StartError};
+use journal::recover_journal;
+use ring_service::{Served, StartError};
+use saved_history::Saved;
 use std::alloc::Global;
 use tool_parts::faults::ToolError;
 use tool_parts::legal::legal_saved;

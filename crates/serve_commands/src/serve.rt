@@ -5,11 +5,11 @@ ghost use Rattle.std.specs.Option.{option_map};
 ghost use Rattle.std.specs.Io.KnownBytes.{Appends};
 ghost use Rattle.disks.specs.Held.{Grows, Replaces};
 ghost use Rattle.disks.specs.Lasting.{HasFront, Leaves, bytes_in, outlives};
-ghost use Rattle.ring_saved.specs.declared.saved.Saved.{Saved};
-ghost use Rattle.ring_serve.specs.Standings.{Standing};
-ghost use Rattle.ring_serve.specs.Permits.{terms_of};
-ghost use Rattle.ring_serve.specs.Starting.{AreResumed};
-ghost use Rattle.ring_serve.specs.Totals.{totals_of};
+ghost use Rattle.saved_history.specs.declared.saved.Saved.{Saved};
+ghost use Rattle.ring_service.specs.Standings.{Standing};
+ghost use Rattle.ring_service.specs.Permits.{terms_of};
+ghost use Rattle.ring_service.specs.Starting.{AreResumed};
+ghost use Rattle.ring_service.specs.Totals.{totals_of};
 ghost use Rattle.ring_text.specs.Report.{total_line};
 ghost use Rattle.serve_commands.specs.Served.{permits_of, CanBeginWith, IsNoted, IsServedPlain, IsServedOn, IsServedNoted, journal_of, IsStartRefusal, IsServingFault, IsServedPart, IsPlainPart, IsRefusedFrom};
 ghost use Rattle.serve_commands.specs.Lasting.{JournalLasts, FileLasts, KeptLasts, CallsLast, ToldCallsLast};
@@ -22,16 +22,16 @@ use crate::beginning::begin_journal;
 use crate::resuming::{given_history, needed, resume_rings};
 use crate::serve_folder::run_in_folder;
 use disks::Disk;
-use line_loop::LoopFault;
-use ring_requests::ServeWords;
-use ring_saved::Saved;
-use ring_serve::{Journal, Permits, Served, serve};
+use line_service::LoopFault;
+use ring_service::{Journal, Permits, Served, serve};
 use ring_text::put_total_line;
+use saved_history::Saved;
 use std::alloc::Global;
 use std::io::{Read, Write};
 use tool_parts::faults::ToolError;
 use tool_parts::locking::open_journal;
 use tool_parts::reading::names_stream;
+use tool_parts::requests::ServeWords;
 
 /// Returns the refusal for a fault while lines were served.
 pub(crate) fn serving_refusal<'a>(fault: LoopFault, journal: Option<&'a str>) -> ToolError<'a>

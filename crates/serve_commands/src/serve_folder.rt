@@ -4,14 +4,14 @@ ghost use Rattle.std.specs.Prelude.{◌≡◌, ◌⊎◌, ◌≤◌, ◌<◌, �
 ghost use Rattle.std.specs.List.{All};
 ghost use Rattle.disks.specs.Folders.{path_in};
 ghost use Rattle.disks.specs.Lasting.{outlives};
-ghost use Rattle.segment_folder.specs.declared.errors.FolderError.{FolderError};
-ghost use Rattle.segment_folder.specs.Numbers.{IsRightNumbers};
-ghost use Rattle.ring_segments.specs.Spelling.{DigestFits};
-ghost use Rattle.torn_ends.specs.Torn.{IsRightEnd};
-ghost use Rattle.ring_chains.specs.Bases.{IsBase};
-ghost use Rattle.ring_serve.specs.Starting.{AreResumedAfter};
-ghost use Rattle.chain_serve.specs.Services.{ServiceView};
-ghost use Rattle.segment_loop.specs.Segments.{Moment};
+ghost use Rattle.line_service.specs.declared.folder_errors.FolderError.{FolderError};
+ghost use Rattle.line_service.specs.SegmentNumbers.{IsRightNumbers};
+ghost use Rattle.segment_files.specs.Spelling.{DigestFits};
+ghost use Rattle.segment_files.specs.Torn.{IsRightEnd};
+ghost use Rattle.ring_model.specs.Bases.{IsBase};
+ghost use Rattle.ring_service.specs.Starting.{AreResumedAfter};
+ghost use Rattle.ring_service.specs.ChainServices.{ServiceView};
+ghost use Rattle.line_service.specs.Segments.{Moment};
 ghost use Rattle.tool_parts.specs.Chained.{IsFolderFault};
 ghost use Rattle.serve_commands.specs.Served.{IsFirstRefusal};
 ghost use Rattle.serve_commands.specs.ServedFolder.{place_of, IsFirst, IsLast, StandsAmong, StandsIn, IsServedIn, IsLastFault, IsLastRefusal, IsRun, IsRunRefused, IsUnknownAmong, IsUnknown, SavesApart, IsSavesRefusal, IsRefusedIn};
@@ -20,21 +20,20 @@ ghost use Rattle.tool_parts.specs.Locking.{IsUnkeptFolder, IsLocked, IsLockLeft}
 
 use crate::resuming::{needed, resume_rings};
 use crate::serve::{permits_of, serving_refusal};
-use chain_serve::{ChainRules, ChainService};
 use disks::{Disk, FolderEntry};
+use line_service::{
+    EndFault, SegmentNumbers, SegmentRules, begin_segment, close_segment, list_name, serve_segments,
+};
 use lock_folder::has_list;
-use ring_requests::ServeWords;
-use ring_saved::Saved;
-use ring_segments::{DIGEST_DIGITS, LastSegment, SegmentError};
-use ring_serve::Served;
-use segment_folder::{SegmentNumbers, list_name};
-use segment_loop::{EndFault, SegmentRules, begin_segment, close_segment, serve_segments};
+use ring_service::{ChainRules, ChainService, Served};
+use saved_history::Saved;
+use segment_files::{DIGEST_DIGITS, LastSegment, SegmentError, read_end};
 use std::alloc::{AllocError, Global};
 use std::io::{Read, Write};
 use tool_parts::chain::{folder_numbers, segment_bytes};
 use tool_parts::faults::ToolError;
 use tool_parts::locking::lock_folder;
-use torn_ends::read_end;
+use tool_parts::requests::ServeWords;
 
 /// Where served rings are when they begin.
 #[derive(Drop)]

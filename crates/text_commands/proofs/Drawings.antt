@@ -3,13 +3,13 @@ use Rattle.std.proofs.Common.{◌≡◌, ℕ, zero, suc, ◌+◌, ◌<◌, ◌�
 use Rattle.std.specs.Prelude.{slice_get}
 use Rattle.std.specs.Option.{unwrap_or}
 use Rattle.ring_model.specs.Limits.{machine_limit}
-use Rattle.ring_saved.specs.Content.{Block, Content, block_of}
+use Rattle.saved_history.specs.Content.{Block, Content, block_of}
 use Rattle.ring_check.specs.declared.answers.Summary.{Summary}
 use Rattle.ring_check.specs.Legal.{summary_of}
 use Rattle.ring_check.specs.Limits.{machine_limit_of}
 use Rattle.ring_check.specs.Meaning.{IsRightBlock, AreRightBlocks}
 use Rattle.ring_check.proofs.Blocks.{machine_limit_most}
-use Rattle.ring_requests.specs.declared.requests.PictureWords.{PictureWords}
+use Rattle.tool_parts.specs.declared.requests.PictureWords.{PictureWords}
 use Rattle.text_commands.specs.declared.picture.Drawing.{Drawing}
 use Rattle.tool_parts.specs.Checked.{IsLegalSavedText}
 use Rattle.text_commands.specs.Pictured.{IsLegalTextOf, IsDrawing}

@@ -1,12 +1,12 @@
 -- A value that fits in a version of the saved text fits in the latest one, and can be saved in it.
 use Rattle.std.proofs.Common.{◌≡◌, ℕ, List, [], ◌∷◌, rules, arith}
 use Rattle.std.specs.List.{AllByRecursion}
-use Rattle.ring_saved.specs.declared.saved.SavedEvent.{SavedEvent}
-use Rattle.ring_saved.specs.declared.saved.SavedEvent.TheVariants.{Granted, Refused, Member, Corrupted}
-use Rattle.ring_saved.specs.Content.{Block, Content, upgraded}
-use Rattle.ring_saved.specs.Spelling.{EventFits, BlockFits, Fits}
-use Rattle.ring_journal.specs.Beginnings.{CanBeSaved}
-use Rattle.ring_saved.specs.Versions.{IsVersion, HasGroups, first_version, latest_version}
+use Rattle.saved_history.specs.declared.saved.SavedEvent.{SavedEvent}
+use Rattle.saved_history.specs.declared.saved.SavedEvent.TheVariants.{Granted, Refused, Member, Corrupted}
+use Rattle.saved_history.specs.Content.{Block, Content, upgraded}
+use Rattle.saved_history.specs.Spelling.{EventFits, BlockFits, Fits}
+use Rattle.journal.specs.Beginnings.{CanBeSaved}
+use Rattle.saved_history.specs.Versions.{IsVersion, HasGroups, first_version, latest_version}
 
 has_groups : HasGroups latest_version
 has_groups = search rules

@@ -3,14 +3,14 @@ use Rattle.std.specs.Prelude.{◌≡◌, ℕ, List, Option, ◌⊎◌}
 use Rattle.std.specs.Io.KnownBytes.{Appends}
 use Rattle.ring_check.specs.declared.answers.Kind.{Kind}
 use Rattle.ring_check.specs.declared.answers.Summary.{Summary}
-use Rattle.ring_faults.specs.BadLines.{bad_lines}
-use Rattle.ring_faults.specs.BadLineTexts.{lines_text}
+use Rattle.bad_lines.specs.BadLines.{bad_lines}
+use Rattle.bad_lines.specs.BadLineTexts.{lines_text}
 use Rattle.tool_parts.specs.Checked.{IsLegalSavedText, IsBadSavedText, IsSavedTextRefusal, IsTextChecked}
 use Rattle.tool_parts.specs.CheckText.{legal_line}
 use Rattle.tool_parts.specs.Named.{IsNamed, IsNamedRefusal}
 use Rattle.tool_parts.specs.Worlds.{World}
 use Rattle.tool_parts.specs.Written.{AppendsFront}
-use Rattle.ring_requests.specs.declared.requests.CheckWords.{CheckWords}
+use Rattle.tool_parts.specs.declared.requests.CheckWords.{CheckWords}
 use Rattle.tool_parts.specs.declared.faults.ToolError.{ToolError}
 use Rattle.tool_parts.specs.declared.faults.ToolError.TheVariants as tool
 

@@ -1,10 +1,10 @@
 -- The drawings of `picture`, its answers to its words, and its refusals.
 use Rattle.std.specs.Prelude.{◌≡◌, ℕ, ◌-◌, ◌<◌, ◌≤◌, min, List, length, slice_get, true, false, Option, Some, ◌⊎◌}
-use Rattle.ring_saved.specs.Content.{Content, Block, block_of}
-use Rattle.ring_saved.specs.Spelling.{Fits, text}
+use Rattle.saved_history.specs.Content.{Content, Block, block_of}
+use Rattle.saved_history.specs.Spelling.{Fits, text}
 use Rattle.ring_check.specs.Legal.{summary_of}
 use Rattle.ring_check.specs.Meaning.{IsRightText}
-use Rattle.ring_picture.specs.Picture.{picture}
+use Rattle.history_picture.specs.Picture.{picture}
 use Rattle.tool_parts.specs.CheckText.{legal_line}
 use Rattle.tool_parts.specs.Checked.{IsSavedTextRefusal}
 use Rattle.disks.specs.Held.{Held}
@@ -12,7 +12,7 @@ use Rattle.tool_parts.specs.Handed.{IsHandOutRefusal, IsPrintRefusal, IsHanded}
 use Rattle.tool_parts.specs.Named.{IsNamed, IsNamedRefusal, IsApart, IsApartRefusal}
 use Rattle.tool_parts.specs.Reading.{names_stream}
 use Rattle.tool_parts.specs.Worlds.{World}
-use Rattle.ring_requests.specs.declared.requests.PictureWords.{PictureWords}
+use Rattle.tool_parts.specs.declared.requests.PictureWords.{PictureWords}
 use Rattle.text_commands.specs.declared.picture.Drawing.{Drawing}
 use Rattle.tool_parts.specs.declared.faults.ToolError.{ToolError}
 use Rattle.tool_parts.specs.declared.faults.ToolError.TheVariants as tool

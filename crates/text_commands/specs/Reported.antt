@@ -2,14 +2,14 @@
 use Rattle.std.specs.Prelude.{◌≡◌, ℕ, ◌<◌, List, length, slice_get, Some, Option, ◌⊎◌}
 use Rattle.std.specs.Io.KnownBytes.{Appends}
 use Rattle.ring_model.specs.Limits.{event_limit}
-use Rattle.ring_saved.specs.Content.{Block}
+use Rattle.saved_history.specs.Content.{Block}
 use Rattle.ring_check.specs.declared.answers.Summary.{Summary}
-use Rattle.ring_report.specs.SavedReport.{report_of}
+use Rattle.ring_text.specs.SavedReport.{report_of}
 use Rattle.tool_parts.specs.Checked.{IsLegalSavedText, IsSavedTextRefusal}
 use Rattle.tool_parts.specs.Named.{IsNamed, IsNamedRefusal}
 use Rattle.tool_parts.specs.Worlds.{World}
 use Rattle.tool_parts.specs.Written.{AppendsFront}
-use Rattle.ring_requests.specs.declared.requests.ReportWords.{ReportWords}
+use Rattle.tool_parts.specs.declared.requests.ReportWords.{ReportWords}
 use Rattle.tool_parts.specs.declared.faults.ToolError.{ToolError}
 use Rattle.tool_parts.specs.declared.faults.ToolError.TheVariants as tool
 

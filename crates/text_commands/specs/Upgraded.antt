@@ -1,7 +1,7 @@
 -- The answer of `upgrade`.
 use Rattle.std.specs.Prelude.{◌≡◌, ℕ, List, ◌⊎◌}
-use Rattle.ring_saved.specs.Content.{Content, upgraded}
-use Rattle.ring_saved.specs.Spelling.{Fits, text}
+use Rattle.saved_history.specs.Content.{Content, upgraded}
+use Rattle.saved_history.specs.Spelling.{Fits, text}
 use Rattle.ring_check.specs.declared.answers.Summary.{Summary}
 use Rattle.ring_check.specs.Legal.{IsLegalText, summary_of}
 use Rattle.tool_parts.specs.CheckText.{legal_line}
@@ -9,7 +9,7 @@ use Rattle.tool_parts.specs.Checked.{IsLegalSavedText, IsSavedTextRefusal}
 use Rattle.tool_parts.specs.Handed.{IsHanded, IsHandRefusal}
 use Rattle.tool_parts.specs.Named.{IsNamed, IsNamedRefusal}
 use Rattle.tool_parts.specs.Worlds.{World}
-use Rattle.ring_requests.specs.declared.requests.UpgradeWords.{UpgradeWords}
+use Rattle.tool_parts.specs.declared.requests.UpgradeWords.{UpgradeWords}
 use Rattle.tool_parts.specs.declared.faults.ToolError.{ToolError}
 use Rattle.tool_parts.specs.declared.faults.ToolError.TheVariants as tool
 

@@ -5,7 +5,7 @@ ghost use Rattle.std.specs.Io.KnownBytes.{Appends};
 ghost use Rattle.text_lines.specs.Writing.{Writes};
 ghost use Rattle.ring_check.specs.declared.answers.Summary.{Summary};
 ghost use Rattle.ring_check.specs.Legal.{IsLegalText};
-ghost use Rattle.ring_saved.specs.Content.{content};
+ghost use Rattle.saved_history.specs.Content.{content};
 ghost use Rattle.tool_parts.specs.Chained.{IsFolder};
 ghost use Rattle.tool_parts.specs.CheckText.{legal_line};
 ghost use Rattle.tool_parts.specs.Checked.{IsLegalSavedText, IsSavedTextRefusal, IsTextChecked, IsTextRefusal, IsCheckAnswer, IsCheckRefusal, IsCheckRunRefusal};
@@ -13,13 +13,13 @@ ghost use Rattle.tool_parts.specs.Reading.{names_stream};
 ghost use Rattle.tool_parts.specs.Worlds.{world};
 
 use disks::Disk;
-use ring_requests::CheckWords;
 use std::alloc::Global;
 use std::io::{Read, Write};
 use tool_parts::chain::{check_folder, entries_of};
 use tool_parts::faults::ToolError;
 use tool_parts::legal::{legal_saved, tell_sums};
 use tool_parts::reading::{names_stream, read_named};
+use tool_parts::requests::CheckWords;
 
 /// Checks the bytes of a saved text, and writes the sums of a legal one.
 ///

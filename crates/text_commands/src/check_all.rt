@@ -2,28 +2,28 @@
 
 ghost use Rattle.std.specs.Prelude.{ℕ, ◌≡◌, ◌≢◌, ◌+◌, ◌<◌, ◌^◌, false, length, None, OnOk, IfOk, IfErr};
 ghost use Rattle.std.specs.Io.KnownBytes.{Appends};
-ghost use Rattle.ring_saved.specs.Content.{content};
+ghost use Rattle.saved_history.specs.Content.{content};
 ghost use Rattle.ring_check.specs.Lines.{lines};
 ghost use Rattle.ring_check.specs.declared.answers.Summary.{Summary};
-ghost use Rattle.ring_faults.specs.BadLines.{bad_lines};
-ghost use Rattle.ring_faults.specs.BadLineTexts.{lines_text};
+ghost use Rattle.bad_lines.specs.BadLines.{bad_lines};
+ghost use Rattle.bad_lines.specs.BadLineTexts.{lines_text};
 ghost use Rattle.tool_parts.specs.CheckText.{legal_line};
 ghost use Rattle.tool_parts.specs.Checked.{IsLegalSavedText};
 ghost use Rattle.text_commands.specs.CheckedAll.{IsCheckAllBytesRefusal, IsUntold, IsCheckAllAnswer, IsCheckAllRefusal};
 ghost use Rattle.tool_parts.specs.Reading.{names_stream};
 ghost use Rattle.tool_parts.specs.Worlds.{world};
 
+use bad_lines::{bad_lines, put_bad_lines};
 use disks::Disk;
 use ring_check::{CheckError, check_saved};
-use ring_faults::{bad_lines, put_bad_lines};
-use ring_requests::CheckWords;
-use ring_saved::{Saved, read_saved};
+use saved_history::{Saved, read_saved};
 use std::alloc::{AllocError, Global};
 use std::io::{Read, Write};
 use text_lines::put;
 use tool_parts::faults::ToolError;
 use tool_parts::legal::tell_sums;
 use tool_parts::reading::read_named;
+use tool_parts::requests::CheckWords;
 
 /// The text of all bad lines of a saved text.
 fn lines_told(alloc: Global, saved: &Saved) -> Result<Vec<u8>, AllocError>

@@ -1,7 +1,7 @@
 //! The commands about a saved text: `check`, `check --all`, `report`, `picture` and `upgrade`.
 //!
 //! They take any disk, reader and writer, and say the content of files before and after, by their names. The command line itself
-//! is the matter of `ring_cli`: nothing here knows of it, so that these parts are proved, and tried on wrong bodies, without it.
+//! is the matter of `command_line`: nothing here knows of it, so that these parts are proved, and tried on wrong bodies, without it.
 #![tactic(auto)]
 
 pub mod check;

@@ -2,7 +2,7 @@
 
 ghost use Rattle.std.specs.Prelude.{◌≡◌, ◌≢◌, ◌⊎◌, ℕ, ◌<◌, ◌≤◌, List, length, slice_get, true, false, None, Some, OnOk, OnErr, IfOk, IfErr, IsErrOf};
 ghost use Rattle.std.specs.Io.KnownBytes.{Appends};
-ghost use Rattle.ring_saved.specs.Content.{content, block_of};
+ghost use Rattle.saved_history.specs.Content.{content, block_of};
 ghost use Rattle.tool_parts.specs.CheckText.{legal_line};
 ghost use Rattle.text_commands.specs.Pictured.{most_drawn, drawn_count, picture_of, IsDrawing, IsDrawingRefusal, IsPictureApart, IsPutRefusal, IsPictureAnswer, IsPictureRefusal};
 ghost use Rattle.disks.specs.Held.{Replaces};
@@ -14,16 +14,16 @@ ghost use Rattle.tool_parts.specs.Written.{AppendsFront};
 ghost use Rattle.tool_parts.specs.Worlds.{world};
 
 use disks::{Contents, ContentsFault, Disk, replace};
+use history_picture::{PictureFault, write_picture};
 use ring_check::Summary;
-use ring_picture::{PictureFault, write_picture};
-use ring_requests::PictureWords;
-use ring_saved::{Saved, SavedRing};
+use saved_history::{Saved, SavedRing};
 use std::alloc::Global;
 use std::io::{Read, Write};
 use tool_parts::faults::ToolError;
 use tool_parts::handing::save_fault;
 use tool_parts::legal::{legal_saved, tell_sums};
 use tool_parts::reading::{keep_apart, names_stream, read_named};
+use tool_parts::requests::PictureWords;
 
 /// The most events of a picture.
 pub const MOST_DRAWN: u32 = 20_000;

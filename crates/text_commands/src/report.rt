@@ -7,14 +7,14 @@ ghost use Rattle.text_commands.specs.Reported.{IsReportOf, IsReportTextRefusal, 
 ghost use Rattle.tool_parts.specs.Worlds.{world};
 
 use disks::Disk;
-use ring_report::{ReportFault, report};
-use ring_requests::ReportWords;
+use ring_text::{ReportFault, report};
 use std::alloc::Global;
 use std::io::{Read, Write};
 use text_lines::put;
 use tool_parts::faults::ToolError;
 use tool_parts::legal::legal_saved;
 use tool_parts::reading::read_named;
+use tool_parts::requests::ReportWords;
 
 /// Returns the report of the saved text that the bytes are, if it is legal.
 ///

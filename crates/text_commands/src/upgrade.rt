@@ -2,8 +2,8 @@
 
 ghost use Rattle.std.specs.Prelude.{◌≡◌, ◌≢◌, ◌⊎◌, ℕ, List, true, false, OnOk, IfOk, IfErr};
 ghost use Rattle.ring_check.specs.declared.answers.Summary.{Summary};
-ghost use Rattle.ring_saved.specs.Content.{Content, content};
-ghost use Rattle.ring_journal.specs.Beginnings.{CanBeSaved};
+ghost use Rattle.saved_history.specs.Content.{Content, content};
+ghost use Rattle.journal.specs.Beginnings.{CanBeSaved};
 ghost use Rattle.tool_parts.specs.Checked.{IsSavedTextRefusal};
 ghost use Rattle.tool_parts.specs.Named.{IsNamed};
 ghost use Rattle.tool_parts.specs.Reading.{names_stream};
@@ -12,14 +12,14 @@ ghost use Rattle.tool_parts.specs.Worlds.{world};
 
 use disks::Disk;
 use ring_check::{Summary, upgrade_is_legal};
-use ring_requests::UpgradeWords;
-use ring_saved::{Saved, upgrade};
+use saved_history::{Saved, upgrade};
 use std::alloc::Global;
 use std::io::{Read, Write};
 use tool_parts::faults::ToolError;
 use tool_parts::handing::hand_over;
 use tool_parts::legal::legal_saved;
 use tool_parts::reading::{STANDARD_INPUT, names_stream, read_named};
+use tool_parts::requests::UpgradeWords;
 
 /// Returns the value of the saved text that the bytes are, in the latest version, and its sums.
 ///

@@ -8,3 +8,7 @@ pub mod Steps
 pub mod Answering
 pub mod Writing
 pub mod NumbersText
+pub mod LongDecimals
+pub mod Numerals
+pub mod Spellings
+pub mod Commands

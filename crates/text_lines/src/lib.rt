@@ -7,26 +7,37 @@
 //! `proofs/` carry that law through each combinator, so that a whole grammar has it.
 //!
 //! A writer takes pieces of a text, one after the other, until all are written or the first fault.
+//!
+//! Parts of the lines by which a service is driven: decimals of any size, and answers of words and numbers.
 #![tactic(auto)]
 
 mod answer;
+mod bounded_numbers;
 mod fault;
+mod fixed;
 mod line;
 mod list;
-mod number;
+mod long_numbers;
 mod numbers;
 mod row;
+mod word_lines;
 mod words;
 mod write;
+
+/// The most bytes of a line, with its LF.
+pub const LINE_LIMIT: usize = 8192;
 
 pub use answer::{
     ReadError, answers_are_apart, line_at, nothing_more, readers_answer_right, refusal,
 };
+pub use bounded_numbers::{number32, number64, positive32};
 pub use fault::{Fault, Stop};
+pub use fixed::fixed_word;
 pub use line::Line;
 pub use list::put_list;
-pub use number::{number32, number64, positive32};
+pub use long_numbers::{decimal, number, place, places};
 pub use numbers::put_numbers;
 pub use row::{put_row, row32};
+pub use word_lines::{put_word, with_number, with_numbers, word_line};
 pub use words::word;
 pub use write::{WriteFault, put, put_all};

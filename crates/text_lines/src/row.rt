@@ -6,8 +6,8 @@ ghost use Rattle.text_lines.specs.Reading.{Gives, row_at, stop_of};
 ghost use Rattle.text_lines.specs.Spelling.{row};
 ghost use Rattle.text_lines.specs.Writing.{Writes};
 
+use crate::bounded_numbers::number32;
 use crate::fault::Stop;
-use crate::number::number32;
 use crate::numbers::put_numbers;
 use crate::write::WriteFault;
 use std::alloc::Global;

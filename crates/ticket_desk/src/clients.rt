@@ -5,8 +5,9 @@ ghost use Rattle.ring_model.specs.Ring.{IsRing};
 ghost use Rattle.ring_shared.specs.Holding.{MeansLegal};
 ghost use Rattle.ring_state.specs.Sizes.{size_of};
 ghost use Rattle.ring_turns.specs.Spared.{spared};
-ghost use Rattle.ticket_roll.specs.Tickets.{roll};
+ghost use Rattle.ticket_desk.specs.Tickets.{roll};
 
+use crate::rolls::Roll;
 use anyhow::bail;
 use ring_book::{Book, BookError};
 use ring_shared::{Closed, Draft, Name, Ring, Seat};
@@ -17,7 +18,6 @@ use std::marker::Brand;
 use std::sync::{OnceLock, Wait};
 use std::thread;
 use std::thread::Threads;
-use ticket_roll::Roll;
 
 /// How many clients there are, each with a machine and a seat of its number.
 pub(crate) const CLIENTS: u32 = 3;

@@ -1,19 +1,25 @@
 //! Has the tickets of a roll drawn twice, each time by a ring of three machines, and prints what the clients were given:
 //! first at a desk where faults are injected, and then in turns. What it prints is the same whatever the threads' schedule
 //! was; the longest wait for a turn, which is not, goes to standard error.
+//!
+//! A roll of tickets that a ring guards, and a desk at which three clients draw from it while faults are injected.
 #![tactic(auto)]
 
 mod clients;
+mod counts;
+mod desks;
+mod rolls;
 mod tickets;
 mod waits;
 
 use anyhow::bail;
 use clients::{CLIENTS, TURNS, draw_in_turns};
+use desks::run_desk;
 use ring_state::{Params, RingState};
+use rolls::TICKETS;
 use std::alloc::Global;
 use std::sync::Wait;
 use std::thread::Threads;
-use ticket_roll::{TICKETS, run_desk};
 use tickets::count_tickets;
 use waits::{longest_wait, turns_of};
 

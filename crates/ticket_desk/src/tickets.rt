@@ -1,8 +1,9 @@
 //! The tickets that the clients of a closed desk were given.
-ghost use Rattle.ticket_roll.specs.Tickets.{NoneTwice};
+ghost use Rattle.ticket_desk.specs.Tickets.{NoneTwice};
 
+use crate::counts::times_given;
+use crate::rolls::TICKETS;
 use ring_shared::Log;
-use ticket_roll::{TICKETS, times_given};
 
 /// Counts the tickets that were given and those that were given twice, and adds up the numbers of the given ones.
 pub(crate) fn count_tickets(logs: &[Log]) -> (u64, u64, u64)

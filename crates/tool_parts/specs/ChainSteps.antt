@@ -1,9 +1,9 @@
 -- The steps of the check of a folder.
 use Rattle.std.specs.Prelude.{◌≡◌, ℕ, ◌+◌, List, length, Option, None}
 use Rattle.disks.specs.Held.{Held}
-use Rattle.ring_segments.specs.Spelling.{no_digest}
-use Rattle.ring_segments.specs.Files.{File, AreChained}
-use Rattle.ring_segments.specs.Chain.{State, LeadTo, sums_at, digest_at}
+use Rattle.segment_files.specs.Spelling.{no_digest}
+use Rattle.segment_files.specs.Files.{File, AreChained}
+use Rattle.segment_files.specs.Chain.{State, LeadTo, sums_at, digest_at}
 use Rattle.tool_parts.specs.Chained.{sums_of, last_digest, AreHeldFrom}
 
 -- files of a folder from this number on, up to the next one, that lead a chain to where it is

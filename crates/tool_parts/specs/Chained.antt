@@ -4,17 +4,17 @@ use Rattle.std.specs.Io.KnownBytes.{Appends}
 use Rattle.disks.specs.Held.{Held, Opens}
 use Rattle.disks.specs.Folders.{names_of, Lists}
 use Rattle.disks.specs.declared.disk.FolderEntry.{FolderEntry}
-use Rattle.segment_folder.specs.Names.{segment_file}
-use Rattle.segment_folder.specs.Numbers.{IsRightNumbers}
-use Rattle.segment_folder.specs.declared.errors.FolderError.{FolderError}
-use Rattle.segment_folder.specs.declared.errors.FolderError.TheVariants as folder
-use Rattle.segment_folder.specs.declared.numbers.SegmentNumbers.{SegmentNumbers}
-use Rattle.ring_segments.specs.declared.sums.ChainSums.{ChainSums}
-use Rattle.ring_segments.specs.declared.errors.SegmentError.TheVariants as segment
-use Rattle.ring_segments.specs.Spelling.{digest_of, no_digest}
-use Rattle.ring_segments.specs.Files.{File, AreChained}
-use Rattle.ring_segments.specs.Sums.{no_sums, sums_after}
-use Rattle.ring_segments.specs.Chain.{State, IsRightRefusal, LeadTo}
+use Rattle.line_service.specs.SegmentNames.{segment_file}
+use Rattle.line_service.specs.SegmentNumbers.{IsRightNumbers}
+use Rattle.line_service.specs.declared.folder_errors.FolderError.{FolderError}
+use Rattle.line_service.specs.declared.folder_errors.FolderError.TheVariants as folder
+use Rattle.line_service.specs.declared.segment_numbers.SegmentNumbers.{SegmentNumbers}
+use Rattle.segment_files.specs.declared.sums.ChainSums.{ChainSums}
+use Rattle.segment_files.specs.declared.errors.SegmentError.TheVariants as segment
+use Rattle.segment_files.specs.Spelling.{digest_of, no_digest}
+use Rattle.segment_files.specs.Files.{File, AreChained}
+use Rattle.segment_files.specs.Sums.{no_sums, sums_after}
+use Rattle.segment_files.specs.Chain.{State, IsRightRefusal, LeadTo}
 use Rattle.tool_parts.specs.Named.{IsHeld}
 use Rattle.tool_parts.specs.Reading.{most_bytes, IsOver}
 use Rattle.tool_parts.specs.Written.{AppendsFront}

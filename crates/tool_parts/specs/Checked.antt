@@ -2,9 +2,9 @@
 use Rattle.std.specs.Prelude.{◌≡◌, ℕ, false, List, Option, ◌⊎◌}
 use Rattle.std.specs.Io.KnownBytes.{Appends}
 use Rattle.text_lines.specs.Texts.{IsCutShort, IsFirstBadLine}
-use Rattle.ring_saved.specs.Content.{Content}
-use Rattle.ring_saved.specs.Spelling.{Fits, text}
-use Rattle.ring_saved.specs.Meaning.{IsText}
+use Rattle.saved_history.specs.Content.{Content}
+use Rattle.saved_history.specs.Spelling.{Fits, text}
+use Rattle.saved_history.specs.Meaning.{IsText}
 use Rattle.ring_check.specs.declared.answers.Kind.{Kind}
 use Rattle.ring_check.specs.declared.answers.Summary.{Summary}
 use Rattle.ring_check.specs.Lines.{lines}
@@ -16,7 +16,7 @@ use Rattle.tool_parts.specs.Named.{IsNamed, IsNamedRefusal}
 use Rattle.tool_parts.specs.Reading.{names_stream}
 use Rattle.tool_parts.specs.Worlds.{World}
 use Rattle.tool_parts.specs.Written.{AppendsFront}
-use Rattle.ring_requests.specs.declared.requests.CheckWords.{CheckWords}
+use Rattle.tool_parts.specs.declared.requests.CheckWords.{CheckWords}
 use Rattle.tool_parts.specs.declared.faults.ToolError.{ToolError}
 use Rattle.tool_parts.specs.declared.faults.ToolError.TheVariants as tool
 

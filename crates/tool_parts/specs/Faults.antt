@@ -9,7 +9,7 @@ use Rattle.ring_book.specs.declared.events.BookError.{BookError}
 use Rattle.ring_settings.specs.declared.faults.SettingsError.{SettingsError}
 use Rattle.text_lines.specs.declared.answer.ReadError.{ReadError}
 use Rattle.ring_check.specs.declared.answers.CheckError.{CheckError}
-use Rattle.ring_journal.specs.declared.errors.RecoverError.{RecoverError}
+use Rattle.journal.specs.declared.errors.RecoverError.{RecoverError}
 use Rattle.disks.specs.declared.replacing.ReplaceFault.{ReplaceFault}
 use Rattle.disks.specs.declared.replacing.ReplaceFault.TheVariants as replace
 use Rattle.tool_parts.specs.ListWords.{IsNoList}
@@ -21,7 +21,7 @@ use Rattle.ring_book.specs.declared.events.BookError.TheVariants as book
 use Rattle.ring_settings.specs.declared.faults.SettingsError.TheVariants as settings
 use Rattle.text_lines.specs.declared.answer.ReadError.TheVariants as read
 use Rattle.ring_check.specs.declared.answers.CheckError.TheVariants as check
-use Rattle.ring_journal.specs.declared.errors.RecoverError.TheVariants as recover
+use Rattle.journal.specs.declared.errors.RecoverError.TheVariants as recover
 use Rattle.tool_parts.specs.declared.faults.ToolError.TheVariants as tool
 
 -- whether a refusal is that of a list that cannot be read

@@ -1,18 +1,18 @@
 -- What `recover` keeps of a journal, and how it reports what is left out.
 use Rattle.std.specs.Prelude.{◌≡◌, ℕ, ◌+◌, ◌-◌, Bool, true, false, List, [], ◌++◌, length, codes, decimal, Option, None, Some, Err, ◌⊎◌}
 use Rattle.text_lines.specs.Texts.{Spells, IsCutShort}
-use Rattle.ring_saved.specs.Content.{Content}
+use Rattle.saved_history.specs.Content.{Content}
 use Rattle.ring_check.specs.Names.{kind_name}
-use Rattle.ring_journal.specs.declared.errors.RecoverError.{RecoverError}
-use Rattle.ring_journal.specs.declared.errors.RecoverError.TheVariants.{Truncated, Syntax, Bad, OutOfMemory}
-use Rattle.ring_journal.specs.Recovery.{IsRecovered, IsRightRecovery}
-use Rattle.ring_salvage.specs.Salvaging.{IsSalvaged, IsLost, IsRightSalvage}
-use Rattle.ring_segments.specs.Spelling.{HeadFits, head_text}
-use Rattle.ring_segments.specs.Meaning.{BeginsNoHead}
-use Rattle.ring_segments.specs.Files.{File}
-use Rattle.ring_segments.specs.Sums.{capped}
-use Rattle.ring_segments.specs.Chain.{AfterHead, head_lines}
-use Rattle.ring_segments.specs.Remarks.{lines_in, without_remarks, line_among}
+use Rattle.journal.specs.declared.errors.RecoverError.{RecoverError}
+use Rattle.journal.specs.declared.errors.RecoverError.TheVariants.{Truncated, Syntax, Bad, OutOfMemory}
+use Rattle.journal.specs.Recovery.{IsRecovered, IsRightRecovery}
+use Rattle.journal.specs.Salvaging.{IsSalvaged, IsLost, IsRightSalvage}
+use Rattle.segment_files.specs.Spelling.{HeadFits, head_text}
+use Rattle.segment_files.specs.Meaning.{BeginsNoHead}
+use Rattle.segment_files.specs.Files.{File}
+use Rattle.segment_files.specs.Sums.{capped}
+use Rattle.segment_files.specs.Chain.{AfterHead, head_lines}
+use Rattle.segment_files.specs.Remarks.{lines_in, without_remarks, line_among}
 use Rattle.tool_parts.specs.LastPlace.{last_place, kept_lines}
 
 -- ---- a journal

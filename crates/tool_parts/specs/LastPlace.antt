@@ -1,9 +1,9 @@
 -- The last place in a log that the remarks of a file give (this project's own).
 use Rattle.std.specs.Prelude.{ℕ, ◌-◌, ◌==◌, ◌&&◌, cond, Bool, List, [], take, codes, Option, None, Some}
 use Rattle.std.specs.List.{fold, starts_with, ends_with}
-use Rattle.ring_journal.specs.declared.errors.RecoverError.{RecoverError}
-use Rattle.ring_segments.specs.Chain.{line_in}
-use Rattle.ring_segments.specs.Remarks.{line_among}
+use Rattle.journal.specs.declared.errors.RecoverError.{RecoverError}
+use Rattle.segment_files.specs.Chain.{line_in}
+use Rattle.segment_files.specs.Remarks.{line_among}
 
 -- a whole remark of a place: it begins with "# at ", and has its LF
 abbrev pub tells_place : List ℕ → Bool

@@ -1,14 +1,14 @@
 //! The refusals of the program, and the line that it prints for each.
 
 use crate::one_line::OneLine;
+use journal::RecoverError;
+use line_service::EntryName;
 use ring_book::BookError;
 use ring_check::{CheckError, Kind};
-use ring_journal::RecoverError;
-use ring_saved::ReadError;
-use ring_segments::SegmentError;
 use ring_settings::{Field, RingCause, SettingsError};
 use ring_state::{ParamsError, StateError};
-use segment_folder::EntryName;
+use saved_history::ReadError;
+use segment_files::SegmentError;
 use std::error::Error;
 use std::fmt;
 use text_lines::WriteFault;

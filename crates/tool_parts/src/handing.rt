@@ -3,9 +3,9 @@
 ghost use Rattle.std.specs.Prelude.{◌≡◌, ◌≢◌, ◌++◌, true, false, None, Some, OnOk, OnErr, IfErr};
 ghost use Rattle.std.specs.Io.KnownBytes.{Appends};
 ghost use Rattle.disks.specs.Held.{Replaces};
-ghost use Rattle.ring_saved.specs.Content.{content};
-ghost use Rattle.ring_saved.specs.Spelling.{text};
-ghost use Rattle.ring_journal.specs.Beginnings.{CanBeSaved};
+ghost use Rattle.saved_history.specs.Content.{content};
+ghost use Rattle.saved_history.specs.Spelling.{text};
+ghost use Rattle.journal.specs.Beginnings.{CanBeSaved};
 ghost use Rattle.tool_parts.specs.CheckText.{legal_line};
 ghost use Rattle.tool_parts.specs.Faults.{IsSaveFault};
 ghost use Rattle.tool_parts.specs.Kept.{left_line};
@@ -19,7 +19,7 @@ use crate::left::{LeftOut, tell_kept};
 use crate::reading::names_stream;
 use disks::{Contents, ContentsFault, Disk, ReplaceFault, replace};
 use ring_check::Summary;
-use ring_saved::{Saved, write_saved};
+use saved_history::{Saved, write_saved};
 use std::alloc::Global;
 use std::io::Write;
 
@@ -30,9 +30,9 @@ struct SavedText<'a> {
 }
 
 impl Contents for SavedText<'_> {
-    ghost use Rattle.ring_saved.specs.Content.{content};
-    ghost use Rattle.ring_saved.specs.Spelling.{text};
-    ghost use Rattle.ring_journal.specs.Beginnings.{CanBeSaved};
+    ghost use Rattle.saved_history.specs.Content.{content};
+    ghost use Rattle.saved_history.specs.Spelling.{text};
+    ghost use Rattle.journal.specs.Beginnings.{CanBeSaved};
 
     ghost ready = { λ s. CanBeSaved (content s.saved.now) };
 

@@ -3,16 +3,16 @@
 ghost use Rattle.std.specs.Prelude.{◌≡◌, ◌<◌, ◌^◌, ◌++◌, None, Some, IfSome, codes, decimal};
 ghost use Rattle.text_lines.specs.Writing.{Writes};
 ghost use Rattle.ring_check.specs.Names.{kind_name};
-ghost use Rattle.ring_segments.specs.Chain.{line_in};
-ghost use Rattle.ring_segments.specs.Remarks.{lines_in, line_among};
+ghost use Rattle.segment_files.specs.Chain.{line_in};
+ghost use Rattle.segment_files.specs.Remarks.{lines_in, line_among};
 ghost use Rattle.tool_parts.specs.CheckText.{legal_line};
 ghost use Rattle.tool_parts.specs.Kept.{left_line, bad_in, fault_in};
 
 use crate::legal::tell_sums;
 use itoa::Buffer;
+use journal::RecoverError;
 use ring_check::{Kind, Summary};
-use ring_journal::RecoverError;
-use ring_segments::line_among;
+use segment_files::line_among;
 use std::io::Write;
 use text_lines::{WriteFault, put_all};
 

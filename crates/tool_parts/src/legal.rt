@@ -3,14 +3,14 @@
 ghost use Rattle.std.specs.Prelude.{◌≡◌, IfOk, IfErr};
 ghost use Rattle.text_lines.specs.Writing.{Writes};
 ghost use Rattle.ring_check.specs.Legal.{IsLegalText};
-ghost use Rattle.ring_saved.specs.Content.{content};
+ghost use Rattle.saved_history.specs.Content.{content};
 ghost use Rattle.tool_parts.specs.CheckText.{legal_line};
 ghost use Rattle.tool_parts.specs.Checked.{IsLegalSavedText, IsSavedTextRefusal};
 
 use crate::faults::ToolError;
 use itoa::Buffer;
 use ring_check::{Summary, check_saved};
-use ring_saved::{Saved, read_saved};
+use saved_history::{Saved, read_saved};
 use std::alloc::Global;
 use std::io::Write;
 use text_lines::{WriteFault, put_all};

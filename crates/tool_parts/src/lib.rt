@@ -2,7 +2,10 @@
 //! segments and their lock, where a text and its line go, and how a run ends.
 //!
 //! They take any disk, reader and writer, and say the content of files before and after, by their names. The command line itself
-//! is the matter of `ring_cli`: nothing here knows of it, so that these parts are proved, and tried on wrong bodies, without it.
+//! is the matter of `command_line`: nothing here knows of it, so that these parts are proved, and tried on wrong bodies, without it.
+//!
+//! The requests that the program takes. The command line makes these values and the commands are done by them, and neither
+//! knows the other.
 #![tactic(auto)]
 
 pub mod chain;
@@ -18,3 +21,4 @@ pub mod looks;
 mod one_line;
 pub mod outside;
 pub mod reading;
+pub mod requests;

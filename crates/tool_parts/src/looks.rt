@@ -6,8 +6,8 @@ ghost use Rattle.tool_parts.specs.Chained.{IsFolder, AreFolderSums, AreSumsRefus
 use crate::chain::{folder_entries, folder_sums};
 use crate::faults::ToolError;
 use disks::{Disk, FolderEntry};
-use ring_segments::{ChainSums, DIGEST_DIGITS};
-use segment_folder::segment_file;
+use line_service::segment_file;
+use segment_files::{ChainSums, DIGEST_DIGITS};
 use std::alloc::Global;
 use std::io::ErrorKind;
 

@@ -1,6 +1,6 @@
 -- A text has one first bad line.
 use Rattle.std.proofs.Common.{◌≡◌, ℕ, Bool, true, false, refl, sym, ap}
-use Rattle.ring_saved.specs.Content.{Content}
+use Rattle.saved_history.specs.Content.{Content}
 use Rattle.ring_check.specs.declared.answers.Kind.{Kind}
 use Rattle.ring_check.specs.Legal.{IsFirstBad}
 use Rattle.ring_check.specs.Lines.{lines}

@@ -8,11 +8,11 @@ use Rattle.text_lines.specs.Texts.{AnswersAreApart, IsCutShort, IsFirstBadLine}
 use Rattle.text_lines.specs.Writing.{Wrote, Writes}
 use Rattle.text_lines.specs.declared.write.WriteFault.{WriteFault}
 use Rattle.text_lines.proofs.Answering.{apart, none_begins_another, spellings_are_apart}
-use Rattle.ring_saved.specs.declared.saved.Saved.{Saved}
-use Rattle.ring_saved.specs.Content.{Content, content}
-use Rattle.ring_saved.specs.Meaning.{IsRightRead, IsText}
-use Rattle.ring_saved.specs.Spelling.{Fits, text}
-use Rattle.ring_saved.proofs.TextLaws.{text_reads}
+use Rattle.saved_history.specs.declared.saved.Saved.{Saved}
+use Rattle.saved_history.specs.Content.{Content, content}
+use Rattle.saved_history.specs.Meaning.{IsRightRead, IsText}
+use Rattle.saved_history.specs.Spelling.{Fits, text}
+use Rattle.saved_history.proofs.TextLaws.{text_reads}
 
 -- known bytes grow by one text
 same_grown : (o n : Option (List ℕ)) (x y : List ℕ) → IsSome o → Appends o n x → Appends o n y → x ≡ y

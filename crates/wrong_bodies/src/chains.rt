@@ -3,11 +3,10 @@
 ghost use Rattle.std.specs.Prelude.{◌≡◌, ◌+◌, ◌<◌, ◌≤◌, ◌^◌, ◌↔◌, true, false, None, IsTrue, IfSome};
 ghost use Rattle.ring_model.specs.Limits.{event_limit};
 ghost use Rattle.ring_model.specs.declared.events.Reply.TheVariants.{Granted, Corrupted};
-ghost use Rattle.ring_chains.specs.Bases.{IsBase, shifted_reply, shifted_receipt, shifted_survey};
-ghost use Rattle.ring_chains.specs.Tallies.{IsInSegment, tally_with, base_with};
+ghost use Rattle.ring_model.specs.Bases.{IsBase, shifted_reply, shifted_receipt, shifted_survey};
+ghost use Rattle.ring_model.specs.Tallies.{IsInSegment, tally_with, base_with};
 
-use ring_chains::{Base, Tally};
-use ring_model::{Receipt, Reply, Survey};
+use ring_model::{Base, Receipt, Reply, Survey, Tally};
 
 /// The next base counts the grants before the segment: here it forgets them.
 pub fn forgets_the_grants(base: &Base, tally: Tally, end: Survey) -> Option<Base>

@@ -4,7 +4,7 @@ ghost use Rattle.std.specs.Prelude.{◌≡◌, ◌≢◌, ℕ, ◌+◌, ◌<◌,
 ghost use Rattle.ring_model.specs.declared.events.Event.{Event};
 ghost use Rattle.ring_model.specs.Scanning.{MayCome};
 ghost use Rattle.ring_model.specs.Surveys.{corrupted_count, granted_count};
-ghost use Rattle.ring_saved.specs.Content.{content, upgraded};
+ghost use Rattle.saved_history.specs.Content.{content, upgraded};
 ghost use Rattle.ring_check.specs.Legal.{IsLegalText, IsRightCheck, summary_of};
 ghost use Rattle.ring_check.specs.Lines.{lines};
 ghost use Rattle.ring_check.specs.Meaning.{IsRightText};
@@ -13,7 +13,7 @@ ghost use Rattle.ring_check.specs.Table.{event_of};
 
 use crate::numbers::another;
 use ring_check::{CheckError, Kind, Summary, check_saved, count_events, members_as_defined};
-use ring_saved::{Saved, SavedEvent};
+use saved_history::{Saved, SavedEvent};
 use std::alloc::Global;
 
 /// The first bad line is answered: here another.

@@ -3,13 +3,13 @@
 ghost use Rattle.std.specs.Prelude.{◌≡◌, ◌≢◌, ◌≤◌, ℕ, IfOk, IfErr, IsSome, length};
 ghost use Rattle.text_lines.specs.Texts.{IsCutShort, IsFirstBadLine};
 ghost use Rattle.text_lines.specs.Writing.{Writes};
-ghost use Rattle.ring_saved.specs.Content.{content, upgraded};
-ghost use Rattle.ring_saved.specs.Meaning.{IsRightRead, IsText};
-ghost use Rattle.ring_saved.specs.Spelling.{Fits, HasNoMember, text};
-ghost use Rattle.ring_saved.specs.Versions.{first_version, latest_version, IsVersion};
+ghost use Rattle.saved_history.specs.Content.{content, upgraded};
+ghost use Rattle.saved_history.specs.Meaning.{IsRightRead, IsText};
+ghost use Rattle.saved_history.specs.Spelling.{Fits, HasNoMember, text};
+ghost use Rattle.saved_history.specs.Versions.{first_version, latest_version, IsVersion};
 
 use crate::numbers::{another, another_narrow};
-use ring_saved::{
+use saved_history::{
     ReadError, Saved, WriteFault, first_version_has_no_members, read_saved, upgrade, write_saved,
 };
 use std::alloc::Global;

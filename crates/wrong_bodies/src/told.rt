@@ -1,12 +1,12 @@
 //! All bad lines of a text, broken.
 
 ghost use Rattle.std.specs.Prelude.{◌≡◌, ◌≢◌, ◌+◌, ◌<◌, ◌≤◌, ◌^◌, ◌++◌, ◌∷◌, [], List, length, map, vec_len, IfOk};
-ghost use Rattle.ring_saved.specs.Content.{Block, block_of, content};
+ghost use Rattle.saved_history.specs.Content.{Block, block_of, content};
 ghost use Rattle.ring_check.specs.Lines.{lines};
-ghost use Rattle.ring_faults.specs.BadLines.{bad_lines};
+ghost use Rattle.bad_lines.specs.BadLines.{bad_lines};
 
-use ring_faults::{BadLine, bad_lines};
-use ring_saved::Saved;
+use bad_lines::{BadLine, bad_lines};
+use saved_history::Saved;
 use std::alloc::{AllocError, Global};
 
 /// All bad lines are reported: only the first one is.

@@ -4,8 +4,8 @@ use Rattle.std.specs.Prelude.{IsSome}
 use Rattle.std.specs.Io.KnownBytes.{Appends}
 use Rattle.std.specs.List.{All, AllByRecursion}
 use Rattle.std.proofs.lemmas.List.Elements.{All-cons}
-use Rattle.ring_saved.specs.Content.{Block, Content}
-use Rattle.ring_saved.specs.Spelling.{BlockFits}
+use Rattle.saved_history.specs.Content.{Block, Content}
+use Rattle.saved_history.specs.Spelling.{BlockFits}
 use Rattle.ring_check.specs.declared.answers.Kind.{Kind}
 use Rattle.ring_check.specs.declared.answers.Summary.{Summary}
 use Rattle.ring_check.specs.declared.answers.CheckError.TheVariants.{Bad}

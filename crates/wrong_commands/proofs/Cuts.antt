@@ -7,30 +7,30 @@ use Rattle.std.proofs.Math.Seq.{drop-append_seam, take-append_seam}
 use Rattle.std.proofs.lemmas.List.{append-nil}
 use Rattle.std.proofs.lemmas.Bool.{false≢true}
 use Rattle.disks.specs.Held.{Held, Replaces}
-use Rattle.segment_folder.specs.Names.{segment_file}
+use Rattle.line_service.specs.SegmentNames.{segment_file}
 use Rattle.ring_model.specs.Surveys.{granted_count}
-use Rattle.ring_chains.specs.declared.bases.Base.{Base}
-use Rattle.ring_segments.specs.Spelling.{digest_of, number_line, base_line, DigestFits}
-use Rattle.ring_journal.specs.Spelling.{head_text as journal_text}
-use Rattle.line_loop.specs.Answering.{IsLine, Answers, joined_lines}
-use Rattle.line_loop.specs.Stands.{Stand, by_stand}
-use Rattle.segment_loop.specs.declared.segmented.EndFault.{EndFault}
-use Rattle.segment_loop.specs.Segments.{Moment, IsReady, HasEnded, stand_of}
-use Rattle.segment_loop.specs.Service.{Part, IsPart, AreParts, all_lines, all_said, ServesSegments}
-use Rattle.segment_loop.proofs.Changing.{HoldsSame, kept_file}
-use Rattle.ring_serve.specs.declared.answers.Answer.{Answer}
-use Rattle.ring_serve.specs.declared.answers.Answer.TheVariants as answer
-use Rattle.ring_serve.specs.declared.answers.Refusal.{Refusal}
-use Rattle.ring_serve.specs.Answers.{answer_line}
-use Rattle.ring_serve.specs.Standings.{Standing}
-use Rattle.ring_serve.specs.Saved.{content_of}
-use Rattle.ring_serve.specs.Segments.{AreNext, bases_of}
-use Rattle.ring_serve.specs.Due.{is_due}
-use Rattle.ring_serve.specs.Turns.{Turn, refused}
-use Rattle.ring_serve.specs.Permits.{Terms}
-use Rattle.ring_serve.specs.Serving.{IsTurnOn, IsGiven, name_in}
-use Rattle.chain_serve.specs.Texts.{segment_text}
-use Rattle.chain_serve.specs.Services.{ServiceView, terms_of, IsServed, refusal_of, segmenting}
+use Rattle.ring_model.specs.declared.bases.Base.{Base}
+use Rattle.segment_files.specs.Spelling.{digest_of, number_line, base_line, DigestFits}
+use Rattle.journal.specs.Spelling.{head_text as journal_text}
+use Rattle.line_service.specs.Answering.{IsLine, Answers, joined_lines}
+use Rattle.line_service.specs.Stands.{Stand, by_stand}
+use Rattle.line_service.specs.declared.segmented.EndFault.{EndFault}
+use Rattle.line_service.specs.Segments.{Moment, IsReady, HasEnded, stand_of}
+use Rattle.line_service.specs.Service.{Part, IsPart, AreParts, all_lines, all_said, ServesSegments}
+use Rattle.line_service.proofs.Changing.{HoldsSame, kept_file}
+use Rattle.ring_service.specs.declared.answers.Answer.{Answer}
+use Rattle.ring_service.specs.declared.answers.Answer.TheVariants as answer
+use Rattle.ring_service.specs.declared.answers.Refusal.{Refusal}
+use Rattle.ring_service.specs.Answers.{answer_line}
+use Rattle.ring_service.specs.Standings.{Standing}
+use Rattle.ring_service.specs.Saved.{content_of}
+use Rattle.ring_service.specs.Segments.{AreNext, bases_of}
+use Rattle.ring_service.specs.Due.{is_due}
+use Rattle.ring_service.specs.Turns.{Turn, refused}
+use Rattle.ring_service.specs.Permits.{Terms}
+use Rattle.ring_service.specs.Serving.{IsTurnOn, IsGiven, name_in}
+use Rattle.ring_service.specs.Texts.{segment_text}
+use Rattle.ring_service.specs.ChainServices.{ServiceView, terms_of, IsServed, refusal_of, segmenting}
 
 abbrev pub head : List ℕ → ℕ
 head [] = 0

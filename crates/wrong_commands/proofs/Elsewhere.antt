@@ -4,9 +4,9 @@ use Rattle.std.specs.Prelude.{IsSome}
 use Rattle.std.proofs.lemmas.Bool.{false≢true}
 use Rattle.disks.specs.Held.{Held}
 use Rattle.disks.specs.declared.disk.FolderEntry.{FolderEntry}
-use Rattle.segment_folder.specs.declared.errors.FolderError.{FolderError}
-use Rattle.segment_folder.specs.declared.errors.FolderError.TheVariants as names
-use Rattle.segment_folder.specs.declared.numbers.SegmentNumbers.{SegmentNumbers}
+use Rattle.line_service.specs.declared.folder_errors.FolderError.{FolderError}
+use Rattle.line_service.specs.declared.folder_errors.FolderError.TheVariants as names
+use Rattle.line_service.specs.declared.segment_numbers.SegmentNumbers.{SegmentNumbers}
 use Rattle.tool_parts.specs.Chained.{IsFolderFault, AreNamesRefused}
 use Rattle.tool_parts.specs.Handed.{IsHandRefusal}
 use Rattle.folder_commands.specs.JoinedFolder.{AreUnjoined, IsJoinRefusal}
@@ -17,7 +17,7 @@ use Rattle.tool_parts.specs.Reading.{names_stream}
 use Rattle.tool_parts.specs.Worlds.{World}
 use Rattle.tool_parts.specs.declared.faults.ToolError.{ToolError}
 use Rattle.tool_parts.specs.declared.faults.ToolError.TheVariants as tool
-use Rattle.ring_requests.specs.declared.requests.JoinWords.{JoinWords}
+use Rattle.tool_parts.specs.declared.requests.JoinWords.{JoinWords}
 use Rattle.std.specs.Borrow.{Bor}
 
 module _ (made : Bor (List ℕ)) where

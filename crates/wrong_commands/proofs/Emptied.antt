@@ -5,8 +5,8 @@ use Rattle.std.proofs.lemmas.Bool.{false≢true}
 use Rattle.std.proofs.lemmas.Slice.Eq.{bytes_eq-Decides}
 use Rattle.disks.specs.Held.{Held, is_there}
 use Rattle.disks.specs.Folders.{path_in, is_among, Lists}
-use Rattle.ring_serve.specs.Standings.{Standing}
-use Rattle.ring_serve.specs.Segments.{AreNext}
+use Rattle.ring_service.specs.Standings.{Standing}
+use Rattle.ring_service.specs.Segments.{AreNext}
 
 pub none_is_next : (rings : List Standing) → 1 ≤ length rings → AreNext rings [] → ⊥
 none_is_next [] some h = omega (arith, some)

@@ -6,13 +6,13 @@ use Rattle.std.proofs.lemmas.Bool.{false≢true}
 use Rattle.std.proofs.lemmas.List.{append-nil}
 use Rattle.std.specs.Option.{is_some, unwrap_or}
 use Rattle.disks.specs.Held.{Held, bytes_of, is_folder, LeadsToFolder, Grows, Replaces}
-use Rattle.ring_saved.specs.declared.saved.Saved.{Saved}
-use Rattle.ring_saved.specs.Content.{Content}
-use Rattle.ring_journal.specs.Spelling.{head_text}
-use Rattle.ring_serve.specs.declared.permits.Permits.{Permits}
-use Rattle.ring_serve.specs.Standings.{Standing}
-use Rattle.ring_serve.specs.Saved.{content_of}
-use Rattle.ring_requests.specs.declared.requests.ServeWords.{ServeWords}
+use Rattle.saved_history.specs.declared.saved.Saved.{Saved}
+use Rattle.saved_history.specs.Content.{Content}
+use Rattle.journal.specs.Spelling.{head_text}
+use Rattle.ring_service.specs.declared.permits.Permits.{Permits}
+use Rattle.ring_service.specs.Standings.{Standing}
+use Rattle.ring_service.specs.Saved.{content_of}
+use Rattle.tool_parts.specs.declared.requests.ServeWords.{ServeWords}
 use Rattle.tool_parts.specs.declared.faults.ToolError.{ToolError}
 use Rattle.serve_commands.specs.Served.{journal_of, permits_of, IsUntouched, IsBrokenOff, IsRefusedFrom, IsServedNoted, IsServed, IsServedFrom}
 use Rattle.serve_commands.specs.ServeAnswer.{IsServedTo, IsRefusedTo, IsServeRefusal}

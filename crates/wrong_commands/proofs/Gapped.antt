@@ -5,13 +5,13 @@ use Rattle.std.proofs.lemmas.Bool.{false≢true}
 use Rattle.disks.specs.Folders.{names_of}
 use Rattle.disks.specs.Held.{Held}
 use Rattle.disks.specs.declared.disk.FolderEntry.{FolderEntry}
-use Rattle.segment_folder.specs.declared.errors.EntryName.{EntryName}
-use Rattle.segment_folder.specs.declared.errors.FolderError.TheVariants.{Foreign, Missing}
-use Rattle.segment_folder.specs.declared.numbers.SegmentNumbers.{SegmentNumbers}
-use Rattle.segment_folder.specs.Names.{IsSegmentName, IsOtherName}
-use Rattle.segment_folder.specs.Numbers.{has_segment, AreFrom, IsGap, IsForeign, IsRightEntry, IsRightNumbers}
-use Rattle.ring_segments.specs.declared.sums.ChainSums.{ChainSums}
-use Rattle.ring_segments.specs.Files.{File}
+use Rattle.line_service.specs.declared.folder_errors.EntryName.{EntryName}
+use Rattle.line_service.specs.declared.folder_errors.FolderError.TheVariants.{Foreign, Missing}
+use Rattle.line_service.specs.declared.segment_numbers.SegmentNumbers.{SegmentNumbers}
+use Rattle.line_service.specs.SegmentNames.{IsSegmentName, IsOtherName}
+use Rattle.line_service.specs.SegmentNumbers.{has_segment, AreFrom, IsGap, IsForeign, IsRightEntry, IsRightNumbers}
+use Rattle.segment_files.specs.declared.sums.ChainSums.{ChainSums}
+use Rattle.segment_files.specs.Files.{File}
 use Rattle.tool_parts.specs.Chained.{IsChainIn, sums_of}
 
 -- numbers with a gap are not all from one to another

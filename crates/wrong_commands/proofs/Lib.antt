@@ -16,3 +16,5 @@ pub mod Places
 pub mod Elsewhere
 pub mod OneReport
 pub mod Unlocked
+mod Stayed
+mod Dropped

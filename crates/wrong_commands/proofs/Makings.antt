@@ -4,7 +4,7 @@ use Rattle.std.specs.Prelude.{ℕ, ◌≢◌, List, [], Option, None, Some, IsSo
 use Rattle.std.specs.Option.{unwrap_or, is_some}
 use Rattle.std.proofs.lemmas.Bool.{false≢true}
 use Rattle.disks.specs.Held.{Held, bytes_of, Creates, Discards, Grows, Starts, Replaces}
-use Rattle.ring_saved.specs.Content.{Content}
+use Rattle.saved_history.specs.Content.{Content}
 use Rattle.ring_check.specs.declared.answers.Summary.{Summary}
 use Rattle.tool_parts.specs.Named.{IsHeld, IsNamed, IsApart}
 use Rattle.tool_parts.specs.Reading.{names_stream}

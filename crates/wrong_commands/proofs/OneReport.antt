@@ -3,10 +3,10 @@ use Rattle.std.proofs.Common.{◌≡◌, ℕ, ◌+◌, ◌<◌, List, length, le
 use Rattle.std.specs.Prelude.{IsSome}
 use Rattle.std.specs.Io.KnownBytes.{Appends}
 use Rattle.std.specs.List.{flat_map}
-use Rattle.ring_saved.specs.Content.{Content}
+use Rattle.saved_history.specs.Content.{Content}
 use Rattle.ring_check.specs.Legal.{summary_of}
 use Rattle.ring_text.specs.Report.{total_line}
-use Rattle.ring_report.specs.SavedReport.{block_lines, totals, report_of}
+use Rattle.ring_text.specs.SavedReport.{block_lines, totals, report_of}
 use Rattle.text_commands.specs.Reported.{IsReportOf}
 use Rattle.wrong_commands.proofs.Written.{one_value, not_twice}
 

@@ -2,16 +2,16 @@
 use Rattle.std.proofs.Common.{◌≡◌, ℕ, List, Bool, true, false, cond, if◌then◌else◌, Option, None, Some, inl, inr, refl, sym, subst}
 use Rattle.ring_model.specs.Ring.{is_privileged}
 use Rattle.ring_model.specs.declared.events.Reply.TheVariants as reply_is
-use Rattle.ring_chains.specs.declared.bases.Base.{Base}
-use Rattle.ring_chains.specs.Bases.{shifted_reply}
-use Rattle.ring_desk.specs.Refusals.{seat_refusal, place_refusal, pass_refusal, group_refusal}
-use Rattle.ring_desk.specs.declared.errors.CallError.{CallError}
-use Rattle.ring_serve.specs.Commands.{Command, pass, try, group, corrupt, survey, glance, save, heard}
-use Rattle.ring_serve.specs.Standings.{Standing, state_of}
-use Rattle.ring_serve.specs.declared.answers.Answer.TheVariants as answer
-use Rattle.ring_serve.specs.declared.answers.Refusal.{Refusal}
-use Rattle.ring_serve.specs.declared.answers.Refusal.TheVariants as refusal
-use Rattle.ring_serve.specs.Turns.{Turn, refused, refusal_of, bounds_now, unless, passed, waits, answer_of, turn_at, turn_among, turn_of, is_off, heard_turn, IsTurnOfLine}
+use Rattle.ring_model.specs.declared.bases.Base.{Base}
+use Rattle.ring_model.specs.Bases.{shifted_reply}
+use Rattle.one_thread_ring.specs.Refusals.{seat_refusal, place_refusal, pass_refusal, group_refusal}
+use Rattle.one_thread_ring.specs.declared.errors.CallError.{CallError}
+use Rattle.ring_service.specs.Commands.{Command, pass, try, group, corrupt, survey, glance, save, heard}
+use Rattle.ring_service.specs.Standings.{Standing, state_of}
+use Rattle.ring_service.specs.declared.answers.Answer.TheVariants as answer
+use Rattle.ring_service.specs.declared.answers.Refusal.{Refusal}
+use Rattle.ring_service.specs.declared.answers.Refusal.TheVariants as refusal
+use Rattle.ring_service.specs.Turns.{Turn, refused, refusal_of, bounds_now, unless, passed, waits, answer_of, turn_at, turn_among, turn_of, is_off, heard_turn, IsTurnOfLine}
 
 abbrev IsNoFault : {S : Type 0} → Turn S → Type 0
 IsNoFault turn = (old : ℕ) → turn.answer ≡ answer.Corrupted old → ⊥

@@ -5,23 +5,23 @@ use Rattle.std.specs.Option.{is_some}
 use Rattle.std.specs.Io.KnownBytes.{Appends}
 use Rattle.std.proofs.lemmas.Bool.{false≢true, true≢false}
 use Rattle.disks.specs.Held.{Held, Thing, Nothing, Folder, File, file_bytes, is_a_folder, is_a_thing, bytes_of, is_folder, is_there, LeadsToFolder, IsOneFile, IsReplaced, Grows, Creates, Locks, Replaces}
-use Rattle.segment_folder.specs.Names.{segment_file}
-use Rattle.ring_saved.specs.declared.saved.Saved.{Saved}
-use Rattle.ring_serve.specs.declared.answers.Answer.{Answer}
-use Rattle.ring_serve.specs.declared.answers.Answer.TheVariants as answer
-use Rattle.ring_serve.specs.declared.permits.Permits.{Permits}
-use Rattle.ring_serve.specs.Permits.{Terms}
-use Rattle.ring_serve.specs.Standings.{Standing}
-use Rattle.ring_serve.specs.Serving.{IsSaved, IsSaveGiven, IsGiven, IsAnswered, Answers, name_in}
-use Rattle.segment_loop.specs.declared.segmented.EndFault.{EndFault}
-use Rattle.segment_loop.specs.Segments.{Moment, IsReady, HasBegun}
-use Rattle.segment_loop.specs.Service.{Part, IsPart, AreParts}
-use Rattle.segment_loop.proofs.Changing.{HoldsSame, kept_file}
-use Rattle.chain_serve.specs.declared.segments.ChainRules.{ChainRules}
-use Rattle.chain_serve.specs.Texts.{segment_text}
-use Rattle.chain_serve.specs.Services.{ServiceView, terms_of, IsServed as IsLineServed, segmenting, file_of}
-use Rattle.chain_serve.proofs.Recovering.{part_answers}
-use Rattle.ring_requests.specs.declared.requests.ServeWords.{ServeWords}
+use Rattle.line_service.specs.SegmentNames.{segment_file}
+use Rattle.saved_history.specs.declared.saved.Saved.{Saved}
+use Rattle.ring_service.specs.declared.answers.Answer.{Answer}
+use Rattle.ring_service.specs.declared.answers.Answer.TheVariants as answer
+use Rattle.ring_service.specs.declared.permits.Permits.{Permits}
+use Rattle.ring_service.specs.Permits.{Terms}
+use Rattle.ring_service.specs.Standings.{Standing}
+use Rattle.ring_service.specs.Serving.{IsSaved, IsSaveGiven, IsGiven, IsAnswered, Answers, name_in}
+use Rattle.line_service.specs.declared.segmented.EndFault.{EndFault}
+use Rattle.line_service.specs.Segments.{Moment, IsReady, HasBegun}
+use Rattle.line_service.specs.Service.{Part, IsPart, AreParts}
+use Rattle.line_service.proofs.Changing.{HoldsSame, kept_file}
+use Rattle.ring_service.specs.declared.chain_segments.ChainRules.{ChainRules}
+use Rattle.ring_service.specs.Texts.{segment_text}
+use Rattle.ring_service.specs.ChainServices.{ServiceView, terms_of, IsServed as IsLineServed, segmenting, file_of}
+use Rattle.ring_service.proofs.ChainRecovering.{part_answers}
+use Rattle.tool_parts.specs.declared.requests.ServeWords.{ServeWords}
 use Rattle.serve_commands.specs.Served.{journal_of, permits_of, IsNoted, BeginsAt, IsServedNoted, IsServed, IsServedFrom}
 use Rattle.serve_commands.specs.ServedFolder.{Place, IsRun, IsServedIn}
 use Rattle.tool_parts.specs.Locking.{lock_of}

@@ -2,12 +2,12 @@
 use Rattle.std.proofs.Common.{◌≡◌, ℕ, ◌+◌, ◌<◌, ◌≤◌, List, [], ◌∷◌, length, Option, Some, None, Bool, true, false, not, arith}
 use Rattle.std.specs.Prelude.{IsSome, MatchOption}
 use Rattle.std.specs.Io.KnownBytes.{Appends}
-use Rattle.ring_saved.specs.Content.{Content}
-use Rattle.ring_saved.specs.Spelling.{text}
+use Rattle.saved_history.specs.Content.{Content}
+use Rattle.saved_history.specs.Spelling.{text}
 use Rattle.ring_farm.specs.declared.outcomes.Outcome.{Outcome}
 use Rattle.ring_farm.specs.RingOutcome.{RingOutcome}
 use Rattle.ring_text.specs.Report.{rings_from, farm_line}
-use Rattle.ring_commands.specs.Ran.{report_text}
+use Rattle.run_commands.specs.Ran.{report_text}
 use Rattle.wrong_commands.proofs.Written.{not_more}
 
 -- a saved text begins with its name

@@ -1,9 +1,9 @@
 -- A ring whose events are not as many as they were.
 use Rattle.std.proofs.Common.{◌≡◌, ℕ, zero, suc, ◌<◌, List, [], ◌∷◌, length, map, get_or, set, sym, ap, ◌∙◌, arith}
-use Rattle.ring_saved.specs.declared.saved.SavedRing.{SavedRing}
-use Rattle.ring_saved.specs.Content.{Block, Content, block_of}
-use Rattle.ring_journal.specs.Recovery.{IsRecovered}
-use Rattle.ring_journal.proofs.Cutting.{one_recovered}
+use Rattle.saved_history.specs.declared.saved.SavedRing.{SavedRing}
+use Rattle.saved_history.specs.Content.{Block, Content, block_of}
+use Rattle.journal.specs.Recovery.{IsRecovered}
+use Rattle.journal.proofs.Cutting.{one_recovered}
 
 as_many : (items : List SavedRing) (i : ℕ) (x d : SavedRing) → i < length items → map block_of (set items i x) ≡ map block_of items → length x.events.items ≡ length (get_or items i d).events.items
 as_many [] i x d lt e = absurd (omega arith)

@@ -1,15 +1,15 @@
 -- The trace of a line's turn is that of no other one.
 use Rattle.std.proofs.Common.{◌≡◌, ◌∙◌, ℕ, Bool, List, [], ◌∷◌, length, inl, inr, sym, ap, arith}
 use Rattle.ring_model.specs.declared.events.Survey.{Survey}
-use Rattle.ring_serve.specs.Standings.{Standing}
-use Rattle.ring_serve.specs.declared.answers.Answer.{Answer}
-use Rattle.ring_serve.specs.declared.answers.Answer.TheVariants as answer
-use Rattle.ring_serve.specs.declared.answers.Refusal.TheVariants as refusal
-use Rattle.ring_serve.specs.declared.turns.CallAnswer.{CallAnswer}
-use Rattle.ring_serve.specs.declared.turns.Trace.{Trace}
-use Rattle.ring_serve.specs.declared.turns.Trace.TheVariants as trace
-use Rattle.ring_serve.specs.Turns.{Turn, RingTrace, events, surveyed, recorded_among, turn_seen_among, IsTurnOfLine}
-use Rattle.ring_serve.proofs.Lines.{turns_agree}
+use Rattle.ring_service.specs.Standings.{Standing}
+use Rattle.ring_service.specs.declared.answers.Answer.{Answer}
+use Rattle.ring_service.specs.declared.answers.Answer.TheVariants as answer
+use Rattle.ring_service.specs.declared.answers.Refusal.TheVariants as refusal
+use Rattle.ring_service.specs.declared.turns.CallAnswer.{CallAnswer}
+use Rattle.ring_service.specs.declared.turns.Trace.{Trace}
+use Rattle.ring_service.specs.declared.turns.Trace.TheVariants as trace
+use Rattle.ring_service.specs.Turns.{Turn, RingTrace, events, surveyed, recorded_among, turn_seen_among, IsTurnOfLine}
+use Rattle.ring_service.proofs.Lines.{turns_agree}
 
 abbrev ring_first : List RingTrace → ℕ
 ring_first [] = 0

@@ -1,9 +1,9 @@
 -- A file that is refused does not follow.
 use Rattle.std.proofs.Common.{◌≡◌, Bool, false, List, ℕ, Option, Ok, Err, refl, sym, subst, ◌∙◌}
-use Rattle.ring_segments.specs.declared.errors.SegmentError.TheVariants as refused
-use Rattle.ring_segments.specs.Files.{File, IsWhole, Follows}
-use Rattle.ring_segments.specs.Chain.{State, asked, OfSegment, IsAdded, IsRightRefusal, IsRightAdd}
-use Rattle.ring_segments.proofs.OneFiles.{one_file}
+use Rattle.segment_files.specs.declared.errors.SegmentError.TheVariants as refused
+use Rattle.segment_files.specs.Files.{File, IsWhole, Follows}
+use Rattle.segment_files.specs.Chain.{State, asked, OfSegment, IsAdded, IsRightRefusal, IsRightAdd}
+use Rattle.segment_files.proofs.OneFiles.{one_file}
 
 -- two facts on the segment of some bytes are facts on one file
 added_not : (old : Option State) (bytes : List ℕ) (last : Bool) (new : State) (Holds : File → Type 0) → ((f : File) → Holds f → Follows (asked old f) f → (last ≡ false → IsWhole f) → ⊥) →

@@ -5,21 +5,21 @@ use Rattle.ring_model.specs.Ring.{is_privileged}
 use Rattle.ring_model.specs.declared.events.Event.{Event}
 use Rattle.ring_model.specs.declared.events.Op.TheVariants as op
 use Rattle.text_lines.specs.Spelling.{spaced}
-use Rattle.ring_serve.specs.Commands.{Command, pass, try, group, corrupt, survey, glance, save, heard}
-use Rattle.ring_serve.specs.Standings.{Standing, state_of, event_now}
-use Rattle.ring_serve.specs.declared.answers.Answer.{Answer}
-use Rattle.ring_serve.specs.declared.answers.Answer.TheVariants as answer
-use Rattle.ring_serve.specs.declared.answers.Refusal.{Refusal}
-use Rattle.ring_serve.specs.declared.answers.Refusal.TheVariants as refusal
-use Rattle.ring_serve.specs.Answers.{answer_line}
-use Rattle.ring_desk.specs.Refusals.{seat_refusal, place_refusal, pass_refusal, corrupt_refusal, group_refusal}
-use Rattle.ring_desk.specs.declared.errors.CallError.{CallError}
-use Rattle.ring_serve.specs.Turns.{Turn, events, refused, refusal_of, bounds_now, unless, passed, waits, turn_at, turn_among, turn_of, is_off, heard_turn, IsTurnOfLine}
-use Rattle.ring_serve.specs.declared.permits.Permits.{Permits}
-use Rattle.ring_serve.specs.Permits.{terms_of}
-use Rattle.ring_serve.specs.Notes.{notes_of}
-use Rattle.ring_serve.specs.Serving.{name_in, IsSaveGiven, IsGiven, IsAnswered, Answers, ServesAll}
-use Rattle.ring_serve.specs.Recovered.{AnsweredCallsAreRecovered}
+use Rattle.ring_service.specs.Commands.{Command, pass, try, group, corrupt, survey, glance, save, heard}
+use Rattle.ring_service.specs.Standings.{Standing, state_of, event_now}
+use Rattle.ring_service.specs.declared.answers.Answer.{Answer}
+use Rattle.ring_service.specs.declared.answers.Answer.TheVariants as answer
+use Rattle.ring_service.specs.declared.answers.Refusal.{Refusal}
+use Rattle.ring_service.specs.declared.answers.Refusal.TheVariants as refusal
+use Rattle.ring_service.specs.Answers.{answer_line}
+use Rattle.one_thread_ring.specs.Refusals.{seat_refusal, place_refusal, pass_refusal, corrupt_refusal, group_refusal}
+use Rattle.one_thread_ring.specs.declared.errors.CallError.{CallError}
+use Rattle.ring_service.specs.Turns.{Turn, events, refused, refusal_of, bounds_now, unless, passed, waits, turn_at, turn_among, turn_of, is_off, heard_turn, IsTurnOfLine}
+use Rattle.ring_service.specs.declared.permits.Permits.{Permits}
+use Rattle.ring_service.specs.Permits.{terms_of}
+use Rattle.ring_service.specs.Notes.{notes_of}
+use Rattle.ring_service.specs.Serving.{name_in, IsSaveGiven, IsGiven, IsAnswered, Answers, ServesAll}
+use Rattle.ring_service.specs.Recovered.{AnsweredCallsAreRecovered}
 
 some_front : (a b : List ℕ) → 1 ≤ length a → 1 ≤ length (a ++ b)
 some_front [] b h = absurd (omega arith)

@@ -6,9 +6,9 @@ use Rattle.std.specs.Io.KnownBytes.{Appends}
 use Rattle.std.proofs.lemmas.List.{append-nil, append_cancel_left}
 use Rattle.text_lines.proofs.Answering.{spellings_are_apart}
 use Rattle.text_lines.proofs.Writing.{appends_then}
-use Rattle.ring_saved.specs.Content.{Content}
-use Rattle.ring_saved.specs.Spelling.{Fits, text}
-use Rattle.ring_saved.proofs.TextLaws.{text_reads}
+use Rattle.saved_history.specs.Content.{Content}
+use Rattle.saved_history.specs.Spelling.{Fits, text}
+use Rattle.saved_history.proofs.TextLaws.{text_reads}
 
 -- known bytes grow by one text
 pub one_text : (o n : Option (List ℕ)) (x y : List ℕ) → IsSome o → Appends o n x → Appends o n y → x ≡ y

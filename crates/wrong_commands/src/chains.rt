@@ -2,23 +2,22 @@
 
 ghost use Rattle.std.specs.Prelude.{◌≡◌, ◌≢◌, ◌≤◌, ◌+◌, ◌∷◌, ℕ, List, [], true, None, Some, IfSome};
 ghost use Rattle.disks.specs.Held.{Held};
-ghost use Rattle.ring_segments.specs.Spelling.{digest_of, DigestFits};
-ghost use Rattle.ring_serve.specs.Due.{is_due};
-ghost use Rattle.ring_serve.specs.Standings.{standing_of};
-ghost use Rattle.segment_loop.specs.Digested.{hashed};
-ghost use Rattle.segment_loop.specs.Segments.{moment_of};
-ghost use Rattle.segment_loop.specs.Service.{ServesSegments};
-ghost use Rattle.chain_serve.specs.Texts.{segment_text};
-ghost use Rattle.chain_serve.specs.Services.{ServiceView, service_of, IsServed, segmenting};
+ghost use Rattle.segment_files.specs.Spelling.{digest_of, DigestFits};
+ghost use Rattle.ring_service.specs.Due.{is_due};
+ghost use Rattle.ring_service.specs.Standings.{standing_of};
+ghost use Rattle.line_service.specs.Digested.{hashed};
+ghost use Rattle.line_service.specs.Segments.{moment_of};
+ghost use Rattle.line_service.specs.Service.{ServesSegments};
+ghost use Rattle.ring_service.specs.Texts.{segment_text};
+ghost use Rattle.ring_service.specs.ChainServices.{ServiceView, service_of, IsServed, segmenting};
 
-use chain_serve::{ChainRules, ChainService};
 use disks::Disk;
+use endless_ring::EndlessRing;
+use line_service::{OpenSegment, begin_segment, close_segment};
 use ring_book::Till;
-use ring_chains::Base;
-use ring_endless::EndlessRing;
-use ring_segments::{DIGEST_DIGITS, digest};
-use ring_serve::{Journal, Served, serve};
-use segment_loop::{OpenSegment, begin_segment, close_segment};
+use ring_model::Base;
+use ring_service::{ChainRules, ChainService, Journal, Served, serve};
+use segment_files::{DIGEST_DIGITS, digest};
 use std::alloc::Global;
 use std::io::Read;
 

@@ -2,15 +2,14 @@
 
 ghost use Rattle.std.specs.Prelude.{◌≡◌, ◌<◌, ◌≤◌, length, IfSome};
 ghost use Rattle.ring_model.specs.declared.events.Op.TheVariants as op;
-ghost use Rattle.ring_endless.specs.declared.rings.NextError.TheVariants as error;
-ghost use Rattle.ring_endless.specs.Endless.{IsCalled, IsTried, IsSurveyed, IsNext};
-ghost use Rattle.ring_serve.specs.Segments.{AreNext, IsFull};
+ghost use Rattle.endless_ring.specs.declared.rings.NextError.TheVariants as error;
+ghost use Rattle.endless_ring.specs.Endless.{IsCalled, IsTried, IsSurveyed, IsNext};
+ghost use Rattle.ring_service.specs.Segments.{AreNext, IsFull};
 
+use endless_ring::{EndlessRing, NextError};
 use ring_book::Till;
-use ring_chains::Base;
-use ring_endless::{EndlessRing, NextError};
-use ring_model::{Event, Receipt, Reply, Survey};
-use ring_serve::Served;
+use ring_model::{Base, Event, Receipt, Reply, Survey};
+use ring_service::Served;
 use std::alloc::Global;
 
 /// A grant is answered with its number among all grants: here the numbers begin at 1 again.

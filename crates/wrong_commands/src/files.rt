@@ -5,7 +5,7 @@ ghost use Rattle.std.specs.Io.KnownBytes.{Appends};
 ghost use Rattle.disks.specs.Held.{Replaces};
 ghost use Rattle.ring_settings.specs.Limits.{ring_limit};
 ghost use Rattle.ring_check.specs.declared.answers.Summary.{Summary};
-ghost use Rattle.ring_saved.specs.Spelling.{text};
+ghost use Rattle.saved_history.specs.Spelling.{text};
 ghost use Rattle.ring_text.specs.Report.{entries_in};
 ghost use Rattle.ring_text.specs.SavedOf.{saved_of};
 ghost use Rattle.tool_parts.specs.CheckText.{legal_line};
@@ -13,16 +13,15 @@ ghost use Rattle.tool_parts.specs.Checked.{IsLegalSavedText, IsTextChecked};
 ghost use Rattle.tool_parts.specs.Handed.{IsHanded};
 ghost use Rattle.tool_parts.specs.Named.{IsHeld, IsApart};
 ghost use Rattle.text_commands.specs.Pictured.{IsDrawing, IsPictureApart, picture_of};
-ghost use Rattle.ring_commands.specs.Ran.{report_text, history_file};
+ghost use Rattle.run_commands.specs.Ran.{report_text, history_file};
 ghost use Rattle.tool_parts.specs.Reading.{names_stream};
-ghost use Rattle.ring_commands.specs.Saved.{IsRunAnswer};
+ghost use Rattle.run_commands.specs.Saved.{IsRunAnswer};
 ghost use Rattle.tool_parts.specs.Worlds.{world};
 
 use disks::Disk;
-use ring_commands::run::save_and_report;
 use ring_farm::Outcome;
-use ring_requests::{CheckWords, PictureWords, RunWords};
 use ring_text::write_report;
+use run_commands::run::save_and_report;
 use std::alloc::Global;
 use std::io::Write;
 use text_commands::check::check_bytes;
@@ -30,6 +29,7 @@ use text_commands::picture::{Drawing, hand_over};
 use text_lines::WriteFault;
 use tool_parts::faults::ToolError;
 use tool_parts::legal::tell_sums;
+use tool_parts::requests::{CheckWords, PictureWords, RunWords};
 
 /// The history of a farm holds the saved text of its outcome: only the report is written, and the file stays as it was.
 pub fn history_that_is_not_saved<D: Disk, W: Write>(

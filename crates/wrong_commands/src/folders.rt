@@ -2,9 +2,9 @@
 //! folder's lock go.
 
 ghost use Rattle.std.specs.Prelude.{◌≡◌, ◌≤◌, ◌+◌, ℕ, List, Option, Some, IsSome, IfSome, IfOk, IfErr, OnOk, false};
-ghost use Rattle.ring_segments.specs.Spelling.{no_digest};
-ghost use Rattle.ring_segments.specs.Files.{File};
-ghost use Rattle.segment_folder.specs.Numbers.{IsRightNumbers};
+ghost use Rattle.segment_files.specs.Spelling.{no_digest};
+ghost use Rattle.segment_files.specs.Files.{File};
+ghost use Rattle.line_service.specs.SegmentNumbers.{IsRightNumbers};
 ghost use Rattle.tool_parts.specs.Chained.{IsChainIn, sums_of, last_digest};
 ghost use Rattle.folder_commands.specs.JoinedFolder.{IsJoinRefusal};
 ghost use Rattle.disks.specs.Folders.{LeadsInto};
@@ -14,13 +14,13 @@ ghost use Rattle.tool_parts.specs.Locking.{lock_of, IsLocked};
 ghost use Rattle.tool_parts.specs.Worlds.{world};
 
 use disks::{Disk, FolderEntry};
-use ring_requests::JoinWords;
-use ring_segments::{ChainSums, DIGEST_DIGITS};
-use segment_folder::{FolderError, SegmentNumbers, numbers_among};
+use line_service::{FolderError, SegmentNumbers, numbers_among};
+use segment_files::{ChainSums, DIGEST_DIGITS};
 use std::alloc::Global;
 use tool_parts::chain::chain_in;
 use tool_parts::faults::ToolError;
 use tool_parts::locking::open_journal;
+use tool_parts::requests::JoinWords;
 
 /// Between two segments none is missing: here a gap is accepted, whichever the first and the last are said to be.
 pub fn accepts_a_gap(

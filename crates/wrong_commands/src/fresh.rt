@@ -3,19 +3,19 @@
 ghost use Rattle.std.specs.Prelude.{◌≡◌, ◌≢◌, ◌≤◌, IsSome, IfOk, IfSome, length, true};
 ghost use Rattle.std.specs.List.{All};
 ghost use Rattle.ring_model.specs.Ring.{is_settled};
-ghost use Rattle.ring_requests.specs.declared.requests.NewWords.{NewWords};
-ghost use Rattle.ring_saved.specs.Content.{Block, content};
-ghost use Rattle.ring_saved.specs.Versions.{latest_version};
-ghost use Rattle.ring_commands.specs.New.{IsNewAnswer};
+ghost use Rattle.tool_parts.specs.declared.requests.NewWords.{NewWords};
+ghost use Rattle.saved_history.specs.Content.{Block, content};
+ghost use Rattle.saved_history.specs.Versions.{latest_version};
+ghost use Rattle.run_commands.specs.New.{IsNewAnswer};
 
-use ring_commands::fresh;
-use ring_requests::NewWords;
-use ring_saved::put_lines::put_first_line;
-use ring_saved::{LATEST_VERSION, Saved, write_saved};
 use ring_text::WriteFault;
+use run_commands::fresh;
+use saved_history::put_lines::put_first_line;
+use saved_history::{LATEST_VERSION, Saved, write_saved};
 use std::alloc::Global;
 use std::io::Write;
 use tool_parts::faults::ToolError;
+use tool_parts::requests::NewWords;
 
 /// Each ring of the printed history is settled: one is printed in which not every ring is.
 pub fn history_that_is_not_settled<W: Write>(saved: &Saved, out: &mut W) -> Result<(), WriteFault>

@@ -1,11 +1,11 @@
 //! Wrong recoveries of a journal.
 
 ghost use Rattle.std.specs.Prelude.{◌≡◌, ◌≢◌, ◌+◌, ◌<◌, List, ◌∷◌, ◌++◌, [], Ok, IfOk, OnOk, length, vec_len, slice_index_or, slice_set};
-ghost use Rattle.ring_saved.specs.Content.{content};
-ghost use Rattle.ring_journal.specs.Recovery.{IsRightRecovery};
+ghost use Rattle.saved_history.specs.Content.{content};
+ghost use Rattle.journal.specs.Recovery.{IsRightRecovery};
 
-use ring_journal::{RecoverError, recover_journal};
-use ring_saved::{Saved, SavedEvent, SavedRing};
+use journal::{RecoverError, recover_journal};
+use saved_history::{Saved, SavedEvent, SavedRing};
 use std::alloc::{AllocError, Global};
 
 /// Takes away the last event of a ring that has one.

@@ -3,24 +3,23 @@
 ghost use Rattle.std.specs.Prelude.{◌≡◌, ℕ, List, ◌∷◌, Option, true, false, Some, None, IsSome, IfSome, OnOk, IfOk};
 ghost use Rattle.disks.specs.Held.{bytes_of, is_folder, is_there, IsOneFile};
 ghost use Rattle.disks.specs.Entries.{held_of};
-ghost use Rattle.segment_folder.specs.Names.{segment_file};
-ghost use Rattle.ring_saved.specs.declared.saved.Saved.{Saved};
-ghost use Rattle.ring_segments.specs.Spelling.{DigestFits};
-ghost use Rattle.ring_serve.specs.Standings.{Standing};
+ghost use Rattle.line_service.specs.SegmentNames.{segment_file};
+ghost use Rattle.saved_history.specs.declared.saved.Saved.{Saved};
+ghost use Rattle.segment_files.specs.Spelling.{DigestFits};
+ghost use Rattle.ring_service.specs.Standings.{Standing};
 ghost use Rattle.serve_commands.specs.Served.{journal_of};
 ghost use Rattle.serve_commands.specs.ServeAnswer.{IsServedTo, IsServeRefusal};
 ghost use Rattle.tool_parts.specs.Worlds.{world};
 
-use chain_serve::{ChainRules, ChainService};
 use disks::{Contents, ContentsFault, Disk, MemoryDisk, ReplaceFault, replace};
-use ring_requests::ServeWords;
-use ring_segments::DIGEST_DIGITS;
-use ring_serve::Served;
-use segment_loop::{EndFault, begin_segment, close_segment};
+use line_service::{EndFault, begin_segment, close_segment};
+use ring_service::{ChainRules, ChainService, Served};
+use segment_files::DIGEST_DIGITS;
 use serve_commands::serve::run;
 use std::alloc::Global;
 use std::io::{Read, Write};
 use tool_parts::faults::ToolError;
+use tool_parts::requests::ServeWords;
 
 /// A journal is kept in segments only if its name is a folder's: here it is, where there was nothing.
 pub fn serves_a_new_name_as_a_folder<D: Disk>(

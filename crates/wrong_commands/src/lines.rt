@@ -1,10 +1,10 @@
 //! Wrong turns of a line: its answer, and its part in the journal.
 
 ghost use Rattle.std.specs.Prelude.{IfSome, false};
-ghost use Rattle.ring_serve.specs.Turns.{IsTurnOfLine, turn_seen_among};
+ghost use Rattle.ring_service.specs.Turns.{IsTurnOfLine, turn_seen_among};
 
 use ring_model::Survey;
-use ring_serve::{Answer, CallAnswer, LineAnswer, Refusal, Served, Trace, answer_line};
+use ring_service::{Answer, CallAnswer, LineAnswer, Refusal, Served, Trace, answer_line};
 use std::alloc::Global;
 
 /// A pass of a machine that is not privileged waits: here it is answered as granted. It gives up unless the line waits.

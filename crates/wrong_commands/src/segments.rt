@@ -1,10 +1,10 @@
 //! Wrong checks of a chain of segments, each of which accepts a file that is refused, and a wrong digest.
 
 ghost use Rattle.std.specs.Prelude.{◌≡◌, ◌≢◌, ◌≤◌, IfSome, false, length, take};
-ghost use Rattle.ring_segments.specs.Spelling.{digest_of};
-ghost use Rattle.ring_segments.specs.Chain.{IsRightAdd};
+ghost use Rattle.segment_files.specs.Spelling.{digest_of};
+ghost use Rattle.segment_files.specs.Chain.{IsRightAdd};
 
-use ring_segments::{Chain, DIGEST_DIGITS, SegmentError, digest};
+use segment_files::{Chain, DIGEST_DIGITS, SegmentError, digest};
 use std::alloc::Global;
 
 /// Begins the chain anew with a file, which is then taken on trust.

@@ -1,12 +1,12 @@
 //! A wrong way to serve lines.
 
 ghost use Rattle.std.specs.Prelude.{[], true, Some, IfSome};
-ghost use Rattle.ring_serve.specs.Permits.{terms_of};
-ghost use Rattle.ring_serve.specs.Recovered.{AnsweredCallsAreRecovered};
-ghost use Rattle.ring_serve.specs.Serving.{ServesAll};
+ghost use Rattle.ring_service.specs.Permits.{terms_of};
+ghost use Rattle.ring_service.specs.Recovered.{AnsweredCallsAreRecovered};
+ghost use Rattle.ring_service.specs.Serving.{ServesAll};
 
 use disks::Disk;
-use ring_serve::{Journal, Permits, Served, serve};
+use ring_service::{Journal, Permits, Served, serve};
 use std::alloc::Global;
 use std::io::Read;
 

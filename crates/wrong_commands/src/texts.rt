@@ -3,15 +3,15 @@
 ghost use Rattle.std.specs.Prelude.{◌≡◌, ◌≢◌, ◌<◌, ◌≤◌, ◌^◌, IsSome, length, IfOk};
 ghost use Rattle.text_lines.specs.Writing.{Writes};
 ghost use Rattle.ring_settings.specs.Limits.{ring_limit};
-ghost use Rattle.ring_saved.specs.Content.{content};
-ghost use Rattle.ring_saved.specs.Spelling.{Fits, HasNoMember, text};
-ghost use Rattle.ring_saved.specs.Versions.{first_version};
+ghost use Rattle.saved_history.specs.Content.{content};
+ghost use Rattle.saved_history.specs.Spelling.{Fits, HasNoMember, text};
+ghost use Rattle.saved_history.specs.Versions.{first_version};
 ghost use Rattle.ring_text.specs.Report.{entries_in, report, farm_line};
 ghost use Rattle.ring_text.specs.SavedOf.{saved_of};
 
 use ring_farm::Outcome;
-use ring_saved::{Saved, write_saved};
 use ring_text::{WriteFault, write_outcome, write_report, write_total};
+use saved_history::{Saved, write_saved};
 use std::io::Write;
 
 /// The saved text says all of an outcome: that of another one is written, as of one whose history is cut.

@@ -2,18 +2,18 @@
 
 ghost use Rattle.std.specs.Prelude.{◌≡◌, ◌≢◌, ◌⊎◌, ℕ, List, [], IsSome, IfSome};
 ghost use Rattle.ring_check.specs.declared.answers.Summary.{Summary};
-ghost use Rattle.ring_saved.specs.Content.{Content};
+ghost use Rattle.saved_history.specs.Content.{Content};
 ghost use Rattle.tool_parts.specs.Named.{IsHeld, IsNamed};
 ghost use Rattle.folder_commands.specs.JoinedFolder.{IsJoinable};
 ghost use Rattle.text_commands.specs.Upgraded.{IsUpgradeOf};
 
 use disks::Disk;
 use folder_commands::join;
-use ring_requests::{JoinWords, UpgradeWords};
 use std::alloc::Global;
 use std::io::{self, Read, Write};
 use text_commands::upgrade;
 use tool_parts::faults::ToolError;
+use tool_parts::requests::{JoinWords, UpgradeWords};
 
 /// A disk that counts how often a file was made there.
 pub trait CountedDisk: Disk {

@@ -6,18 +6,18 @@ ghost use Rattle.ring_book.specs.GroupView.{IsGroupRecorded};
 ghost use Rattle.ring_check.specs.Table.{event_of};
 ghost use Rattle.ring_model.specs.declared.events.Entry.TheVariants as entry;
 ghost use Rattle.ring_model.specs.declared.events.Op.TheVariants as op;
-ghost use Rattle.ring_desk.specs.Refusals.{IsDecided, bounds_of, pass_refusal};
-ghost use Rattle.ring_desk.specs.Rings.{told_more};
-ghost use Rattle.ring_desk.specs.Texts.{surveys_told, saved_alone};
-ghost use Rattle.ring_saved.specs.Spelling.{text};
+ghost use Rattle.one_thread_ring.specs.Refusals.{IsDecided, bounds_of, pass_refusal};
+ghost use Rattle.one_thread_ring.specs.Rings.{told_more};
+ghost use Rattle.one_thread_ring.specs.Texts.{surveys_told, saved_alone};
+ghost use Rattle.saved_history.specs.Spelling.{text};
 ghost use Rattle.text_lines.specs.Writing.{Writes};
 
+use one_thread_ring::{CallError, OneThreadRing, OpenError, ResumeError, from_saved};
 use ring_book::{GroupReceipt, Resource, Till};
-use ring_desk::{CallError, OneThreadRing, OpenError, ResumeError, from_saved};
 use ring_farm::RingOutcome;
 use ring_model::{Receipt, Survey};
-use ring_saved::SavedRing;
 use ring_text::WriteFault;
+use saved_history::SavedRing;
 use std::alloc::Global;
 use std::io::Write;
 

@@ -1,7 +1,7 @@
 //! Which segments a folder has, by its name: no command asks so.
 
 use crate::files::memory::{make_folder, no_files, put};
-use segment_folder::{FolderError, SegmentNumbers, numbers_in};
+use line_service::{FolderError, SegmentNumbers, numbers_in};
 use std::test::Fail;
 
 #[test]

@@ -4,11 +4,11 @@ use crate::files::system::{expect, expect_count, folder_of, link_in, within, wri
 use crate::segments::FIRST;
 use disks::SystemDisk;
 use folder_commands::join;
-use ring_requests::JoinWords;
 use std::fs::{self, File};
 use std::rt::Files;
 use std::test::Fail;
 use tool_parts::faults::ToolError;
+use tool_parts::requests::JoinWords;
 
 /// Whether `join` says of NEW that it lies in the folder, or that it is another name of a file there; or none of both.
 fn lies_in<R: AllocGlobal + Files<File = File>>(rt: &R, folder: &str, new: &str) -> Option<bool> {

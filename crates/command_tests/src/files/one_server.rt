@@ -4,11 +4,11 @@ use crate::files::system::{expect, expect_count, folder_of};
 use crate::power::LENT;
 use disks::{Disk, SystemDisk};
 use lock_commands::locks;
-use ring_requests::LocksWords;
 use std::alloc::Global;
 use std::io::{self, Read};
 use std::test::Fail;
 use tool_parts::faults::ToolError;
+use tool_parts::requests::LocksWords;
 
 /// Serves the locks of a folder for these lines.
 fn lend<'a, D: Disk, I: Read>(

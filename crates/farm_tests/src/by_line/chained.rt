@@ -1,15 +1,15 @@
 //! Lines that are served with a journal in a chain of segment files.
 
 ghost use Rattle.std.specs.Prelude.{◌≡◌};
-ghost use Rattle.segment_loop.specs.Segments.{IsNamed};
+ghost use Rattle.line_service.specs.Segments.{IsNamed};
 
 use super::streams::Drops;
 use super::{NOTHING, served};
-use chain_serve::{ChainRules, ChainService};
 use disks::{Disk, FolderEntry, MemoryDisk, Stored, StoredEntry};
-use line_loop::LoopFault;
-use segment_folder::segment_file;
-use segment_loop::{OpenSegment, SegmentRules, close_segment, open_segment, serve_segments};
+use line_service::{
+    LoopFault, OpenSegment, SegmentRules, close_segment, open_segment, segment_file, serve_segments,
+};
+use ring_service::{ChainRules, ChainService};
 use sha2::{Digest, Sha256};
 use std::alloc::Global;
 use std::io::{self, Cursor, ErrorKind, Read};

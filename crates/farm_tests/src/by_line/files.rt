@@ -2,7 +2,7 @@
 
 use super::served;
 use disks::{Disk, FolderEntry};
-use ring_serve::{Journal, Permits, serve};
+use ring_service::{Journal, Permits, serve};
 use std::alloc::Global;
 use std::io::{self, Cursor, ErrorKind};
 

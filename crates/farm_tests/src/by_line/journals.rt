@@ -3,8 +3,8 @@
 use super::files::Stuck;
 use super::streams::{Drops, Late, Narrow};
 use super::{NOTHING, served};
-use line_loop::LoopFault;
-use ring_serve::{Journal, serve};
+use line_service::LoopFault;
+use ring_service::{Journal, serve};
 use std::alloc::Global;
 use std::process::Abort;
 

@@ -1,10 +1,10 @@
 //! Each refusal of a call, and that it leaves no event.
 
 use super::scenes::opened;
+use one_thread_ring::{CallError, OneThreadRing, OpenError, ResumeError, from_saved};
 use ring_book::Till;
-use ring_desk::{CallError, OneThreadRing, OpenError, ResumeError, from_saved};
-use ring_saved::read_saved;
 use ring_state::ParamsError;
+use saved_history::read_saved;
 use std::process::Abort;
 
 #[test]

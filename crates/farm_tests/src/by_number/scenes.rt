@@ -1,9 +1,9 @@
 //! Calls one after another, and the text that is saved of them.
+use one_thread_ring::{OneThreadRing, from_saved};
 use ring_book::{Idle, Till};
-use ring_desk::{OneThreadRing, from_saved};
 use ring_farm::RingOutcome;
 use ring_model::{Entry, Event, Op, Receipt, Reply, Survey};
-use ring_saved::read_saved;
+use saved_history::read_saved;
 use std::alloc::Global;
 use std::process::Abort;
 

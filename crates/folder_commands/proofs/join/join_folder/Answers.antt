@@ -1,6 +1,6 @@
 use Rattle.std.proofs.Common.{None, inl, inr, subst}
-use Rattle.ring_saved.specs.Content.{Content, content}
-use Rattle.ring_saved.specs.Spelling.{text}
+use Rattle.saved_history.specs.Content.{Content, content}
+use Rattle.saved_history.specs.Spelling.{text}
 use Rattle.ring_check.specs.Legal.{IsLegalText, summary_of}
 use Rattle.tool_parts.specs.CheckText.{legal_line}
 use Rattle.tool_parts.specs.Handed.{IsHanded, IsHandRefusal}

@@ -1,6 +1,6 @@
 use Rattle.std.proofs.Common.{List, Ok, Some, inl, inr, refl, subst}
 use Rattle.disks.specs.declared.disk.FolderEntry.{FolderEntry}
-use Rattle.segment_folder.specs.Numbers.{IsRightNumbers}
+use Rattle.line_service.specs.SegmentNumbers.{IsRightNumbers}
 use Rattle.tool_parts.specs.Chained.{AreNamesRefused}
 use Rattle.folder_commands.proofs.last_file.file_among.Goals as goal
 

@@ -1,6 +1,6 @@
 use Rattle.std.proofs.Common.{◌++◌, None, inl, inr, refl, subst}
-use Rattle.ring_saved.specs.Content.{content}
-use Rattle.ring_saved.specs.Spelling.{text}
+use Rattle.saved_history.specs.Content.{content}
+use Rattle.saved_history.specs.Spelling.{text}
 use Rattle.tool_parts.specs.CheckText.{legal_line}
 use Rattle.tool_parts.specs.Handed.{IsHanded, IsHandRefusal}
 use Rattle.tool_parts.specs.Kept.{left_line}

@@ -1,7 +1,7 @@
 use Rattle.std.proofs.Common.{◌≡◌, ◌+◌, ◌<◌, ◌^◌, length, arith}
-use Rattle.ring_saved.specs.Content.{content}
-use Rattle.ring_segments.specs.Spelling.{head_of}
-use Rattle.ring_segments.specs.Chain.{head_lines}
+use Rattle.saved_history.specs.Content.{content}
+use Rattle.segment_files.specs.Spelling.{head_of}
+use Rattle.segment_files.specs.Chain.{head_lines}
 use Rattle.folder_commands.proofs.Keeping.{fault_room, bad_room, room_below, journal_unkept, file_kept}
 use Rattle.folder_commands.proofs.last_segment.kept_file.Goals as goal
 

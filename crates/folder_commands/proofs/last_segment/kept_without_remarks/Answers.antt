@@ -1,9 +1,9 @@
 use Rattle.std.proofs.Common.{◌≡◌, ℕ, ◌-◌, List, length, sym, subst, ◌∙◌}
 use Rattle.std.specs.Prelude.{IfOk, IfErr}
-use Rattle.ring_saved.specs.declared.saved.Saved.{Saved}
-use Rattle.ring_saved.specs.Content.{content}
-use Rattle.ring_journal.specs.declared.errors.RecoverError.{RecoverError}
-use Rattle.ring_segments.proofs.Remarked.{plain_without}
+use Rattle.saved_history.specs.declared.saved.Saved.{Saved}
+use Rattle.saved_history.specs.Content.{content}
+use Rattle.journal.specs.declared.errors.RecoverError.{RecoverError}
+use Rattle.segment_files.proofs.Remarked.{plain_without}
 use Rattle.tool_parts.specs.Kept.{IsKept, IsUnkept}
 use Rattle.tool_parts.specs.declared.left.LeftOut.{LeftOut}
 use Rattle.folder_commands.proofs.last_segment.kept_without_remarks.Goals as goal

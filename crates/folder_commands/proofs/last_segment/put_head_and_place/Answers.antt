@@ -1,5 +1,5 @@
 use Rattle.text_lines.proofs.Writing.{writes_err}
-use Rattle.ring_segments.specs.Spelling.{head_of, head_text}
+use Rattle.segment_files.specs.Spelling.{head_of, head_text}
 use Rattle.folder_commands.proofs.last_segment.put_head_and_place.Goals as goal
 
 pub returns-in-Err : goal.returns-in-Err

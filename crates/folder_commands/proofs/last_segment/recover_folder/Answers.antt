@@ -1,6 +1,6 @@
 use Rattle.std.proofs.Common.{List, ℕ, Some, inl, inr, refl, sym, subst}
 use Rattle.disks.specs.declared.disk.FolderEntry.{FolderEntry}
-use Rattle.segment_folder.specs.Names.{segment_file}
+use Rattle.line_service.specs.SegmentNames.{segment_file}
 use Rattle.tool_parts.specs.Named.{IsHeld}
 use Rattle.tool_parts.specs.Handed.{file_of}
 use Rattle.tool_parts.specs.Outside.{IsOutside}

@@ -1,5 +1,5 @@
 use Rattle.std.proofs.Common.{◌≡◌, ◌-◌, take}
-use Rattle.ring_segments.specs.Remarks.{lines_in}
+use Rattle.segment_files.specs.Remarks.{lines_in}
 use Rattle.tool_parts.specs.LastPlace.{last_place, place_after}
 use Rattle.folder_commands.proofs.place_remarks.place_among.Given as goal
 

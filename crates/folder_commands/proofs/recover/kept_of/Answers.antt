@@ -1,5 +1,5 @@
 use Rattle.std.proofs.Common.{◌≡◌, ℕ, ◌-◌, length, sym, ap, ◌∙◌, subst, arith}
-use Rattle.ring_saved.specs.Content.{content}
+use Rattle.saved_history.specs.Content.{content}
 use Rattle.tool_parts.specs.Kept.{IsKept}
 use Rattle.tool_parts.specs.declared.left.LeftOut.{LeftOut}
 use Rattle.folder_commands.proofs.Keeping.{kept_plain}

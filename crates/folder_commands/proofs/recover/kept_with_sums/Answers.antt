@@ -1,5 +1,5 @@
 use Rattle.std.proofs.Common.{arith}
-use Rattle.ring_saved.specs.Content.{content}
+use Rattle.saved_history.specs.Content.{content}
 use Rattle.folder_commands.proofs.Keeping.{kept_lines_within, kept_saved}
 use Rattle.folder_commands.proofs.recover.kept_with_sums.Goals as goal
 

@@ -1,7 +1,7 @@
 use Rattle.std.proofs.Common.{◌++◌, None, inl, inr, sym, subst}
 use Rattle.std.proofs.lemmas.Result.{err_from_is_err_and}
-use Rattle.ring_saved.specs.Content.{content}
-use Rattle.ring_saved.specs.Spelling.{text}
+use Rattle.saved_history.specs.Content.{content}
+use Rattle.saved_history.specs.Spelling.{text}
 use Rattle.ring_check.specs.Legal.{summary_of}
 use Rattle.tool_parts.specs.CheckText.{legal_line}
 use Rattle.tool_parts.specs.Handed.{IsHanded, IsHandRefusal}

@@ -1,7 +1,7 @@
 use Rattle.std.proofs.Common.{ℕ, List, ◌++◌, ap, sym, ◌∙◌, append_assoc, append-nil}
 use Rattle.std.specs.Map.Iter.{deref_pair}
 use Rattle.std.proofs.lemmas.Map.Iter.{rest_more, rest_all}
-use Rattle.ring_segments.specs.Remarks.{remark_of}
+use Rattle.segment_files.specs.Remarks.{remark_of}
 use Rattle.line_replica.specs.Keys.{Table}
 use Rattle.line_replica.specs.State.{key_line, key_lines, remarks_of}
 use Rattle.line_replica.proofs.keys.note_keys.Goals as goal

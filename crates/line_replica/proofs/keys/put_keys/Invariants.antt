@@ -1,5 +1,5 @@
 use Rattle.std.proofs.Common.{◌≡◌, ◌++◌}
-use Rattle.line_loop.specs.Answering.{joined_lines}
+use Rattle.line_service.specs.Answering.{joined_lines}
 use Rattle.line_replica.specs.State.{key_lines}
 use Rattle.line_replica.proofs.keys.put_keys.Given as goal
 

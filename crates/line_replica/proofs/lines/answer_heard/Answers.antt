@@ -1,7 +1,7 @@
 use Rattle.std.proofs.Common.{[], refl, inl, sym, subst, ap, ◌∙◌}
 use Rattle.std.specs.Prelude.{OnErr, Result, Ok, Err}
 use Rattle.std.proofs.lemmas.Result.{on_ok_weaker, on_err_weaker}
-use Rattle.ring_segments.specs.Remarks.{remark_of}
+use Rattle.segment_files.specs.Remarks.{remark_of}
 use Rattle.line_replica.specs.Reading.{Heard}
 use Rattle.line_replica.specs.Replies.{IsHeard, IsAnsweredOrNot, input_of}
 use Rattle.line_replica.specs.Running.{place_line, next_of}

@@ -1,6 +1,6 @@
 use Rattle.std.proofs.Common.{ℕ, List, [], ◌++◌, sym, ◌∙◌, ap, refl, append-nil}
 use Rattle.std.proofs.lemmas.Result.{on_ok_weaker}
-use Rattle.ring_segments.specs.Remarks.{remark_of}
+use Rattle.segment_files.specs.Remarks.{remark_of}
 use Rattle.line_replica.specs.Keys.{with_told}
 use Rattle.line_replica.specs.State.{kept_line}
 use Rattle.line_replica.proofs.Taking.{keeps, forgets}

@@ -1,6 +1,6 @@
 use Rattle.std.proofs.Common.{◌≡◌, drop}
 use Rattle.std.specs.List.{list_all}
-use Rattle.ring_segments.specs.Spelling.{is_digit}
+use Rattle.segment_files.specs.Spelling.{is_digit}
 use Rattle.line_replica.proofs.reading.are_digits.Given as goal
 
 abbrev pub invariant-loop-i : goal.invariant-loop-i

@@ -1,7 +1,7 @@
 use Rattle.std.proofs.Common.{ℕ, List, ◌++◌, ap, sym, ◌∙◌, append_assoc}
 use Rattle.std.proofs.lemmas.List.Concat.{flat_map-append}
 use Rattle.std.proofs.lemmas.Result.{on_ok_weaker}
-use Rattle.ring_segments.specs.Remarks.{remark_of}
+use Rattle.segment_files.specs.Remarks.{remark_of}
 use Rattle.line_replica.specs.State.{key_lines, lines_at, remarks_of}
 use Rattle.line_replica.proofs.replica.note_own.Goals as goal
 

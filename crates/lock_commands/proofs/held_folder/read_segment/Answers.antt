@@ -1,5 +1,5 @@
 use Rattle.std.proofs.Common.{List, ℕ, refl, sym, subst}
-use Rattle.segment_folder.specs.Names.{segment_file}
+use Rattle.line_service.specs.SegmentNames.{segment_file}
 use Rattle.tool_parts.specs.Named.{IsHeld}
 use Rattle.lock_commands.proofs.held_folder.read_segment.Goals as goal
 

@@ -1,5 +1,5 @@
 use Rattle.std.proofs.Common.{List, map, inl, inr, subst, Vec, Global}
-use Rattle.ring_holds.specs.declared.holds.Hold.{Hold}
+use Rattle.chain_readers.specs.declared.holds.Hold.{Hold}
 use Rattle.lock_commands.specs.HoldsAnswer.{AreHoldsUntold}
 use Rattle.lock_commands.proofs.holds.run.Goals as goal
 

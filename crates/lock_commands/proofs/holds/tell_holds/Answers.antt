@@ -1,6 +1,6 @@
 use Rattle.std.proofs.Common.{map, Vec, Global}
-use Rattle.ring_holds.specs.declared.holds.Hold.{Hold}
-use Rattle.ring_holds.specs.Lines.{all_lines}
+use Rattle.chain_readers.specs.declared.holds.Hold.{Hold}
+use Rattle.chain_readers.specs.HoldLines.{all_lines}
 use Rattle.lock_commands.proofs.HoldTexts.{by_hold}
 use Rattle.lock_commands.proofs.holds.tell_holds.Goals as goal
 

@@ -1,7 +1,7 @@
 use Rattle.std.proofs.Common.{map, Vec, Global}
 use Rattle.std.specs.List.{flat_map}
-use Rattle.ring_holds.specs.declared.holds.Hold.{Hold}
-use Rattle.ring_holds.specs.Labels.{label_line}
+use Rattle.chain_readers.specs.declared.holds.Hold.{Hold}
+use Rattle.chain_readers.specs.Labels.{label_line}
 use Rattle.lock_commands.proofs.HoldTexts.{by_label}
 use Rattle.lock_commands.proofs.holds.tell_labels.Goals as goal
 

@@ -1,8 +1,8 @@
 use Rattle.std.proofs.Common.{List, ℕ, map, inl, inr, refl, sym, subst}
-use Rattle.ring_saved.specs.Content.{Content}
-use Rattle.ring_holds.specs.ChainSteps.{AreBlocksHeld, AreBlocksRefused}
+use Rattle.saved_history.specs.Content.{Content}
+use Rattle.chain_readers.specs.ChainSteps.{AreBlocksHeld, AreBlocksRefused}
 use Rattle.tool_parts.specs.Named.{IsNamed}
-use Rattle.ring_holds.specs.declared.errors.ChainHoldError.TheVariants.{NoHold}
+use Rattle.chain_readers.specs.declared.hold_errors.ChainHoldError.TheVariants.{NoHold}
 use Rattle.lock_commands.proofs.holds.text_holds.Goals as goal
 
 pub returns-in-Err-legal_saved-clause-err : goal.returns-in-Err-legal_saved-clause-err

@@ -1,9 +1,9 @@
 use Rattle.std.proofs.Common.{List, subst, refl, inl, inr, ap, ◌∙◌}
 use Rattle.std.specs.Io.KnownBytes.{Appends}
-use Rattle.ring_locks.specs.declared.handing.Handover.{Handover}
+use Rattle.held_locks.specs.declared.handing.Handover.{Handover}
 use Rattle.line_replica.specs.declared.replica.Replica.{Replica}
-use Rattle.lock_serve.specs.declared.service.LockService.{LockService}
-use Rattle.ring_locks.specs.Kept.{LockView}
+use Rattle.lock_service.specs.declared.service.LockService.{LockService}
+use Rattle.held_locks.specs.Kept.{LockView}
 use Rattle.lock_commands.specs.Locks.{IsServedIn, IsRefusedIn}
 use Rattle.lock_commands.specs.Totals.{total_line, IsUntold}
 use Rattle.lock_commands.proofs.locks.run.Goals as goal

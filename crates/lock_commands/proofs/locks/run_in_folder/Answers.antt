@@ -2,7 +2,7 @@ use Rattle.std.proofs.Common.{inr}
 use Rattle.lock_folder.specs.Folders.{place_of}
 use Rattle.tool_parts.proofs.LockedFolders.{locked_known}
 use Rattle.lock_commands.specs.Locks.{folder_of, list_of}
-use Rattle.lock_laws.proofs.StartedBegin.{started_locks_begin}
+use Rattle.lock_service.proofs.StartedBegin.{started_locks_begin}
 use Rattle.lock_commands.proofs.StartedLocks.{started_known}
 use Rattle.lock_commands.proofs.UnderLock.{under_lock, still_locked, refused_locked}
 use Rattle.lock_commands.proofs.locks.run_in_folder.Goals as goal

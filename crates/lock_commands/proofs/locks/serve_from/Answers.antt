@@ -1,9 +1,9 @@
 use Rattle.std.proofs.Common.{ℕ, List, Some, refl, subst, inl, inr}
 use Rattle.std.specs.Prelude.{string_bytes}
 use Rattle.disks.specs.Held.{Replaces}
-use Rattle.segment_folder.specs.Names.{segment_file}
-use Rattle.segment_loop.specs.Digested.{hashed}
-use Rattle.segment_loop.proofs.Lasting.{begun_lasts, replaced_known, whole_leaves}
+use Rattle.line_service.specs.SegmentNames.{segment_file}
+use Rattle.line_service.specs.Digested.{hashed}
+use Rattle.line_service.proofs.SegmentLasting.{begun_lasts, replaced_known, whole_leaves}
 use Rattle.lock_folder.specs.Folders.{place_of}
 use Rattle.lock_commands.specs.Locks.{folder_of, by_segments}
 use Rattle.lock_commands.proofs.Living.{has_started, lived}

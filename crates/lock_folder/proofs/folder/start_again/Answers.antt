@@ -1,6 +1,6 @@
 use Rattle.std.proofs.Common.{List, refl, map, subst}
-use Rattle.lock_lists.specs.declared.locks.ListedLock.{ListedLock}
-use Rattle.lock_lists.specs.Lists.{listed}
+use Rattle.lock_folder.specs.declared.locks.ListedLock.{ListedLock}
+use Rattle.lock_folder.specs.Lists.{listed}
 use Rattle.lock_folder.specs.Folders.{Continues}
 use Rattle.lock_folder.proofs.Refused.{again, by_word}
 use Rattle.lock_folder.proofs.folder.start_again.Goals as goal

@@ -2,7 +2,7 @@ use Rattle.std.proofs.Common.{◌∙◌, Bool, List, Ok, ap, codes, inr, subst}
 use Rattle.std.specs.Option.{option_map}
 use Rattle.disks.specs.declared.disk.FolderEntry.{FolderEntry}
 use Rattle.disks.specs.Folders.{is_among, names_of}
-use Rattle.segment_folder.specs.Numbers.{IsRightNumbers}
+use Rattle.line_service.specs.SegmentNumbers.{IsRightNumbers}
 use Rattle.lock_folder.specs.Folders.{AreStartedIn, IsStartRefusal, place_of}
 use Rattle.lock_folder.proofs.folder.start_locks.Goals as goal
 

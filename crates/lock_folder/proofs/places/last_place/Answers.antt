@@ -1,7 +1,7 @@
 use Rattle.std.proofs.Common.{List, inr, map, refl, subst}
-use Rattle.ring_saved.specs.declared.saved.SavedRing.{SavedRing}
-use Rattle.ring_chains.specs.declared.bases.Base.{Base}
-use Rattle.lock_lists.specs.Lists.{listed}
+use Rattle.saved_history.specs.declared.saved.SavedRing.{SavedRing}
+use Rattle.ring_model.specs.declared.bases.Base.{Base}
+use Rattle.lock_folder.specs.Lists.{listed}
 use Rattle.lock_folder.specs.Rings.{AreBegun, AreRingsRefused}
 use Rattle.lock_folder.proofs.places.last_place.Goals as goal
 

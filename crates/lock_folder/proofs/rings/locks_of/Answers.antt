@@ -1,5 +1,5 @@
 use Rattle.std.proofs.Common.{inl, inr, map, arith}
-use Rattle.lock_lists.specs.Lists.{listed}
+use Rattle.lock_folder.specs.Lists.{listed}
 use Rattle.lock_folder.proofs.Begun.{got, begun_more, not_added}
 use Rattle.lock_folder.proofs.rings.locks_of.Goals as goal
 

@@ -1,5 +1,5 @@
 use Rattle.std.proofs.Common.{◌≡◌, ◌≤◌, length, map}
-use Rattle.lock_lists.specs.Lists.{listed}
+use Rattle.lock_folder.specs.Lists.{listed}
 use Rattle.lock_folder.specs.Rings.{AreEachBegun}
 use Rattle.lock_folder.proofs.rings.locks_of.Given as goal
 

@@ -2,7 +2,7 @@ use Rattle.std.proofs.Common.{◌≡◌, ◌+◌, length, map, arith, ℕ}
 use Rattle.std.specs.List.{flat_map}
 use Rattle.std.proofs.lemmas.Bool.{ne_eqb, eq-eqb}
 use Rattle.std.proofs.lemmas.List.{length-map}
-use Rattle.ring_saved.specs.Content.{content, block_of}
+use Rattle.saved_history.specs.Content.{content, block_of}
 use Rattle.ring_check.specs.Lines.{block_lines}
 use Rattle.ring_check.specs.declared.answers.Summary.{Summary}
 use Rattle.ring_check.specs.declared.answers.Kind.TheVariants.{Count}

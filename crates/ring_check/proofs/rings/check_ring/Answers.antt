@@ -1,5 +1,5 @@
 use Rattle.std.proofs.Common.{◌≡◌, ◌+◌, ◌∙◌, length, sym, arith}
-use Rattle.ring_saved.specs.Content.{block_of}
+use Rattle.saved_history.specs.Content.{block_of}
 use Rattle.ring_check.proofs.Blocks.{events_stop, end_stop, surveys_stop, finds_at, finds_as, finds_handed_on}
 use Rattle.ring_check.proofs.rings.check_ring.Goals as goal
 

@@ -1,6 +1,6 @@
 use Rattle.std.proofs.Common.{◌≡◌, length, map, arith}
 use Rattle.ring_model.specs.Surveys.{granted_count, corrupted_count}
-use Rattle.ring_saved.specs.Content.{block_of}
+use Rattle.saved_history.specs.Content.{block_of}
 use Rattle.ring_check.specs.Table.{event_of}
 use Rattle.ring_check.specs.Legal.{history}
 use Rattle.ring_check.proofs.Totals.{sum_step, events_le, surveys_le, granted_le, corrupted_le}

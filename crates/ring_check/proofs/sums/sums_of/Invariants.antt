@@ -1,7 +1,7 @@
 use Rattle.std.proofs.Common.{◌≡◌, take, map, length}
 use Rattle.std.specs.List.{sum_by}
 use Rattle.ring_model.specs.Surveys.{granted_count, corrupted_count}
-use Rattle.ring_saved.specs.Content.{block_of}
+use Rattle.saved_history.specs.Content.{block_of}
 use Rattle.ring_check.specs.Legal.{history}
 use Rattle.ring_check.proofs.sums.sums_of.Given as goal
 

@@ -1,6 +1,6 @@
 use Rattle.std.proofs.Common.{◌≡◌, ◌∙◌, get_or, ap, arith}
 use Rattle.ring_text.specs.declared.counts.Counts.{Counts}
-use Rattle.ring_blocks.specs.declared.counts.Totals.{Totals}
+use Rattle.one_thread_ring.specs.declared.counts.Totals.{Totals}
 use Rattle.ring_text.specs.Report.{counts_of}
 use Rattle.ring_text.proofs.Sums.{ring_surveys_within, totals_next}
 use Rattle.ring_text.proofs.counts.added_up.Goals as goal

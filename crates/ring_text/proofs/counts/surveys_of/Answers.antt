@@ -1,6 +1,6 @@
 use Rattle.std.proofs.Common.{arith, ap}
 use Rattle.ring_farm.specs.Log.{Log}
-use Rattle.ring_blocks.specs.Counts.{survey_count}
+use Rattle.one_thread_ring.specs.Counts.{survey_count}
 use Rattle.ring_text.proofs.Sums.{surveys_within}
 use Rattle.ring_text.proofs.counts.surveys_of.Goals as goal
 

@@ -1,4 +1,4 @@
-use Rattle.ring_saved.proofs.Passing.{below_more, below_fault, below_all}
+use Rattle.saved_history.proofs.Passing.{below_more, below_fault, below_all}
 use Rattle.ring_text.proofs.Blocks.{blocks_spelled}
 use Rattle.ring_text.proofs.outcomes.put_blocks.Goals as goal
 

@@ -1,4 +1,4 @@
-use Rattle.ring_saved.proofs.Passing.{WroteBelow}
+use Rattle.saved_history.proofs.Passing.{WroteBelow}
 use Rattle.ring_text.proofs.Blocks.{blocks_text, BlocksFit}
 use Rattle.ring_text.proofs.outcomes.put_blocks.Given as goal
 

@@ -1,7 +1,7 @@
 use Rattle.std.proofs.Common.{◌≡◌, length, arith}
 use Rattle.std.proofs.lemmas.Result.{err_from_is_err_and}
 use Rattle.ring_text.specs.SavedOf.{saved_of}
-use Rattle.ring_saved.proofs.TextParts.{first_done, first_fault, blocks_done, blocks_fault, done_done, done_fault}
+use Rattle.saved_history.proofs.TextParts.{first_done, first_fault, blocks_done, blocks_fault, done_done, done_fault}
 use Rattle.ring_text.proofs.Fitting.{text_fits}
 use Rattle.ring_text.proofs.outcomes.write_outcome.Goals as goal
 

@@ -1,7 +1,7 @@
 use Rattle.std.proofs.Common.{Option, Some, subst, inl, inr}
 use Rattle.disks.specs.Held.{Held, Replaces}
-use Rattle.ring_journal.specs.Spelling.{head_text}
-use Rattle.ring_serve.specs.Saved.{content_of}
+use Rattle.journal.specs.Spelling.{head_text}
+use Rattle.ring_service.specs.Saved.{content_of}
 use Rattle.serve_commands.specs.Served.{IsNoted, IsJournalRefusal}
 use Rattle.serve_commands.proofs.JournalStarts.{resumed_begins}
 use Rattle.serve_commands.proofs.beginning.begin_locked.Goals as goal

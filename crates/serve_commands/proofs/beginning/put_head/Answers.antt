@@ -1,7 +1,7 @@
 use Rattle.text_lines.proofs.Writing.{writes_then, writes_err}
-use Rattle.ring_saved.specs.Spelling.{text}
-use Rattle.ring_journal.specs.Spelling.{first_line}
-use Rattle.ring_serve.specs.Saved.{content_of}
+use Rattle.saved_history.specs.Spelling.{text}
+use Rattle.journal.specs.Spelling.{first_line}
+use Rattle.ring_service.specs.Saved.{content_of}
 use Rattle.serve_commands.proofs.beginning.put_head.Goals as goal
 
 pub returns-in-Ok : goal.returns-in-Ok

@@ -1,10 +1,10 @@
 use Rattle.std.proofs.Common.{◌≡◌, ◌∙◌, ℕ, List, Option, Some, inl, inr, refl, subst, sym}
 use Rattle.disks.specs.Held.{Held}
 use Rattle.disks.specs.Folders.{names_of}
-use Rattle.ring_saved.specs.declared.saved.Saved.{Saved}
-use Rattle.ring_requests.specs.declared.requests.ServeWords.{ServeWords}
-use Rattle.ring_serve.specs.Standings.{Standing}
-use Rattle.ring_serve.specs.Starting.{AreResumed}
+use Rattle.saved_history.specs.declared.saved.Saved.{Saved}
+use Rattle.tool_parts.specs.declared.requests.ServeWords.{ServeWords}
+use Rattle.ring_service.specs.Standings.{Standing}
+use Rattle.ring_service.specs.Starting.{AreResumed}
 use Rattle.serve_commands.specs.Served.{journal_of, permits_of, IsNoted, BeginsAt, IsServedNoted, IsServed, IsServedFrom}
 use Rattle.tool_parts.proofs.Folders.{listed_ok}
 use Rattle.serve_commands.proofs.serve.run_kept.Goals as goal

@@ -1,10 +1,10 @@
 use Rattle.std.proofs.Common.{◌≡◌, ℕ, List, Option, None, Some, inl, subst, sym, ap}
 use Rattle.std.specs.Option.{option_map}
 use Rattle.disks.specs.Held.{Held}
-use Rattle.ring_saved.specs.declared.saved.Saved.{Saved}
-use Rattle.ring_requests.specs.declared.requests.ServeWords.{ServeWords}
-use Rattle.ring_serve.specs.Standings.{Standing}
-use Rattle.ring_serve.specs.Starting.{AreResumed}
+use Rattle.saved_history.specs.declared.saved.Saved.{Saved}
+use Rattle.tool_parts.specs.declared.requests.ServeWords.{ServeWords}
+use Rattle.ring_service.specs.Standings.{Standing}
+use Rattle.ring_service.specs.Starting.{AreResumed}
 use Rattle.tool_parts.specs.declared.faults.ToolError.{ToolError}
 use Rattle.serve_commands.specs.Served.{journal_of, permits_of, BeginsAt, IsServedPlain, IsServed, IsServedFrom, IsRefusedFrom}
 use Rattle.serve_commands.specs.Lasting.{CallsLast}

@@ -1,17 +1,17 @@
 use Rattle.std.proofs.Common.{◌≡◌, ◌⊎◌, ℕ, List, Option, Some, refl, sym, subst, inl, inr}
 use Rattle.disks.specs.Held.{Held, Grows, Replaces}
-use Rattle.ring_journal.specs.Spelling.{head_text}
-use Rattle.ring_serve.specs.declared.permits.Permits.{Permits}
-use Rattle.ring_serve.specs.Permits.{terms_of}
-use Rattle.ring_serve.specs.Standings.{Standing}
-use Rattle.ring_serve.specs.Saved.{content_of}
+use Rattle.journal.specs.Spelling.{head_text}
+use Rattle.ring_service.specs.declared.permits.Permits.{Permits}
+use Rattle.ring_service.specs.Permits.{terms_of}
+use Rattle.ring_service.specs.Standings.{Standing}
+use Rattle.ring_service.specs.Saved.{content_of}
 use Rattle.tool_parts.specs.declared.faults.ToolError.{ToolError}
 use Rattle.serve_commands.specs.Served.{permits_of, IsNoted, IsServedOn, IsServedNoted, IsServingFault, IsServedPart, IsBrokenOff}
 use Rattle.tool_parts.specs.Worlds.{IsUnserved}
 use Rattle.tool_parts.specs.Locking.{IsUnopenedJournal}
-use Rattle.segment_loop.proofs.Lasting.{replaced_bytes}
-use Rattle.ring_saved.specs.declared.saved.Saved.{Saved}
-use Rattle.ring_serve.specs.Starting.{AreResumed}
+use Rattle.line_service.proofs.SegmentLasting.{replaced_bytes}
+use Rattle.saved_history.specs.declared.saved.Saved.{Saved}
+use Rattle.ring_service.specs.Starting.{AreResumed}
 use Rattle.serve_commands.specs.Lasting.{JournalLasts, FileLasts}
 use Rattle.serve_commands.proofs.Making.{as_before}
 use Rattle.serve_commands.proofs.StillThere.{part_still}

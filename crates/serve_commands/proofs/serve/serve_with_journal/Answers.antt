@@ -2,12 +2,12 @@ use Rattle.std.proofs.Common.{◌≡◌, ℕ, List, Option, Some, refl, sym, sub
 use Rattle.std.specs.Prelude.{IfSome}
 use Rattle.disks.specs.Held.{Held}
 use Rattle.disks.specs.Lasting.{HasFront, Leaves, LeavesFront}
-use Rattle.segment_loop.proofs.Lasting.{front_has}
-use Rattle.ring_serve.specs.declared.serving.Journal.{Journal}
-use Rattle.ring_serve.specs.Permits.{Terms}
-use Rattle.ring_serve.specs.Recovered.{AnsweredCallsAreRecovered}
-use Rattle.ring_serve.specs.Serving.{held_by, ServesAll}
-use Rattle.ring_serve.specs.Standings.{Standing}
+use Rattle.line_service.proofs.SegmentLasting.{front_has}
+use Rattle.ring_service.specs.declared.serving.Journal.{Journal}
+use Rattle.ring_service.specs.Permits.{Terms}
+use Rattle.ring_service.specs.Recovered.{AnsweredCallsAreRecovered}
+use Rattle.ring_service.specs.Serving.{held_by, ServesAll}
+use Rattle.ring_service.specs.Standings.{Standing}
 use Rattle.serve_commands.specs.Served.{IsServedPart}
 use Rattle.serve_commands.proofs.LastingJournals.{told_of, closed_has}
 use Rattle.serve_commands.proofs.serve.serve_with_journal.Goals as goal

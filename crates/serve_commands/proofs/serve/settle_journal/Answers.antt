@@ -1,7 +1,7 @@
 use Rattle.std.proofs.Common.{ℕ, List, subst, ◌∙◌}
 use Rattle.std.specs.Prelude.{string_bytes}
 use Rattle.disks.specs.Lasting.{LeavesFront}
-use Rattle.segment_loop.proofs.Lasting.{front_has, front_kept}
+use Rattle.line_service.proofs.SegmentLasting.{front_has, front_kept}
 use Rattle.serve_commands.proofs.serve.settle_journal.Goals as goal
 
 pub returns-in-Err-clause-kept : goal.returns-in-Err-clause-kept

@@ -1,5 +1,5 @@
 use Rattle.std.proofs.Common.{ℕ, List, Ok, refl, subst}
-use Rattle.torn_ends.specs.Torn.{IsRightEnd}
+use Rattle.segment_files.specs.Torn.{IsRightEnd}
 use Rattle.serve_commands.proofs.serve_folder.last_place.Goals as goal
 
 pub returns-in-Ok-resume_last-clause-ok : goal.returns-in-Ok-resume_last-clause-ok

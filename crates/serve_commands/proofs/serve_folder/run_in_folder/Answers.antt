@@ -1,5 +1,5 @@
 use Rattle.std.proofs.Common.{refl, inl, inr}
-use Rattle.chain_serve.specs.declared.segments.ChainRules.{ChainRules}
+use Rattle.ring_service.specs.declared.chain_segments.ChainRules.{ChainRules}
 use Rattle.tool_parts.proofs.LockedFolders.{locked_known}
 use Rattle.serve_commands.specs.ServedFolder.{place_of}
 use Rattle.serve_commands.proofs.UnderLock.{under_lock}

@@ -1,10 +1,10 @@
 use Rattle.std.proofs.Common.{List, ℕ, refl, subst, inl, inr}
 use Rattle.std.specs.Prelude.{string_bytes}
 use Rattle.disks.specs.Held.{Replaces}
-use Rattle.segment_loop.specs.Digested.{hashed}
-use Rattle.segment_loop.proofs.Lasting.{front_has, whole_leaves}
-use Rattle.chain_serve.proofs.Known.{first_lasts}
-use Rattle.chain_serve.proofs.Recovering.{recovered, lasts, each_lasts}
+use Rattle.line_service.specs.Digested.{hashed}
+use Rattle.line_service.proofs.SegmentLasting.{front_has, whole_leaves}
+use Rattle.ring_service.proofs.Known.{first_lasts}
+use Rattle.ring_service.proofs.ChainRecovering.{recovered, lasts, each_lasts}
 use Rattle.serve_commands.specs.ServedFolder.{place_of}
 use Rattle.serve_commands.proofs.Beginnings.{begun_at, left_at, saves_none}
 use Rattle.serve_commands.proofs.serve_folder.serve_from.Goals as goal

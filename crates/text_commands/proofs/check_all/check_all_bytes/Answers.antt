@@ -1,7 +1,7 @@
 use Rattle.std.proofs.Common.{◌≡◌, ◌∙◌, length, ap, inl, inr, subst, arith}
 use Rattle.std.specs.Prelude.{Err}
-use Rattle.ring_saved.specs.Content.{content}
-use Rattle.ring_saved.specs.Spelling.{text}
+use Rattle.saved_history.specs.Content.{content}
+use Rattle.saved_history.specs.Spelling.{text}
 use Rattle.ring_check.specs.declared.answers.CheckError.{CheckError}
 use Rattle.ring_check.specs.Legal.{IsRightCheck}
 use Rattle.ring_check.proofs.SavedLines.{lines_some}

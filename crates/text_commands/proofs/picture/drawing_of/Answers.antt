@@ -1,6 +1,6 @@
 use Rattle.std.proofs.Common.{refl}
 use Rattle.std.proofs.lemmas.Result.{err_from_is_err_and}
-use Rattle.ring_saved.specs.Content.{content, block_of}
+use Rattle.saved_history.specs.Content.{content, block_of}
 use Rattle.text_commands.proofs.Drawings.{legal_text}
 use Rattle.text_commands.proofs.picture.drawing_of.Goals as goal
 

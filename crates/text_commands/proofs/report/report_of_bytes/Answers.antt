@@ -1,7 +1,7 @@
 use Rattle.std.proofs.Common.{sym, ap, subst, ◌∙◌}
 use Rattle.std.specs.Prelude.{slice_get}
-use Rattle.ring_saved.specs.Content.{Content, content}
-use Rattle.ring_report.specs.SavedReport.{report_of, IsReportFault}
+use Rattle.saved_history.specs.Content.{Content, content}
+use Rattle.ring_text.specs.SavedReport.{report_of, IsReportFault}
 use Rattle.text_commands.proofs.report.report_of_bytes.Goals as goal
 
 pub returns-in-Ok-clause-ok : goal.returns-in-Ok-clause-ok

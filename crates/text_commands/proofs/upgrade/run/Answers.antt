@@ -1,6 +1,6 @@
 use Rattle.std.proofs.Common.{inl, inr, sym, subst}
 use Rattle.std.proofs.lemmas.Result.{err_from_is_err_and}
-use Rattle.ring_saved.specs.Content.{content}
+use Rattle.saved_history.specs.Content.{content}
 use Rattle.tool_parts.specs.Named.{IsNamed}
 use Rattle.text_commands.proofs.upgrade.run.Goals as goal
 

@@ -1,6 +1,6 @@
 use Rattle.std.proofs.Common.{List, ℕ, inl, inr, refl, subst}
 use Rattle.std.specs.Io.KnownBytes.{Appends}
-use Rattle.ring_segments.specs.declared.sums.ChainSums.{ChainSums}
+use Rattle.segment_files.specs.declared.sums.ChainSums.{ChainSums}
 use Rattle.tool_parts.specs.Chained.{chain_line, sums_of}
 use Rattle.tool_parts.specs.Written.{AppendsFront}
 use Rattle.tool_parts.proofs.chain.check_folder.Goals as goal

@@ -1,6 +1,6 @@
 use Rattle.std.proofs.Common.{◌<◌, ◌++◌, length, length-append, inr, refl, arith}
-use Rattle.ring_saved.specs.Content.{content}
-use Rattle.ring_saved.specs.Spelling.{text}
+use Rattle.saved_history.specs.Content.{content}
+use Rattle.saved_history.specs.Spelling.{text}
 use Rattle.tool_parts.specs.CheckText.{legal_line}
 use Rattle.tool_parts.specs.Kept.{left_line}
 use Rattle.tool_parts.proofs.Buffers.{flushed, line_left}

@@ -1,6 +1,6 @@
 use Rattle.std.proofs.Common.{◌≡◌, length, refl, ap, arith}
-use Rattle.ring_saved.specs.Content.{content}
-use Rattle.ring_saved.specs.Spelling.{text}
+use Rattle.saved_history.specs.Content.{content}
+use Rattle.saved_history.specs.Spelling.{text}
 use Rattle.ring_check.proofs.SavedLines.{lines_some}
 use Rattle.tool_parts.proofs.legal.legal_saved.Goals as goal
 

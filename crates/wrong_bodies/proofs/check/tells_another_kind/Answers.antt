@@ -1,4 +1,4 @@
-use Rattle.ring_saved.specs.Content.{content}
+use Rattle.saved_history.specs.Content.{content}
 use Rattle.ring_check.specs.Legal.{IsFirstBad}
 use Rattle.ring_check.specs.Lines.{lines}
 use Rattle.wrong_bodies.proofs.Checks.{one_kind}

@@ -1,5 +1,5 @@
-use Rattle.ring_saved.specs.Content.{content}
-use Rattle.ring_saved.specs.Spelling.{text}
+use Rattle.saved_history.specs.Content.{content}
+use Rattle.saved_history.specs.Spelling.{text}
 use Rattle.wrong_bodies.proofs.Texts.{no_fault_is_hidden, no_fault_is_made}
 use Rattle.wrong_bodies.proofs.saved.tells_faults_the_other_way.Goals as goal
 

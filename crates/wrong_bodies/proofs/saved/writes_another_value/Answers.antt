@@ -1,4 +1,4 @@
-use Rattle.ring_saved.specs.Content.{content}
+use Rattle.saved_history.specs.Content.{content}
 use Rattle.wrong_bodies.proofs.Texts.{one_value_is_written}
 use Rattle.wrong_bodies.proofs.saved.writes_another_value.Goals as goal
 

@@ -1,6 +1,6 @@
 use Rattle.std.proofs.Common.{◌≡◌, ℕ, List, [], ◌∷◌, ◌++◌, ◌∙◌, ap, sym, subst}
-use Rattle.ring_serve.specs.Standings.{Standing, standing_of}
-use Rattle.ring_serve.specs.Segments.{AreNext}
+use Rattle.ring_service.specs.Standings.{Standing, standing_of}
+use Rattle.ring_service.specs.Segments.{AreNext}
 use Rattle.wrong_commands.proofs.Cuts.{is_cut, not_forgotten}
 use Rattle.wrong_commands.proofs.chains.ends_with_a_base_that_forgets_the_grants.Goals as goal
 

@@ -1,7 +1,7 @@
 use Rattle.std.proofs.Common.{◌≡◌, ℕ, List, Option, Some, ◌∙◌, ap, sym}
-use Rattle.ring_serve.specs.Standings.{Standing}
-use Rattle.segment_loop.specs.Digested.{hashed}
-use Rattle.chain_serve.specs.Texts.{segment_text}
+use Rattle.ring_service.specs.Standings.{Standing}
+use Rattle.line_service.specs.Digested.{hashed}
+use Rattle.ring_service.specs.Texts.{segment_text}
 use Rattle.wrong_commands.proofs.Cuts.{is_cut, one_digest}
 use Rattle.wrong_commands.proofs.chains.names_the_digest_of_the_head_alone.Goals as goal
 

@@ -1,6 +1,6 @@
 use Rattle.std.proofs.Common.{List, subst}
-use Rattle.ring_serve.specs.Standings.{Standing}
-use Rattle.ring_serve.specs.Segments.{AreNext}
+use Rattle.ring_service.specs.Standings.{Standing}
+use Rattle.ring_service.specs.Segments.{AreNext}
 use Rattle.wrong_commands.proofs.Emptied.{none_is_next}
 use Rattle.wrong_commands.proofs.endless.next_without_the_rings.Goals as goal
 

@@ -1,4 +1,4 @@
-use Rattle.ring_commands.specs.Ran.{report_text}
+use Rattle.run_commands.specs.Ran.{report_text}
 use Rattle.wrong_commands.proofs.Written.{one_text}
 use Rattle.wrong_commands.proofs.files.outcome_that_is_anothers.Goals as goal
 

@@ -1,7 +1,7 @@
 use Rattle.std.proofs.Common.{◌∙◌, ◌<◌, length, ap, sym, subst, arith}
 use Rattle.std.specs.Io.KnownBytes.{Appends}
-use Rattle.ring_saved.specs.Spelling.{first_line}
-use Rattle.ring_saved.specs.Versions.{latest_version}
+use Rattle.saved_history.specs.Spelling.{first_line}
+use Rattle.saved_history.specs.Versions.{latest_version}
 use Rattle.wrong_commands.proofs.Written.{not_nothing}
 use Rattle.wrong_commands.proofs.fresh.history_that_is_begun_too_early.Goals as goal
 

@@ -1,10 +1,10 @@
 use Rattle.std.proofs.Common.{◌≡◌, true, ap, sym, subst}
 use Rattle.std.specs.List.{All}
 use Rattle.ring_model.specs.Ring.{is_settled}
-use Rattle.ring_saved.specs.Content.{Block, Content, content}
-use Rattle.ring_commands.specs.Fresh.{fresh}
-use Rattle.ring_commands.specs.New.{sizes_of}
-use Rattle.ring_commands.proofs.FreshTexts.{all_settled}
+use Rattle.saved_history.specs.Content.{Block, Content, content}
+use Rattle.run_commands.specs.Fresh.{fresh}
+use Rattle.run_commands.specs.New.{sizes_of}
+use Rattle.run_commands.proofs.FreshTexts.{all_settled}
 use Rattle.wrong_commands.proofs.Written.{one_value_is_written}
 use Rattle.wrong_commands.proofs.fresh.history_that_is_not_settled.Goals as goal
 

@@ -1,6 +1,6 @@
 use Rattle.std.proofs.Common.{◌≡◌, ℕ, List, false}
 use Rattle.disks.specs.Held.{Held, is_there, IsOneFile}
-use Rattle.segment_folder.specs.Names.{segment_file}
+use Rattle.line_service.specs.SegmentNames.{segment_file}
 use Rattle.wrong_commands.proofs.Cuts.{if_some}
 use Rattle.wrong_commands.proofs.Places.{known_of, new_name_is_no_folder, begun_and_closed}
 use Rattle.wrong_commands.proofs.kept.serves_a_new_name_as_a_folder.Goals as goal

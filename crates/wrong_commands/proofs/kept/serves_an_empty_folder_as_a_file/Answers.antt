@@ -1,6 +1,6 @@
 use Rattle.std.proofs.Common.{◌≡◌, ℕ, List, Option, true, None, Some, subst}
 use Rattle.disks.specs.Held.{Held, bytes_of, is_folder, IsOneFile, Replaces}
-use Rattle.segment_folder.specs.Names.{segment_file}
+use Rattle.line_service.specs.SegmentNames.{segment_file}
 use Rattle.wrong_commands.proofs.Cuts.{if_some}
 use Rattle.wrong_commands.proofs.Places.{known_of, folder_is_no_file, elsewhere}
 use Rattle.wrong_commands.proofs.kept.serves_an_empty_folder_as_a_file.Goals as goal

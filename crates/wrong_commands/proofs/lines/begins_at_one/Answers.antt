@@ -1,6 +1,6 @@
 use Rattle.std.proofs.Common.{◌≡◌, ◌∙◌, ◌<◌, ℕ, sym, arith}
-use Rattle.ring_serve.specs.declared.answers.Answer.TheVariants as answer
-use Rattle.ring_serve.specs.declared.answers.Refusal.TheVariants as refusal
+use Rattle.ring_service.specs.declared.answers.Answer.TheVariants as answer
+use Rattle.ring_service.specs.declared.answers.Refusal.TheVariants as refusal
 use Rattle.wrong_commands.proofs.Traced.{another_answer}
 use Rattle.wrong_commands.proofs.lines.begins_at_one.Goals as goal
 

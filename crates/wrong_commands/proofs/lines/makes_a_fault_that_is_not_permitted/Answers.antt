@@ -1,4 +1,4 @@
-use Rattle.ring_serve.specs.Turns.{turn_seen_among}
+use Rattle.ring_service.specs.Turns.{turn_seen_among}
 use Rattle.wrong_commands.proofs.Permitted.{no_fault}
 use Rattle.wrong_commands.proofs.lines.makes_a_fault_that_is_not_permitted.Goals as goal
 

@@ -1,6 +1,6 @@
 use Rattle.std.proofs.Common.{◌≡◌}
-use Rattle.ring_serve.specs.declared.answers.Answer.TheVariants as answer
-use Rattle.ring_serve.specs.declared.answers.Refusal.TheVariants as refusal
+use Rattle.ring_service.specs.declared.answers.Answer.TheVariants as answer
+use Rattle.ring_service.specs.declared.answers.Refusal.TheVariants as refusal
 use Rattle.wrong_commands.proofs.Traced.{no_trace}
 use Rattle.wrong_commands.proofs.lines.records_a_refused_call.Goals as goal
 

@@ -1,6 +1,6 @@
 use Rattle.std.proofs.Common.{◌≡◌, ◌∙◌, ℕ, sym}
-use Rattle.ring_serve.specs.declared.answers.Answer.TheVariants as answer
-use Rattle.ring_serve.specs.declared.answers.Refusal.TheVariants as refusal
+use Rattle.ring_service.specs.declared.answers.Answer.TheVariants as answer
+use Rattle.ring_service.specs.declared.answers.Refusal.TheVariants as refusal
 use Rattle.wrong_commands.proofs.Traced.{another_answer}
 use Rattle.wrong_commands.proofs.lines.tells_a_wait_as_granted.Goals as goal
 

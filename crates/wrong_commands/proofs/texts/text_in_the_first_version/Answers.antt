@@ -1,6 +1,6 @@
 use Rattle.std.proofs.Common.{◌≡◌, ap, sym, ◌∙◌, arith}
-use Rattle.ring_saved.specs.Content.{Content, content}
-use Rattle.ring_saved.specs.Versions.{first_version, latest_version}
+use Rattle.saved_history.specs.Content.{Content, content}
+use Rattle.saved_history.specs.Versions.{first_version, latest_version}
 use Rattle.ring_text.specs.SavedOf.{saved_of}
 use Rattle.wrong_commands.proofs.Written.{one_value_is_written}
 use Rattle.wrong_commands.proofs.texts.text_in_the_first_version.Goals as goal

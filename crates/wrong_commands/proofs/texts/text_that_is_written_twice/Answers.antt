@@ -1,4 +1,4 @@
-use Rattle.ring_saved.specs.Spelling.{text}
+use Rattle.saved_history.specs.Spelling.{text}
 use Rattle.ring_text.specs.SavedOf.{saved_of}
 use Rattle.wrong_commands.proofs.Reports.{text_some}
 use Rattle.wrong_commands.proofs.Written.{not_twice}

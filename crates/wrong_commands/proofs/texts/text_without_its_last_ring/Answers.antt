@@ -1,5 +1,5 @@
 use Rattle.std.proofs.Common.{◌≡◌, length, ap, arith}
-use Rattle.ring_saved.specs.Content.{Content}
+use Rattle.saved_history.specs.Content.{Content}
 use Rattle.ring_text.specs.SavedOf.{saved_of}
 use Rattle.wrong_commands.proofs.Reports.{one_less}
 use Rattle.wrong_commands.proofs.Written.{one_value_is_written}

@@ -1,5 +1,5 @@
-use Rattle.ring_saved.specs.Spelling.{text}
-use Rattle.ring_desk.specs.Texts.{saved_alone}
+use Rattle.saved_history.specs.Spelling.{text}
+use Rattle.one_thread_ring.specs.Texts.{saved_alone}
 use Rattle.wrong_shared_bodies.proofs.Written.{one_text}
 use Rattle.wrong_shared_bodies.proofs.desks.save_of_another_rings_history.Goals as goal
 

@@ -1,6 +1,6 @@
 use Rattle.std.proofs.Common.{◌≡◌, ℕ, List, ◌++◌, ap, sym, ◌∙◌, append_assoc}
 use Rattle.std.specs.Prelude.{OnOk, Result, Ok, Err}
-use Rattle.line_loop.specs.Answering.{joined_lines}
+use Rattle.line_service.specs.Answering.{joined_lines}
 use Rattle.line_replica.specs.State.{key_lines, lines_at}
 use Rattle.line_replica.proofs.JoinedLines.{joined_append}
 use Rattle.line_replica.proofs.stating.ReplicaHasState.put_state.Goals as goal

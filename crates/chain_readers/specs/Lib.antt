@@ -1,0 +1,13 @@
+pub mod Joining
+pub mod Joins
+pub mod JoinLaws
+pub mod Signs
+pub mod Holds
+pub mod Known
+pub mod Ends
+pub mod Chains
+pub mod ChainSteps
+pub mod ChainLaws
+pub mod HoldLines
+pub mod Labels
+pub mod HoldLaws

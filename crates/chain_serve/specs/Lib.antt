@@ -1,4 +1,0 @@
-pub mod Texts
-pub mod Services
-pub mod Recovered
-pub mod Starts

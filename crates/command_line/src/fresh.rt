@@ -1,0 +1,85 @@
+//! The words of `new`.
+
+use crate::arguments::{Argument, Presence, Takes, command_of};
+use clap::error::ErrorKind;
+use clap::{ArgMatches, Command, Error};
+use std::alloc::Global;
+use tool_parts::requests::{NewWords, Request, RingSize};
+
+const ABOUT: &str = "Prints a saved history of settled rings that have no events yet";
+
+const HELP: &str = "\
+Each N:K is a ring of N machines that can hold K values each; the first is ring 0. Every machine begins with the value
+0, so just machine 0 is privileged. What is printed is a whole saved history in the latest version: `serve` resumes from
+it, and `check` accepts it. If a word is refused, nothing is printed.
+
+Example:
+  $ ring_tool new 3:3 5:6 > fresh.txt
+  $ ring_tool check fresh.txt
+  legal rings 2 events 0 granted 0 corrupted 0 surveys 0
+
+Exit status: 0 if it was printed, 1 if a number is out of its limits, memory runs out or printing fails, 2 after a usage
+error: each N:K is two decimals below 2^32 with a colon between, without signs or leading zeros.";
+
+/// The arguments of `new`.
+static NEW_ARGUMENTS: [Argument; 1] = [Argument {
+    id: "RINGS",
+    long: None,
+    value_names: &["N:K"],
+    takes: Takes::Texts,
+    presence: Presence::Required,
+    help: "A ring: how many machines it has, 2 to 1024, and how many values each can hold, N to 65536",
+}];
+
+/// The command `new`.
+pub(crate) fn new_command<'a>(alloc: Global) -> Result<Command<'a>, Error> {
+    command_of(alloc, "new", ABOUT, HELP, &NEW_ARGUMENTS)
+}
+
+/// The number that a text spells without sign and leading zeros, below 2 to the power 32.
+fn read_number(text: &str) -> Option<u32> {
+    if text.starts_with('+') || text.len() > 1 && text.starts_with('0') {
+        return None;
+    }
+    text.parse::<u32>().ok()
+}
+
+/// The size that a word spells.
+fn read_size(word: &str) -> Option<RingSize> {
+    let (n, k) = word.split_once(':')?;
+    Some(RingSize {
+        n: read_number(n)?,
+        k: read_number(k)?,
+    })
+}
+
+/// The error for a word that spells no size.
+fn no_size(alloc: Global, word: &str) -> Result<Error, Error> {
+    let mut command = new_command(alloc)?.bin_name("ring_tool new")?;
+    let text = format!(in alloc;
+        "invalid value '{word}' for '<N:K>...': two decimals with a colon between are wanted"
+    )?;
+    Ok(command.error(ErrorKind::ValueValidation, text.as_str())?)
+}
+
+/// `new`, if a ring is there.
+///
+/// # Errors
+///
+/// The first word that spells no size, or out of memory.
+pub(crate) fn new_words<'a>(
+    alloc: Global,
+    words: &ArgMatches<'a>,
+) -> Result<Option<Request<'a>>, Error> {
+    let Some(given) = words.get_strs("RINGS") else {
+        return Ok(None);
+    };
+    let mut rings = Vec::new(alloc);
+    for word in given {
+        let Some(size) = read_size(word) else {
+            return Err(no_size(alloc, word)?);
+        };
+        rings.push(size)?;
+    }
+    Ok(Some(Request::New(NewWords { rings })))
+}

@@ -1,0 +1,78 @@
+//! The words of `picture`.
+
+use crate::arguments::{Argument, Presence, Takes, command_of};
+use crate::words::SAVED_HISTORY;
+use clap::{ArgMatches, Command, Error};
+use std::alloc::Global;
+use tool_parts::requests::{PictureWords, Request};
+
+/// How many events are drawn if no option says it.
+const DRAWN: u32 = 2_000;
+
+const ABOUT: &str = "Checks a saved history as `check` does, and draws one of its rings";
+
+const HELP: &str = "\
+The picture is an SVG: time goes to the right, an event a column. Each machine has a row, which is filled where it is
+privileged; below is the rest, which falls to 0 until one machine is privileged. The picture is written only if the
+history is legal, beside PICTURE, and then replaces it: an old PICTURE is whole after a refusal or an interrupt.
+PICTURE cannot be FILE. Then the command prints the sums over all rings, as `check` does. If PICTURE is `-`, the picture
+goes to standard output, and the sums to standard error.
+
+Example:
+  $ ring_tool picture saved.txt ring.svg
+  legal rings 1 events 3 granted 2 corrupted 0 surveys 1
+
+Exit status: 0 if PICTURE was written, 1 if FILE is not legal or a file fails, 2 after a usage error.";
+
+/// The arguments of `picture`.
+static PICTURE_ARGUMENTS: [Argument; 5] = [
+    SAVED_HISTORY,
+    Argument {
+        id: "PICTURE",
+        long: None,
+        value_names: &[],
+        takes: Takes::Text,
+        presence: Presence::Required,
+        help: "The file that the SVG is written to; `-` is standard output",
+    },
+    Argument {
+        id: "ring",
+        long: Some("ring"),
+        value_names: &["R"],
+        takes: Takes::Number,
+        presence: Presence::Optional,
+        help: "The ring that is drawn [default: 0]",
+    },
+    Argument {
+        id: "from",
+        long: Some("from"),
+        value_names: &["P"],
+        takes: Takes::Number,
+        presence: Presence::Optional,
+        help: "How many events come before the first that is drawn [default: 0]",
+    },
+    Argument {
+        id: "events",
+        long: Some("events"),
+        value_names: &["M"],
+        takes: Takes::Number,
+        presence: Presence::Optional,
+        help: "How many events are drawn, at most 20000 [default: 2000]",
+    },
+];
+
+/// The command `picture`.
+pub(crate) fn picture_command<'a>(alloc: Global) -> Result<Command<'a>, Error> {
+    command_of(alloc, "picture", ABOUT, HELP, &PICTURE_ARGUMENTS)
+}
+
+/// `picture`, where its files are there.
+pub(crate) fn picture_words<'a>(words: &ArgMatches<'a>) -> Option<Request<'a>> {
+    Some(Request::Picture(PictureWords {
+        file: words.get_str("FILE")?,
+        picture: words.get_str("PICTURE")?,
+        ring: words.get_one::<u32>("ring").unwrap_or(0),
+        from: words.get_one::<u32>("from").unwrap_or(0),
+        events: words.get_one::<u32>("events").unwrap_or(DRAWN),
+    }))
+}

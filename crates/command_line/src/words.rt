@@ -1,0 +1,393 @@
+//! The program's command line, as `clap` reads it.
+
+use crate::arguments::{Argument, Presence, Takes, command_of};
+use crate::fresh::{new_command, new_words};
+use crate::holds::{holds_command, holds_words};
+use crate::journals::{
+    join_command, join_words, recover_command, recover_words, serve_command, serve_words,
+};
+use crate::locks::{locks_command, locks_words};
+use crate::picture::{picture_command, picture_words};
+use crate::report::{report_command, report_words};
+use crate::version::VERSION;
+use clap::error::ErrorKind;
+use clap::{ArgMatches, Command, Error};
+use std::alloc::Global;
+use tool_parts::requests::{CheckWords, Request, RunWords, StepWords, UpgradeWords};
+
+const ABOUT: &str =
+    "A verified arbiter: rings of machines that pass a token, after E. W. Dijkstra (1974)";
+
+const STATUSES: &str = "\
+Exit status:
+  0  it was done
+  1  it was refused, input or output failed, or there was too little memory or no thread
+  2  usage error, or a list of `step` or `locks` that cannot be read
+If it is not 0, standard error says why.";
+
+const STEP_ABOUT: &str = "Lets chosen machines of one ring ask to pass, one after the other";
+
+const STEP_HELP: &str = "\
+For each choice it prints `M granted NUMBER` if machine M was privileged and moved, else
+`M not privileged`. Then it prints the last values, how many machines are privileged, and the first of them.
+
+Example:
+  $ ring_tool step 3 3 0,2,0 0,0,2
+  0 granted 1
+  0 not privileged
+  2 granted 2
+  states 1,2,2
+  privileged 1 first 1
+
+Exit status: 0 if it was done, 2 after a usage error or if a list cannot be read, 1 after each other refusal.";
+
+const RUN_ABOUT: &str =
+    "Runs the rings of a settings file, driven by clients on threads, and prints a report";
+
+const RUN_HELP: &str = "\
+Each client of the settings, and the injector of faults, has a thread of its own on each ring. When all have
+done their actions, the report has four lines for each ring and one for the farm. The history is written beside FILE,
+and then replaces it: an old FILE is whole after a refusal or an interrupt. FILE cannot be the settings file. If
+a file is a pipe, the program waits until its other end is opened. Write `./-` for a file whose name is `-`; a name
+that begins with a dash comes after `--`, or as `--history=FILE`.
+
+Example, where settings.json is {\"rings\":[{\"n\":3,\"k\":3,\"start\":[0,2,0]}],
+\"workers\":[{\"script\":[[\"pass\",0,0,5],[\"pass\",0,0,1],[\"pass\",0,2,4],[\"survey\",0]]}]}:
+  $ ring_tool run settings.json --history saved.txt
+  ring 0 n 3 k 3 events 3 granted 2 refused 1 corrupted 0 surveys 1
+  states 1,2,2
+  privileged 1 first 1 calm 2 rest 0 bound 9
+  grants 1,0,1 settled 0,0,0
+  total rings 1 events 3 granted 2 surveys 1
+
+Exit status: 0 if all was run and written, 2 after a usage error, 1 after each refusal of the settings, of the run, or of
+a file.";
+
+const CHECK_ABOUT: &str = "Checks a saved history, line by line";
+
+const CHECK_HELP: &str = "\
+It replays each ring of the file on one thread, and trusts nothing that the file says. If each event, each
+survey and each count is right, it prints the sums over all rings. Else it says which line is the first bad one,
+and why: `parameter`, `range`, `reply`, `count`, `survey`, `group`, or `syntax` if the file is not a saved history.
+
+If FILE is a folder, it has the segments of a served journal, the files 0000000001.ring, 0000000002.ring and so on.
+Each has to begin where the one before it ends, and to have its digest. Then `check` prints how many there are, and from
+which on if the first are gone; the sums over all rings from the first event of all; and the digest of the last file, which
+the next one has to have. Else it names the file, and its line or the reason: `foreign`, `missing`, `number`, `behind`,
+`base`, `start`, `full`, `unfinished`.
+
+With --all it prints each bad line of a file, with what is there and what should be, before it says which is the first one.
+After a bad reply the checker continues with its own. After a ring that is out of the limits, or a call that none of its
+machines can make, it judges no further line of that ring. It cannot read a folder so.
+
+Example:
+  $ ring_tool check saved.txt
+  legal rings 1 events 3 granted 2 corrupted 0 surveys 1
+  $ ring_tool check --all bad.txt
+  line 6: reply: g 2 8, should be g 2 9
+  line 6: reply
+
+Exit status: 0 if FILE is legal, 1 if it is not legal or cannot be read, 2 after a usage error. Write `./-` for a file
+whose name is `-`; a name that begins with a dash comes after `--`.";
+
+const UPGRADE_ABOUT: &str = "Saves a history in the latest version of its text";
+
+const UPGRADE_HELP: &str = "\
+It reads and checks FILE as `check` does. If FILE is legal, it writes the same history to NEW in the latest version, and
+prints what `check` prints of it. The text is written beside NEW, and then replaces it: an old NEW is whole after a
+refusal or an interrupt, and NEW may be FILE. If NEW is `-`, the text goes to standard output, and the line to
+standard error. If FILE is refused, NEW is not made.
+
+Example, where old.txt begins with `ringfarm 1`:
+  $ ring_tool upgrade old.txt new.txt
+  legal rings 1 events 3 granted 2 corrupted 0 surveys 1
+
+Exit status: 0 if NEW was written, 1 if FILE is not legal or a file fails, 2 after a usage error.";
+
+/// The name of a command.
+#[derive(Clone, Copy)]
+enum CommandName {
+    Step,
+    Run,
+    Check,
+    Report,
+    Picture,
+    Upgrade,
+    New,
+    Serve,
+    Locks,
+    Holds,
+    Recover,
+    Join,
+}
+
+/// The commands, in the order in which help lists them.
+static COMMANDS: [CommandName; 12] = [
+    CommandName::Step,
+    CommandName::Run,
+    CommandName::Check,
+    CommandName::Report,
+    CommandName::Picture,
+    CommandName::Upgrade,
+    CommandName::New,
+    CommandName::Serve,
+    CommandName::Locks,
+    CommandName::Holds,
+    CommandName::Recover,
+    CommandName::Join,
+];
+
+/// A saved history that is read.
+pub(crate) const SAVED_HISTORY: Argument = Argument {
+    id: "FILE",
+    long: None,
+    value_names: &[],
+    takes: Takes::Text,
+    presence: Presence::Required,
+    help: "The saved history, as `run --history` writes it, of at most 1,073,741,824 bytes; `-` is standard input",
+};
+
+/// The arguments of `step`.
+static STEP_ARGUMENTS: [Argument; 4] = [
+    Argument {
+        id: "N",
+        long: None,
+        value_names: &[],
+        takes: Takes::Number,
+        presence: Presence::Required,
+        help: "How many machines the ring has, 2 to 1024",
+    },
+    Argument {
+        id: "K",
+        long: None,
+        value_names: &[],
+        takes: Takes::Number,
+        presence: Presence::Required,
+        help: "How many values a machine can hold, N to 65536",
+    },
+    Argument {
+        id: "STATES",
+        long: None,
+        value_names: &[],
+        takes: Takes::Text,
+        presence: Presence::Required,
+        help: "The N values to begin with, each below K, as 0,2,0",
+    },
+    Argument {
+        id: "CHOICES",
+        long: None,
+        value_names: &[],
+        takes: Takes::Text,
+        presence: Presence::Optional,
+        help: "The machines that ask to pass, in order, each below N, as 0,0,2 [default: none]",
+    },
+];
+
+/// The command `step`.
+fn step_command<'a>(alloc: Global) -> Result<Command<'a>, Error> {
+    command_of(alloc, "step", STEP_ABOUT, STEP_HELP, &STEP_ARGUMENTS)
+}
+
+/// The arguments of `run`.
+static RUN_ARGUMENTS: [Argument; 3] = [
+    Argument {
+        id: "SETTINGS",
+        long: None,
+        value_names: &[],
+        takes: Takes::Text,
+        presence: Presence::Required,
+        help: "The settings, a JSON file of at most 1,073,741,824 bytes; `-` is standard input",
+    },
+    Argument {
+        id: "HISTORY",
+        long: Some("history"),
+        value_names: &["FILE"],
+        takes: Takes::Text,
+        presence: Presence::Optional,
+        help: "Writes each ring's history to FILE, which `check` reads, and replaces an old FILE; `-` is standard output, instead of the report",
+    },
+    Argument {
+        id: "QUIET",
+        long: Some("quiet"),
+        value_names: &[],
+        takes: Takes::Nothing,
+        presence: Presence::Optional,
+        help: "Prints only the report's last line, the sums over all rings",
+    },
+];
+
+/// The command `run`.
+fn run_command<'a>(alloc: Global) -> Result<Command<'a>, Error> {
+    command_of(alloc, "run", RUN_ABOUT, RUN_HELP, &RUN_ARGUMENTS)
+}
+
+/// The arguments of `check`.
+static CHECK_ARGUMENTS: [Argument; 2] = [
+    SAVED_HISTORY,
+    Argument {
+        id: "ALL",
+        long: Some("all"),
+        value_names: &[],
+        takes: Takes::Nothing,
+        presence: Presence::Optional,
+        help: "Prints each bad line of a saved history, with what is there and what should be",
+    },
+];
+
+/// The command `check`.
+fn check_command<'a>(alloc: Global) -> Result<Command<'a>, Error> {
+    command_of(alloc, "check", CHECK_ABOUT, CHECK_HELP, &CHECK_ARGUMENTS)
+}
+
+/// The arguments of `upgrade`.
+static UPGRADE_ARGUMENTS: [Argument; 2] = [
+    Argument {
+        id: "FILE",
+        long: None,
+        value_names: &[],
+        takes: Takes::Text,
+        presence: Presence::Required,
+        help: "The saved history, as for `check`; `-` is standard input",
+    },
+    Argument {
+        id: "NEW",
+        long: None,
+        value_names: &[],
+        takes: Takes::Text,
+        presence: Presence::Required,
+        help: "The file that is made for the new text; `-` is standard output",
+    },
+];
+
+/// The command `upgrade`.
+fn upgrade_command<'a>(alloc: Global) -> Result<Command<'a>, Error> {
+    command_of(
+        alloc,
+        "upgrade",
+        UPGRADE_ABOUT,
+        UPGRADE_HELP,
+        &UPGRADE_ARGUMENTS,
+    )
+}
+
+/// The command of this name.
+fn command_named<'a>(alloc: Global, name: CommandName) -> Result<Command<'a>, Error> {
+    match name {
+        CommandName::Step => step_command(alloc),
+        CommandName::Run => run_command(alloc),
+        CommandName::Check => check_command(alloc),
+        CommandName::Report => report_command(alloc),
+        CommandName::Picture => picture_command(alloc),
+        CommandName::Upgrade => upgrade_command(alloc),
+        CommandName::New => new_command(alloc),
+        CommandName::Serve => serve_command(alloc),
+        CommandName::Locks => locks_command(alloc),
+        CommandName::Holds => holds_command(alloc),
+        CommandName::Recover => recover_command(alloc),
+        CommandName::Join => join_command(alloc),
+    }
+}
+
+/// The program, with no command yet.
+fn program_line<'a>(alloc: Global) -> Result<Command<'a>, Error> {
+    let program = Command::new(alloc, "ring_tool")
+        .about(ABOUT)
+        .version(VERSION)
+        .after_help(STATUSES)
+        .no_binary_name(true)
+        .subcommand_required(true);
+    Ok(program.bin_name("ring_tool")?)
+}
+
+/// All that the program understands.
+fn command_line<'a>(alloc: Global) -> Result<Command<'a>, Error> {
+    let mut program = program_line(alloc)?;
+    for name in &COMMANDS {
+        program = program.subcommand(command_named(alloc, *name)?)?;
+    }
+    Ok(program)
+}
+
+/// `step`, where all its words are there.
+fn step_words<'a>(words: &ArgMatches<'a>) -> Option<Request<'a>> {
+    Some(Request::Step(StepWords {
+        n: words.get_one::<u32>("N")?,
+        k: words.get_one::<u32>("K")?,
+        states: words.get_str("STATES")?,
+        choices: words.get_str("CHOICES"),
+    }))
+}
+
+/// `run`, where the settings' file is there.
+fn run_words<'a>(words: &ArgMatches<'a>) -> Option<Request<'a>> {
+    Some(Request::Run(RunWords {
+        settings: words.get_str("SETTINGS")?,
+        history: words.get_str("HISTORY"),
+        quiet: words.get_flag("QUIET"),
+    }))
+}
+
+/// `check`, where its word is there.
+fn check_words<'a>(words: &ArgMatches<'a>) -> Option<Request<'a>> {
+    let check = CheckWords {
+        file: words.get_str("FILE")?,
+    };
+    if words.get_flag("ALL") {
+        Some(Request::CheckAll(check))
+    } else {
+        Some(Request::Check(check))
+    }
+}
+
+/// `upgrade`, where both its words are there.
+fn upgrade_words<'a>(words: &ArgMatches<'a>) -> Option<Request<'a>> {
+    Some(Request::Upgrade(UpgradeWords {
+        file: words.get_str("FILE")?,
+        new: words.get_str("NEW")?,
+    }))
+}
+
+/// The request of the command of this name, where its words are there; `new` apart, which takes memory.
+fn request_named<'a>(name: &str, words: &ArgMatches<'a>) -> Option<Request<'a>> {
+    match name {
+        "step" => step_words(words),
+        "run" => run_words(words),
+        "check" => check_words(words),
+        "report" => report_words(words),
+        "picture" => picture_words(words),
+        "upgrade" => upgrade_words(words),
+        "recover" => recover_words(words),
+        "join" => join_words(words),
+        "serve" => serve_words(words),
+        "locks" => locks_words(words),
+        "holds" => holds_words(words),
+        _ => None,
+    }
+}
+
+/// The request of the command that was found, where its words are there.
+fn request_of<'a>(alloc: Global, matches: &ArgMatches<'a>) -> Result<Option<Request<'a>>, Error> {
+    let Some((name, words)) = matches.subcommand() else {
+        return Ok(None);
+    };
+    match name {
+        "new" => new_words(alloc, words),
+        _ => Ok(request_named(name, words)),
+    }
+}
+
+/// Returns the command that the words ask for. The program's name is not among them.
+///
+/// # Errors
+///
+/// The answer of `clap`: a text with the mistake, or with the help that was asked for, or a word
+/// that there was no memory.
+pub fn read_words<'a>(alloc: Global, words: &'a [String]) -> Result<Request<'a>, Error> {
+    let mut command = command_line(alloc)?;
+    let matches = command.try_get_matches_from_mut(words)?;
+    if let Some(request) = request_of(alloc, &matches)? {
+        return Ok(request);
+    }
+    // No words lead here, since `clap` asks for a command and for its words.
+    Err(command.error(ErrorKind::MissingSubcommand, "a command is required")?)
+}

@@ -1,5 +1,0 @@
-use Rattle.desk_calls.proofs.FilesBack.{files_back}
-use Rattle.desk_calls.proofs.laws.files_come_back.Goals as goal
-
-pub returns : goal.returns
-returns c = files_back

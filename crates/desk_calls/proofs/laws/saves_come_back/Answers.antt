@@ -1,5 +1,0 @@
-use Rattle.desk_calls.proofs.ComingBack.{comes_back}
-use Rattle.desk_calls.proofs.laws.saves_come_back.Goals as goal
-
-pub returns : goal.returns
-returns c = comes_back

@@ -1,5 +1,0 @@
-use Rattle.std.proofs.Common.{refl}
-use Rattle.desk_codes.proofs.open_code.Goals as goal
-
-pub returns-in-Seats : goal.returns-in-Seats
-returns-in-Seats c = rw c.in-Seats.is refl

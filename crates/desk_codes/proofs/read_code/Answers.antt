@@ -1,5 +1,0 @@
-use Rattle.std.proofs.Common.{refl}
-use Rattle.desk_codes.proofs.read_code.Goals as goal
-
-pub returns-in-Syntax : goal.returns-in-Syntax
-returns-in-Syntax c = rw c.in-Syntax.is refl

@@ -1,0 +1,5 @@
+pub mod Endless
+pub mod Files
+pub mod Calls
+pub mod Filling
+pub mod FileLaws

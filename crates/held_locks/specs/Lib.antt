@@ -1,0 +1,12 @@
+pub mod Queues
+pub mod Inputs
+pub mod Grants
+pub mod Locks
+pub mod Promises
+pub mod Worked
+pub mod Waiting
+pub mod Kept
+pub mod Opened
+pub mod Cuts
+pub mod Parts
+pub mod Handed

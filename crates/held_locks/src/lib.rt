@@ -1,0 +1,20 @@
+//! Locks that programs hold, over rings: clients that wait are in a queue, and when the lock is free the first privileged machine
+//! of its ring passes on behalf of the client at its head.
+#![tactic(auto)]
+
+mod answers;
+mod asks;
+mod cuts;
+mod handing;
+pub mod laws;
+mod leaving;
+mod queue;
+mod locks;
+mod marks;
+mod opened;
+mod parts;
+mod waits;
+
+pub use answers::{Answer, Answers, HoldEnd, Holder, Left, Refusal, Stats, Waiter};
+pub use handing::Handover;
+pub use locks::{LOCK_LIMIT, Locks};

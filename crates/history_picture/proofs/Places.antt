@@ -1,0 +1,51 @@
+-- A ring from place to place: the ring after a call, whatever its resource holds.
+use Rattle.std.proofs.Common.{◌≡◌, ℕ, ◌+◌, ◌<◌, ◌≤◌, cond, true, false, List, [], ◌∷◌, ◌++◌, length, take, get_or, map, refl, sym, ap, ◌∙◌, arith}
+use Rattle.std.proofs.lemmas.List.{take_more, take_all, map-append}
+use Rattle.ring_model.specs.declared.events.Op.{Op}
+use Rattle.ring_model.specs.declared.events.Op.TheVariants.{Pass, Member, Corrupt}
+use Rattle.ring_model.specs.declared.events.Event.{Event}
+use Rattle.ring_model.specs.Ring.{Ring, ring_with, is_privileged, moved}
+use Rattle.ring_model.specs.History.{State, granted_state, next, after}
+use Rattle.ring_model.specs.Resources.{till}
+use Rattle.ring_model.specs.Surveys.{calm}
+use Rattle.ring_model.proofs.Histories.{after-push, calm_next, calm-push}
+use Rattle.saved_history.specs.declared.saved.SavedEvent.{SavedEvent}
+use Rattle.saved_history.specs.Content.{Block}
+use Rattle.ring_check.specs.Table.{event_of, first_state}
+use Rattle.history_picture.specs.Picture.{next_ring, ring_at, calm_at}
+
+next_is : (a : State ℕ) (o : Op) → (next till a o).ring ≡ next_ring a.ring o
+next_is a (Pass i order) = elim (is_privileged a.ring.values i) as (λ p. (cond p (granted_state till a i order) a).ring ≡ cond p (moved a.ring i) a.ring) [ true ↦ refl | false ↦ refl ]
+next_is a (Member i order left) = elim (is_privileged a.ring.values i) as (λ p. (cond p (granted_state till a i order) a).ring ≡ cond p (moved a.ring i) a.ring) [ true ↦ refl | false ↦ refl ]
+next_is a (Corrupt i v) = refl
+
+-- the events so far with one more
+history_more : (b : Block) (i : ℕ) (d : SavedEvent) → i < length b.events → map event_of (take (i + 1) b.events) ≡ map event_of (take i b.events) ++ event_of (get_or b.events i d) ∷ []
+history_more b i d lt = ap (λ (u : List SavedEvent). map event_of u) (take_more b.events i d lt) ∙ map-append event_of (take i b.events) (get_or b.events i d ∷ [])
+
+-- one event further
+pub ring_more : (b : Block) (i : ℕ) (d : SavedEvent) (r t : Ring) → i < length b.events → r ≡ ring_at b i → t ≡ next_ring r (event_of (get_or b.events i d)).op → t ≡ ring_at b (i + 1)
+ring_more b i d r t lt at e =
+    let start = first_state (ring_with b.k b.start) in
+    let event = event_of (get_or b.events i d) in
+    let push = history_more b i d lt in
+    let state : after till start (map event_of (take (i + 1) b.events)) ≡ next till (after till start (map event_of (take i b.events))) event.op =
+    ap (λ (u : List Event). after till start u) push ∙ after-push till start (map event_of (take i b.events)) event in
+    e ∙ ap (λ (x : Ring). next_ring x event.op) at ∙ sym (ap (λ (s : State ℕ). s.ring) state ∙ next_is (after till start (map event_of (take i b.events))) event.op)
+
+-- after the last event the ring stays
+pub ring_stays : (b : Block) (i : ℕ) → length b.events ≤ i → ring_at b i ≡ ring_at b (i + 1)
+ring_stays b i l =
+    let e : take i b.events ≡ take (i + 1) b.events = take_all i b.events l ∙ sym (take_all (i + 1) b.events (omega arith)) in
+    ap (λ (u : List SavedEvent). (after till (first_state (ring_with b.k b.start)) (map event_of u)).ring) e
+
+-- and the calm
+pub calm_more : (b : Block) (i : ℕ) (d : SavedEvent) (m t : ℕ) → i < length b.events → m ≡ calm_at b i → t ≡ calm_next m (event_of (get_or b.events i d)).reply → t ≡ calm_at b (i + 1)
+calm_more b i d m t lt at e =
+    let event = event_of (get_or b.events i d) in
+    e ∙ ap (λ (x : ℕ). calm_next x event.reply) at ∙ sym (ap (λ (u : List Event). calm u) (history_more b i d lt) ∙ calm-push (map event_of (take i b.events)) event)
+
+pub calm_stays : (b : Block) (i : ℕ) → length b.events ≤ i → calm_at b i ≡ calm_at b (i + 1)
+calm_stays b i l =
+    let e : take i b.events ≡ take (i + 1) b.events = take_all i b.events l ∙ sym (take_all (i + 1) b.events (omega arith)) in
+    ap (λ (u : List SavedEvent). calm (map event_of u)) e

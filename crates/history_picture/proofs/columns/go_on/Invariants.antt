@@ -1,0 +1,7 @@
+use Rattle.saved_history.specs.Content.{block_of}
+use Rattle.history_picture.specs.Picture.{ring_at}
+use Rattle.history_picture.specs.Walks.{HasRing}
+use Rattle.history_picture.proofs.columns.go_on.Given as goal
+
+abbrev pub invariant-loop-i : goal.invariant-loop-i
+invariant-loop-i l = HasRing l.ring (ring_at (block_of l.ring) l.i) l.gauge

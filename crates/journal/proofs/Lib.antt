@@ -1,0 +1,11 @@
+pub mod Fronts
+pub mod Groupings
+pub mod Placings
+pub mod Seatings
+pub mod Countings
+pub mod Heads
+pub mod Orders
+pub mod LineEnds
+pub mod Cutting
+pub mod Savings
+pub mod Losses

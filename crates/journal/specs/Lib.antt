@@ -1,0 +1,7 @@
+pub mod Spelling
+pub mod Reading
+pub mod ContentAfter
+pub mod Recovery
+pub mod Judging
+pub mod Beginnings
+pub mod Salvaging

@@ -1,5 +1,0 @@
-pub mod LongLines
-pub mod Standing
-pub mod Telling
-pub mod Parting
-mod Lasting

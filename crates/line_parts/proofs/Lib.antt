@@ -1,4 +1,0 @@
-pub mod Decimals
-pub mod Numerals
-pub mod Spellings
-pub mod Commands

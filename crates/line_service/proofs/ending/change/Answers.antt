@@ -1,0 +1,310 @@
+use Rattle.std.proofs.Common.{◌≡◌, List, ℕ, Option, Some, inr, ap, subst, ◌∙◌, arith}
+use Rattle.std.specs.Io.KnownBytes.{Keeps}
+use Rattle.disks.specs.Held.{Held, Replaces}
+use Rattle.disks.specs.Lasting.{bytes_in, BeginsWith, Leaves, MayLeave}
+use Rattle.std.specs.Prelude.{string_bytes}
+use Rattle.line_service.specs.Digested.{hashed}
+use Rattle.line_service.specs.Segments.{moment_of}
+use Rattle.line_service.proofs.Hashing.{is_hashed}
+use Rattle.line_service.proofs.SegmentLasting.{replaced_known, replaced_bytes, if_some, digest_known, spares_settled, spares_next, spares_same, front_has, front_kept, front_leaves, begins_all, spares_leaves}
+use Rattle.line_service.specs.Lasting.{LeavesEarlier}
+use Rattle.line_service.proofs.Changing.{has_ended, is_kept}
+use Rattle.line_service.proofs.Earlier.{changes_left, front_file, file_map, put_earlier, kept_earlier, put_whole, kept_whole}
+use Rattle.line_service.proofs.ending.change.Goals as goal
+
+pub returns-in-Ok-open_segment-clause-ok : goal.returns-in-Ok-open_segment-clause-ok
+returns-in-Ok-open_segment-clause-ok g c =
+    let p = c.requires.prepared in
+    let w = c.args.segment.writer in
+    let v = c.in-Ok-open_segment.segment.writer in
+    let journal = hashed (g.D.Grown.Grow.contents w.inner) w.hasher in
+    inr (
+      c.requires.due,
+      has_ended g.S.Segmented.segmenting c.args.rules.folder.now c.args.service.now (g.D.Disk.holds c.args.disk.now) (g.D.Disk.holds c.settle.new.disk) c.args.segment.number journal (string_bytes c.args.segment.name)
+          (subst (λ (n : List ℕ). Replaces (g.D.Disk.holds c.args.disk.now) (g.D.Disk.holds c.settle.new.disk) n journal) c.as_str.ensures.value c.in-Ok.ensures.ok)
+          c.requires.named
+          c.args.next.service (g.D.Disk.holds c.replace.new.disk) (g.D.Disk.holds c.open_segment.new.disk) c.args.next.number c.in-Ok-open_segment.segment.number (hashed (g.D.Grown.Grow.contents v.inner) v.hasher)
+          p.behind c.args.next.text.items (string_bytes c.args.next.name) c.args.next.hasher
+          p.next_service p.next_number c.in-Ok-open_segment.ensures.ok.0 p.digest
+          (subst (λ (t : List ℕ). Replaces (g.D.Disk.holds c.settle.new.disk) (g.D.Disk.holds c.replace.new.disk) (string_bytes c.args.next.name) (Some t)) c.as_slice.ensures.value
+          (subst (λ (n : List ℕ). Replaces (g.D.Disk.holds c.settle.new.disk) (g.D.Disk.holds c.replace.new.disk) n (Some c.as_slice.result.now)) c.as_str-2.ensures.value c.in-Ok-replace.ensures.replaced))
+          p.name p.text p.fits c.requires.due c.in-Ok-open_segment.ensures.kept p.hashes c.in-Ok-open_segment.ensures.known,
+    )
+
+pub returns-in-Ok-open_segment-2-clause-ok : goal.returns-in-Ok-open_segment-2-clause-ok
+returns-in-Ok-open_segment-2-clause-ok g c =
+    let w = c.args.segment.writer in
+    let v = c.in-Ok-open_segment-2.segment.writer in
+    let journal = hashed (g.D.Grown.Grow.contents w.inner) w.hasher in (
+      c.requires.due,
+      is_kept g.S.Segmented.segmenting c.args.rules.folder.now c.args.service.now (g.D.Disk.holds c.args.disk.now) (g.D.Disk.holds c.settle.new.disk) c.args.segment.number journal (string_bytes c.args.segment.name)
+          (subst (λ (n : List ℕ). Replaces (g.D.Disk.holds c.args.disk.now) (g.D.Disk.holds c.settle.new.disk) n journal) c.as_str.ensures.value c.in-Ok.ensures.ok)
+          c.requires.named
+          c.keep_on.new.self c.cause_of-why.result (g.D.Disk.holds c.replace.new.disk) (g.D.Disk.holds c.open_segment-in-Err-replace.new.disk) c.in-Ok-open_segment-2.segment.number (hashed (g.D.Grown.Grow.contents v.inner) v.hasher)
+          c.in-Ok.hasher c.cause_of-why.ensures c.keep_on.ensures.kept c.in-Ok-open_segment-2.ensures.ok.0 c.in-Err-replace.ensures.kept c.in-Ok-open_segment-2.ensures.kept c.in-Ok.ensures.hasher c.in-Ok-open_segment-2.ensures.known,
+    )
+
+pub returns-in-Err-clause-spared : goal.returns-in-Err-clause-spared
+returns-in-Err-clause-spared g c = λ some bytes known lasts.
+    let w = c.args.segment.writer in
+    let journal = hashed (g.D.Grown.Grow.contents w.inner) w.hasher in
+    let name = string_bytes c.args.segment.name in
+    let a = moment_of c.args.service.now (g.D.Disk.holds c.args.disk.now) c.args.segment.number journal in
+    let left = g.D.Disk.leaves c.abandon.new.self in
+    let given = g.D.Grown.Grow.lasting c.in-Err.inner in
+    let keeps = subst (λ (x : Option (List ℕ)). Keeps x given) lasts c.in-Err.ensures.given in
+    let front = front_kept (g.D.Disk.leaves c.settle.new.disk) left name (Some bytes) given keeps c.abandon.ensures.left in
+    front_leaves g.S.Segmented.segmenting c.args.rules.folder.now a left name bytes c.requires.named
+    (front_has (g.D.Disk.leaves c.settle.new.disk) left name (Some bytes) front)
+
+pub returns-in-Ok-replace-clause-spared : goal.returns-in-Ok-replace-clause-spared
+returns-in-Ok-replace-clause-spared g c = λ some bytes known lasts.
+    let w = c.args.segment.writer in
+    let contents = g.D.Grown.Grow.contents w.inner in
+    let journal = hashed contents w.hasher in
+    let name = string_bytes c.args.segment.name in
+    let a = moment_of c.args.service.now (g.D.Disk.holds c.args.disk.now) c.args.segment.number journal in
+    let other = string_bytes c.args.next.name in
+    let text = c.args.next.text.items in
+    let p = c.requires.prepared in
+    let mid = g.D.Disk.leaves c.settle.new.disk in
+    let settled = subst (λ (x : Option (List ℕ)). Leaves (g.D.Disk.leaves c.args.disk.now) mid name x) (is_hashed contents w.hasher bytes known).0
+    (subst (λ (n : List ℕ). Leaves (g.D.Disk.leaves c.args.disk.now) mid n contents) c.as_str.ensures.value c.in-Ok.ensures.lasts) in
+    let held = g.D.Disk.holds c.settle.new.disk in
+    let closed = subst (λ (x : Option (List ℕ)). Replaces (g.D.Disk.holds c.args.disk.now) held name x) known
+    (subst (λ (n : List ℕ). Replaces (g.D.Disk.holds c.args.disk.now) held n journal) c.as_str.ensures.value c.in-Ok.ensures.ok) in
+    let there_is = replaced_known (g.D.Disk.holds c.args.disk.now) held name (Some bytes) closed some in
+    let made = g.D.Disk.leaves c.replace.new.disk in
+    let put = subst (λ (t : List ℕ). MayLeave mid made other (Some t)) c.as_slice.ensures.value
+    (subst (λ (n : List ℕ). MayLeave mid made n (Some c.as_slice.result.now)) c.as_str-2.ensures.value
+    (if_some held (MayLeave mid made c.as_str-2.result.now (Some c.as_slice.result.now)) there_is c.replace.ensures.left)) in
+    let spared = spares_next name other bytes text mid made put (spares_settled name other bytes text (g.D.Disk.leaves c.args.disk.now) mid settled) in
+    let left = g.D.Disk.leaves c.open_segment.new.disk in
+    let there = g.D.Disk.holds c.replace.new.disk in
+    let replaced = subst (λ (t : List ℕ). Replaces held there other (Some t)) c.as_slice.ensures.value
+    (subst (λ (n : List ℕ). Replaces held there n (Some c.as_slice.result.now)) c.as_str-2.ensures.value c.in-Ok-replace.ensures.replaced) in
+    let opened = subst (λ (x : Option (List ℕ)). MayLeave made left other x) (replaced_bytes held there other text replaced there_is) c.open_segment.ensures.left in
+    spares_leaves g.S.Segmented.segmenting c.args.rules.folder.now a left bytes p.behind text name other c.args.next.service c.args.next.number c.requires.named p.name p.next_number p.text (digest_known journal bytes p.behind known p.digest) p.next_service
+    (spares_next name other bytes text made left opened spared)
+
+pub returns-clause-spared : goal.returns-clause-spared
+returns-clause-spared g c = λ some bytes known lasts.
+    let w = c.args.segment.writer in
+    let contents = g.D.Grown.Grow.contents w.inner in
+    let journal = hashed contents w.hasher in
+    let name = string_bytes c.args.segment.name in
+    let a = moment_of c.args.service.now (g.D.Disk.holds c.args.disk.now) c.args.segment.number journal in
+    let other = string_bytes c.args.next.name in
+    let text = c.args.next.text.items in
+    let p = c.requires.prepared in
+    let mid = g.D.Disk.leaves c.settle.new.disk in
+    let settled = subst (λ (x : Option (List ℕ)). Leaves (g.D.Disk.leaves c.args.disk.now) mid name x) (is_hashed contents w.hasher bytes known).0
+    (subst (λ (n : List ℕ). Leaves (g.D.Disk.leaves c.args.disk.now) mid n contents) c.as_str.ensures.value c.in-Ok.ensures.lasts) in
+    let held = g.D.Disk.holds c.settle.new.disk in
+    let closed = subst (λ (x : Option (List ℕ)). Replaces (g.D.Disk.holds c.args.disk.now) held name x) known
+    (subst (λ (n : List ℕ). Replaces (g.D.Disk.holds c.args.disk.now) held n journal) c.as_str.ensures.value c.in-Ok.ensures.ok) in
+    let there_is = replaced_known (g.D.Disk.holds c.args.disk.now) held name (Some bytes) closed some in
+    let made = g.D.Disk.leaves c.replace.new.disk in
+    let put = subst (λ (t : List ℕ). MayLeave mid made other (Some t)) c.as_slice.ensures.value
+    (subst (λ (n : List ℕ). MayLeave mid made n (Some c.as_slice.result.now)) c.as_str-2.ensures.value
+    (if_some held (MayLeave mid made c.as_str-2.result.now (Some c.as_slice.result.now)) there_is c.replace.ensures.left)) in
+    let spared = spares_next name other bytes text mid made put (spares_settled name other bytes text (g.D.Disk.leaves c.args.disk.now) mid settled) in
+    let left = g.D.Disk.leaves c.open_segment-in-Err-replace.new.disk in
+    let there = g.D.Disk.holds c.replace.new.disk in
+    let same = ap (λ (f : Option Held). bytes_in f name) c.in-Err-replace.ensures.kept ∙ replaced_bytes (g.D.Disk.holds c.args.disk.now) held name bytes closed some in
+    let opened = subst (λ (x : Option (List ℕ)). MayLeave made left name x) same c.open_segment-in-Err-replace.ensures.left in
+    spares_leaves g.S.Segmented.segmenting c.args.rules.folder.now a left bytes p.behind text name other c.args.next.service c.args.next.number c.requires.named p.name p.next_number p.text (digest_known journal bytes p.behind known p.digest) p.next_service
+    (spares_same name other bytes text made left opened spared)
+
+-- ---- the segments before
+
+pub returns-in-Err-clause-earlier : goal.returns-in-Err-clause-earlier
+returns-in-Err-clause-earlier g c = λ some.
+    let folder = c.args.rules.folder.now in
+    let number = c.args.segment.number in
+    let left = g.D.Disk.leaves c.abandon.new.self in
+    let given = g.D.Grown.Grow.lasting c.in-Err.inner in
+    subst (λ (was : Option Held). LeavesEarlier folder number was left) c.in-Err.ensures.left
+    (changes_left folder number number (g.D.Disk.leaves c.settle.new.disk) left (string_bytes c.args.segment.name) (λ (has : Option (List ℕ)). BeginsWith has given) c.requires.named (omega arith) c.abandon.ensures.left)
+
+pub returns-in-Ok-open_segment-clause-earlier : goal.returns-in-Ok-open_segment-clause-earlier
+returns-in-Ok-open_segment-clause-earlier g c = λ some.
+    let w = c.args.segment.writer in
+    let contents = g.D.Grown.Grow.contents w.inner in
+    let journal = hashed contents w.hasher in
+    let name = string_bytes c.args.segment.name in
+    let other = string_bytes c.args.next.name in
+    let text = c.args.next.text.items in
+    let p = c.requires.prepared in
+    let was = g.D.Disk.leaves c.args.disk.now in
+    let mid = g.D.Disk.leaves c.settle.new.disk in
+    let settled = subst (λ (n : List ℕ). Leaves was mid n contents) c.as_str.ensures.value c.in-Ok.ensures.lasts in
+    let held = g.D.Disk.holds c.settle.new.disk in
+    let closed = subst (λ (n : List ℕ). Replaces (g.D.Disk.holds c.args.disk.now) held n journal) c.as_str.ensures.value c.in-Ok.ensures.ok in
+    let there_is = replaced_known (g.D.Disk.holds c.args.disk.now) held name journal closed some in
+    let made = g.D.Disk.leaves c.replace.new.disk in
+    let put = subst (λ (t : List ℕ). MayLeave mid made other (Some t)) c.as_slice.ensures.value
+    (subst (λ (n : List ℕ). MayLeave mid made n (Some c.as_slice.result.now)) c.as_str-2.ensures.value
+    (if_some held (MayLeave mid made c.as_str-2.result.now (Some c.as_slice.result.now)) there_is c.replace.ensures.left)) in
+    let left = g.D.Disk.leaves c.open_segment.new.disk in
+    let there = bytes_in (g.D.Disk.holds c.replace.new.disk) other in
+    put_earlier c.args.rules.folder.now c.args.segment.number c.args.next.number name other c.requires.named p.name p.next_number was mid made (Some text) put left contents there settled c.open_segment.ensures.left
+
+pub returns-in-Ok-replace-clause-earlier : goal.returns-in-Ok-replace-clause-earlier
+returns-in-Ok-replace-clause-earlier g c = λ some.
+    let w = c.args.segment.writer in
+    let contents = g.D.Grown.Grow.contents w.inner in
+    let journal = hashed contents w.hasher in
+    let name = string_bytes c.args.segment.name in
+    let other = string_bytes c.args.next.name in
+    let text = c.args.next.text.items in
+    let p = c.requires.prepared in
+    let was = g.D.Disk.leaves c.args.disk.now in
+    let mid = g.D.Disk.leaves c.settle.new.disk in
+    let settled = subst (λ (n : List ℕ). Leaves was mid n contents) c.as_str.ensures.value c.in-Ok.ensures.lasts in
+    let held = g.D.Disk.holds c.settle.new.disk in
+    let closed = subst (λ (n : List ℕ). Replaces (g.D.Disk.holds c.args.disk.now) held n journal) c.as_str.ensures.value c.in-Ok.ensures.ok in
+    let there_is = replaced_known (g.D.Disk.holds c.args.disk.now) held name journal closed some in
+    let made = g.D.Disk.leaves c.replace.new.disk in
+    let put = subst (λ (t : List ℕ). MayLeave mid made other (Some t)) c.as_slice.ensures.value
+    (subst (λ (n : List ℕ). MayLeave mid made n (Some c.as_slice.result.now)) c.as_str-2.ensures.value
+    (if_some held (MayLeave mid made c.as_str-2.result.now (Some c.as_slice.result.now)) there_is c.replace.ensures.left)) in
+    let left = g.D.Disk.leaves c.open_segment.new.disk in
+    let there = bytes_in (g.D.Disk.holds c.replace.new.disk) other in
+    put_earlier c.args.rules.folder.now c.args.segment.number c.args.next.number name other c.requires.named p.name p.next_number was mid made (Some text) put left contents there settled c.open_segment.ensures.left
+
+pub returns-in-Ok-open_segment-2-clause-earlier : goal.returns-in-Ok-open_segment-2-clause-earlier
+returns-in-Ok-open_segment-2-clause-earlier g c = λ some.
+    let w = c.args.segment.writer in
+    let contents = g.D.Grown.Grow.contents w.inner in
+    let journal = hashed contents w.hasher in
+    let name = string_bytes c.args.segment.name in
+    let other = string_bytes c.args.next.name in
+    let text = c.args.next.text.items in
+    let p = c.requires.prepared in
+    let was = g.D.Disk.leaves c.args.disk.now in
+    let mid = g.D.Disk.leaves c.settle.new.disk in
+    let settled = subst (λ (n : List ℕ). Leaves was mid n contents) c.as_str.ensures.value c.in-Ok.ensures.lasts in
+    let held = g.D.Disk.holds c.settle.new.disk in
+    let closed = subst (λ (n : List ℕ). Replaces (g.D.Disk.holds c.args.disk.now) held n journal) c.as_str.ensures.value c.in-Ok.ensures.ok in
+    let there_is = replaced_known (g.D.Disk.holds c.args.disk.now) held name journal closed some in
+    let made = g.D.Disk.leaves c.replace.new.disk in
+    let put = subst (λ (t : List ℕ). MayLeave mid made other (Some t)) c.as_slice.ensures.value
+    (subst (λ (n : List ℕ). MayLeave mid made n (Some c.as_slice.result.now)) c.as_str-2.ensures.value
+    (if_some held (MayLeave mid made c.as_str-2.result.now (Some c.as_slice.result.now)) there_is c.replace.ensures.left)) in
+    let left = g.D.Disk.leaves c.open_segment-in-Err-replace.new.disk in
+    let there = bytes_in (g.D.Disk.holds c.replace.new.disk) name in
+    kept_earlier c.args.rules.folder.now c.args.segment.number c.args.next.number name other c.requires.named p.name p.next_number was mid made (Some text) put left contents there settled c.open_segment-in-Err-replace.ensures.left
+
+pub returns-clause-earlier : goal.returns-clause-earlier
+returns-clause-earlier g c = λ some.
+    let w = c.args.segment.writer in
+    let contents = g.D.Grown.Grow.contents w.inner in
+    let journal = hashed contents w.hasher in
+    let name = string_bytes c.args.segment.name in
+    let other = string_bytes c.args.next.name in
+    let text = c.args.next.text.items in
+    let p = c.requires.prepared in
+    let was = g.D.Disk.leaves c.args.disk.now in
+    let mid = g.D.Disk.leaves c.settle.new.disk in
+    let settled = subst (λ (n : List ℕ). Leaves was mid n contents) c.as_str.ensures.value c.in-Ok.ensures.lasts in
+    let held = g.D.Disk.holds c.settle.new.disk in
+    let closed = subst (λ (n : List ℕ). Replaces (g.D.Disk.holds c.args.disk.now) held n journal) c.as_str.ensures.value c.in-Ok.ensures.ok in
+    let there_is = replaced_known (g.D.Disk.holds c.args.disk.now) held name journal closed some in
+    let made = g.D.Disk.leaves c.replace.new.disk in
+    let put = subst (λ (t : List ℕ). MayLeave mid made other (Some t)) c.as_slice.ensures.value
+    (subst (λ (n : List ℕ). MayLeave mid made n (Some c.as_slice.result.now)) c.as_str-2.ensures.value
+    (if_some held (MayLeave mid made c.as_str-2.result.now (Some c.as_slice.result.now)) there_is c.replace.ensures.left)) in
+    let left = g.D.Disk.leaves c.open_segment-in-Err-replace.new.disk in
+    let there = bytes_in (g.D.Disk.holds c.replace.new.disk) name in
+    kept_earlier c.args.rules.folder.now c.args.segment.number c.args.next.number name other c.requires.named p.name p.next_number was mid made (Some text) put left contents there settled c.open_segment-in-Err-replace.ensures.left
+
+pub returns-in-Ok-open_segment-clause-ended : goal.returns-in-Ok-open_segment-clause-ended
+returns-in-Ok-open_segment-clause-ended g c = λ some bytes known up.
+    let w = c.args.segment.writer in
+    let contents = g.D.Grown.Grow.contents w.inner in
+    let journal = hashed contents w.hasher in
+    let name = string_bytes c.args.segment.name in
+    let other = string_bytes c.args.next.name in
+    let text = c.args.next.text.items in
+    let p = c.requires.prepared in
+    let was = g.D.Disk.leaves c.args.disk.now in
+    let mid = g.D.Disk.leaves c.settle.new.disk in
+    let settled = subst (λ (n : List ℕ). Leaves was mid n contents) c.as_str.ensures.value c.in-Ok.ensures.lasts in
+    let held = g.D.Disk.holds c.settle.new.disk in
+    let closed = subst (λ (n : List ℕ). Replaces (g.D.Disk.holds c.args.disk.now) held n journal) c.as_str.ensures.value c.in-Ok.ensures.ok in
+    let there_is = replaced_known (g.D.Disk.holds c.args.disk.now) held name journal closed some in
+    let made = g.D.Disk.leaves c.replace.new.disk in
+    let put = subst (λ (t : List ℕ). MayLeave mid made other (Some t)) c.as_slice.ensures.value
+    (subst (λ (n : List ℕ). MayLeave mid made n (Some c.as_slice.result.now)) c.as_str-2.ensures.value
+    (if_some held (MayLeave mid made c.as_str-2.result.now (Some c.as_slice.result.now)) there_is c.replace.ensures.left)) in
+    let left = g.D.Disk.leaves c.open_segment.new.disk in
+    let there = bytes_in (g.D.Disk.holds c.replace.new.disk) other in
+    let just = subst (λ (x : Option (List ℕ)). Leaves was mid name x) (is_hashed contents w.hasher bytes known).0 settled in
+    put_whole c.args.rules.folder.now c.args.segment.number c.args.next.number name other c.requires.named p.name p.next_number was mid made (Some text) put left bytes there just c.open_segment.ensures.left
+
+pub returns-in-Ok-open_segment-2-clause-ended : goal.returns-in-Ok-open_segment-2-clause-ended
+returns-in-Ok-open_segment-2-clause-ended g c = λ some bytes known up.
+    let same = c.in-Ok-open_segment-2.ensures.ok.0 in
+    absurd (omega (arith, same, up))
+
+pub returns-in-Err-clause-front : goal.returns-in-Err-clause-front
+returns-in-Err-clause-front g c = λ some bytes known lasts.
+    let name = string_bytes c.args.segment.name in
+    let left = g.D.Disk.leaves c.abandon.new.self in
+    let given = g.D.Grown.Grow.lasting c.in-Err.inner in
+    let keeps = subst (λ (x : Option (List ℕ)). Keeps x given) lasts c.in-Err.ensures.given in
+    let front = front_kept (g.D.Disk.leaves c.settle.new.disk) left name (Some bytes) given keeps c.abandon.ensures.left in
+    front_file c.args.rules.folder.now c.args.segment.number left name (Some bytes) c.requires.named (front_has (g.D.Disk.leaves c.settle.new.disk) left name (Some bytes) front)
+
+pub returns-in-Ok-replace-clause-front : goal.returns-in-Ok-replace-clause-front
+returns-in-Ok-replace-clause-front g c = λ some bytes known lasts.
+    let w = c.args.segment.writer in
+    let contents = g.D.Grown.Grow.contents w.inner in
+    let journal = hashed contents w.hasher in
+    let name = string_bytes c.args.segment.name in
+    let other = string_bytes c.args.next.name in
+    let text = c.args.next.text.items in
+    let p = c.requires.prepared in
+    let was = g.D.Disk.leaves c.args.disk.now in
+    let mid = g.D.Disk.leaves c.settle.new.disk in
+    let settled = subst (λ (n : List ℕ). Leaves was mid n contents) c.as_str.ensures.value c.in-Ok.ensures.lasts in
+    let held = g.D.Disk.holds c.settle.new.disk in
+    let closed = subst (λ (n : List ℕ). Replaces (g.D.Disk.holds c.args.disk.now) held n journal) c.as_str.ensures.value c.in-Ok.ensures.ok in
+    let there_is = replaced_known (g.D.Disk.holds c.args.disk.now) held name journal closed some in
+    let made = g.D.Disk.leaves c.replace.new.disk in
+    let put = subst (λ (t : List ℕ). MayLeave mid made other (Some t)) c.as_slice.ensures.value
+    (subst (λ (n : List ℕ). MayLeave mid made n (Some c.as_slice.result.now)) c.as_str-2.ensures.value
+    (if_some held (MayLeave mid made c.as_str-2.result.now (Some c.as_slice.result.now)) there_is c.replace.ensures.left)) in
+    let left = g.D.Disk.leaves c.open_segment.new.disk in
+    let there = bytes_in (g.D.Disk.holds c.replace.new.disk) other in
+    let just = subst (λ (x : Option (List ℕ)). Leaves was mid name x) (is_hashed contents w.hasher bytes known).0 settled in
+    file_map c.args.rules.folder.now c.args.segment.number left (λ (has : Option (List ℕ)). has ≡ Some bytes) (λ (has : Option (List ℕ)). BeginsWith has (Some bytes)) (λ has e. begins_all has bytes e)
+    (put_whole c.args.rules.folder.now c.args.segment.number c.args.next.number name other c.requires.named p.name p.next_number was mid made (Some text) put left bytes there just c.open_segment.ensures.left)
+
+pub returns-clause-front : goal.returns-clause-front
+returns-clause-front g c = λ some bytes known lasts.
+    let w = c.args.segment.writer in
+    let contents = g.D.Grown.Grow.contents w.inner in
+    let journal = hashed contents w.hasher in
+    let name = string_bytes c.args.segment.name in
+    let other = string_bytes c.args.next.name in
+    let text = c.args.next.text.items in
+    let p = c.requires.prepared in
+    let was = g.D.Disk.leaves c.args.disk.now in
+    let mid = g.D.Disk.leaves c.settle.new.disk in
+    let settled = subst (λ (n : List ℕ). Leaves was mid n contents) c.as_str.ensures.value c.in-Ok.ensures.lasts in
+    let held = g.D.Disk.holds c.settle.new.disk in
+    let closed = subst (λ (n : List ℕ). Replaces (g.D.Disk.holds c.args.disk.now) held n journal) c.as_str.ensures.value c.in-Ok.ensures.ok in
+    let there_is = replaced_known (g.D.Disk.holds c.args.disk.now) held name journal closed some in
+    let made = g.D.Disk.leaves c.replace.new.disk in
+    let put = subst (λ (t : List ℕ). MayLeave mid made other (Some t)) c.as_slice.ensures.value
+    (subst (λ (n : List ℕ). MayLeave mid made n (Some c.as_slice.result.now)) c.as_str-2.ensures.value
+    (if_some held (MayLeave mid made c.as_str-2.result.now (Some c.as_slice.result.now)) there_is c.replace.ensures.left)) in
+    let left = g.D.Disk.leaves c.open_segment-in-Err-replace.new.disk in
+    let there = bytes_in (g.D.Disk.holds c.replace.new.disk) name in
+    let just = subst (λ (x : Option (List ℕ)). Leaves was mid name x) (is_hashed contents w.hasher bytes known).0 settled in
+    let same = ap (λ (f : Option Held). bytes_in f name) c.in-Err-replace.ensures.kept ∙ replaced_bytes (g.D.Disk.holds c.args.disk.now) held name bytes (subst (λ (x : Option (List ℕ)). Replaces (g.D.Disk.holds c.args.disk.now) held name x) known closed) some in
+    let opened = subst (λ (x : Option (List ℕ)). MayLeave made left name x) same c.open_segment-in-Err-replace.ensures.left in
+    file_map c.args.rules.folder.now c.args.segment.number left (λ (has : Option (List ℕ)). has ≡ Some bytes) (λ (has : Option (List ℕ)). BeginsWith has (Some bytes)) (λ has e. begins_all has bytes e)
+    (kept_whole c.args.rules.folder.now c.args.segment.number c.args.next.number name other c.requires.named p.name p.next_number was mid made (Some text) put left bytes just opened)

@@ -1,0 +1,12 @@
+pub mod Answering
+pub mod Loop
+pub mod Stands
+pub mod Segmenting
+pub mod Digested
+pub mod Segments
+pub mod Service
+pub mod Notes
+pub mod Lasting
+pub mod SegmentNames
+pub mod NameReading
+pub mod SegmentNumbers

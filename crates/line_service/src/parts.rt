@@ -1,0 +1,163 @@
+//! Parts of the lines: each is served until the input has ended, or until no line is answered any more.
+
+ghost use Rattle.std.specs.Prelude.{◌≡◌, ◌≢◌, ℕ, List, [], ◌++◌, false, OnOk, OnErr, IfOk, IfErr, MatchResult, is_some};
+ghost use Rattle.line_service.specs.declared.faults.LoopFault.TheVariants as fault;
+ghost use Rattle.line_service.specs.Answering.{HasBegun};
+ghost use Rattle.line_service.specs.Loop.{Written, Rests, Stops, IsTaken, ServesPart, IsEnding, ServesSomeOf, held_by, AllLasts, IsFaultOf};
+ghost use Rattle.line_service.specs.Stands.{Stand, by_stand, stand};
+
+use crate::answering::AnswersLines;
+use crate::faults::{Ending, LoopFault};
+use crate::pending::Pending;
+use crate::putting::put_pending;
+use crate::taking::take_bytes;
+use crate::unread::Unread;
+use disks::{Disk, Grow};
+use std::alloc::{AllocError, Global};
+use std::io::{Read, Write};
+
+/// Takes what is left of a block, up to the line after which it is over, if there is one, and all answers leave. Says whether it
+/// is over.
+fn serve_block<S: AnswersLines, D: Disk, J: Grow, W: Write>(
+    service: &mut S,
+    disk: &mut D,
+    line: &mut Vec<u8>,
+    unread: &mut Unread,
+    pending: &mut Pending,
+    journal: &mut Option<J>,
+    out: &mut W,
+) -> Result<bool, LoopFault>
+    requires open { S.is_over service.old ≡ false }
+    requires none { (pending.old.answers.items ≡ []) × (pending.old.notes.items ≡ []) }
+    ensures known { IfErr result (λ e. e ≢ fault.TooLong) }
+    ensures kept { is_some journal.new ≡ is_some journal.old }
+    ensures left { OnOk result ((pending.new.answers.items ≡ []) × (pending.new.notes.items ≡ [])) }
+    ensures over { IfOk result (λ over. over ≡ S.is_over service.new) }
+    ensures serves { (old : Stand S) (before : Written) (bytes : List ℕ)
+        → Rests (by_stand S.is_answered) old before
+        (record { journal = held_by J.contents journal.old; out = W.contents out.old })
+        bytes (stand service.old (D.holds disk.old)) line.old.items
+        → MatchResult result (λ over. IsTaken over unread.old unread.new
+        (λ taken. Rests (by_stand S.is_answered) old before
+        (record { journal = held_by J.contents journal.new; out = W.contents out.new })
+        (bytes ++ taken) (stand service.new (D.holds disk.new)) line.new.items))
+        (λ _. Stops (by_stand S.is_answered) old before
+        (record { journal = held_by J.contents journal.new; out = W.contents out.new })
+        (bytes ++ unread.old)
+        (stand service.new (D.holds disk.new))) }
+    ensures lasts { (old : Stand S) (before : Written) (bytes : List ℕ)
+        → Rests (by_stand S.is_answered) old before
+        (record { journal = held_by J.lasting journal.old; out = W.contents out.old })
+        bytes (stand service.old (D.holds disk.old)) line.old.items
+        → MatchResult result (λ over. IsTaken over unread.old unread.new
+        (λ taken. Rests (by_stand S.is_answered) old before
+        (record { journal = held_by J.lasting journal.new; out = W.contents out.new })
+        (bytes ++ taken) (stand service.new (D.holds disk.new)) line.new.items))
+        (λ _. Stops (by_stand S.is_answered) old before
+        (record { journal = held_by J.lasting journal.new; out = W.contents out.new })
+        (bytes ++ unread.old)
+        (stand service.new (D.holds disk.new))) }
+    ensures whole { OnOk result
+        (AllLasts (held_by J.contents journal.old) (held_by J.lasting journal.old)
+        → AllLasts (held_by J.contents journal.new) (held_by J.lasting journal.new)) }
+    ensures unchanged { S.changes_files service.old ≡ false
+        → (D.leaves disk.new ≡ D.leaves disk.old) × (S.changes_files service.new ≡ false) }
+{
+    let taken = match take_bytes(service, disk, line, unread.bytes(), pending) {
+        Ok(taken) => taken,
+        Err(AllocError) => return Err(LoopFault::OutOfMemory),
+    };
+    unread.skip(taken.count);
+    match put_pending::<S, J, W>(pending, journal, out) {
+        Ok(()) => Ok(taken.over),
+        Err(fault) => Err(fault),
+    }
+}
+
+/// Serves a part of the lines of a reader: those of what is unread, and of what is read then, up to the input's end, or to the
+/// line after which it is over. With `once` the part ends when the next block has been read.
+///
+/// Each line is answered by the service, on the writer and with the disk. If there is a journal, it gets the notes of each line.
+/// Before more is read they are added to the journal, and then the writer is flushed: no answer leaves whose notes are not in the
+/// journal, and last there if its file is synced. What has begun of a line is kept from one part to the next. The bytes after the
+/// last LF are not a line, and are not answered.
+///
+/// # Errors
+///
+/// The first error of the reader, of the journal or of the writer; `OutOfMemory` where there was none for what a block is
+/// answered; `TooLong` where no more blocks are counted. The lines before were answered. The writer holds a prefix of their
+/// answers, and the journal the notes of each delivered line.
+pub fn serve_part<S: AnswersLines, D: Disk, I: Read, J: Grow, W: Write>(
+    alloc: Global,
+    service: &mut S,
+    disk: &mut D,
+    journal: &mut Option<J>,
+    once: bool,
+    line: &mut Vec<u8>,
+    unread: &mut Unread,
+    input: &mut I,
+    out: &mut W,
+) -> Result<Ending, LoopFault>
+    requires { S.is_over service.old ≡ false }
+    ensures ok { IfOk result (λ ending. (begun : List ℕ) → HasBegun begun line.old.items
+        → ServesPart ending (by_stand S.is_answered) (stand service.old (D.holds disk.old))
+        (stand service.new (D.holds disk.new)) begun unread.old unread.new line.new.items
+        (I.remaining input.old) (I.remaining input.new)
+        (record { journal = held_by J.contents journal.old; out = W.contents out.old })
+        (record { journal = held_by J.contents journal.new; out = W.contents out.new })) }
+    ensures ends { IfOk result (λ ending. IsEnding ending (S.is_over service.new) once unread.new
+        (I.remaining input.new)) }
+    ensures err { OnErr result ((begun : List ℕ) → HasBegun begun line.old.items
+        → ServesSomeOf (by_stand S.is_answered) (stand service.old (D.holds disk.old))
+        (stand service.new (D.holds disk.new)) begun unread.old
+        (I.remaining input.old) (I.remaining input.new)
+        (record { journal = held_by J.contents journal.old; out = W.contents out.old })
+        (record { journal = held_by J.contents journal.new; out = W.contents out.new })) }
+    ensures long { IfErr result (λ e.
+        IsFaultOf e (I.remaining input.old) (I.remaining input.new)) }
+    ensures kept { is_some journal.new ≡ is_some journal.old }
+
+    // The same of the bytes that last: whenever the power or the process ends, the journal has the notes of each delivered line.
+    ensures lasts { (begun : List ℕ) → HasBegun begun line.old.items
+        → MatchResult result
+        (λ ending. ServesPart ending (by_stand S.is_answered) (stand service.old (D.holds disk.old))
+        (stand service.new (D.holds disk.new)) begun unread.old unread.new line.new.items
+        (I.remaining input.old) (I.remaining input.new)
+        (record { journal = held_by J.lasting journal.old; out = W.contents out.old })
+        (record { journal = held_by J.lasting journal.new; out = W.contents out.new }))
+        (λ _. ServesSomeOf (by_stand S.is_answered) (stand service.old (D.holds disk.old))
+        (stand service.new (D.holds disk.new)) begun unread.old
+        (I.remaining input.old) (I.remaining input.new)
+        (record { journal = held_by J.lasting journal.old; out = W.contents out.old })
+        (record { journal = held_by J.lasting journal.new; out = W.contents out.new })) }
+    ensures whole { OnOk result
+        (AllLasts (held_by J.contents journal.old) (held_by J.lasting journal.old)
+        → AllLasts (held_by J.contents journal.new) (held_by J.lasting journal.new)) }
+    ensures unchanged { S.changes_files service.old ≡ false
+        → (D.leaves disk.new ≡ D.leaves disk.old) × (S.changes_files service.new ≡ false) }
+{
+    let mut pending = Pending {
+        answers: Vec::new(alloc),
+        notes: Vec::new(alloc),
+    };
+    'rounds: for round in 0..u64::MAX {
+        let over = match serve_block(service, disk, line, unread, &mut pending, journal, out) {
+            Ok(over) => over,
+            Err(fault) => return Err(fault),
+        };
+        if over {
+            return Ok(Ending::Over);
+        }
+        let count = match unread.fill(input) {
+            Ok(count) => count,
+            Err(fault) => return Err(fault),
+        };
+        if count == 0 {
+            return Ok(Ending::End);
+        }
+        if once {
+            return Ok(Ending::Block);
+        }
+    }
+    Err(LoopFault::TooLong)
+}

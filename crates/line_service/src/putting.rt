@@ -1,0 +1,108 @@
+//! Bytes that leave: a journal's part first.
+
+ghost use Rattle.std.specs.Prelude.{◌≡◌, ◌≢◌, ℕ, List, [], OnOk, IfErr, IsTrue, is_some};
+ghost use Rattle.std.specs.Io.KnownBytes.{Appends};
+ghost use Rattle.text_lines.specs.Writing.{Wrote};
+ghost use Rattle.line_service.specs.declared.faults.LoopFault.TheVariants as fault;
+ghost use Rattle.line_service.specs.Loop.{Written, GoesOn, Tells, held_by, AllLasts};
+ghost use Rattle.line_service.specs.Stands.{Stand, by_stand};
+
+use crate::answering::AnswersLines;
+use crate::faults::LoopFault;
+use crate::pending::Pending;
+use disks::Grow;
+use std::io::Write;
+use text_lines::put;
+
+/// Writes all of these bytes and flushes the writer, if there is one at least, and says whether it could.
+fn put_out<W: Write>(out: &mut W, bytes: &[u8]) -> bool
+    ensures all { IsTrue result → Appends (W.contents out.old) (W.contents out.new) bytes.now }
+    ensures part { (left : List ℕ)
+        × Wrote (W.contents out.old) (W.contents out.new) bytes.now left }
+{
+    if bytes.is_empty() {
+        return true;
+    }
+    let Ok(()) = put(out, bytes) else {
+        return false;
+    };
+    out.flush().is_ok()
+}
+
+/// Adds all of these bytes to a journal, if there are any, and says whether it could.
+fn add_notes<J: Grow>(journal: &mut J, bytes: &[u8]) -> bool
+    ensures all { IsTrue result
+        → Appends (J.contents journal.old) (J.contents journal.new) bytes.now }
+    ensures part { (left : List ℕ)
+        × Wrote (J.contents journal.old) (J.contents journal.new) bytes.now left }
+    ensures lasts { IsTrue result
+        → Appends (J.lasting journal.old) (J.lasting journal.new) bytes.now }
+    ensures lasts_part { (left : List ℕ)
+        × Wrote (J.lasting journal.old) (J.lasting journal.new) bytes.now left }
+    ensures whole { IsTrue result → AllLasts (J.contents journal.old) (J.lasting journal.old)
+        → AllLasts (J.contents journal.new) (J.lasting journal.new) }
+{
+    if bytes.is_empty() {
+        return true;
+    }
+    journal.add(bytes).is_ok()
+}
+
+/// Adds all of these bytes to the journal, if there is one, and says whether it could.
+fn put_notes<J: Grow>(journal: &mut Option<J>, bytes: &[u8]) -> bool
+    ensures all { IsTrue result
+        → Appends (held_by J.contents journal.old) (held_by J.contents journal.new) bytes.now }
+    ensures part { (left : List ℕ)
+        × Wrote (held_by J.contents journal.old) (held_by J.contents journal.new) bytes.now left }
+    ensures lasts { IsTrue result
+        → Appends (held_by J.lasting journal.old) (held_by J.lasting journal.new) bytes.now }
+    ensures lasts_part { (left : List ℕ)
+        × Wrote (held_by J.lasting journal.old) (held_by J.lasting journal.new) bytes.now left }
+    ensures whole { IsTrue result
+        → AllLasts (held_by J.contents journal.old) (held_by J.lasting journal.old)
+        → AllLasts (held_by J.contents journal.new) (held_by J.lasting journal.new) }
+    ensures kept { is_some journal.new ≡ is_some journal.old }
+{
+    match journal {
+        None => true,
+        Some(journal) => add_notes(journal, bytes),
+    }
+}
+
+/// Writes the pending bytes: the journal's part first.
+pub(crate) fn put_pending<S: AnswersLines, J: Grow, W: Write>(
+    pending: &mut Pending,
+    journal: &mut Option<J>,
+    out: &mut W,
+) -> Result<(), LoopFault>
+    ensures known { IfErr result (λ e. e ≢ fault.TooLong) }
+    ensures kept { is_some journal.new ≡ is_some journal.old }
+    ensures left { OnOk result ((pending.new.answers.items ≡ []) × (pending.new.notes.items ≡ [])) }
+    ensures told { (old new : Stand S) (before : Written) (bytes line : List ℕ)
+        → GoesOn (by_stand S.is_answered) old before
+        (record { journal = held_by J.contents journal.old; out = W.contents out.old })
+        bytes new line pending.old
+        → Tells result (by_stand S.is_answered) old before
+        (record { journal = held_by J.contents journal.new; out = W.contents out.new })
+        bytes new line }
+    ensures lasts { (old new : Stand S) (before : Written) (bytes line : List ℕ)
+        → GoesOn (by_stand S.is_answered) old before
+        (record { journal = held_by J.lasting journal.old; out = W.contents out.old })
+        bytes new line pending.old
+        → Tells result (by_stand S.is_answered) old before
+        (record { journal = held_by J.lasting journal.new; out = W.contents out.new })
+        bytes new line }
+    ensures whole { OnOk result
+        (AllLasts (held_by J.contents journal.old) (held_by J.lasting journal.old)
+        → AllLasts (held_by J.contents journal.new) (held_by J.lasting journal.new)) }
+{
+    if !put_notes(journal, pending.notes.as_slice()) {
+        return Err(LoopFault::Journal);
+    }
+    if !put_out(out, pending.answers.as_slice()) {
+        return Err(LoopFault::Write);
+    }
+    pending.notes.clear();
+    pending.answers.clear();
+    Ok(())
+}

@@ -1,0 +1,275 @@
+//! Lines that are served in segments.
+
+ghost use Rattle.std.specs.Prelude.{◌≡◌, ℕ, List, Option, true, false, IfOk, IfErr, IfSome, IsSome, OnOk, OnErr, MatchResult, is_some, string_bytes, ⊤};
+ghost use Rattle.disks.specs.Held.{Held};
+ghost use Rattle.disks.specs.Lasting.{Changes, HasFront, LeavesFront, outlives};
+ghost use Rattle.line_service.specs.Answering.{HasBegun};
+ghost use Rattle.line_service.specs.Stands.{by_stand, stand};
+ghost use Rattle.line_service.specs.declared.faults.LoopFault.{LoopFault};
+ghost use Rattle.line_service.specs.Loop.{ServesPart, IsEnding, ServesSomeOf, AllLasts, IsFaultOf as IsPartFault};
+ghost use Rattle.line_service.specs.Digested.{hashed};
+ghost use Rattle.line_service.specs.Segments.{IsNamed, moment_of};
+ghost use Rattle.line_service.specs.Service.{told_of, ServesSegments, ServesSomeSegments, IsFaultOf};
+ghost use Rattle.line_service.specs.Notes.{ToldLinesAreNoted};
+ghost use Rattle.line_service.specs.Lasting.{ToldLinesLast, EachSegmentLasts};
+
+use crate::answering::AnswersLines;
+use crate::digested::Digested;
+use crate::ending::{Ready, abandon_segment, make_ready};
+use crate::faults::{Ending, LoopFault};
+use crate::parts::serve_part;
+use crate::segmented::{EndFault, Segmented};
+use crate::segments::{OpenSegment, SegmentRules};
+use crate::unread::Unread;
+use disks::Disk;
+use std::alloc::Global;
+use std::io::{Read, Write};
+
+/// A part of the lines that was served: why it ended, and its segment.
+#[derive(Drop)]
+pub struct PartEnd<W> {
+    pub(crate) ending: Ending,
+    pub(crate) segment: OpenSegment<W>,
+}
+
+/// The reported reason why a part ended. In a segment that continues since no file could be written, a service that answers no line
+/// is not out of memory: `Journal` is reported.
+fn told_of(fault: LoopFault, kept: Option<EndFault>) -> LoopFault
+    ensures { result ≡ told_of fault kept }
+{
+    match (fault, kept) {
+        (LoopFault::OutOfMemory, Some(EndFault::File)) => LoopFault::Journal,
+        (_, _) => fault,
+    }
+}
+
+/// Serves a part of the lines: in a segment that continues although it is due, up to the next block.
+fn serve_in<S: AnswersLines, D: Disk, I: Read, W: Write>(
+    alloc: Global,
+    service: &mut S,
+    disk: &mut D,
+    ready: Ready<D::Grown>,
+    line: &mut Vec<u8>,
+    unread: &mut Unread,
+    input: &mut I,
+    out: &mut W,
+) -> Result<PartEnd<D::Grown>, LoopFault>
+    requires { S.is_over service.old ≡ false }
+    ensures ok { IfOk result (λ end. (begun : List ℕ) → HasBegun begun line.old.items
+        → ServesPart end.ending (by_stand S.is_answered) (stand service.old (D.holds disk.old))
+        (stand service.new (D.holds disk.new)) begun unread.old unread.new line.new.items
+        (I.remaining input.old) (I.remaining input.new)
+        (record {
+          journal = hashed (D.Grown.contents ready.segment.writer.inner) ready.segment.writer.hasher;
+          out = W.contents out.old;
+        })
+        (record {
+          journal = hashed (D.Grown.contents end.segment.writer.inner) end.segment.writer.hasher;
+          out = W.contents out.new;
+        })) }
+    ensures ends { IfOk result (λ end. IsEnding end.ending (S.is_over service.new)
+        (is_some ready.kept) unread.new (I.remaining input.new)) }
+    ensures same { IfOk result (λ end. (end.segment.number ≡ ready.segment.number)
+        × (string_bytes end.segment.name ≡ string_bytes ready.segment.name)) }
+    ensures err { OnErr result ((begun : List ℕ) → HasBegun begun line.old.items
+        → (journal : Option (List ℕ))
+        × ServesSomeOf (by_stand S.is_answered) (stand service.old (D.holds disk.old))
+        (stand service.new (D.holds disk.new)) begun unread.old (I.remaining input.old)
+        (I.remaining input.new)
+        (record {
+          journal = hashed (D.Grown.contents ready.segment.writer.inner) ready.segment.writer.hasher;
+          out = W.contents out.old;
+        })
+        (record { journal = journal; out = W.contents out.new })) }
+    ensures long { IfErr result (λ e.
+        IsPartFault e (I.remaining input.old) (I.remaining input.new)) }
+    ensures told { IfErr result (λ e. (why : LoopFault) × (e ≡ told_of why ready.kept)) }
+    ensures whole { IfOk result (λ end.
+        AllLasts (hashed (D.Grown.contents ready.segment.writer.inner) ready.segment.writer.hasher)
+        (D.Grown.lasting ready.segment.writer.inner)
+        → AllLasts (hashed (D.Grown.contents end.segment.writer.inner) end.segment.writer.hasher)
+        (D.Grown.lasting end.segment.writer.inner)) }
+    ensures spared { OnErr result ((begun : List ℕ) → HasBegun begun line.old.items
+        → (journal : Option (List ℕ))
+        × ServesSomeOf (by_stand S.is_answered) (stand service.old (D.holds disk.old))
+        (stand service.new (D.holds disk.new)) begun unread.old (I.remaining input.old)
+        (I.remaining input.new)
+        (record {
+          journal = D.Grown.lasting ready.segment.writer.inner;
+          out = W.contents out.old;
+        })
+        (record { journal = journal; out = W.contents out.new })
+        × IfSome (D.leaves disk.new)
+        (λ held. HasFront held (string_bytes ready.segment.name) journal)) }
+    ensures unchanged { OnOk result (S.changes_files service.old ≡ false
+        → (D.leaves disk.new ≡ D.leaves disk.old) × (S.changes_files service.new ≡ false)) }
+    ensures others { OnErr result (S.changes_files service.old ≡ false → Changes
+        (D.leaves disk.old) (D.leaves disk.new) (string_bytes ready.segment.name) (λ _. ⊤)) }
+{
+    let Ready { segment, kept } = ready;
+    let OpenSegment {
+        number,
+        name,
+        writer,
+    } = segment;
+    let mut journal = Some(writer);
+    let served = serve_part(
+        alloc,
+        service,
+        disk,
+        &mut journal,
+        kept.is_some(),
+        line,
+        unread,
+        input,
+        out,
+    );
+    let Some(writer) = journal else {
+        unreachable!()
+    };
+    let ending = match served {
+        Ok(ending) => ending,
+        Err(fault) => {
+            let Digested { inner, .. } = writer;
+            disk.abandon(inner, name);
+            return Err(told_of(fault, kept));
+        }
+    };
+    Ok(PartEnd {
+        ending,
+        segment: OpenSegment {
+            number,
+            name,
+            writer,
+        },
+    })
+}
+
+/// Serves the lines of a reader to its end with a journal in a chain of segment files. Returns the segment that is open in the end,
+/// which the caller settles.
+///
+/// Between two lines, a segment that is due ends ([`Segmented::is_due`]). All answers have left then. Its file is settled, the file
+/// of the next one is put into the folder and opened, and the service is the next one. If the segment cannot be ended, since there
+/// is no memory or no file can be written, it continues: its lines are answered, and this is tried again when the next block has been
+/// read.
+///
+/// The last segment's file has the notes of all lines that were delivered in this segment, after what it held before.
+///
+/// # Errors
+///
+/// Those of [`serve_part`], but `TooLong` only after 2 to the power 63 bytes, and `Journal` for `OutOfMemory` in a segment that
+/// continues since the next file could not be written; `Journal` too if the file of a segment that is due cannot be settled, or if
+/// that file, or the next one, cannot be opened. The folder then has the segment that was written, with all that was delivered; or
+/// it has the next one as the last, whose text says the same.
+pub fn serve_segments<S: Segmented, D: Disk, I: Read, W: Write>(
+    alloc: Global,
+    service: &mut S,
+    disk: &mut D,
+    first: OpenSegment<D::Grown>,
+    rules: SegmentRules<'_>,
+    input: &mut I,
+    out: &mut W,
+) -> Result<OpenSegment<D::Grown>, LoopFault>
+    requires { IsNamed rules.folder.now first }
+    ensures ok { IfOk result (λ end. ServesSegments S.is_answered S.segmenting rules.entry.folder.now
+        (moment_of service.old (D.holds disk.old) first.number
+        (hashed (D.Grown.contents first.writer.inner) first.writer.hasher))
+        (moment_of service.new (D.holds disk.new) end.number
+        (hashed (D.Grown.contents end.writer.inner) end.writer.hasher))
+        (I.remaining input.old) (I.remaining input.new) (W.contents out.old)
+        (W.contents out.new)) }
+    ensures err { OnErr result (ServesSomeSegments S.is_answered S.segmenting
+        rules.entry.folder.now
+        (moment_of service.old (D.holds disk.old) first.number
+        (hashed (D.Grown.contents first.writer.inner) first.writer.hasher)) service.new
+        (D.holds disk.new) (I.remaining input.old) (I.remaining input.new) (W.contents out.old)
+        (W.contents out.new)) }
+    ensures long { IfErr result (λ e.
+        IsFaultOf e (I.remaining input.old) (I.remaining input.new)) }
+    ensures named { IfOk result (λ end. IsNamed rules.entry.folder.now end) }
+    ensures noted { MatchResult result
+        (λ end. ToldLinesAreNoted S.is_answered S.segmenting rules.entry.folder.now
+        (moment_of service.old (D.holds disk.old) first.number
+        (hashed (D.Grown.contents first.writer.inner) first.writer.hasher)) service.new
+        (I.remaining input.old) (I.remaining input.new) (W.contents out.old) (W.contents out.new)
+        (hashed (D.Grown.contents end.writer.inner) end.writer.hasher))
+        (λ _. (journal : Option (List ℕ)) × ToldLinesAreNoted S.is_answered S.segmenting
+        rules.entry.folder.now
+        (moment_of service.old (D.holds disk.old) first.number
+        (hashed (D.Grown.contents first.writer.inner) first.writer.hasher)) service.new
+        (I.remaining input.old) (I.remaining input.new) (W.contents out.old) (W.contents out.new)
+        journal) }
+
+    // Where the content of files is known: what was delivered is there whenever the process ends and, with syncs, the power fails.
+    ensures lasts { outlives D.keeps_written rules.entry.synced ≡ true → IsSome (D.holds disk.old)
+        → AllLasts (hashed (D.Grown.contents first.writer.inner) first.writer.hasher)
+        (D.Grown.lasting first.writer.inner)
+        → MatchResult result
+        (λ end. (left : Option Held) → IfSome left (λ held. HasFront held (string_bytes end.name)
+        (D.Grown.lasting end.writer.inner))
+        → ToldLinesLast S.is_answered S.segmenting rules.entry.folder.now
+        (moment_of service.old (D.holds disk.old) first.number
+        (hashed (D.Grown.contents first.writer.inner) first.writer.hasher)) service.new
+        (I.remaining input.old) (I.remaining input.new) (W.contents out.old) (W.contents out.new)
+        left)
+        (λ _. ToldLinesLast S.is_answered S.segmenting rules.entry.folder.now
+        (moment_of service.old (D.holds disk.old) first.number
+        (hashed (D.Grown.contents first.writer.inner) first.writer.hasher)) service.new
+        (I.remaining input.old) (I.remaining input.new) (W.contents out.old) (W.contents out.new)
+        (D.leaves disk.new)) }
+    ensures whole { IfOk result (λ end. outlives D.keeps_written rules.entry.synced ≡ true
+        → IsSome (D.holds disk.old)
+        → AllLasts (hashed (D.Grown.contents first.writer.inner) first.writer.hasher)
+        (D.Grown.lasting first.writer.inner)
+        → AllLasts (hashed (D.Grown.contents end.writer.inner) end.writer.hasher)
+        (D.Grown.lasting end.writer.inner)) }
+
+    // Where answers change no file, the segments before the last are there too, whole.
+    ensures earlier { S.changes_files service.old ≡ false
+        → outlives D.keeps_written rules.entry.synced ≡ true
+        → IsSome (D.holds disk.old)
+        → AllLasts (hashed (D.Grown.contents first.writer.inner) first.writer.hasher)
+        (D.Grown.lasting first.writer.inner)
+        → MatchResult result
+        (λ end. (left : Option Held) → LeavesFront (D.leaves disk.new) left (string_bytes end.name)
+        (D.Grown.lasting end.writer.inner)
+        → EachSegmentLasts S.is_answered S.segmenting rules.entry.folder.now
+        (moment_of service.old (D.holds disk.old) first.number
+        (hashed (D.Grown.contents first.writer.inner) first.writer.hasher)) service.new
+        (I.remaining input.old) (I.remaining input.new) (W.contents out.old) (W.contents out.new)
+        left)
+        (λ _. EachSegmentLasts S.is_answered S.segmenting rules.entry.folder.now
+        (moment_of service.old (D.holds disk.old) first.number
+        (hashed (D.Grown.contents first.writer.inner) first.writer.hasher)) service.new
+        (I.remaining input.old) (I.remaining input.new) (W.contents out.old) (W.contents out.new)
+        (D.leaves disk.new)) }
+{
+    let mut segment = first;
+    let mut line = Vec::new(alloc);
+    let mut unread = Unread::none();
+    'parts: for part in 0..u64::MAX {
+        let ready = match make_ready(alloc, service, disk, segment, rules) {
+            Ok(ready) => ready,
+            Err(fault) => return Err(fault),
+        };
+        let end = match serve_in(
+            alloc,
+            service,
+            disk,
+            ready,
+            &mut line,
+            &mut unread,
+            input,
+            out,
+        ) {
+            Ok(end) => end,
+            Err(fault) => return Err(fault),
+        };
+        match end.ending {
+            Ending::End => return Ok(end.segment),
+            Ending::Over | Ending::Block => segment = end.segment,
+        }
+    }
+    abandon_segment(disk, segment);
+    Err(LoopFault::TooLong)
+}

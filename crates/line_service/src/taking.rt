@@ -1,0 +1,132 @@
+//! Bytes that are taken, line by line.
+
+ghost use Rattle.std.specs.Prelude.{◌≡◌, ◌<◌, ◌≤◌, ◌+◌, ◌-◌, ℕ, List, ◌++◌, length, take, true, false, OnOk, IfOk, MatchResult};
+ghost use Rattle.text_lines.specs.Limits.{line_limit};
+ghost use Rattle.line_service.specs.Answering.{IsLine, HasNoEnd, cut};
+ghost use Rattle.line_service.specs.Loop.{Written, GoesOn, Serves, Stops};
+ghost use Rattle.line_service.specs.Stands.{Stand, by_stand, stand};
+
+use crate::answering::AnswersLines;
+use crate::pending::Pending;
+use disks::Disk;
+use std::alloc::AllocError;
+use text_lines::LINE_LIMIT;
+
+/// What is kept of a piece after `kept` bytes of its line.
+fn kept_part(piece: &[u8], kept: usize) -> &[u8]
+    ensures { result.now ≡ take (line_limit + 1 - kept) piece.now }
+{
+    let room = (LINE_LIMIT + 1).saturating_sub(kept);
+    if room < piece.len() {
+        return &piece[..room];
+    }
+    piece
+}
+
+/// Keeps a piece of a line, up to one byte more than a line may have.
+fn keep(line: &mut Vec<u8>, piece: &[u8]) -> Result<(), AllocError>
+    ensures { OnOk result ((begun : List ℕ) → line.old.items ≡ cut begun
+        → line.new.items ≡ cut (begun ++ piece.now)) }
+{
+    let kept = kept_part(piece, line.len());
+    line.extend_from_slice(kept)?;
+    Ok(())
+}
+
+/// The bytes up to the first LF, with it, or all if there is none; whether there is one; and the bytes after them.
+fn split_line(bytes: &[u8]) -> (&[u8], bool, &[u8])
+    requires { 0 < length bytes.now }
+    ensures split { bytes.now ≡ result.0.now ++ result.2.now }
+    ensures some { 0 < length result.0.now }
+    ensures line { result.1 ≡ true → IsLine result.0.now }
+    ensures none { result.1 ≡ false → HasNoEnd result.0.now }
+{
+    for (i, byte) in bytes.iter().enumerate() {
+        if *byte == b'\n' {
+            let (line, rest) = bytes.split_at(i + 1);
+            return (line, true, rest);
+        }
+    }
+    (bytes, false, &[])
+}
+
+/// Takes a piece of a line more: it is kept, and if it ends the line, that is answered. Says whether it is over.
+fn take_piece<S: AnswersLines, D: Disk>(
+    service: &mut S,
+    disk: &mut D,
+    line: &mut Vec<u8>,
+    piece: &[u8],
+    ends: bool,
+    pending: &mut Pending,
+) -> Result<bool, AllocError>
+    requires open { S.is_over service.old ≡ false }
+    requires line { ends ≡ true → IsLine piece.now }
+    requires none { ends ≡ false → HasNoEnd piece.now }
+    ensures over { IfOk result (λ over. over ≡ S.is_over service.new) }
+    ensures serves { (old : Stand S) (before after : Written) (bytes : List ℕ)
+        → GoesOn (by_stand S.is_answered) old before after bytes
+        (stand service.old (D.holds disk.old)) line.old.items pending.old
+        → Serves result (by_stand S.is_answered) old before after (bytes ++ piece.now)
+        (stand service.new (D.holds disk.new)) line.new.items pending.new }
+    ensures unchanged { S.changes_files service.old ≡ false
+        → (D.leaves disk.new ≡ D.leaves disk.old) × (S.changes_files service.new ≡ false) }
+{
+    keep(line, piece)?;
+    if !ends {
+        return Ok(false);
+    }
+    service.answer(disk, line.as_slice(), pending)?;
+    line.clear();
+    Ok(service.is_over())
+}
+
+/// How far a block was taken: how many of its bytes, and whether it is over after them.
+#[derive(Clone, Copy)]
+pub(crate) struct Taken {
+    pub(crate) count: usize,
+    pub(crate) over: bool,
+}
+
+/// Takes the bytes of a block, line by line, up to the line after which it is over, if there is one.
+pub(crate) fn take_bytes<S: AnswersLines, D: Disk>(
+    service: &mut S,
+    disk: &mut D,
+    line: &mut Vec<u8>,
+    block: &[u8],
+    pending: &mut Pending,
+) -> Result<Taken, AllocError>
+    requires { S.is_over service.old ≡ false }
+    ensures over { IfOk result (λ t. t.over ≡ S.is_over service.new) }
+    ensures count { IfOk result
+        (λ t. (t.count ≤ length block.now) × (t.over ≡ false → t.count ≡ length block.now)) }
+    ensures serves { (old : Stand S) (before after : Written) (bytes : List ℕ)
+        → GoesOn (by_stand S.is_answered) old before after bytes
+        (stand service.old (D.holds disk.old)) line.old.items pending.old
+        → MatchResult result (λ t. GoesOn (by_stand S.is_answered) old before after
+        (bytes ++ take t.count block.now) (stand service.new (D.holds disk.new))
+        line.new.items pending.new)
+        (λ _. Stops (by_stand S.is_answered) old before after (bytes ++ block.now)
+        (stand service.new (D.holds disk.new))) }
+    ensures unchanged { S.changes_files service.old ≡ false
+        → (D.leaves disk.new ≡ D.leaves disk.old) × (S.changes_files service.new ≡ false) }
+{
+    let mut rest = block;
+    while !rest.is_empty() {
+        let (piece, ends, more) = split_line(rest);
+        match take_piece(service, disk, line, piece, ends, pending) {
+            Ok(false) => {}
+            Ok(true) => {
+                return Ok(Taken {
+                    count: block.len() - more.len(),
+                    over: true,
+                });
+            }
+            Err(fault) => return Err(fault),
+        }
+        rest = more;
+    }
+    Ok(Taken {
+        count: block.len(),
+        over: false,
+    })
+}

@@ -1,5 +1,0 @@
-use Rattle.lock_laws.proofs.WithoutRemarks.{locks_of_replicas}
-use Rattle.lock_laws.proofs.laws.locks_of_replicas_come_back.Goals as goal
-
-pub returns : goal.returns
-returns c = locks_of_replicas

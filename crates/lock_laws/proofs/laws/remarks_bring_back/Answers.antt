@@ -1,5 +1,0 @@
-use Rattle.lock_laws.proofs.RemarksBack.{remarks_bring_back}
-use Rattle.lock_laws.proofs.laws.remarks_bring_back.Goals as goal
-
-pub returns : goal.returns
-returns c = remarks_bring_back

@@ -1,6 +1,0 @@
-use Rattle.lock_laws.proofs.StateStays.{having_state_stays}
-use Rattle.lock_laws.proofs.WaitersBack.{waiters_come_back}
-use Rattle.lock_laws.proofs.laws.waiters_come_back.Goals as goal
-
-pub returns : goal.returns
-returns c = record { stays = having_state_stays; back = waiters_come_back }

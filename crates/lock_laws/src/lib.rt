@@ -1,4 +1,0 @@
-//! The laws of locks whose lines are answered with a journal.
-#![tactic(auto)]
-
-pub mod laws;

@@ -1,7 +1,0 @@
-mod Numbers
-mod Checked
-mod Named
-mod Texts
-mod Cuts
-mod Pieces
-mod Marks

@@ -1,9 +1,0 @@
--- What is known of files stays known: no line changes any.
-use Rattle.std.proofs.Common.{Option, subst, sym}
-use Rattle.std.specs.Prelude.{IsSome}
-use Rattle.disks.specs.Held.{Held}
-use Rattle.segment_loop.specs.Segmenting.{KeepsKnown}
-use Rattle.lock_serve.specs.Serving.{IsServed}
-
-pub knows : KeepsKnown IsServed
-knows old new was is line said noted a some = subst (λ (f : Option Held). IsSome f) (sym a.files) some

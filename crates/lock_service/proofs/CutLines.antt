@@ -1,0 +1,290 @@
+-- What is kept of the notes of lines, cut at any byte: line by line.
+use Rattle.std.proofs.Common.{◌≡◌, ℕ, zero, suc, ◌<◌, ◌≤◌, ◌^◌, Bool, true, false, List, [], ◌∷◌, ◌++◌, drop, length, Option, Some, None, refl, sym, ◌∙◌, ap, subst, inl, inr, arith, slice_get}
+use Rattle.std.specs.Prelude.{option_map}
+use Rattle.std.specs.List.{flat_map}
+use Rattle.std.proofs.lemmas.Bool.{cases_lt}
+use Rattle.std.proofs.lemmas.Grind.{flat_map-append}
+use Rattle.std.proofs.lemmas.Option.{slice_get-map}
+use Rattle.one_thread_ring.specs.Journals.{event_lines}
+use Rattle.ring_service.specs.Standings.{Standing}
+use Rattle.ring_service.proofs.Recovering.{split, after_head}
+use Rattle.held_locks.specs.declared.answers.HoldEnd.{HoldEnd}
+use Rattle.held_locks.specs.declared.answers.Answers.{Answers}
+use Rattle.held_locks.specs.declared.answers.Left.{Left}
+use Rattle.held_locks.specs.Queues.{Lock}
+use Rattle.held_locks.specs.Locks.{Ask, Acquire, Try, Release, Cancel, Leave, Stats, Mark, Asked, Turn, Step, turn, step, step_at}
+use Rattle.held_locks.specs.Promises.{AreRight, locks_after, leaves}
+use Rattle.held_locks.specs.Kept.{LockView, lock_of, locks_of, AreMade, ended_in, ended_at, answers_of, IsDone, IsWant, IsAnswer, IsLeft, left_at, left_of}
+use Rattle.held_locks.proofs.Right.{right_stays}
+use Rattle.held_locks.proofs.Shown.{locks_append}
+use Rattle.held_locks.proofs.Standing.{get_set_same}
+use Rattle.held_locks.proofs.AllLeft.{there_is}
+use Rattle.text_lines.specs.LongNumbers.{in_32_bits}
+use Rattle.lock_lines.specs.Asks as asks
+use Rattle.lock_lines.specs.Asks.{seen, heard}
+use Rattle.lock_lines.specs.Inputs.{IsReadAs}
+use Rattle.lock_lines.specs.declared.answers.Denial.TheVariants as denial
+use Rattle.lock_lines.specs.declared.inputs.Ask.{Ask as Read}
+use Rattle.lock_lines.specs.declared.inputs.Input.{Input as LineInput}
+use Rattle.lock_lines.specs.declared.inputs.Input.TheVariants as input
+use Rattle.line_service.specs.Answering.{Answers as Answered}
+use Rattle.lock_service.specs.declared.service.Terms.{Terms}
+use Rattle.lock_service.specs.Asking.{one_ask, is_off}
+use Rattle.lock_service.specs.Counting.{SegmentView}
+use Rattle.lock_service.specs.Noting.{events_at, events_from, end_line, note_about, note_of_left, notes_of_left, lines_about}
+use Rattle.lock_service.specs.Serving.{IsTold, IsAnsweredIf, IsInputAnswered, IsLineAnswered, denial_of}
+use Rattle.lock_service.specs.Life.{IsNoAnswer, AreHeard}
+use Rattle.lock_service.proofs.Chains.{chain_right, chain_many}
+use Rattle.lock_service.proofs.Marks.{IsSmallAsk}
+use Rattle.lock_service.proofs.Following.{Followed, some_is, none_is, step_is, also_there, lock_there, as_many, step_many}
+use Rattle.lock_service.proofs.LockLines.{AreBounded, IsNotedSo, AreLeftSo, all_past, order_small, stays, left_lock, left_note, left_so, left_many, noted_line}
+use Rattle.lock_service.proofs.Longer.{bounded_all}
+use Rattle.lock_service.proofs.Inputs.{IsHeardSo, AreHeardSo, none_taken, done, want_so, left_so as left_heard, heard_line, heard_lines}
+use Rattle.lock_service.proofs.GivenUp.{same_lists}
+use Rattle.lock_service.proofs.Cutting.{IsCutSo, IsNoFault, cut_empty, cut_then, cut_behind, cut_turn, within_first}
+
+-- ---- one lock is asked
+
+module _ (rings : List Standing) (old new : List LockView) (few : length rings < 2 ^ 32) (f : Followed rings old) (most : AreBounded new) (c i : ℕ) (ask : Ask) where
+  pub cut_done : (r : Answers) → IsDone old new c i ask r → IsSmallAsk ask → IsNoFault ask → (bytes lost : List ℕ) → bytes ++ lost ≡ note_about i old new r.ended → IsCutSo rings (locks_of old) (Asked c i ask ∷ []) bytes
+  cut_done r d small plain bytes lost e = go (slice_get old i) refl
+    where
+      ls : List Lock
+      ls = locks_of old
+
+      marks : List Mark
+      marks = (step (locks_of old) (Asked c i ask)).marks
+
+      missing : (o : Option LockView) → slice_get new i ≡ o → slice_get old i ≡ None → length new ≡ length old → o ≡ None
+      missing None p none n = refl
+      missing (Some w) p none n = let v = also_there new old i w n p in absurd (none_is v.0 (sym none ∙ v.1))
+
+      go : (o : Option LockView) → slice_get old i ≡ o → IsCutSo rings (locks_of old) (Asked c i ask ∷ []) bytes
+      go None none =
+          let n : length new ≡ length old = as_many old new (step (locks_of old) (Asked c i ask)).locks d.locks (step_many (locks_of old) c i ask) in
+          let gone : slice_get new i ≡ None = missing (slice_get new i) refl none n in
+          let quiet : r.ended ≡ None = d.ended ∙ ap (λ (x : Option LockView). ended_at x (step (locks_of old) (Asked c i ask)).marks) none in
+          let note : note_about i old new r.ended ≡ [] =
+          ap (λ (x : Option HoldEnd). end_line i x ++ events_from i (events_at (slice_get old i)) (slice_get new i)) quiet
+          ∙ ap (λ (x : Option LockView). events_from i (events_at (slice_get old i)) x) gone in
+          cut_empty rings old (Asked c i ask ∷ []) bytes lost f (e ∙ note)
+      go (Some v) at =
+          let here : slice_get (locks_of old) i ≡ Some (lock_of v) = lock_there old i v at in
+          let s : step (locks_of old) (Asked c i ask) ≡ step_at (locks_of old) c i ask (Some (lock_of v)) = step_is (locks_of old) i c ask (lock_of v) here in
+          let n : length new ≡ length old = as_many old new (step (locks_of old) (Asked c i ask)).locks d.locks (step_many (locks_of old) c i ask) in
+          let w = also_there old new i v (sym n) at in
+          let t : Turn = turn (locks_of old) (lock_of v) c ask in
+          let is : (step (locks_of old) (Asked c i ask)).marks ≡ t.marks = ap (λ (x : Step). x.marks) s in
+          let lock : lock_of w.0 ≡ t.lock = some_is (lock_of w.0) t.lock (sym (lock_there new i w.0 w.1) ∙ (ap (λ (x : List Lock). slice_get x i) (d.locks ∙ ap (λ (x : Step). x.locks) s) ∙ get_set_same (locks_of old) i t.lock (lock_of v) here)) in
+          let made : AreMade v.ring t.marks w.0.ring = subst (λ (x : List Mark). AreMade v.ring x w.0.ring) is (d.marks v w.0 at w.1) in
+          let ends : r.ended ≡ ended_in v.ring t.marks = d.ended ∙ (ap (λ (x : Option LockView). ended_at x (step (locks_of old) (Asked c i ask)).marks) at ∙ ap (λ (x : List Mark). ended_in v.ring x) is) in
+          let note : note_about i old new r.ended ≡ end_line i (ended_in v.ring t.marks) ++ event_lines i (drop (length v.ring.ring.book.history) w.0.ring.ring.book.history) =
+          ap (λ (x : Option HoldEnd). end_line i x ++ events_from i (events_at (slice_get old i)) (slice_get new i)) ends
+          ∙ (ap (λ (x : Option LockView). end_line i (ended_in v.ring t.marks) ++ events_from i (events_at x) (slice_get new i)) at
+          ∙ ap (λ (x : Option LockView). end_line i (ended_in v.ring t.marks) ++ events_from i (length v.ring.ring.book.history) x) w.1) in
+          cut_turn rings old few f i v c ask at w.0 small plain made lock (most i w.0 w.1) bytes lost (e ∙ note)
+
+  -- nothing is noted of an ask that is refused for lack of room or memory
+  pub want_notes : (r : Answers) → IsWant old new i ask r → note_about i old new r.ended ≡ []
+  want_notes r d =
+      ap (λ (x : Option HoldEnd). end_line i x ++ events_from i (events_at (slice_get old i)) (slice_get new i)) d.none.0
+      ∙ (ap (λ (x : List LockView). events_from i (events_at (slice_get old i)) (slice_get x i)) d.same ∙ past (slice_get old i))
+    where
+      past : (o : Option LockView) → events_from i (events_at o) o ≡ []
+      past None = refl
+      past (Some v) = all_past i v.ring.ring.book.history (length v.ring.ring.book.history) refl
+
+-- ---- a client leaves all locks
+
+-- the first locks of one list, and the others of another
+mixed : ℕ → List LockView → List LockView → List LockView
+mixed zero new old = old
+mixed (suc n) [] old = old
+mixed (suc n) (w ∷ new) [] = []
+mixed (suc n) (w ∷ new) (v ∷ old) = w ∷ mixed n new old
+
+mixed_many : (n : ℕ) (new old : List LockView) → length (mixed n new old) ≡ length old
+unfolding mixed
+mixed_many zero new old = refl
+mixed_many (suc n) [] old = refl
+mixed_many (suc n) (w ∷ new) [] = refl
+mixed_many (suc n) (w ∷ new) (v ∷ old) = ap suc (mixed_many n new old)
+
+mixed_first : (n : ℕ) (new old : List LockView) (j : ℕ) → length new ≡ length old → j < n → slice_get (mixed n new old) j ≡ slice_get new j
+unfolding mixed
+mixed_first zero new old j m l = absurd (omega (arith, l))
+mixed_first (suc n) [] [] j m l = refl
+mixed_first (suc n) [] (v ∷ old) j m l = absurd (omega (arith, m))
+mixed_first (suc n) (w ∷ new) [] j m l = absurd (omega (arith, m))
+mixed_first (suc n) (w ∷ new) (v ∷ old) zero m l = refl
+mixed_first (suc n) (w ∷ new) (v ∷ old) (suc j) m l = mixed_first n new old j (omega (arith, m)) (omega (arith, l))
+
+mixed_later : (n : ℕ) (new old : List LockView) (j : ℕ) → n ≤ j → slice_get (mixed n new old) j ≡ slice_get old j
+unfolding mixed
+mixed_later zero new old j l = refl
+mixed_later (suc n) [] old j l = refl
+mixed_later (suc n) (w ∷ new) [] j l = refl
+mixed_later (suc n) (w ∷ new) (v ∷ old) zero l = absurd (omega (arith, l))
+mixed_later (suc n) (w ∷ new) (v ∷ old) (suc j) l = mixed_later n new old j (omega (arith, l))
+
+no_fault : IsNoFault Leave
+no_fault i v e = cc
+
+module _ (rings : List Standing) (old new : List LockView) (few : length rings < 2 ^ 32) (f : Followed rings old) (most : AreBounded new) (c : ℕ) (said : List Left) (d : IsLeft old new c said) where
+  old_new : length new ≡ length old
+  old_new = as_many old new (locks_after (locks_of old) (leaves c (length old))) d.locks (left_many (locks_of old) c (length old))
+
+  -- the locks of which the client has left the first
+  mixed_locks : (n : ℕ) → n ≤ length old → locks_of (mixed n new old) ≡ locks_after (locks_of old) (leaves c n)
+  mixed_locks n l = same_lists (locks_of (mixed n new old)) (locks_after (locks_of old) (leaves c n)) (λ j. elim (cases_lt j n) [
+    | inl lt ↦
+        let v = there_is old j (omega (arith, lt, l)) in
+        let at : slice_get (locks_of old) j ≡ Some (lock_of v.0) = lock_there old j v.0 v.1 in
+        slice_get-map lock_of (mixed n new old) j
+        ∙ (ap (λ (x : Option LockView). option_map lock_of x) (mixed_first n new old j old_new lt)
+        ∙ (sym (slice_get-map lock_of new j)
+        ∙ (ap (λ (x : List Lock). slice_get x j) d.locks ∙ (left_lock (locks_of old) c (length old) j (lock_of v.0) at (omega (arith, lt, l)) ∙ sym (left_lock (locks_of old) c n j (lock_of v.0) at lt)))))
+    | inr le ↦
+        slice_get-map lock_of (mixed n new old) j
+        ∙ (ap (λ (x : Option LockView). option_map lock_of x) (mixed_later n new old j le) ∙ (sym (slice_get-map lock_of old j) ∙ sym (stays (locks_of old) c n j le)))
+  ])
+
+  mixed_followed : (n : ℕ) → n ≤ length old → (a : AreLeftSo rings old new c n) → Followed a.behind (mixed n new old)
+  mixed_followed n l a =
+      let size : length a.behind ≡ length rings = chain_many rings a.behind a.calls a.chain in
+      let many = f.many in
+      let same_many : length (mixed n new old) ≡ length old = mixed_many n new old in record {
+        many = omega (arith, size, many, same_many);
+        right = chain_right rings a.behind a.calls f.right a.chain;
+        each = λ j x e. elim (cases_lt j n) [
+          | inl lt ↦ a.gone j x lt (sym (mixed_first n new old j old_new lt) ∙ e)
+          | inr le ↦ let g = f.each j x (sym (mixed_later n new old j le) ∙ e) in (g.0, a.rest j le ∙ g.1, g.2)
+        ];
+        locks = subst AreRight (sym (mixed_locks n l)) (right_stays (locks_of old) (leaves c n) f.locks);
+      }
+
+  cut_left_at : (n : ℕ) → n ≤ length old → (bytes lost : List ℕ) → bytes ++ lost ≡ flat_map (note_of_left new) (left_of c old n) → IsCutSo rings (locks_of old) (leaves c n) bytes
+  cut_left_at zero l bytes lost e = cut_empty rings old [] bytes lost f e
+  cut_left_at (suc n) l bytes lost e =
+      let first : List ℕ = flat_map (note_of_left new) (left_of c old n) in
+      let one : List ℕ = flat_map (note_of_left new) (left_at c n (slice_get old n)) in
+      let both : bytes ++ lost ≡ first ++ one = e ∙ flat_map-append (note_of_left new) (left_of c old n) (left_at c n (slice_get old n)) in
+      elim (cases_lt (length bytes) (length first)) [
+        | inl lt ↦ cut_then rings (locks_of old) (leaves c n) (Asked c n Leave ∷ []) bytes (cut_left_at n (omega (arith, l)) bytes (drop (length bytes) first) (within_first bytes lost first one both (omega (arith, lt))))
+        | inr le ↦
+            let a = left_so rings old new few f most c said d n (omega (arith, l)) in
+            let vs : List LockView = mixed n new old in
+            let g : Followed a.behind vs = mixed_followed n (omega (arith, l)) a in
+            let size : length a.behind ≡ length rings = chain_many rings a.behind a.calls a.chain in
+            let rest : List ℕ = drop (length first) bytes in
+            let v = there_is old n (omega (arith, l)) in
+            let w = also_there old new n v.0 (sym old_new) v.1 in
+            let at : slice_get vs n ≡ Some v.0 = mixed_later n new old n (omega arith) ∙ v.1 in
+            let lock : lock_of w.0 ≡ (turn (locks_of vs) (lock_of v.0) c Leave).lock = some_is (lock_of w.0) (turn (locks_of old) (lock_of v.0) c Leave).lock
+            (sym (lock_there new n w.0 w.1) ∙ (ap (λ (x : List Lock). slice_get x n) d.locks ∙ left_lock (locks_of old) c (length old) n (lock_of v.0) (lock_there old n v.0 v.1) (omega (arith, l)))) in
+            let made : AreMade v.0.ring (turn (locks_of vs) (lock_of v.0) c Leave).marks w.0.ring = d.marks n v.0 w.0 v.1 w.1 in
+            let note : one ≡ end_line n (ended_in v.0.ring (turn (locks_of vs) (lock_of v.0) c Leave).marks) ++ event_lines n (drop (length v.0.ring.ring.book.history) w.0.ring.ring.book.history) =
+            ap (λ (x : Option LockView). flat_map (note_of_left new) (left_at c n x)) v.1 ∙ left_note c n v.0 w.0 new w.1 made in
+            let noted : IsNotedSo rings vs first = record { calls = a.calls; behind = a.behind; chain = a.chain; followed = g; lines = a.lines } in
+            cut_behind rings (locks_of old) vs (leaves c n) (Asked c n Leave ∷ []) first rest bytes noted (mixed_locks n (omega (arith, l)))
+            (cut_turn a.behind vs (omega (arith, few, size)) g n v.0 c Leave at w.0 tt no_fault made lock (most n w.0 w.1) rest lost (after_head bytes lost first one both le ∙ note))
+            (split bytes lost first one both le)
+      ]
+
+  pub cut_left : (bytes lost : List ℕ) → bytes ++ lost ≡ notes_of_left new said → IsCutSo rings (locks_of old) (leaves c (length old)) bytes
+  cut_left bytes lost e = cut_left_at (length old) (omega arith) bytes lost (e ∙ ap (λ (x : List Left). notes_of_left new x) d.told)
+
+-- ---- a line
+
+-- the inputs of a line, and what was kept of them
+pub record IsLineCut (rings : List Standing) (ls new : List Lock) (line said bytes : List ℕ) : Type 0 where
+  pub taken : IsHeardSo ls new line said
+  pub cut : IsCutSo rings ls taken.inputs bytes
+
+module _ (rings : List Standing) (old new : SegmentView) (few : length rings < 2 ^ 32) (f : Followed rings old.locks) (most : AreBounded new.locks) (line bytes lost : List ℕ) where
+  line_quiet : (said noted : List ℕ) → IsNoAnswer line said → new ≡ old → noted ≡ [] → bytes ++ lost ≡ noted → IsLineCut rings (locks_of old.locks) (locks_of new.locks) line said bytes
+  line_quiet said noted n same none e = record {
+    taken = none_taken old new line said n same;
+    cut = cut_empty rings old.locks [] bytes lost f (e ∙ none);
+  }
+
+  module _ (client : ℕ) (ask : Read) (read : IsReadAs line (input.Asked client ask)) (said : List ℕ) where
+    line_done : (i : ℕ) (a : Ask) (r : Answers) → one_ask (seen ask) ≡ Some (i, a) → said ≡ lines_about i (answers_of client r) → IsSmallAsk a → IsNoFault a → IsDone old.locks new.locks client i a r → bytes ++ lost ≡ note_about i old.locks new.locks r.ended →
+        IsLineCut rings (locks_of old.locks) (locks_of new.locks) line said bytes
+    line_done i a r q says small plain d e = record {
+      taken = done old new line client ask read i a r said q says d;
+      cut = cut_done rings old.locks new.locks few f most client i a r d small plain bytes lost e;
+    }
+
+    line_answer : (i : ℕ) (a : Ask) (r : Answers) → one_ask (seen ask) ≡ Some (i, a) → said ≡ lines_about i (answers_of client r) → IsSmallAsk a → IsNoFault a → IsAnswer old.locks new.locks client i a r → bytes ++ lost ≡ note_about i old.locks new.locks r.ended →
+        IsLineCut rings (locks_of old.locks) (locks_of new.locks) line said bytes
+    line_answer i a r q says small plain (inl d) e = line_done i a r q says small plain d e
+    line_answer i a r q says small plain (inr w) e = record {
+      taken = want_so old new line client ask read i a r said says w;
+      cut = cut_empty rings old.locks [] bytes lost f (e ∙ want_notes rings old.locks new.locks few f most client i a r w);
+    }
+
+    line_of : (strict : Bool) (a : asks.Ask) (noted : List ℕ) → seen ask ≡ a → heard a ≡ Some a → is_off false a ≡ false → bytes ++ lost ≡ noted → IsTold strict true client (one_ask a) old said noted new → IsLineCut rings (locks_of old.locks) (locks_of new.locks) line said bytes
+    line_of strict (asks.acquire lock order) noted q h plain e t =
+        line_answer (in_32_bits lock) (Acquire order) t.answers (ap one_ask q) t.says (order_small asks.acquire lock order (asks.acquire lock order) h) (λ i v p. cc) t.done (e ∙ t.notes)
+    line_of strict (asks.try lock order) noted q h plain e t =
+        line_answer (in_32_bits lock) (Try order) t.answers (ap one_ask q) t.says (order_small asks.try lock order (asks.try lock order) h) (λ i v p. cc) t.done (e ∙ t.notes)
+    line_of strict (asks.release lock token) noted q h plain e t = line_done (in_32_bits lock) (Release token) t.answers (ap one_ask q) t.says tt (λ i v p. cc) t.done (e ∙ t.notes)
+    line_of strict (asks.cancel lock) noted q h plain e t = line_done (in_32_bits lock) Cancel t.answers (ap one_ask q) t.says tt (λ i v p. cc) t.done (e ∙ t.notes)
+    line_of strict asks.leave noted q h plain e t = record {
+      taken = left_heard old new line client ask read said noted true (ap one_ask q) t;
+      cut = cut_left rings old.locks new.locks few f most client t.left t.done bytes lost (e ∙ t.notes);
+    }
+    line_of strict (asks.corrupt lock machine value) noted q h plain e t = absurd (let wrong : true ≡ false = plain in cc)
+    line_of strict (asks.stats lock) noted q h plain e t = line_done (in_32_bits lock) Stats t.answers (ap one_ask q) t.says tt (λ i v p. cc) t.done (e ∙ t.notes)
+
+    line_if : (off : Bool) (terms : Terms) (noted : List ℕ) → terms.noting ≡ true → terms.faults ≡ false → is_off terms.faults (seen ask) ≡ off → bytes ++ lost ≡ noted → IsAnsweredIf off terms client (seen ask) old said noted new → IsLineCut rings (locks_of old.locks) (locks_of new.locks) line said bytes
+    line_if true terms noted noting faults o e t = line_quiet said noted (inr (inl (client, denial.Off, t.says))) t.leaves t.notes e
+    line_if false terms noted noting faults o e t =
+        line_of terms.strict (seen ask) noted refl read.2 (subst (λ (b : Bool). is_off b (seen ask) ≡ false) faults o) e (subst (λ (b : Bool). IsTold terms.strict b client (one_ask (seen ask)) old said noted new) noting t)
+
+  line_input : (terms : Terms) (i : LineInput) (said noted : List ℕ) → terms.noting ≡ true → terms.faults ≡ false → IsReadAs line i → bytes ++ lost ≡ noted → IsInputAnswered terms i old said noted new → IsLineCut rings (locks_of old.locks) (locks_of new.locks) line said bytes
+  line_input terms (input.Asked client ask) said noted noting faults r e t = line_if client ask r said (is_off terms.faults (seen ask)) terms noted noting faults refl e t
+  line_input terms (input.Refused client why) said noted noting faults r e t = line_quiet said noted (inr (inl (client, denial_of why, t.says))) t.leaves t.notes e
+  line_input terms input.Nobody said noted noting faults r e t = line_quiet said noted (inl (r, t.says)) t.leaves t.notes e
+
+-- ---- lines
+
+pub record AreCutSo (rings : List Standing) (ls new : List Lock) (lines : List (List ℕ)) (said bytes : List ℕ) : Type 0 where
+  pub taken : AreHeardSo ls new lines said
+  pub cut : IsCutSo rings ls taken.inputs bytes
+
+abbrev joined : (ls mid new : List Lock) (line : List ℕ) (lines : List (List ℕ)) (said first later : List ℕ) → said ≡ first ++ later → IsHeardSo ls mid line first → AreHeardSo mid new lines later → AreHeardSo ls new (line ∷ lines) said
+joined ls mid new line lines said first later e h more = record {
+  inputs = h.inputs ++ more.inputs;
+  heard = (first, later, h.inputs, more.inputs, h.heard, e, refl, subst (λ (x : List Lock). AreHeard x lines later more.inputs) h.locks more.heard);
+  locks = more.locks ∙ (ap (λ (x : List Lock). locks_after x more.inputs) h.locks ∙ sym (locks_append ls h.inputs more.inputs));
+}
+
+pub cut_lines : (terms : Terms) (rings : List Standing) (old new : SegmentView) (lines : List (List ℕ)) (said noted : List ℕ) → length rings < 2 ^ 32 → Followed rings old.locks → terms.noting ≡ true → terms.faults ≡ false → Answered (IsLineAnswered terms) old lines said noted new → AreBounded new.locks →
+    (bytes lost : List ℕ) → bytes ++ lost ≡ noted → AreCutSo rings (locks_of old.locks) (locks_of new.locks) lines said bytes
+cut_lines terms rings old new [] said noted few f noting faults a most bytes lost e = record {
+  taken = record { inputs = []; heard = (a.0, refl); locks = ap (λ (s : SegmentView). locks_of s.locks) a.2 };
+  cut = cut_empty rings old.locks [] bytes lost f (e ∙ a.1);
+}
+cut_lines terms rings old new (line ∷ lines) said noted few f noting faults a most bytes lost e =
+    let mid : SegmentView = a.0 in
+    let within : AreBounded mid.locks = bounded_all terms mid new lines a.2 a.4 a.8 most in
+    let both : bytes ++ lost ≡ a.3 ++ a.4 = e ∙ a.7 in
+    elim (cases_lt (length bytes) (length a.3)) [
+      | inl lt ↦
+          let one = line_input rings old mid few f within line bytes (drop (length bytes) a.3) terms a.5.0 a.1 a.3 noting faults a.5.1 (within_first bytes lost a.3 a.4 both (omega (arith, lt))) a.5.2 in
+          let more = heard_lines terms mid new lines a.2 a.4 a.8 in record {
+            taken = joined (locks_of old.locks) (locks_of mid.locks) (locks_of new.locks) line lines said a.1 a.2 a.6 one.taken more;
+            cut = cut_then rings (locks_of old.locks) one.taken.inputs more.inputs bytes one.cut;
+          }
+      | inr le ↦
+          let rest : List ℕ = drop (length a.3) bytes in
+          let n = (noted_line rings old mid few f within terms line a.1 a.3 noting a.5).noted in
+          let h = heard_line old mid line terms a.1 a.3 a.5 in
+          let size : length n.behind ≡ length rings = chain_many rings n.behind n.calls n.chain in
+          let more = cut_lines terms n.behind mid new lines a.2 a.4 (omega (arith, few, size)) n.followed noting faults a.8 most rest lost (after_head bytes lost a.3 a.4 both le) in record {
+            taken = joined (locks_of old.locks) (locks_of mid.locks) (locks_of new.locks) line lines said a.1 a.2 a.6 h more.taken;
+            cut = cut_behind rings (locks_of old.locks) mid.locks h.inputs more.taken.inputs a.3 rest bytes n h.locks more.cut (split bytes lost a.3 a.4 both le);
+          }
+    ]

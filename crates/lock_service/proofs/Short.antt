@@ -1,0 +1,106 @@
+-- Locks that are short, and what an answer changes of them.
+use Rattle.std.proofs.Common.{◌≡◌, ℕ, zero, suc, Bool, true, false, ◌||◌, List, [], ◌∷◌, length, Option, None, Some, slice_get, refl, sym, ap, ◌∙◌, inl, inr}
+use Rattle.std.specs.Prelude.{◌≢◌}
+use Rattle.std.proofs.lemmas.Bool.{or_parts, or_from}
+use Rattle.std.proofs.lemmas.List.{length-map, length-set}
+use Rattle.ring_model.specs.declared.events.Event.{Event}
+use Rattle.endless_ring.specs.Endless.{IsSameEndless}
+use Rattle.held_locks.specs.declared.answers.Waiter.{Waiter}
+use Rattle.held_locks.specs.declared.answers.Answers.{Answers}
+use Rattle.held_locks.specs.Queues.{Lock}
+use Rattle.held_locks.specs.Locks.{Ask, Acquire, Try, Release, Cancel, Leave, Corrupt, Stats, Input, Asked, Restart, step, step_at, restarted}
+use Rattle.held_locks.specs.Promises.{locks_after, leaves}
+use Rattle.held_locks.specs.Kept.{LockView, lock_of, locks_of, IsDone, IsWant, IsAnswer, IsLeft}
+use Rattle.ring_model.specs.Limits.{event_limit, machine_limit}
+use Rattle.std.specs.Prelude.{nat_lt, ◌+◌}
+use Rattle.lock_service.specs.Asking.{IsAnswerTo}
+use Rattle.lock_service.specs.Due.{is_short, is_short_at, has_short}
+use Rattle.lock_service.specs.Counting.{IsWatched}
+
+pub none_at : (vs : List LockView) (i : ℕ) → has_short vs ≡ false → is_short_at (slice_get vs i) ≡ false
+none_at [] i e = refl
+none_at (v ∷ vs) zero e = (or_parts (is_short v) (has_short vs) e).0
+none_at (v ∷ vs) (suc i) e = none_at vs i (or_parts (is_short v) (has_short vs) e).1
+
+none_all : (vs : List LockView) → ((i : ℕ) → is_short_at (slice_get vs i) ≡ false) → has_short vs ≡ false
+none_all [] f = refl
+none_all (v ∷ vs) f = or_from (is_short v) (has_short vs) (f 0) (none_all vs (λ i. f (suc i)))
+
+or_none : (a b : Bool) → b ≡ false → (a || b) ≡ a
+or_none true b e = refl
+or_none false b e = e
+
+only : (vs : List LockView) (i : ℕ) → ((j : ℕ) → j ≢ i → is_short_at (slice_get vs j) ≡ false) → has_short vs ≡ is_short_at (slice_get vs i)
+only [] i f = refl
+only (v ∷ vs) zero f = or_none (is_short v) (has_short vs) (none_all vs (λ i. f (suc i) (λ e. cc)))
+only (v ∷ vs) (suc i) f = ap (λ (b : Bool). b || has_short vs) (f 0 (λ e. cc)) ∙ only vs i (λ j n. f (suc j) (λ e. n cc))
+
+-- ---- the locks beside the one that is asked
+
+pub short_like : (v w : LockView) → lock_of w ≡ lock_of v → IsSameEndless v.ring w.ring → is_short w ≡ is_short v
+short_like v w l s =
+    let line : w.line ≡ v.line = ap (λ (x : Lock). x.line) l in
+    let history : w.ring.ring.book.history ≡ v.ring.ring.book.history = ap (λ b. b.history) s.ring.book in
+    ap (λ (h : List Event). nat_lt event_limit (length h + (length w.line + (machine_limit + 1)))) history
+    ∙ ap (λ (x : List Waiter). nat_lt event_limit (length v.ring.ring.book.history + (length x + (machine_limit + 1)))) line
+
+some_one : {X : Type 0} (x y : X) → Some x ≡ Some y → x ≡ y
+some_one x y e = cc
+
+some_none : {X : Type 0} (x : X) → Some x ≡ None → ⊥
+some_none x e = cc
+
+want_still : (old new : List LockView) (i : ℕ) (ask : Ask) (r : Answers) → IsWant old new i ask r → (j : ℕ) → is_short_at (slice_get new j) ≡ is_short_at (slice_get old j)
+want_still old new i ask r w j = ap (λ (vs : List LockView). is_short_at (slice_get vs j)) w.same
+
+done_still : (old new : List LockView) (c i : ℕ) (ask : Ask) (r : Answers) → IsDone old new c i ask r → (j : ℕ) → j ≢ i → is_short_at (slice_get new j) ≡ is_short_at (slice_get old j)
+done_still old new c i ask r d j n = ap is_short_at (d.others j n)
+
+answer_still : (old new : List LockView) (c i : ℕ) (ask : Ask) (r : Answers) → IsAnswer old new c i ask r → (j : ℕ) → j ≢ i → is_short_at (slice_get new j) ≡ is_short_at (slice_get old j)
+answer_still old new c i ask r (inl d) j n = done_still old new c i ask r d j n
+answer_still old new c i ask r (inr w) j n = want_still old new i ask r w j
+
+-- each answer is one that may be a refusal for lack of room or memory
+pub as_answer : (old new : List LockView) (c i : ℕ) (ask : Ask) (r : Answers) → IsAnswerTo old new c i ask r → IsAnswer old new c i ask r
+as_answer old new c i (Acquire order) r a = a
+as_answer old new c i (Try order) r a = a
+as_answer old new c i (Release token) r a = inl a
+as_answer old new c i Cancel r a = inl a
+as_answer old new c i Leave r a = inl a
+as_answer old new c i (Corrupt machine value) r a = a
+as_answer old new c i Stats r a = inl a
+
+pub short_after : (old new : List LockView) (c i : ℕ) (ask : Ask) (r : Answers) (short : Bool) → IsAnswerTo old new c i ask r → IsWatched old short → (short || is_short_at (slice_get new i)) ≡ (short || has_short new)
+short_after old new c i ask r true a w = refl
+short_after old new c i ask r false a w =
+    sym (only new i (λ j n. answer_still old new c i ask r (as_answer old new c i ask r a) j n ∙ none_at old j (w refl)))
+
+pub watched_after : (new : List LockView) (short now : Bool) → now ≡ (short || has_short new) → IsWatched new now
+watched_after new short now e = λ f. (or_parts short (has_short new) (sym e ∙ f)).1
+
+-- ---- as many locks as before
+
+step_long : (ls : List Lock) (i : Input) → length (step ls i).locks ≡ length ls
+step_long ls (Asked c i ask) = go (slice_get ls i)
+  where
+    go : (x : Option Lock) → length (step_at ls c i ask x).locks ≡ length ls
+    go None = refl
+    go (Some l) = length-set ls i _
+step_long ls Restart = length-map ls restarted
+
+after_long : (ls : List Lock) (is : List Input) → length (locks_after ls is) ≡ length ls
+after_long ls [] = refl
+after_long ls (i ∷ is) = after_long (step ls i).locks is ∙ step_long ls i
+
+views_long : (old new : List LockView) (ls : List Lock) → locks_of new ≡ ls → length ls ≡ length (locks_of old) → length new ≡ length old
+views_long old new ls e n = sym (length-map new lock_of) ∙ ap (λ (x : List Lock). length x) e ∙ n ∙ length-map old lock_of
+
+answer_long : (old new : List LockView) (c i : ℕ) (ask : Ask) (r : Answers) → IsAnswer old new c i ask r → length new ≡ length old
+answer_long old new c i ask r (inl d) = views_long old new _ d.locks (step_long (locks_of old) (Asked c i ask))
+answer_long old new c i ask r (inr w) = ap (λ (vs : List LockView). length vs) w.same
+
+pub asked_long : (old new : List LockView) (c i : ℕ) (ask : Ask) (r : Answers) → IsAnswerTo old new c i ask r → length new ≡ length old
+asked_long old new c i ask r a = answer_long old new c i ask r (as_answer old new c i ask r a)
+
+pub left_long : (old new : List LockView) (c : ℕ) (said : List _) → IsLeft old new c said → length new ≡ length old
+left_long old new c said l = views_long old new _ l.locks (after_long (locks_of old) (leaves c (length old)))

@@ -1,0 +1,176 @@
+-- What is answered to a line, and what is noted of it, are whole lines.
+use Rattle.std.proofs.Common.{◌≡◌, ℕ, Bool, true, false, cond, eqb, List, [], ◌∷◌, ◌++◌, Option, Some, None, slice_get, inl, inr, ◌⊎◌, refl, ap, sym, subst, ◌∙◌, append_assoc, append-nil}
+use Rattle.std.specs.Prelude.{codes}
+use Rattle.std.specs.Fmt.{decimal}
+use Rattle.std.specs.List.{flat_map}
+use Rattle.std.proofs.lemmas.Bool.{eqb-true, eqb-false}
+use Rattle.text_lines.specs.Spelling.{spaced, ended}
+use Rattle.disks.specs.Held.{Held}
+use Rattle.line_service.specs.Answering.{IsLine, Answers}
+use Rattle.line_service.specs.Stands.{Stand, by_stand}
+use Rattle.segment_files.specs.Remarks.{IsEnded}
+use Rattle.segment_files.specs.RemarkLaws.{AreLines}
+use Rattle.saved_history.specs.declared.saved.SavedEvent.{SavedEvent}
+use Rattle.saved_history.specs.declared.saved.SavedEvent.TheVariants.{Granted, Refused, Member, Corrupted}
+use Rattle.saved_history.specs.declared.saved.SavedSurvey.{SavedSurvey}
+use Rattle.saved_history.specs.Spelling.{event_line, survey_line}
+use Rattle.journal.specs.declared.calls.Call.{Call}
+use Rattle.journal.specs.declared.calls.Call.TheVariants as call
+use Rattle.journal.specs.declared.calls.JournalLine.{JournalLine}
+use Rattle.journal.specs.Spelling.{call_line, journal_line}
+use Rattle.ring_model.specs.declared.events.Event.{Event}
+use Rattle.one_thread_ring.specs.Journals.{line_of_event, line_of_survey}
+use Rattle.held_locks.specs.declared.answers.Answer.{Answer}
+use Rattle.held_locks.specs.declared.answers.Answer.TheVariants as answer
+use Rattle.held_locks.specs.declared.answers.Refusal.{Refusal}
+use Rattle.held_locks.specs.declared.answers.Refusal.TheVariants as refusal
+use Rattle.held_locks.specs.declared.answers.Holder.{Holder}
+use Rattle.held_locks.specs.declared.answers.HoldEnd.{HoldEnd}
+use Rattle.held_locks.specs.Kept.{LockView}
+use Rattle.held_locks.specs.Locks.{Ask}
+use Rattle.lock_lines.specs.declared.answers.Denial.{Denial}
+use Rattle.lock_lines.specs.declared.answers.Denial.TheVariants as denial
+use Rattle.lock_lines.specs.declared.inputs.Input.{Input}
+use Rattle.lock_lines.specs.declared.inputs.Input.TheVariants as input
+use Rattle.lock_lines.specs.Asks as lines
+use Rattle.lock_lines.specs.Asks.{seen}
+use Rattle.lock_lines.specs.Answers.{refusal_text, holder_text, answer_text, answer_line, denial_line}
+use Rattle.lock_service.specs.declared.service.LockService.{LockService}
+use Rattle.lock_service.specs.declared.service.Terms.{Terms}
+use Rattle.lock_service.specs.Asking.{one_ask, is_off}
+use Rattle.lock_service.specs.Counting.{SegmentView}
+use Rattle.lock_service.specs.Noting.{lines_about, events_at, events_from, end_line, note_about, line_of_left, note_of_left, notes_of_left}
+use Rattle.lock_service.specs.Serving.{IsTold, IsAnsweredIf, IsInputAnswered, IsServed}
+use Rattle.line_replica.specs.Keys.{first_line}
+use Rattle.lock_service.proofs.LineParts.{line_more}
+
+pub ends_behind : (front xs : List ℕ) → IsEnded xs → IsEnded (front ++ xs)
+ends_behind front xs e = (front ++ e.0, ap (λ (u : List ℕ). front ++ u) e.1 ∙ sym (append_assoc front e.0 (10 ∷ [])))
+
+pub number_ends : (n : ℕ) → IsEnded (ended n)
+number_ends n = (decimal n, refl)
+
+pub of_both : (a b : List ℕ) → AreLines a → AreLines b → AreLines (a ++ b)
+of_both a b p (inl e) = subst (λ (u : List ℕ). AreLines u) (sym (ap (λ (u : List ℕ). a ++ u) e ∙ append-nil a)) p
+of_both a b p (inr e) = inr (ends_behind a b e)
+
+pub of_each : {A : Type 0} (line : A → List ℕ) → ((a : A) → AreLines (line a)) → (all : List A) → AreLines (flat_map line all)
+of_each line each [] = inl refl
+of_each line each (a ∷ all) = of_both (line a) (flat_map line all) (each a) (of_each line each all)
+
+-- ---- what is answered
+
+refusal_ends : (lock : ℕ) (r : Refusal) → IsEnded (refusal_text lock r)
+refusal_ends lock refusal.Lock = (codes "refused lock", refl)
+refusal_ends lock refusal.Holds = ends_behind (codes "refused holds ") (ended lock) (number_ends lock)
+refusal_ends lock refusal.Waits = ends_behind (codes "refused waits ") (ended lock) (number_ends lock)
+refusal_ends lock refusal.Circle = ends_behind (codes "refused circle ") (ended lock) (number_ends lock)
+refusal_ends lock refusal.Holder = ends_behind (codes "refused holder ") (ended lock) (number_ends lock)
+refusal_ends lock refusal.Waiter = ends_behind (codes "refused waiter ") (ended lock) (number_ends lock)
+refusal_ends lock refusal.Machine = ends_behind (codes "refused machine ") (ended lock) (number_ends lock)
+refusal_ends lock refusal.Value = ends_behind (codes "refused value ") (ended lock) (number_ends lock)
+refusal_ends lock refusal.Full = ends_behind (codes "refused full ") (ended lock) (number_ends lock)
+refusal_ends lock refusal.Memory = ends_behind (codes "refused memory ") (ended lock) (number_ends lock)
+
+holder_ends : (h : Option Holder) → IsEnded (holder_text h)
+holder_ends None = (codes "0 0", refl)
+holder_ends (Some h) = ends_behind (spaced h.client) (ended h.token) (number_ends h.token)
+
+answer_ends : (lock : ℕ) (a : Answer) → IsEnded (answer_text lock a)
+answer_ends lock (answer.Granted token) = ends_behind (codes "granted ") _ (ends_behind (spaced lock) (ended token) (number_ends token))
+answer_ends lock (answer.Waiting before) = ends_behind (codes "waiting ") _ (ends_behind (spaced lock) (ended before) (number_ends before))
+answer_ends lock answer.Busy = ends_behind (codes "busy ") (ended lock) (number_ends lock)
+answer_ends lock answer.Released = ends_behind (codes "released ") (ended lock) (number_ends lock)
+answer_ends lock answer.Cancelled = ends_behind (codes "cancelled ") (ended lock) (number_ends lock)
+answer_ends lock (answer.Corrupted old) = ends_behind (codes "corrupted ") _ (ends_behind (spaced lock) (ended old) (number_ends old))
+answer_ends lock (answer.Stats s) =
+    ends_behind (codes "stats ") _ (ends_behind (spaced lock) _ (ends_behind (spaced s.machines) _ (ends_behind (spaced s.waiters) _ (ends_behind (spaced s.passes) (holder_text s.holder) (holder_ends s.holder)))))
+answer_ends lock (answer.Refused why) = refusal_ends lock why
+
+about_lines : (lock : ℕ) (all : List (ℕ × Answer)) → AreLines (lines_about lock all)
+about_lines lock [] = inl refl
+about_lines lock ((c, a) ∷ all) = of_both (answer_line c lock a) (lines_about lock all) (inr (ends_behind (spaced c) (answer_text lock a) (answer_ends lock a))) (about_lines lock all)
+
+denial_ends : (client : ℕ) (why : Denial) → IsEnded (denial_line client why)
+denial_ends client denial.Syntax = ends_behind (spaced client) (codes "refused syntax\n") (codes "refused syntax", refl)
+denial_ends client denial.Number = ends_behind (spaced client) (codes "refused number\n") (codes "refused number", refl)
+denial_ends client denial.Off = ends_behind (spaced client) (codes "refused off\n") (codes "refused off", refl)
+
+-- ---- what is noted
+
+event_ends : (e : SavedEvent) → IsEnded (event_line e)
+event_ends (Granted s m o n r) = ends_behind (codes "p ") _ (ends_behind (spaced s) _ (ends_behind (spaced m) _ (ends_behind (spaced o) _ (ends_behind (codes "g ") _ (ends_behind (spaced n) (ended r) (number_ends r))))))
+event_ends (Refused s m o) = ends_behind (codes "p ") _ (ends_behind (spaced s) _ (ends_behind (spaced m) _ (ends_behind (spaced o) (codes "n\n") (codes "n", refl))))
+event_ends (Member s m o l n r) = ends_behind (codes "m ") _ (ends_behind (spaced s) _ (ends_behind (spaced m) _ (ends_behind (spaced o) _ (ends_behind (spaced l) _ (ends_behind (spaced n) (ended r) (number_ends r))))))
+event_ends (Corrupted s m v o) = ends_behind (codes "c ") _ (ends_behind (spaced s) _ (ends_behind (spaced m) _ (ends_behind (spaced v) (ended o) (number_ends o))))
+
+survey_ends : (v : SavedSurvey) → IsEnded (survey_line v)
+survey_ends v = ends_behind (codes "s ") _ (ends_behind (spaced v.seat) _ (ends_behind (spaced v.position) _ (ends_behind (spaced v.privileged) _ (ends_behind (spaced v.first) _ (ends_behind (spaced v.calm) (ended v.rest) (number_ends v.rest))))))
+
+pub journal_line_ends : (r : JournalLine) → IsEnded (journal_line r)
+journal_line_ends r = ends_behind (spaced r.ring) (call_line r.call) (go r.call)
+  where
+    go : (c : Call) → IsEnded (call_line c)
+    go (call.Event e) = event_ends e
+    go (call.Survey v) = survey_ends v
+
+hold_end_lines : (lock : ℕ) (e : Option HoldEnd) → AreLines (end_line lock e)
+hold_end_lines lock None = inl refl
+hold_end_lines lock (Some e) = inr (journal_line_ends (line_of_survey lock e.seat e.survey))
+
+events_lines : (lock place : ℕ) (v : Option LockView) → AreLines (events_from lock place v)
+events_lines lock place None = inl refl
+events_lines lock place (Some v) = of_each (λ (e : Event). journal_line (line_of_event lock e)) (λ e. inr (journal_line_ends (line_of_event lock e))) _
+
+note_lines : (lock place : ℕ) (e : Option HoldEnd) (v : Option LockView) → AreLines (end_line lock e ++ events_from lock place v)
+note_lines lock place e v = of_both (end_line lock e) (events_from lock place v) (hold_end_lines lock e) (events_lines lock place v)
+
+noted_if : (b : Bool) (note : List ℕ) → AreLines note → AreLines (cond b note [])
+noted_if true note is = is
+noted_if false note is = inl refl
+
+-- ---- each line
+
+pub record AreOfLines (said noted : List ℕ) : Type 0 where
+  pub told : AreLines said
+  pub notes : AreLines noted
+
+module _ (old new : SegmentView) (said noted : List ℕ) where
+  are : (text note : List ℕ) → said ≡ text → noted ≡ note → AreLines text → AreLines note → AreOfLines said noted
+  are text note e f p q = record { told = subst (λ (u : List ℕ). AreLines u) (sym e) p; notes = subst (λ (u : List ℕ). AreLines u) (sym f) q }
+
+  of_told : (strict noting : Bool) (client : ℕ) (x : Option (ℕ × Ask)) → IsTold strict noting client x old said noted new → AreOfLines said noted
+  of_told strict noting client None t = are _ _ t.says t.notes (of_each line_of_left (λ l. about_lines l.lock _) t.left) (noted_if noting (notes_of_left new.locks t.left) (of_each (note_of_left new.locks) (λ l. note_lines l.lock l.ended.survey.position (Some l.ended) (slice_get new.locks l.lock)) t.left))
+  of_told strict noting client (Some (lock, ask)) t = are _ _ t.says t.notes (about_lines lock _) (noted_if noting (note_about lock old.locks new.locks t.answers.ended) (note_lines lock (events_at (slice_get old.locks lock)) t.answers.ended (slice_get new.locks lock)))
+
+  of_if : (off : Bool) (terms : Terms) (client : ℕ) (ask : lines.Ask) → IsAnsweredIf off terms client ask old said noted new → AreOfLines said noted
+  of_if true terms client ask s = are _ _ s.says s.notes (inr (denial_ends client denial.Off)) (inl refl)
+  of_if false terms client ask t = of_told terms.strict terms.noting client (one_ask ask) t
+
+  of_input : (terms : Terms) (i : Input) → IsInputAnswered terms i old said noted new → AreOfLines said noted
+  of_input terms (input.Asked client ask) a = of_if (is_off terms.faults (seen ask)) terms client (seen ask) a
+  of_input terms (input.Refused client why) s = are _ _ s.says s.notes (inr (denial_ends client _)) (inl refl)
+  of_input terms input.Nobody s = are _ _ s.says s.notes (inl refl) (inl refl)
+
+pub of_lines : (old new : LockService) (was is : Option Held) (line said noted : List ℕ) → IsServed old was line said noted new is → AreOfLines said noted
+of_lines old new was is line said noted s = of_input old.segment new.segment said noted old.terms s.answered.0 s.answered.2
+
+pub notes_of_lines : (old new : Stand LockService) (lines : List (List ℕ)) (said noted : List ℕ) → Answers (by_stand IsServed) old lines said noted new → AreLines noted
+notes_of_lines old new [] said noted a = inl a.1
+notes_of_lines old new (line ∷ lines) said noted a =
+    subst (λ (u : List ℕ). AreLines u) (sym a.7)
+    (of_both a.3 a.4 (of_lines old.service a.0.service old.files a.0.files line a.1 a.3 a.5).notes (notes_of_lines a.0 new lines a.2 a.4 a.8))
+
+-- ---- the first line
+
+first_by : (b : ℕ) (rest : List ℕ) (t : Bool) → eqb b 10 ≡ t → IsLine (first_line rest) → IsLine (cond t (b ∷ []) (b ∷ first_line rest))
+first_by b rest true e more = eqb-true b 10 e
+first_by b rest false e more = line_more b (first_line rest) (eqb-false b 10 e) more
+
+first_ends : (front : List ℕ) → IsLine (first_line (front ++ 10 ∷ []))
+first_ends [] = refl
+first_ends (b ∷ front) = first_by b (front ++ 10 ∷ []) (eqb b 10) refl (first_ends front)
+
+pub first_of_lines : (said : List ℕ) → AreLines said → (first_line said ≡ []) ⊎ IsLine (first_line said)
+first_of_lines said (inl e) = inl (ap first_line e)
+first_of_lines said (inr e) = inr (subst (λ (u : List ℕ). IsLine (first_line u)) (sym e.1) (first_ends e.0))

@@ -1,0 +1,75 @@
+-- Clients that wait for locks and come back by the lines of a state (this project's own).
+use Rattle.std.specs.Prelude.{◌≡◌, ℕ, ◌+◌, ◌<◌, ◌≤◌, ◌^◌, true, List, [], ◌∷◌, ◌++◌, length, map, Option}
+use Rattle.std.specs.List.{AllByRecursion}
+use Rattle.disks.specs.Held.{Held}
+use Rattle.line_service.specs.Answering.{Answers}
+use Rattle.line_service.specs.Stands.{by_stand, stand}
+use Rattle.held_locks.specs.declared.answers.Answer.TheVariants as answer
+use Rattle.held_locks.specs.declared.answers.Holder.{Holder}
+use Rattle.held_locks.specs.declared.answers.Waiter.{Waiter}
+use Rattle.held_locks.specs.Promises.{AreRight}
+use Rattle.held_locks.specs.Kept.{LockView, locks_of, lock_limit}
+use Rattle.lock_lines.specs.Answers.{answer_line}
+use Rattle.lock_service.specs.declared.service.LockService.{LockService}
+use Rattle.lock_service.specs.declared.service.Terms.{Terms}
+use Rattle.lock_service.specs.Counting.{SegmentView}
+use Rattle.lock_service.specs.Serving.{IsLineAnswered, IsServed}
+use Rattle.lock_service.specs.State.{waits_from}
+
+-- the holder of each lock, and the clients that wait for it, in order
+abbrev pub holders_of : List LockView → List (Option Holder)
+holders_of vs = map (λ (v : LockView). v.holder) vs
+
+abbrev pub waiters_of : List LockView → List (List Waiter)
+waiters_of vs = map (λ (v : LockView). v.line) vs
+
+-- a client and an order have 64 bits
+abbrev pub IsOfBits : Waiter → Type 0
+IsOfBits w = (w.client < 2 ^ 64) × (w.order < 2 ^ 64)
+
+-- locks whose state is answered are right, and not too many
+pub record HaveState (vs : List LockView) : Type 0 where
+  pub right : AreRight (locks_of vs)
+  pub few : length vs ≤ lock_limit
+  pub bits : AllByRecursion (λ (v : LockView). AllByRecursion IsOfBits v.line) vs
+
+-- a law: they stay so, whatever is asked
+abbrev pub HavingStateStays : Type 0
+HavingStateStays =
+    (terms : Terms) (old new : SegmentView) (line said noted : List ℕ) → HaveState old.locks
+    → IsLineAnswered terms old line said noted new → HaveState new.locks
+
+-- locks with the holds of these, for which nobody waits, as after a restart whose holds were handed
+-- back
+pub record HaveTheHolds (vs now : List LockView) : Type 0 where
+  pub right : AreRight (locks_of now)
+  pub holders : holders_of now ≡ holders_of vs
+  pub nobody : waiters_of now ≡ map (λ (v : LockView). []) vs
+
+-- the answers to clients that wait again, of one lock and of all: each waits after those before it
+abbrev pub waiting_lines : ℕ → ℕ → List Waiter → List ℕ
+waiting_lines lock before [] = []
+waiting_lines lock before (w ∷ line) =
+    answer_line w.client lock (answer.Waiting before) ++ waiting_lines lock (before + 1) line
+
+abbrev pub waiting_from : ℕ → List LockView → List ℕ
+waiting_from lock [] = []
+waiting_from lock (v ∷ vs) = waiting_lines lock 0 v.line ++ waiting_from (lock + 1) vs
+
+-- Each got the answer that it waits. The same clients wait for each lock, with the same orders and
+-- in the same order, and the same clients hold them, with the same tokens.
+pub record HaveTheWaiters (vs : List LockView) (said noted : List ℕ) (now : List LockView) :
+    Type 0 where
+  pub says : said ≡ waiting_from 0 vs
+  pub notes : noted ≡ []
+  pub waiters : waiters_of now ≡ waiters_of vs
+  pub holders : holders_of now ≡ holders_of vs
+
+-- A law: on strict terms locks with the holds of others, for which nobody waits, that are given the
+-- lines of those who wait for the others have these clients waiting.
+abbrev pub WaitersComeBack : Type 0
+WaitersComeBack =
+    (vs : List LockView) (old new : LockService) (was is : Option Held) (said noted : List ℕ)
+    → old.terms.strict ≡ true → HaveState vs → HaveTheHolds vs old.segment.locks
+    → Answers (by_stand IsServed) (stand old was) (waits_from 0 vs) said noted (stand new is)
+    → HaveTheWaiters vs said noted new.segment.locks × (is ≡ was)

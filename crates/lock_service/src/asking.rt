@@ -1,0 +1,89 @@
+//! Asks, as locks hear them.
+
+ghost use Rattle.std.specs.Prelude.{◌≡◌};
+ghost use Rattle.std.specs.Option.{option_map};
+ghost use Rattle.text_lines.specs.LongNumbers.{in_32_bits};
+ghost use Rattle.lock_lines.specs.Asks.{seen};
+ghost use Rattle.lock_service.specs.Asking.{one_ask, is_off, asked, IsAnswerTo, is_want};
+
+use held_locks::{Answer, Answers, Locks, Refusal};
+use lock_lines::Ask;
+
+/// What is asked of one lock.
+#[derive(Clone, Copy)]
+pub(crate) enum OneAsk {
+    Acquire { order: u64 },
+    Try { order: u64 },
+    Release { token: u64 },
+    Cancel,
+    Corrupt { machine: u32, value: u32 },
+    Stats,
+}
+
+/// This number, or the greatest one of 32 bits if it is greater.
+fn narrow(number: u64) -> u32
+    ensures { result ≡ in_32_bits number }
+{
+    if number < u32::MAX as u64 {
+        number as u32
+    } else {
+        u32::MAX
+    }
+}
+
+/// Whether this is a fault, where none is permitted.
+pub(crate) fn is_off(faults: bool, ask: Ask) -> bool
+    ensures { result ≡ is_off faults (seen ask) }
+{
+    match ask {
+        Ask::Corrupt { .. } => !faults,
+        _ => false,
+    }
+}
+
+/// The lock that is asked, and what; none where all are left.
+pub(crate) fn one_ask(ask: Ask) -> Option<(u32, OneAsk)>
+    ensures { option_map (λ x. (x.0, asked x.1)) result ≡ one_ask (seen ask) }
+{
+    match ask {
+        Ask::Acquire { lock, order } => Some((narrow(lock), OneAsk::Acquire { order })),
+        Ask::Try { lock, order } => Some((narrow(lock), OneAsk::Try { order })),
+        Ask::Release { lock, token } => Some((narrow(lock), OneAsk::Release { token })),
+        Ask::Cancel { lock } => Some((narrow(lock), OneAsk::Cancel)),
+        Ask::Leave => None,
+        Ask::Corrupt {
+            lock,
+            machine,
+            value,
+        } => {
+            let machine = narrow(machine);
+            let value = narrow(value);
+            Some((narrow(lock), OneAsk::Corrupt { machine, value }))
+        }
+        Ask::Stats { lock } => Some((narrow(lock), OneAsk::Stats)),
+    }
+}
+
+/// Whether the asker is refused for lack of room or of memory.
+pub(crate) fn is_want(own: Option<Answer>) -> bool
+    ensures { result ≡ is_want own }
+{
+    match own {
+        Some(Answer::Refused(Refusal::Full | Refusal::Memory)) => true,
+        _ => false,
+    }
+}
+
+/// Asks one lock.
+pub(crate) fn ask_lock(locks: &mut Locks, client: u64, lock: u32, ask: OneAsk) -> Answers
+    ensures { IsAnswerTo locks.old locks.new client lock (asked ask) result }
+{
+    match ask {
+        OneAsk::Acquire { order } => locks.acquire(client, lock, order),
+        OneAsk::Try { order } => locks.try_acquire(client, lock, order),
+        OneAsk::Release { token } => locks.release(client, lock, token),
+        OneAsk::Cancel => locks.cancel(client, lock),
+        OneAsk::Corrupt { machine, value } => locks.corrupt(client, lock, machine, value),
+        OneAsk::Stats => locks.stats(lock),
+    }
+}

@@ -1,0 +1,19 @@
+//! Locks that answer the lines of clients, segment by segment.
+//!
+//! The laws of locks whose lines are answered with a journal.
+#![tactic(auto)]
+
+mod asking;
+mod counting;
+mod due;
+pub mod laws;
+mod lines;
+mod noting;
+pub mod room_laws;
+mod segment;
+mod segmented;
+mod service;
+mod stating;
+mod texts;
+
+pub use service::{LockService, Terms};

@@ -1,0 +1,14 @@
+pub mod Growing
+pub mod Telling
+pub mod ToldBy
+pub mod Kept
+pub mod Closing
+pub mod Refusals
+pub mod Saved
+pub mod Fitting
+pub mod Gathering
+pub mod Resumed
+pub mod Groups
+pub mod SavedParts
+pub mod BlockFitting
+pub mod WrittenBlocks

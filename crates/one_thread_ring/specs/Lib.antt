@@ -1,0 +1,9 @@
+pub mod Clients
+pub mod Rings
+pub mod Refusals
+pub mod Texts
+pub mod Resuming
+pub mod SavedOf
+pub mod Runs
+pub mod Journals
+pub mod Counts

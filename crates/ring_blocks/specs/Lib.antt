@@ -1,4 +1,0 @@
-pub mod SavedOf
-pub mod Runs
-pub mod Journals
-pub mod Counts

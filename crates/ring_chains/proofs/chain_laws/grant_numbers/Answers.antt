@@ -1,5 +1,0 @@
-use Rattle.ring_chains.proofs.ChainHistories.{numbers_rise}
-use Rattle.ring_chains.proofs.chain_laws.grant_numbers.Goals as goal
-
-pub returns : goal.returns
-returns c = numbers_rise

@@ -1,5 +1,0 @@
-use Rattle.ring_chains.proofs.ChainHistories.{segments_continue}
-use Rattle.ring_chains.proofs.chain_laws.places.Goals as goal
-
-pub returns : goal.returns
-returns c = segments_continue

@@ -1,7 +1,0 @@
-use Rattle.std.proofs.Common.{length}
-use Rattle.ring_desk.proofs.Telling.{next_within}
-use Rattle.ring_desk.proofs.clients.log_of.Goals as goal
-
-pub log_part-requires-clause-to : goal.log_part-requires-clause-to
-log_part-requires-clause-to c =
-    next_within c.loop-survey.place (length c.args.history.now) c.loop-survey.survey-index c.args.surveys.now _ c.loop-survey-test.true c.loop-survey.invariant.in_order

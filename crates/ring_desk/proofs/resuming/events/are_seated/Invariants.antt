@@ -1,6 +1,0 @@
-use Rattle.std.proofs.Common.{take}
-use Rattle.ring_logs.specs.Seats.{AreOfSeats}
-use Rattle.ring_desk.proofs.resuming.events.are_seated.Given as goal
-
-abbrev pub invariant-loop-event : goal.invariant-loop-event
-invariant-loop-event l = AreOfSeats l.seats (take l.event-index l.events)

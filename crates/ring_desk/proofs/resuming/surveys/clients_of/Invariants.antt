@@ -1,9 +1,0 @@
-use Rattle.std.proofs.Common.{◌≤◌, vec_capacity}
-use Rattle.ring_desk.proofs.Gathering.{AreToldTo}
-use Rattle.ring_desk.proofs.resuming.surveys.clients_of.Given as goal
-
-abbrev pub invariant-loop-number : goal.invariant-loop-number
-invariant-loop-number l = record {
-  told : AreToldTo l.lines l.clients.items l.number l.place;
-  room : l.seats ≤ vec_capacity l.clients;
-}

@@ -1,6 +1,0 @@
-use Rattle.std.proofs.Common.{◌≡◌, ◌++◌, drop, map}
-use Rattle.ring_check.specs.Meaning.{survey_of}
-use Rattle.ring_desk.proofs.resuming.surveys.surveys_of.Given as goal
-
-abbrev pub invariant-loop-line : goal.invariant-loop-line
-invariant-loop-line l = l.surveys.items ++ map survey_of (drop l.line-index l.lines) ≡ map survey_of l.lines

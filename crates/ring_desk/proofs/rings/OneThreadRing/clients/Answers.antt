@@ -1,6 +1,0 @@
-use Rattle.std.proofs.Common.{sym}
-use Rattle.ring_desk.proofs.Telling.{kept_told}
-use Rattle.ring_desk.proofs.rings.OneThreadRing.clients.Goals as goal
-
-pub returns-clause-surveys : goal.returns-clause-surveys
-returns-clause-surveys g c = rw (← c.self.view_is, c.as_slice.ensures.value) (sym (kept_told c.self.inside.book.history c.self.inside.clients.items))

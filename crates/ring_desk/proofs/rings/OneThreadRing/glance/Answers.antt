@@ -1,4 +1,0 @@
-use Rattle.ring_desk.proofs.rings.OneThreadRing.glance.Goals as goal
-
-pub returns : goal.returns
-returns g c = rw (← c.self.view_is) c.survey.ensures.is

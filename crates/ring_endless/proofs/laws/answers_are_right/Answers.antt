@@ -1,8 +1,0 @@
-use Rattle.ring_endless.proofs.Segments.{receipts_are_right, surveys_now_are_right}
-use Rattle.ring_endless.proofs.laws.answers_are_right.Goals as goal
-
-pub returns-clause-receipts : goal.returns-clause-receipts
-returns-clause-receipts c = receipts_are_right
-
-pub returns-clause-surveys : goal.returns-clause-surveys
-returns-clause-surveys c = surveys_now_are_right

@@ -1,9 +1,0 @@
-use Rattle.std.proofs.Common.{◌∙◌, ap}
-use Rattle.ring_endless.specs.Endless.{EndlessView, survey_now}
-use Rattle.ring_endless.proofs.Segments.{survey_is}
-use Rattle.ring_endless.proofs.rings.EndlessRing.glance.Goals as goal
-
-pub returns : goal.returns
-returns c =
-    survey_is c.self.inside.base c.self.inside.quiet c.self.inside.ring c.glance.result c.shift_survey.result c.self.invariant c.glance.ensures c.shift_survey.ensures
-    ∙ ap (λ (x : EndlessView). survey_now x) c.self.view_is

@@ -1,7 +1,0 @@
-use Rattle.std.proofs.Common.{map, take}
-use Rattle.ring_check.specs.Table.{event_of}
-use Rattle.ring_faults.specs.Replays.{Stands}
-use Rattle.ring_faults.proofs.surveys.follow.Given as goal
-
-abbrev pub invariant-loop-i : goal.invariant-loop-i
-invariant-loop-i l = Stands l.start (map event_of (take l.i l.events)) l.replay

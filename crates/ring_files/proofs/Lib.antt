@@ -1,5 +1,0 @@
-pub mod Settled
-pub mod Chained
-pub mod Surveyed
-pub mod Filled
-pub mod Texted

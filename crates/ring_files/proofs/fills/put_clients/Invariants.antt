@@ -1,7 +1,0 @@
-use Rattle.ring_blocks.proofs.SavedParts.{logs_text, LogsFit}
-use Rattle.ring_desk.specs.Texts.{client_surveys}
-use Rattle.ring_files.proofs.Filled.{FilledBelow}
-use Rattle.ring_files.proofs.fills.put_clients.Given as goal
-
-abbrev pub invariant-loop-client : goal.invariant-loop-client
-invariant-loop-client l = FilledBelow (logs_text client_surveys) (LogsFit client_surveys) l.initial.out l.out l.place l.behind l.clients l.client-index

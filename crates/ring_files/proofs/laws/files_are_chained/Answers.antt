@@ -1,8 +1,0 @@
-use Rattle.ring_files.proofs.Chained.{files_are_whole, files_follow}
-use Rattle.ring_files.proofs.laws.files_are_chained.Goals as goal
-
-pub returns-clause-whole : goal.returns-clause-whole
-returns-clause-whole c = files_are_whole
-
-pub returns-clause-follow : goal.returns-clause-follow
-returns-clause-follow c = files_follow

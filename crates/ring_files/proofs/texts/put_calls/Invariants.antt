@@ -1,8 +1,0 @@
-use Rattle.ring_model.specs.declared.events.Event.{Event}
-use Rattle.ring_journal.specs.Spelling.{journal_line}
-use Rattle.ring_blocks.specs.Journals.{line_of_event}
-use Rattle.ring_files.proofs.Filled.{FilledItems}
-use Rattle.ring_files.proofs.texts.put_calls.Given as goal
-
-abbrev pub invariant-loop-event : goal.invariant-loop-event
-invariant-loop-event l = FilledItems (λ (e : Event). journal_line (line_of_event 0 e)) l.initial.out l.out l.place l.behind l.events l.event-index

@@ -1,8 +1,0 @@
-use Rattle.ring_journal.specs.Spelling.{journal_line}
-use Rattle.ring_blocks.specs.Journals.{line_of_survey}
-use Rattle.ring_files.specs.declared.files.Looked.{Looked}
-use Rattle.ring_files.proofs.Filled.{FilledItems}
-use Rattle.ring_files.proofs.texts.put_looked.Given as goal
-
-abbrev pub invariant-loop-one : goal.invariant-loop-one
-invariant-loop-one l = FilledItems (λ (x : Looked). journal_line (line_of_survey 0 x.seat x.survey)) l.initial.out l.out l.place l.behind l.looked l.one-index

@@ -1,4 +1,0 @@
-pub mod Files
-pub mod Calls
-pub mod Filling
-pub mod Laws

@@ -1,8 +1,0 @@
-use Rattle.std.proofs.Common.{map, arith}
-use Rattle.ring_saved.specs.Content.{block_of}
-use Rattle.ring_check.proofs.Booleans.{below}
-use Rattle.ring_joins.proofs.Counting.{few_lines}
-use Rattle.ring_joins.proofs.lines.are_few_lines.Goals as goal
-
-pub returns : goal.returns
-returns c = λ t. let lt = below c.count_lines.result 18446744073709551614 t in few_lines (map block_of c.args.rings.now) c.count_lines.result c.count_lines.ensures (omega (arith, lt))

@@ -1,6 +1,0 @@
-use Rattle.std.proofs.Common.{◌≡◌, vec_len}
-use Rattle.ring_joins.proofs.Extending.{Extends}
-use Rattle.ring_joins.proofs.rings.extend_all.Given as goal
-
-abbrev pub invariant-loop-i : goal.invariant-loop-i
-invariant-loop-i l = (vec_len l.rings ≡ vec_len l.initial.rings) × Extends l.initial.rings.items l.bases l.next l.i l.rings.items

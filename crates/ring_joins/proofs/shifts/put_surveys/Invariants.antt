@@ -1,6 +1,0 @@
-use Rattle.std.proofs.Common.{◌≡◌, ◌++◌, map, take}
-use Rattle.ring_joins.specs.Joining.{shifted_survey}
-use Rattle.ring_joins.proofs.shifts.put_surveys.Given as goal
-
-abbrev pub invariant-loop-survey : goal.invariant-loop-survey
-invariant-loop-survey l = l.surveys.items ≡ l.initial.surveys.items ++ map (shifted_survey l.base l.events) (take l.survey-index l.more)

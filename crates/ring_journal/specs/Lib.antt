@@ -1,6 +1,0 @@
-pub mod Spelling
-pub mod Reading
-pub mod ContentAfter
-pub mod Recovery
-pub mod Judging
-pub mod Beginnings

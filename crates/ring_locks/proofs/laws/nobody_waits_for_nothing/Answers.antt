@@ -1,5 +1,0 @@
-use Rattle.ring_locks.proofs.Answered.{nobody_waits_for_nothing}
-use Rattle.ring_locks.proofs.laws.nobody_waits_for_nothing.Goals as goal
-
-pub returns : goal.returns
-returns c = nobody_waits_for_nothing

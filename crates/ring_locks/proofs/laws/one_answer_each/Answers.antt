@@ -1,5 +1,0 @@
-use Rattle.ring_locks.proofs.Answered.{one_answer_each}
-use Rattle.ring_locks.proofs.laws.one_answer_each.Goals as goal
-
-pub returns : goal.returns
-returns c = one_answer_each

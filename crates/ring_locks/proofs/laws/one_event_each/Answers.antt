@@ -1,5 +1,0 @@
-use Rattle.ring_locks.proofs.Shown.{one_event_each}
-use Rattle.ring_locks.proofs.laws.one_event_each.Goals as goal
-
-pub returns : goal.returns
-returns c = one_event_each

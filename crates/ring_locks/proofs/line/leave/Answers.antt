@@ -1,7 +1,0 @@
-use Rattle.std.proofs.Common.{rules, not, eqb}
-use Rattle.std.proofs.lemmas.Fn.{filter_same}
-use Rattle.ring_locks.specs.declared.answers.Waiter.{Waiter}
-use Rattle.ring_locks.proofs.line.leave.Goals as goal
-
-pub returns : goal.returns
-returns c = filter_same _ (λ (w : Waiter). not (eqb w.client c.args.client)) _ (λ x b f t. search rules) _ _ c.retain.ensures.filtered

@@ -1,7 +1,0 @@
-use Rattle.std.proofs.Common.{rules, inl}
-use Rattle.ring_locks.specs.Parts.{view_of}
-use Rattle.ring_locks.proofs.Turned.{fault_turned}
-use Rattle.ring_locks.proofs.parts.fault.Goals as goal
-
-pub returns-in-Ok : goal.returns-in-Ok
-returns-in-Ok c = inl (fault_turned (view_of c.args.lock.now) c.fault.new.ring c.args.client c.args.machine c.args.value c.in-Ok.old c.told.result (record { ring = c.in-Ok.ensures.kept; room = search rules }) c.in-Ok.ensures.made c.told.ensures c.in-Ok.ensures.old)

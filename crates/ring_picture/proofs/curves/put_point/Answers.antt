@@ -1,4 +1,0 @@
-use Rattle.ring_picture.proofs.curves.put_point.Goals as goal
-
-pub returns : goal.returns
-returns g c = rw (← c.format.ensures.text, ← c.format-2.ensures.text, ← c.as_bytes-x.ensures.value, ← c.as_bytes-y.ensures.value) c.put_all.ensures

@@ -1,6 +1,0 @@
-use Rattle.std.proofs.Common.{◌≡◌, take}
-use Rattle.ring_report.proofs.Pieces.{rings_text}
-use Rattle.ring_report.proofs.reports.report.Given as goal
-
-abbrev pub invariant-loop-place : goal.invariant-loop-place
-invariant-loop-place l = l.text.items ≡ rings_text (take l.place l.saved.rings.items)

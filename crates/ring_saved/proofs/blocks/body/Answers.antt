@@ -1,5 +1,0 @@
-use Rattle.ring_saved.proofs.Loops.{head_fits}
-use Rattle.ring_saved.proofs.blocks.body.Goals as goal
-
-pub rings-requires : goal.rings-requires
-rings-requires c = head_fits c.args.bytes.now c.in_ok-first.first c.in_ok-first.rest.now c.in_ok-first.ensures

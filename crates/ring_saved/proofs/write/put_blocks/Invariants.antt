@@ -1,6 +1,0 @@
-use Rattle.ring_saved.proofs.Passing.{WroteBelow}
-use Rattle.ring_saved.proofs.ValueParts.{rings_text, RingsFit}
-use Rattle.ring_saved.proofs.write.put_blocks.Given as goal
-
-abbrev pub invariant-loop-ring : goal.invariant-loop-ring
-invariant-loop-ring g l = WroteBelow rings_text RingsFit (g.W.Write.contents l.initial.out) (g.W.Write.contents l.out) l.rings l.ring-index

@@ -1,6 +1,0 @@
-use Rattle.ring_saved.proofs.Passing.{WroteBelow}
-use Rattle.ring_saved.proofs.ValueParts.{events_text, EventsFit}
-use Rattle.ring_saved.proofs.write.put_events.Given as goal
-
-abbrev pub invariant-loop-event : goal.invariant-loop-event
-invariant-loop-event g l = WroteBelow events_text EventsFit (g.W.Write.contents l.initial.out) (g.W.Write.contents l.out) l.events l.event-index

@@ -1,6 +1,0 @@
-use Rattle.ring_saved.proofs.Passing.{WroteBelow}
-use Rattle.ring_saved.proofs.ValueParts.{surveys_text, SurveysFit}
-use Rattle.ring_saved.proofs.write.put_surveys.Given as goal
-
-abbrev pub invariant-loop-survey : goal.invariant-loop-survey
-invariant-loop-survey g l = WroteBelow surveys_text SurveysFit (g.W.Write.contents l.initial.out) (g.W.Write.contents l.out) l.surveys l.survey-index

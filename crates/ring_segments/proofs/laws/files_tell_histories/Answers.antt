@@ -1,5 +1,0 @@
-use Rattle.ring_segments.proofs.Chained.{files_tell, later_files_tell}
-use Rattle.ring_segments.proofs.laws.files_tell_histories.Goals as goal
-
-pub returns : goal.returns
-returns c = record { first = files_tell; later = later_files_tell }

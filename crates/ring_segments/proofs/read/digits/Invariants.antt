@@ -1,8 +1,0 @@
-use Rattle.std.proofs.Common.{◌≡◌, ◌-◌, take, length}
-use Rattle.ring_segments.specs.Spelling.{digest_digits}
-use Rattle.ring_segments.specs.Reading.{digit_at, repeat_at}
-use Rattle.ring_segments.proofs.Repeated.{with_values}
-use Rattle.ring_segments.proofs.read.digits.Given as goal
-
-abbrev pub invariant-loop-i : goal.invariant-loop-i
-invariant-loop-i l = (with_values (take l.i l.found) (repeat_at digit_at (digest_digits - l.i) l.rest) ≡ repeat_at digit_at digest_digits l.bytes) × (length l.found ≡ digest_digits)

@@ -1,6 +1,0 @@
-use Rattle.std.proofs.Common.{◌≡◌, false, take}
-use Rattle.ring_journal.specs.Recovery.{has_line_end}
-use Rattle.ring_segments.proofs.remarks.split_line.Given as goal
-
-abbrev pub invariant-loop-i : goal.invariant-loop-i
-invariant-loop-i l = has_line_end (take l.i l.bytes) ≡ false

@@ -1,9 +1,0 @@
-use Rattle.std.proofs.Common.{List, ℕ, sym, subst, ◌∙◌}
-use Rattle.ring_segments.specs.Chain.{IsReadJournal}
-use Rattle.ring_segments.proofs.Remarked.{plain_without}
-use Rattle.ring_segments.proofs.segments.read_rest.Goals as goal
-
-pub returns-then-not-has_remark : goal.returns-then-not-has_remark
-returns-then-not-has_remark c =
-    subst (λ (u : List ℕ). IsReadJournal u c.read_journal.result)
-    (sym (plain_without c.args.rest.now (sym c.has_remark.ensures ∙ c.if-not-has_remark.true))) c.read_journal.ensures

@@ -1,9 +1,0 @@
-use Rattle.std.proofs.Common.{map}
-use Rattle.ring_model.specs.Surveys.{corrupted_count}
-use Rattle.ring_saved.specs.Content.{Block, block_of}
-use Rattle.ring_check.specs.Legal.{history}
-use Rattle.ring_segments.proofs.Totals.{AddsUp}
-use Rattle.ring_segments.proofs.sums.corruptions.Given as goal
-
-abbrev pub invariant-loop-ring : goal.invariant-loop-ring
-invariant-loop-ring l = AddsUp (λ (k : Block). corrupted_count (history k)) (map block_of l.rings) l.ring-index l.sum

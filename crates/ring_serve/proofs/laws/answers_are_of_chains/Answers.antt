@@ -1,5 +1,0 @@
-use Rattle.ring_serve.proofs.Continuing.{chains_grow, answers_are_of_chains, blocks_are_of_chains, surveys_are_of_chains}
-use Rattle.ring_serve.proofs.laws.answers_are_of_chains.Goals as goal
-
-pub returns : goal.returns
-returns c = record { grow = chains_grow; calls = answers_are_of_chains; blocks = blocks_are_of_chains; surveys = surveys_are_of_chains }

@@ -1,5 +1,0 @@
-use Rattle.ring_serve.proofs.EqualLines.{equal_lines}
-use Rattle.ring_serve.proofs.laws.equal_lines_give_equal_answers.Goals as goal
-
-pub returns : goal.returns
-returns c = equal_lines

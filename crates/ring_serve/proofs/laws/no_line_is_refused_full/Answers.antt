@@ -1,5 +1,0 @@
-use Rattle.ring_serve.proofs.Room.{never_full}
-use Rattle.ring_serve.proofs.laws.no_line_is_refused_full.Goals as goal
-
-pub returns : goal.returns
-returns c = never_full

@@ -1,5 +1,0 @@
-use Rattle.ring_serve.proofs.Lines.{one_turn}
-use Rattle.ring_serve.proofs.laws.one_turn_is_right.Goals as goal
-
-pub returns : goal.returns
-returns c = one_turn

@@ -1,5 +1,0 @@
-use Rattle.ring_serve.proofs.Recovering.{answers_are_recovered}
-use Rattle.ring_serve.proofs.recovered.answered_calls_are_recovered.Goals as goal
-
-pub returns : goal.returns
-returns c = answers_are_recovered

@@ -1,6 +1,0 @@
-use Rattle.ring_saved.proofs.Passing.{WroteBelow}
-use Rattle.ring_serve.proofs.Spelled.{rings_text, RingsFit}
-use Rattle.ring_serve.proofs.saving.put_blocks.Given as goal
-
-abbrev pub invariant-loop-place : goal.invariant-loop-place
-invariant-loop-place g l = WroteBelow rings_text RingsFit (g.W.Write.contents l.initial.out) (g.W.Write.contents l.out) l.rings l.place

@@ -1,9 +1,0 @@
-use Rattle.std.proofs.Common.{List, map, subst}
-use Rattle.ring_check.specs.Legal.{IsLegalText}
-use Rattle.ring_serve.specs.Standings.{Standing, standing_of}
-use Rattle.ring_serve.specs.Saved.{content_of}
-use Rattle.ring_serve.proofs.Legality.{content_legal, all_right}
-use Rattle.ring_serve.proofs.saving.write_rings.Goals as goal
-
-pub returns-clause-legal : goal.returns-clause-legal
-returns-clause-legal g c = subst (λ (rs : List Standing). IsLegalText (content_of rs)) c.rings.ensures.same (content_legal (map standing_of c.rings.result.now) (all_right c.rings.result.now c.rings.ensures.right))

@@ -1,7 +1,0 @@
-use Rattle.std.proofs.Common.{◌≡◌, take, map}
-use Rattle.ring_serve.specs.Standings.{standing_of}
-use Rattle.ring_serve.specs.Segments.{bases_of}
-use Rattle.ring_serve.proofs.segments.bases_of.Given as goal
-
-abbrev pub invariant-loop-ring : goal.invariant-loop-ring
-invariant-loop-ring l = l.bases.items ≡ bases_of (map standing_of (take l.ring-index l.rings))

@@ -1,0 +1,10 @@
+use Rattle.std.proofs.Common.{◌≡◌, length}
+use Rattle.text_lines.proofs.Repetitions.{with_items}
+use Rattle.saved_history.specs.Lines.{events_at}
+use Rattle.saved_history.proofs.blocks.events.Given as goal
+
+abbrev pub invariant-loop-found : goal.invariant-loop-found
+invariant-loop-found l = with_items l.found.items (events_at l.version l.rest) ≡ events_at l.version l.bytes
+
+abbrev pub decreases-loop-found : goal.decreases-loop-found
+decreases-loop-found l = length l.rest

@@ -1,0 +1,8 @@
+use Rattle.std.proofs.Common.{map}
+use Rattle.segment_files.specs.Files.{Place}
+use Rattle.segment_files.specs.Chain.{place_in}
+use Rattle.segment_files.proofs.Totals.{AddsUp}
+use Rattle.segment_files.proofs.sums.events.Given as goal
+
+abbrev pub invariant-loop-place : goal.invariant-loop-place
+invariant-loop-place l = AddsUp (λ (p : Place). p.base.events) (map place_in l.places) l.place-index l.sum

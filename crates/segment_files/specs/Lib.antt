@@ -1,0 +1,12 @@
+pub mod Spelling
+pub mod Remarks
+pub mod RemarkLaws
+pub mod Reading
+pub mod Meaning
+pub mod Files
+pub mod Replays
+pub mod Sums
+pub mod Chain
+pub mod Last
+pub mod TornSigns
+pub mod Torn

@@ -1,4 +1,0 @@
-pub mod Naming
-pub mod Parts
-pub mod Ranges
-pub mod Entries

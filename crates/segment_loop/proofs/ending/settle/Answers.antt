@@ -1,5 +1,0 @@
-use Rattle.segment_loop.proofs.Hashing.{is_hashed}
-use Rattle.segment_loop.proofs.ending.settle.Goals as goal
-
-pub returns-in-Ok-clause-hasher : goal.returns-in-Ok-clause-hasher
-returns-in-Ok-clause-hasher g c = λ bytes e. (is_hashed (g.D.Grown.Grow.contents c.args.writer.inner) c.args.writer.hasher bytes e).1

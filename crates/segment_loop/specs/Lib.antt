@@ -1,6 +1,0 @@
-pub mod Segmenting
-pub mod Digested
-pub mod Segments
-pub mod Service
-pub mod Notes
-pub mod Lasting

@@ -1,7 +1,0 @@
-use Rattle.ring_model.specs.Groups.{IsHistory}
-use Rattle.ring_model.specs.History.{opening}
-use Rattle.ticket_roll.specs.Tickets.{roll}
-use Rattle.ticket_roll.proofs.desks.run_desk.Given as goal
-
-abbrev pub ghosts-run_named : goal.ghosts-run_named
-ghosts-run_named g a = record { start = a.draft.book.start; seats = a.draft.seats; legal = λ h. IsHistory roll (opening a.draft.book.start 0) h; log = a.draft.log }

@@ -1,2 +1,0 @@
-mod Stayed
-mod Dropped
