@@ -81,5 +81,5 @@ none_left n gs b size is empty = nil_from_length gs (sym size ∙ eqb-true n 0 (
 pub some_left : (n : ℕ) (gs : List Grant) (b : Bool) → n ≡ length gs → b ≡ (n == 0) → b ≡ false → gs ≢ []
 some_left n gs b size is more e = let zero = eq-eqb n 0 (size ∙ ap length e) in absurd (cc (sym more ∙ (is ∙ zero)))
 
-pub room_behind : (n few room : ℕ) (gs : List Grant) → n ≡ length gs → gs ≡ [] → few < room → n < room
-room_behind n few room gs size none lt = let zero : n ≡ 0 = size ∙ ap length none in omega (arith, zero, lt)
+pub room_after : (n few room : ℕ) (gs : List Grant) → n ≡ length gs → gs ≡ [] → few < room → n < room
+room_after n few room gs size none lt = let zero : n ≡ 0 = size ∙ ap length none in omega (arith, zero, lt)

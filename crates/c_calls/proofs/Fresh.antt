@@ -9,7 +9,7 @@ use Rattle.endless_ring.specs.Endless.{EndlessView}
 use Rattle.held_locks.specs.Locks.{Call}
 use Rattle.held_locks.specs.Promises.{open_after}
 use Rattle.held_locks.specs.Kept.{LockView}
-use Rattle.held_locks.specs.Opened.{ended_before, events_in, open_in, holder_behind, IsAdded}
+use Rattle.held_locks.specs.Opened.{ended_before, events_in, open_in, holder_after, IsAdded}
 use Rattle.c_calls.specs.Desks.{IsNewRing, IsFree}
 
 none_open : (e : EndlessView) → e.ring.book.history ≡ [] → open_in e ≡ None
@@ -20,15 +20,15 @@ none_open e h =
 
 pub added_free : (machines : ℕ) (old new : List LockView) (e : EndlessView) → IsAdded old new e → IsNewRing machines e → All (IsFree machines) old → All (IsFree machines) new
 added_free machines old new e a fresh free =
-    let v : LockView = record { ring = a.ring; line = []; holder = holder_behind (open_in e) } in
+    let v : LockView = record { ring = a.ring; queue = []; holder = holder_after (open_in e) } in
     let one : IsFree machines v = record {
       ring = e;
       new = fresh;
       over = record { ring = a.ring; repaired = a.repaired; added = refl };
-      line = refl;
-      holder = ap (λ (t : Option ℕ). holder_behind t) (none_open e fresh.1.2);
+      queue = refl;
+      holder = ap (λ (t : Option ℕ). holder_after t) (none_open e fresh.1.2);
     } in
     subst (λ (vs : List LockView). All (IsFree machines) vs) (sym a.added) (All-append (IsFree machines) old (v ∷ []) free (All-cons (IsFree machines) v [] one (All-nil (IsFree machines))))
 
 pub added_many : (old new : List LockView) (e : EndlessView) → IsAdded old new e → length new ≡ length old + 1
-added_many old new e a = ap length a.added ∙ length-append old (record { ring = a.ring; line = []; holder = holder_behind (open_in e) } ∷ [])
+added_many old new e a = ap length a.added ∙ length-append old (record { ring = a.ring; queue = []; holder = holder_after (open_in e) } ∷ [])

@@ -10,7 +10,7 @@ use Rattle.saved_history.specs.declared.saved.SavedRing.{SavedRing}
 use Rattle.saved_history.specs.Content.{block_of}
 use Rattle.ring_check.specs.Table.{event_of}
 use Rattle.ring_check.specs.Meaning.{IsRightBlock, AreRightBlocks}
-use Rattle.one_thread_ring.specs.Resuming.{CanGoOnWith, IsWantOfMemory}
+use Rattle.one_thread_ring.specs.Resuming.{CanGoOnWith, IsOutOfMemory}
 use Rattle.one_thread_ring.specs.declared.errors.CallError.TheVariants as call
 use Rattle.one_thread_ring.specs.declared.errors.OpenError.TheVariants as opens
 use Rattle.one_thread_ring.specs.declared.resuming.ResumeError.{ResumeError}
@@ -36,7 +36,7 @@ can_go_on v p r seats right fits = record {
   few = subst (λ (n : ℕ). n ≤ event_limit) (sym (length-map r.events.items event_of)) fits.few;
 }
 
-pub want_code : (e : ResumeError) → IsWantOfMemory e → resume_code e ≡ no_memory
+pub want_code : (e : ResumeError) → IsOutOfMemory e → resume_code e ≡ no_memory
 want_code (resume.Open (opens.Size s)) w = absurd w
 want_code (resume.Open opens.Length) w = absurd w
 want_code (resume.Open (opens.Value i)) w = absurd w

@@ -72,7 +72,7 @@ pub record IsFree (machines : ℕ) (v : LockView) : Type 0 where
   pub ring : EndlessView
   pub new : IsNewRing machines ring
   pub over : IsAdded [] (v ∷ []) ring
-  pub line : v.line ≡ []
+  pub queue : v.queue ≡ []
   pub holder : v.holder ≡ None
 
 -- this many such locks
@@ -113,5 +113,5 @@ IsCutAnswer old new code =
     ⊎ ((why : Refusal) × (code ≡ lock_code why) × HaveNoNext old.locks why × (new ≡ old)))
 
 -- a cut is answered so
-pub record IsCutReport (old new : DeskView) (code : ℕ) : Type 0 where
+pub record IsDeskCutReport (old new : DeskView) (code : ℕ) : Type 0 where
   pub is : IsCutAnswer old new code

@@ -2,7 +2,7 @@
 
 ghost use Rattle.std.specs.Prelude.{◌≡◌, ◌≢◌, ◌+◌, ◌<◌, ◌≤◌, ◌++◌, [], true, false, length, IfOk, vec_len, vec_capacity};
 ghost use Rattle.held_locks.specs.Locks.{Acquire, Try, Release, Cancel};
-ghost use Rattle.c_calls.specs.Desks.{grant_at, grants_in, IsAsked, IsDoneAsk, IsDeskLeft, IsNextGrant, IsCutReport};
+ghost use Rattle.c_calls.specs.Desks.{grant_at, grants_in, IsAsked, IsDoneAsk, IsDeskLeft, IsNextGrant, IsDeskCutReport};
 
 use crate::codes::GRANTS_LEFT;
 use crate::lock_answers::{Grant, lock_code};
@@ -189,7 +189,7 @@ fn leave_in(locks: &mut Locks, grants: &mut Vec<Grant>, left: &mut Vec<Left>, cl
 
 /// The locks continue in new segments of their histories, if no grants are left: the code.
 fn cut_in(locks: &mut Locks, grants: &Vec<Grant>, alloc: Global) -> u32
-    ensures is { IsCutReport (record { locks = locks.old; grants = grants.now.items })
+    ensures is { IsDeskCutReport (record { locks = locks.old; grants = grants.now.items })
         (record { locks = locks.new; grants = grants.now.items }) result }
     ensures many { length locks.new ≡ length locks.old }
 {
@@ -260,7 +260,7 @@ impl LockDesk {
 
     /// The locks continue in new segments of their histories, if no grants are left: the code.
     pub fn cut(&mut self, alloc: Global) -> u32
-        ensures { IsCutReport self.old self.new result }
+        ensures { IsDeskCutReport self.old self.new result }
     {
         cut_in(&mut self.locks, &self.grants, alloc)
     }

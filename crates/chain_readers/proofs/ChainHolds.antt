@@ -7,7 +7,7 @@ use Rattle.segment_files.specs.Files.{File}
 use Rattle.chain_readers.specs.declared.signs.Sign.{Sign}
 use Rattle.chain_readers.specs.Signs.{signs_of}
 use Rattle.chain_readers.specs.Known.{Known, nobody_holds, nothing_known, all_holds, read}
-use Rattle.chain_readers.specs.Chains.{Part, parts_in, at_number, of_lock, signs_in, AreHoldsBehind, AreHoldsIn, started, with_first, with_parts, opened, LeadTo, part_of, unknown, FilesTellHolds, BlocksTellHolds}
+use Rattle.chain_readers.specs.Chains.{Part, parts_in, at_number, of_lock, signs_in, AreHoldsAfter, AreHoldsIn, started, with_first, with_parts, locks_opened, LeadTo, part_of, unknown, FilesTellHolds, BlocksTellHolds}
 use Rattle.chain_readers.proofs.Reading.{read_ok}
 use Rattle.chain_readers.proofs.Told.{read_first, read_later}
 
@@ -96,7 +96,7 @@ no_more_at [] i e = e
 no_more_at (x ∷ ks) zero e = e
 no_more_at (x ∷ ks) (suc i) e = no_more_at ks i e
 
-opened_at : (ks : List Known) (ps : List Part) (i : ℕ) → slice_get ks i ≡ None → IsOpened (opened ks ps) ps i
+opened_at : (ks : List Known) (ps : List Part) (i : ℕ) → slice_get ks i ≡ None → IsOpened (locks_opened ks ps) ps i
 opened_at [] ps i e = started_at ps i
 opened_at (x ∷ ks) [] i e = inl (no_more_at (x ∷ ks) i e, refl)
 opened_at (x ∷ ks) (p ∷ ps) zero e = absurd (none_no x (sym e))
@@ -108,7 +108,7 @@ known_on : (fs : List File) (ks ms : List Known) (i : ℕ) (k : Known) → LeadT
 known_on [] ks ms i k t at = (k, ap (λ (u : List Known). slice_get u i) (sym t) ∙ at, refl)
 known_on (f ∷ fs) ks ms i k t at =
     let ps : List Part = parts_in f in
-    let one = read_at 0 (opened ks ps) ps t.0 i k t.1 (old_at ks (map started (drop (length ks) ps)) i k at) in
+    let one = read_at 0 (locks_opened ks ps) ps t.0 i k t.1 (old_at ks (map started (drop (length ks) ps)) i k at) in
     let more = known_on fs t.0 ms i one.0 t.2 one.1 in
     (more.0, more.1, read_parts k one.0 more.0 (at_number i ps) (of_lock i fs) one.2 more.2)
 
@@ -121,20 +121,20 @@ new_on : (fs : List File) (ks ms : List Known) (i : ℕ) → LeadTo ks fs ms →
 new_on [] ks ms i t at = inl (ap (λ (u : List Known). slice_get u i) (sym t) ∙ at, refl)
 new_on (f ∷ fs) ks ms i t at = go (opened_at ks (parts_in f) i at) (λ none. new_on fs t.0 ms i t.2 none)
   where
-    go : IsOpened (opened ks (parts_in f)) (parts_in f) i → (slice_get t.0 i ≡ None → IsNew ms i (of_lock i fs)) → IsNew ms i (of_lock i (f ∷ fs))
+    go : IsOpened (locks_opened ks (parts_in f)) (parts_in f) i → (slice_get t.0 i ≡ None → IsNew ms i (of_lock i fs)) → IsNew ms i (of_lock i (f ∷ fs))
     go (inl o) next =
-        subst (λ (u : List Part). IsNew ms i (u ++ of_lock i fs)) (sym o.1) (next (none_at 0 (opened ks (parts_in f)) (parts_in f) t.0 i t.1 o.0))
+        subst (λ (u : List Part). IsNew ms i (u ++ of_lock i fs)) (sym o.1) (next (none_at 0 (locks_opened ks (parts_in f)) (parts_in f) t.0 i t.1 o.0))
     go (inr o) next =
-        let one = read_at 0 (opened ks (parts_in f)) (parts_in f) t.0 i (started o.0) t.1 o.1 in
+        let one = read_at 0 (locks_opened ks (parts_in f)) (parts_in f) t.0 i (started o.0) t.1 o.1 in
         let more = known_on fs t.0 ms i one.0 t.2 one.1 in
         let first : read (started o.0) (signs_in (o.0 ∷ [])) ≡ Ok one.0 = subst (λ (u : List Part). read (started o.0) (signs_in u) ≡ Ok one.0) o.2 one.2 in
         inr (o.0, of_lock i fs, more.0, ap (λ (u : List Part). u ++ of_lock i fs) o.2, more.1, read_parts (started o.0) one.0 more.0 (o.0 ∷ []) (of_lock i fs) first more.2)
 
 -- ---- the meaning
 
-holds_behind : (b : Bool) (signs : List (ℕ × Sign)) (m : Known) → read (cond b nobody_holds nothing_known) signs ≡ Ok m → AreHoldsBehind b (all_holds m) signs
-holds_behind true signs m e = read_first signs m e
-holds_behind false signs m e = read_later signs m e
+holds_after : (b : Bool) (signs : List (ℕ × Sign)) (m : Known) → read (cond b nobody_holds nothing_known) signs ≡ Ok m → AreHoldsAfter b (all_holds m) signs
+holds_after true signs m e = read_first signs m e
+holds_after false signs m e = read_later signs m e
 
 pub files_tell_holds : FilesTellHolds
 files_tell_holds fs ms t i m at = go (new_on fs [] ms i t refl)
@@ -144,7 +144,7 @@ files_tell_holds fs ms t i m at = go (new_on fs [] ms i t refl)
     go (inr o) =
         let same : o.2 ≡ m = some_is o.2 m (sym o.4 ∙ at) in
         subst (λ (u : List Part). AreHoldsIn u (all_holds m)) (sym o.3)
-        (holds_behind (o.0.base.events == 0) (signs_in (o.0 ∷ o.1)) m (o.5 ∙ ap (λ (u : Known). Ok u) same))
+        (holds_after (o.0.base.events == 0) (signs_in (o.0 ∷ o.1)) m (o.5 ∙ ap (λ (u : Known). Ok u) same))
 
 blocks_at : (lock : ℕ) (ks : List Block) (ms : List Known) (i : ℕ) (m : Known) → with_parts lock (map unknown ks) (map part_of ks) ≡ Ok ms → slice_get ms i ≡ Some m →
     (k : Block) × (slice_get ks i ≡ Some k) × (read nothing_known (signs_of no_base k) ≡ Ok m)

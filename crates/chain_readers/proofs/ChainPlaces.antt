@@ -12,7 +12,7 @@ use Rattle.segment_files.specs.Files.{File, Place, Link, place_after, segment_of
 use Rattle.chain_readers.specs.declared.holds.Hold.{Hold}
 use Rattle.chain_readers.specs.declared.signs.Sign.{Sign}
 use Rattle.chain_readers.specs.Signs.{sign_of, ends_at, place, ended, signs_from, signs_of}
-use Rattle.chain_readers.specs.Chains.{Part, parts_of, parts_in, at_number, of_lock, signs_in, AreHoldsBehind, AreHoldsIn}
+use Rattle.chain_readers.specs.Chains.{Part, parts_of, parts_in, at_number, of_lock, signs_in, AreHoldsAfter, AreHoldsIn}
 use Rattle.chain_readers.specs.HoldLaws.{Rise, AreApart}
 use Rattle.chain_readers.proofs.Excluding.{holds_apart, rise_from, rise_signs}
 
@@ -127,13 +127,13 @@ chain_rise (f ∷ fs) i c =
     let from = link_from (opening_link f).places i in
     rise_from 0 from.0 (signs_in (of_lock i (f ∷ fs))) (omega arith) (files_rise (f ∷ fs) (opening_link f) i from.0 c from.1)
 
-behind_apart : (b : Bool) (holds : List Hold) (signs : List (ℕ × Sign)) → Rise 0 signs → AreHoldsBehind b holds signs → AreApart holds
-behind_apart true holds signs r a = holds_apart signs holds r (inl a)
-behind_apart false holds signs r a = holds_apart signs holds r a
+after_apart : (b : Bool) (holds : List Hold) (signs : List (ℕ × Sign)) → Rise 0 signs → AreHoldsAfter b holds signs → AreApart holds
+after_apart true holds signs r a = holds_apart signs holds r (inl a)
+after_apart false holds signs r a = holds_apart signs holds r a
 
 parts_apart : (ps : List Part) (holds : List Hold) → Rise 0 (signs_in ps) → AreHoldsIn ps holds → AreApart holds
 parts_apart [] holds r a = subst (λ (u : List Hold). AreApart u) (sym a) tt
-parts_apart (p ∷ ps) holds r a = behind_apart (p.base.events == 0) holds (signs_in (p ∷ ps)) r a
+parts_apart (p ∷ ps) holds r a = after_apart (p.base.events == 0) holds (signs_in (p ∷ ps)) r a
 
 pub chain_holds_apart : (fs : List File) (i : ℕ) (holds : List Hold) → AreChained fs → AreHoldsIn (of_lock i fs) holds → AreApart holds
 chain_holds_apart fs i holds c a = parts_apart (of_lock i fs) holds (chain_rise fs i c) a

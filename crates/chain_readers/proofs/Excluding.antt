@@ -14,10 +14,10 @@ use Rattle.chain_readers.specs.Signs.{sign_of, ends_at, place, ended, signs_from
 use Rattle.chain_readers.specs.Holds.{IsOpen, IsEnded, AreHolds, IsCarried, AreLaterHolds}
 use Rattle.chain_readers.specs.HoldLaws.{Rise, IsBefore, AreApart}
 
-rise_behind : (low : ℕ) (xs : List (ℕ × Sign)) (at : ℕ) (s : Sign) (ys : List (ℕ × Sign)) → Rise low (xs ++ (at, s) ∷ ys) → (low ≤ at) × Rise at ys
-rise_behind low [] at s ys r = r
-rise_behind low (x ∷ xs) at s ys r =
-    let more = rise_behind x.0 xs at s ys r.1 in
+rise_after : (low : ℕ) (xs : List (ℕ × Sign)) (at : ℕ) (s : Sign) (ys : List (ℕ × Sign)) → Rise low (xs ++ (at, s) ∷ ys) → (low ≤ at) × Rise at ys
+rise_after low [] at s ys r = r
+rise_after low (x ∷ xs) at s ys r =
+    let more = rise_after x.0 xs at s ys r.1 in
     let first = r.0 in (omega (arith, first, more.0), more.1)
 
 -- the first of these holds begins here or later, with a token greater than this one
@@ -33,24 +33,24 @@ next_apart h (g ∷ hs) e is b a = (
   a,
 )
 
-behind_apart : (h : Hold) (others : List Hold) (low : ℕ) (signs : List (ℕ × Sign)) →
+after_apart : (h : Hold) (others : List Hold) (low : ℕ) (signs : List (ℕ × Sign)) →
     ((low : ℕ) (signs : List (ℕ × Sign)) → Rise low signs → AreHolds h.token others signs → AreApart others × Begin low h.token others) → Rise low signs →
     (IsOpen h others signs ⊎ IsEnded h (AreHolds h.token others) signs) → AreApart (h ∷ others)
-behind_apart h others low signs next r (inl o) = subst (λ (x : List Hold). AreApart (h ∷ x)) (sym o.1) tt
-behind_apart h others low signs next r (inr o) =
-    let rest = rise_behind low o.1 o.0.to (Ended o.0.left) o.2 (subst (λ (x : List (ℕ × Sign)). Rise low x) o.4 r) in
+after_apart h others low signs next r (inl o) = subst (λ (x : List Hold). AreApart (h ∷ x)) (sym o.1) tt
+after_apart h others low signs next r (inr o) =
+    let rest = rise_after low o.1 o.0.to (Ended o.0.left) o.2 (subst (λ (x : List (ℕ × Sign)). Rise low x) o.4 r) in
     let more = next o.0.to o.2 rest.1 o.6 in next_apart h others o.0 o.3 more.1 more.0
 
 apart : (hs : List Hold) (token low : ℕ) (signs : List (ℕ × Sign)) → Rise low signs → AreHolds token hs signs → AreApart hs × Begin low token hs
 apart [] token low signs r a = (tt, tt)
 apart (h ∷ hs) token low signs r a =
-    let rest = rise_behind low a.1 a.0.from (Granted h.token a.0.label) a.2 (subst (λ (x : List (ℕ × Sign)). Rise low x) a.5 r) in
-    (behind_apart h hs a.0.from a.2 (apart hs h.token) rest.1 a.7, (a.0, a.3, rest.0, a.4))
+    let rest = rise_after low a.1 a.0.from (Granted h.token a.0.label) a.2 (subst (λ (x : List (ℕ × Sign)). Rise low x) a.5 r) in
+    (after_apart h hs a.0.from a.2 (apart hs h.token) rest.1 a.7, (a.0, a.3, rest.0, a.4))
 
 carried_apart : (hs : List Hold) (low : ℕ) (signs : List (ℕ × Sign)) → Rise low signs → IsCarried hs signs → AreApart hs
 carried_apart [] low signs r c = absurd c
 carried_apart (h ∷ hs) low signs r c =
-    let rest = rise_behind low [] c.0 (Carried h.token) c.1 (subst (λ (x : List (ℕ × Sign)). Rise low x) c.4 r) in behind_apart h hs c.0 c.1 (apart hs h.token) rest.1 c.5
+    let rest = rise_after low [] c.0 (Carried h.token) c.1 (subst (λ (x : List (ℕ × Sign)). Rise low x) c.4 r) in after_apart h hs c.0 c.1 (apart hs h.token) rest.1 c.5
 
 pub holds_apart : (signs : List (ℕ × Sign)) (holds : List Hold) → Rise 0 signs → AreLaterHolds holds signs → AreApart holds
 holds_apart signs holds r (inl a) = let both = apart holds 0 0 signs r a in both.0

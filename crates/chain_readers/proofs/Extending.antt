@@ -6,7 +6,7 @@ use Rattle.std.proofs.Math.ListN.{get_or-map}
 use Rattle.saved_history.specs.declared.saved.SavedRing.{SavedRing}
 use Rattle.saved_history.specs.Content.{Block, block_of}
 use Rattle.ring_model.specs.declared.bases.Base.{Base}
-use Rattle.chain_readers.specs.Joining.{with_segment, begun, opened, extended}
+use Rattle.chain_readers.specs.Joining.{with_segment, without_events, opened, extended}
 
 -- ---- each block with its next segment
 
@@ -72,22 +72,22 @@ module _ (old : List SavedRing) (bs : List Base) (next : List SavedRing) (i : �
 -- ---- rings more
 
 module _ (rings next : List SavedRing) (i : ℕ) where
-  pub opened_more : (more : List SavedRing) (x f : SavedRing) → i < length next → f ≡ get_or next i f → block_of x ≡ begun (block_of f) → more ≡ rings ++ x ∷ []
-      → map block_of more ++ map begun (drop (i + 1) (map block_of next)) ≡ map block_of rings ++ map begun (drop i (map block_of next))
+  pub opened_more : (more : List SavedRing) (x f : SavedRing) → i < length next → f ≡ get_or next i f → block_of x ≡ without_events (block_of f) → more ≡ rings ++ x ∷ []
+      → map block_of more ++ map without_events (drop (i + 1) (map block_of next)) ≡ map block_of rings ++ map without_events (drop i (map block_of next))
   opened_more more x f lt is e put =
       let long = length-map next block_of in
       let g : get_or (map block_of next) i (block_of f) ≡ block_of f = get_or-map block_of next i f ∙ ap block_of (sym is) in
-      let rest : List Block = map begun (drop (i + 1) (map block_of next)) in
+      let rest : List Block = map without_events (drop (i + 1) (map block_of next)) in
       ap (λ (u : List SavedRing). map block_of u ++ rest) put
       ∙ ap (λ (u : List Block). u ++ rest) (map-append block_of rings (x ∷ []))
       ∙ append_assoc (map block_of rings) (block_of x ∷ []) rest
-      ∙ ap (λ (u : Block). map block_of rings ++ u ∷ rest) (e ∙ ap begun (sym g))
-      ∙ sym (ap (λ (u : List Block). map block_of rings ++ map begun u) (drop_more (map block_of next) i (block_of f) (omega (arith, long, lt))))
+      ∙ ap (λ (u : Block). map block_of rings ++ u ∷ rest) (e ∙ ap without_events (sym g))
+      ∙ sym (ap (λ (u : List Block). map block_of rings ++ map without_events u) (drop_more (map block_of next) i (block_of f) (omega (arith, long, lt))))
 
-  pub opened_all : length next ≤ i → map block_of rings ++ map begun (drop i (map block_of next)) ≡ map block_of rings
+  pub opened_all : length next ≤ i → map block_of rings ++ map without_events (drop i (map block_of next)) ≡ map block_of rings
   opened_all le =
       let long = length-map next block_of in
-      ap (λ (u : List Block). map block_of rings ++ map begun u) (drop_all i (map block_of next) (omega (arith, long, le))) ∙ append-nil (map block_of rings)
+      ap (λ (u : List Block). map block_of rings ++ map without_events u) (drop_all i (map block_of next) (omega (arith, long, le))) ∙ append-nil (map block_of rings)
 
 -- ---- the block of a ring at its place
 

@@ -4,7 +4,7 @@ use Rattle.std.proofs.lemmas.List.{length-map}
 use Rattle.saved_history.specs.Content.{Block}
 use Rattle.ring_model.specs.declared.bases.Base.{Base}
 use Rattle.segment_files.specs.Files.{File, Link, link_after, opening_link, Follows, AreChainedAfter, AreChained}
-use Rattle.chain_readers.specs.Joining.{begun, opened, extended, with_file, with_files}
+use Rattle.chain_readers.specs.Joining.{without_events, opened, extended, with_file, with_files}
 use Rattle.chain_readers.specs.Joins.{IsCount}
 use Rattle.chain_readers.specs.JoinLaws.{JoinedHaveRings}
 
@@ -16,8 +16,8 @@ length_extended (k ∷ ks) (b ∷ bs) (f ∷ fs) = let more = length_extended ks
 
 length_opened : (ks fs : List Block) → length (opened ks fs) ≡ length ks + (length fs - length ks)
 length_opened ks fs =
-    let both = length-append ks (map begun (drop (length ks) fs)) in
-    let same = length-map (drop (length ks) fs) begun in
+    let both = length-append ks (map without_events (drop (length ks) fs)) in
+    let same = length-map (drop (length ks) fs) without_events in
     let left = length-drop (length ks) fs in
     omega (arith, both, same, left)
 

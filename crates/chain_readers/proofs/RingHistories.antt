@@ -16,7 +16,7 @@ use Rattle.ring_model.specs.Chains.{chain_history}
 use Rattle.ring_model.proofs.ChainHistories.{history_append}
 use Rattle.segment_files.specs.Files.{File, Place, Link, segments_of, segments, link_after, first_link, AreBases, AreStarts, IsShort, Follows, AreChainedAfter, at_number, of_ring}
 use Rattle.segment_files.proofs.Starts.{file_starts}
-use Rattle.chain_readers.specs.Joining.{begun, opened, extended, with_file, with_files}
+use Rattle.chain_readers.specs.Joining.{without_events, opened, extended, with_file, with_files}
 use Rattle.chain_readers.specs.JoinLaws.{JoinedIsOfChains}
 use Rattle.chain_readers.proofs.Whole.{start_of, Stands, AreJoined, HasStart, IsSound, no_base_is, sound_begun, stands_begun, events_more, file_more, to_recursion}
 
@@ -34,10 +34,10 @@ ring_more version place i [] [] [] [] j e b s r h short = refl
 ring_more version place i [] [] [] (f ∷ fs) j e b s r h short = absurd (omega (arith, e))
 ring_more version place i [] [] (b ∷ bs) [] j e bases s r h short = absurd (omega (arith, e))
 ring_more version place zero [] [] (b ∷ bs) (f ∷ fs) j e bases s r h short =
-    let sound : IsSound place (begun f) = sound_begun version place f r.0 h.0 in
-    let stands : Stands (begun f) b (start_of f) = subst (λ (x : Base). Stands (begun f) x (start_of f)) (sym bases.0) (stands_begun f) in
+    let sound : IsSound place (without_events f) = sound_begun version place f r.0 h.0 in
+    let stands : Stands (without_events f) b (start_of f) = subst (λ (x : Base). Stands (without_events f) x (start_of f)) (sym bases.0) (stands_begun f) in
     let room : IsBase b = subst IsBase (sym bases.0) no_base_is in
-    events_more version place (begun f) f b sound stands r.0 short.0 room ∙ sym (append-nil (shifted b (history f)))
+    events_more version place (without_events f) f b sound stands r.0 short.0 room ∙ sym (append-nil (shifted b (history f)))
 ring_more version place (suc i) [] [] (b ∷ bs) (f ∷ fs) j e bases s r h short = ring_more version (place + 1) i [] [] bs fs tt (omega (arith, e)) bases.1 tt r.1 h.1 short.1
 ring_more version place i (k ∷ ks) [] bs fs j e b s r h short = absurd j
 ring_more version place i [] (p ∷ ps) bs fs j e b s r h short = absurd j

@@ -31,7 +31,7 @@ use Rattle.ring_model.proofs.Tallied.{few_grants, calm_few}
 use Rattle.segment_files.specs.Sums.{capped}
 use Rattle.segment_files.specs.Files.{File, Place, Link, segments_of, place_after, link_after, first_link, AreBases, AreStarts, IsShort, Follows, AreChainedAfter}
 use Rattle.segment_files.proofs.Starts.{file_starts}
-use Rattle.chain_readers.specs.Joining.{shifted_event, counted_survey, shifted_survey, with_segment, begun, opened, extended, with_file, with_files, content_of, joined}
+use Rattle.chain_readers.specs.Joining.{shifted_event, counted_survey, shifted_survey, with_segment, without_events, opened, extended, with_file, with_files, content_of, joined}
 use Rattle.chain_readers.specs.JoinLaws.{JoinedIsLegal}
 use Rattle.chain_readers.proofs.ShiftedEvents.{uncapped, events_move}
 use Rattle.chain_readers.proofs.Continuing.{surveyed, whole_on, ring_on, base_on, survey_on, survey_kept}
@@ -64,9 +64,9 @@ pub record Stands (k : Block) (b : Base) (r : Ring) : Type 0 where
   pub base : b ≡ base_after no_base (start_of k) (history k)
   pub ring : r ≡ (after till (opening (start_of k) 0) (history k)).ring
 
--- ---- a ring that is begun
+-- ---- a ring that is without_events
 
-pub sound_begun : (version place : ℕ) (f : Block) → IsRightBlock version place f → length f.start ≡ f.n → IsSound place (begun f)
+pub sound_begun : (version place : ℕ) (f : Block) → IsRightBlock version place f → length f.start ≡ f.n → IsSound place (without_events f)
 sound_begun version place f h long =
     let machines = h.most_machines in
     let values = h.most in
@@ -85,7 +85,7 @@ sound_begun version place f h long =
       order = λ seat. tt;
     }
 
-pub stands_begun : (f : Block) → Stands (begun f) no_base (start_of f)
+pub stands_begun : (f : Block) → Stands (without_events f) no_base (start_of f)
 stands_begun f = record { base = refl; ring = refl }
 
 -- ---- a ring with its next segment
@@ -237,11 +237,11 @@ joined_more version place [] [] [] [] j e b s r h short = tt
 joined_more version place [] [] [] (f ∷ fs) j e b s r h short = absurd (omega (arith, e))
 joined_more version place [] [] (b ∷ bs) [] j e bases s r h short = absurd (omega (arith, e))
 joined_more version place [] [] (b ∷ bs) (f ∷ fs) j e bases s r h short =
-    let sound : IsSound place (begun f) = sound_begun version place f r.0 h.0 in
-    let stands : Stands (begun f) b (start_of f) = subst (λ (x : Base). Stands (begun f) x (start_of f)) (sym bases.0) (stands_begun f) in
+    let sound : IsSound place (without_events f) = sound_begun version place f r.0 h.0 in
+    let stands : Stands (without_events f) b (start_of f) = subst (λ (x : Base). Stands (without_events f) x (start_of f)) (sym bases.0) (stands_begun f) in
     let room : IsBase b = subst IsBase (sym bases.0) no_base_is in (
-      sound_grown version place (begun f) f b sound stands r.0 short.0 room,
-      stands_grown version place (begun f) f b sound stands r.0 short.0 room,
+      sound_grown version place (without_events f) f b sound stands r.0 short.0 room,
+      stands_grown version place (without_events f) f b sound stands r.0 short.0 room,
       joined_more version (place + 1) [] [] bs fs tt (omega (arith, e)) bases.1 tt r.1 h.1 short.1,
     )
 joined_more version place (k ∷ ks) [] bs fs j e b s r h short = absurd j

@@ -42,13 +42,13 @@ signs_in ps = flat_map (λ (p : Part). signs_of p.base p.block) ps
 
 -- Segments record these holds. If events came before the first of them, it may carry a hold of
 -- whose beginning nothing is known; else no client holds before it.
-abbrev pub AreHoldsBehind : Bool → List Hold → List (ℕ × Sign) → Type 0
-AreHoldsBehind true holds signs = AreHolds 0 holds signs
-AreHoldsBehind false holds signs = AreLaterHolds holds signs
+abbrev pub AreHoldsAfter : Bool → List Hold → List (ℕ × Sign) → Type 0
+AreHoldsAfter true holds signs = AreHolds 0 holds signs
+AreHoldsAfter false holds signs = AreLaterHolds holds signs
 
 abbrev pub AreHoldsIn : List Part → List Hold → Type 0
 AreHoldsIn [] holds = holds ≡ []
-AreHoldsIn (p ∷ ps) holds = AreHoldsBehind (p.base.events == 0) holds (signs_in (p ∷ ps))
+AreHoldsIn (p ∷ ps) holds = AreHoldsAfter (p.base.events == 0) holds (signs_in (p ∷ ps))
 
 -- ---- file by file
 
@@ -68,16 +68,16 @@ with_parts lock (k ∷ ks) (p ∷ ps) =
 with_parts lock ks _ = Ok ks
 
 -- the locks, and those whose first segment is among these
-abbrev pub opened : List Known → List Part → List Known
-opened ks ps = ks ++ map started (drop (length ks) ps)
+abbrev pub locks_opened : List Known → List Part → List Known
+locks_opened ks ps = ks ++ map started (drop (length ks) ps)
 
-abbrev pub with_file : List Known → File → Result (List Known) (ℕ × ℕ)
-with_file ks f = with_parts 0 (opened ks (parts_in f)) (parts_in f)
+abbrev pub holds_with_file : List Known → File → Result (List Known) (ℕ × ℕ)
+holds_with_file ks f = with_parts 0 (locks_opened ks (parts_in f)) (parts_in f)
 
 -- the files lead from what was known of the locks to what is known of them
 abbrev pub LeadTo : List Known → List File → List Known → Type 0
 LeadTo ks [] ms = ks ≡ ms
-LeadTo ks (f ∷ fs) ms = (ns : List Known) × (with_file ks f ≡ Ok ns) × LeadTo ns fs ms
+LeadTo ks (f ∷ fs) ms = (ns : List Known) × (holds_with_file ks f ≡ Ok ns) × LeadTo ns fs ms
 
 -- ---- the answers
 
@@ -92,7 +92,7 @@ pub record IsHeldWith (old : HoldsSoFar) (bytes : List ℕ) (last : Bool) (new :
   pub state : State
   pub added : IsAdded old.state bytes last state
   pub next : new.state ≡ Some state
-  pub locks : with_file old.locks added.file ≡ Ok new.locks
+  pub locks : holds_with_file old.locks added.file ≡ Ok new.locks
 
 -- the right refusals, memory aside
 abbrev pub IsHoldRefusal : HoldsSoFar → List ℕ → Bool → ChainHoldError → Type 0
@@ -100,7 +100,7 @@ IsHoldRefusal old bytes last (refused.Segment e) = IsRightRefusal old.state byte
 IsHoldRefusal old bytes last (refused.NoHold lock at) =
     (state : State)
     × (added : IsAdded old.state bytes last state)
-    × (with_file old.locks added.file ≡ Err (lock, at))
+    × (holds_with_file old.locks added.file ≡ Err (lock, at))
 IsHoldRefusal old bytes last refused.OutOfMemory = Unit {0}
 
 -- ---- a saved history

@@ -51,12 +51,12 @@ with_segment k b next = record k {
 }
 
 -- a block without events
-abbrev pub begun : Block → Block
-begun k = record k { events = []; events_said = 0; surveys = [] }
+abbrev pub without_events : Block → Block
+without_events k = record k { events = []; events_said = 0; surveys = [] }
 
 -- the blocks, and after them those of the rings more, still without events
 abbrev pub opened : List Block → List Block → List Block
-opened ks next = ks ++ map begun (drop (length ks) next)
+opened ks next = ks ++ map without_events (drop (length ks) next)
 
 -- each block with its next segment
 abbrev pub extended : List Block → List Base → List Block → List Block

@@ -4,7 +4,7 @@ ghost use Rattle.std.specs.Prelude.{◌≡◌, ◌≤◌, ◌+◌, [], length, m
 ghost use Rattle.saved_history.specs.Content.{block_of, content};
 ghost use Rattle.segment_files.specs.Chain.{sums_at};
 ghost use Rattle.chain_readers.specs.Known.{known, all_holds};
-ghost use Rattle.chain_readers.specs.Chains.{IsHeldWith, IsHoldRefusal, parts_of, opened, started, part_of, unknown};
+ghost use Rattle.chain_readers.specs.Chains.{IsHeldWith, IsHoldRefusal, parts_of, locks_opened, started, part_of, unknown};
 ghost use Rattle.chain_readers.specs.ChainSteps.{refused_at, ArePartsRead, AreBlocksHeld, AreBlocksRefused};
 
 use crate::hold_errors::{ChainHoldError, HoldError};
@@ -36,7 +36,7 @@ fn open_more(
     rings: &[SavedRing],
 ) -> Result<(), AllocError>
     ensures { OnOk result (map known locks.new.items
-        ≡ opened (map known locks.old.items) (parts_of bases.now (map block_of rings.now))) }
+        ≡ locks_opened (map known locks.old.items) (parts_of bases.now (map block_of rings.now))) }
 {
     let count = bases.len().min(rings.len());
     for i in locks.len()..count {

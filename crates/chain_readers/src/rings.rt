@@ -2,7 +2,7 @@
 
 ghost use Rattle.std.specs.Prelude.{◌≡◌, ◌++◌, ◌≤◌, length, map, drop, vec_len, OnOk, IfOk};
 ghost use Rattle.saved_history.specs.Content.{block_of};
-ghost use Rattle.chain_readers.specs.Joining.{with_segment, begun, opened, extended};
+ghost use Rattle.chain_readers.specs.Joining.{with_segment, without_events, opened, extended};
 
 use crate::shifts::{put_events, put_surveys};
 use ring_model::Base;
@@ -11,7 +11,7 @@ use std::alloc::{AllocError, Global};
 
 /// A ring of a file, still without events.
 fn begin(alloc: Global, ring: &SavedRing) -> Result<SavedRing, AllocError>
-    ensures { IfOk result (λ begun_ring. block_of begun_ring ≡ begun (block_of ring.now)) }
+    ensures { IfOk result (λ begun_ring. block_of begun_ring ≡ without_events (block_of ring.now)) }
 {
     Ok(SavedRing {
         index: ring.index,

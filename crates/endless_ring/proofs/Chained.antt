@@ -15,7 +15,7 @@ use Rattle.ring_model.specs.declared.events.Reply.TheVariants.{Granted, NotPrivi
 use Rattle.ring_check.specs.Table.{event_of}
 use Rattle.ring_check.specs.Legal.{history}
 use Rattle.one_thread_ring.specs.SavedOf.{saved_for, saved_event}
-use Rattle.journal.specs.Spelling.{Journal, JournalFits, journal_text, journal_line, call_line, head_text as journal_head}
+use Rattle.journal.specs.Spelling.{Journal, JournalFits, journal_text, journal_line, call_line, journal_head}
 use Rattle.journal.specs.declared.calls.JournalLine.{JournalLine}
 use Rattle.journal.specs.ContentAfter.{content_after}
 use Rattle.journal.proofs.Orders.{nothing_after}

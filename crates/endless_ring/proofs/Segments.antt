@@ -35,7 +35,7 @@ use Rattle.ring_model.proofs.Tallied.{kept_is, few_grants, calm_few, next_bases_
 use Rattle.ring_model.proofs.Shifts.{grants_legal}
 use Rattle.ring_model.proofs.ChainHistories.{Stands, stands, replies_are_right}
 use Rattle.ring_model.proofs.Seen.{front_size, surveys_are_right}
-use Rattle.endless_ring.specs.Endless.{EndlessView, IsEndless, IsKnown, IsSurveyed, IsNext, EndsChain, segment_of, local_survey, survey_now, ChainsGrow, ReceiptsAreRight, SurveysNowAreRight}
+use Rattle.endless_ring.specs.Endless.{EndlessView, IsEndless, IsKnown, IsSurveyed, IsNextRing, EndsChain, segment_of, local_survey, survey_now, ChainsGrow, ReceiptsAreRight, SurveysNowAreRight}
 
 -- ---- the end of a segment
 
@@ -97,7 +97,7 @@ has_next b c d e view p room =
 
 -- the next segment, of its parts
 pub next_is : (b : Base) (d : RingView ℕ) (c : Base) (e : RingView ℕ) → c ≡ base_after b d.book.start d.book.history → IsFresh d.book.now.ring 0 e.book → AreFresh (length d.clients) e.clients →
-    IsNext (record { base = b; ring = d }) (record { base = c; ring = e })
+    IsNextRing (record { base = b; ring = d }) (record { base = c; ring = e })
 next_is b d c e q f a = record { base = q; start = f.0; history = f.2; clients = a }
 
 -- ---- a call
@@ -232,7 +232,7 @@ goes_on b r [] old new i p q c =
 goes_on b r (s ∷ front) old new i p q c = (c.0, c.1, c.2, goes_on (base_after b r s.history) (after till (opening r 0) s.history).ring front old new i p q c.3)
 
 -- and it may have one segment more
-pub goes_further : (b : Base) (r : Ring) (front : List Segment) (old new : EndlessView) → IsEndless old → IsEndless new → IsNext old new →
+pub goes_further : (b : Base) (r : Ring) (front : List Segment) (old new : EndlessView) → IsEndless old → IsEndless new → IsNextRing old new →
     EndsChain b r front old → EndsChain b r (front ++ segment_of old ∷ []) new
 goes_further b r [] old new i j n c =
     let h : List Event = old.ring.book.history in

@@ -5,7 +5,7 @@ use Rattle.std.specs.List.{flat_map}
 use Rattle.std.proofs.lemmas.List.{append-nil, take_at, drop_all}
 use Rattle.ring_model.specs.declared.bases.Base.{Base}
 use Rattle.segment_files.specs.Spelling.{Head, number_line, behind_line, base_line, head_text}
-use Rattle.journal.specs.Spelling.{first_line as journal_line, head_text as journal_text}
+use Rattle.journal.specs.Spelling.{first_line as journal_line, journal_head}
 use Rattle.endless_ring.specs.Files.{PlaceView, head_at}
 use Rattle.saved_history.specs.Content.{Block, Content}
 use Rattle.saved_history.specs.Spelling.{first_line, head_line, start_line, event_line, end_line, survey_line, done_line, head_of, block_text, text}
@@ -34,8 +34,8 @@ head_filled p base number behind line =
 
 -- a file: its head, and a journal that begins with a saved text
 pub file_filled : (h : Head) (s : Content) {a b c d : List ℕ} {i j k l : ℕ} →
-    Fills a b i j (head_text h) → Fills b c j k journal_line → Fills c d k l (text s) → Fills a d i l (head_text h ++ journal_text s)
-file_filled h s head line began = fills_then (head_text h) (journal_text s) head (fills_then journal_line (text s) line began)
+    Fills a b i j (head_text h) → Fills b c j k journal_line → Fills c d k l (text s) → Fills a d i l (head_text h ++ journal_head s)
+file_filled h s head line began = fills_then (head_text h) (journal_head s) head (fills_then journal_line (text s) line began)
 
 -- what has just the room of a text, as it was measured, is the text
 pub whole_filled : (text : List ℕ) {none some old new : List ℕ} {size m : ℕ} (behind : List ℕ) (n : ℕ) → Fills none some 0 size text → n ≡ size → n ≢ 2 ^ 64 - 1 → length old ≡ n → Fills old new 0 m text → take n (new ++ behind) ≡ text

@@ -86,7 +86,7 @@ pub record IsSurveyed (old new : EndlessView) (seat : ℕ) (s : Survey) : Type 0
   pub base : new.base ≡ old.base
 
 -- its next segment: it begins where this one ends, and its clients' logs are empty
-pub record IsNext (old new : EndlessView) : Type 0 where
+pub record IsNextRing (old new : EndlessView) : Type 0 where
   pub base : new.base ≡ base_after old.base old.ring.book.start old.ring.book.history
   pub start : new.ring.book.start ≡ old.ring.book.now.ring
   pub history : new.ring.book.history ≡ []
@@ -104,7 +104,7 @@ ChainsGrow =
     → IsEndless new → EndsChain b r before old
     → ((new.base ≡ old.base) → (new.ring.book.start ≡ old.ring.book.start)
     → EndsChain b r before new)
-    × (IsNext old new → EndsChain b r (before ++ segment_of old ∷ []) new)
+    × (IsNextRing old new → EndsChain b r (before ++ segment_of old ∷ []) new)
 
 -- The receipt of a call is that of the ring whose history is the chain: its reply is that of the
 -- one-thread ring after the whole chain, and its position counts all events of it.

@@ -3,7 +3,7 @@ use Rattle.std.specs.Prelude.{◌≡◌, ℕ, ◌+◌, ◌<◌, ◌^◌, ◌-◌
 use Rattle.std.specs.List.{flat_map}
 use Rattle.saved_history.specs.Spelling.{Fits}
 use Rattle.ring_check.specs.Legal.{IsLegalText}
-use Rattle.journal.specs.Spelling.{journal_line, head_text as journal_text}
+use Rattle.journal.specs.Spelling.{journal_line, journal_head}
 use Rattle.ring_model.specs.declared.bases.Base.{Base}
 use Rattle.ring_model.specs.Bases.{IsBase, base_after}
 use Rattle.segment_files.specs.Spelling.{Head, HeadFits, DigestFits, head_text, digest_of, no_digest}
@@ -11,7 +11,7 @@ use Rattle.segment_files.specs.Files.{File}
 use Rattle.one_thread_ring.specs.Journals.{line_of_survey, event_lines}
 use Rattle.one_thread_ring.specs.Rings.{RingView}
 use Rattle.one_thread_ring.specs.Texts.{saved_alone}
-use Rattle.endless_ring.specs.Endless.{EndlessView, IsEndless, IsNext}
+use Rattle.endless_ring.specs.Endless.{EndlessView, IsEndless, IsNextRing}
 use Rattle.endless_ring.specs.declared.files.Looked.{Looked}
 
 -- the number of a file, and the digest of the file before it
@@ -59,7 +59,7 @@ head_at p b = record { number = p.number; behind = p.behind; bases = b ∷ [] }
 -- The text of the file at this place of a ring's segment as it is: its head, and a journal that
 -- begins with all of the segment, and has no call after it.
 abbrev pub file_text : PlaceView → EndlessView → List ℕ
-file_text p e = head_text (head_at p e.base) ++ journal_text (saved_alone e.ring)
+file_text p e = head_text (head_at p e.base) ++ journal_head (saved_alone e.ring)
 
 -- the bytes are that text, and what they spell is legal and fits
 pub record IsTextAt (p : PlaceView) (e : EndlessView) (bytes : List ℕ) : Type 0 where
@@ -93,7 +93,7 @@ kept_now d = record d {
 -- The ring continues in its next segment, whose file comes after one of these bytes. No journal of it
 -- is kept.
 pub record IsNextFile (old : FilesView) (bytes : List ℕ) (new : FilesView) : Type 0 where
-  pub ring : IsNext old.ring new.ring
+  pub ring : IsNextRing old.ring new.ring
   pub filed : IsFiled new
   pub number : new.place.number ≡ old.place.number + 1
   pub behind : new.place.behind ≡ digest_of bytes

@@ -8,7 +8,7 @@ ghost use Rattle.one_thread_ring.specs.Refusals.{IsDecided, bounds_of, seat_refu
 ghost use Rattle.ring_model.specs.Bases.{IsBase, base_after};
 ghost use Rattle.ring_model.specs.Tallies.{empty_tally, tallied};
 ghost use Rattle.endless_ring.specs.declared.rings.NextError.TheVariants as error;
-ghost use Rattle.endless_ring.specs.Endless.{IsEndless, IsSameEndless, IsCalled, IsTried, IsGrouped, IsSurveyed, IsNext, survey_now};
+ghost use Rattle.endless_ring.specs.Endless.{IsEndless, IsSameEndless, IsCalled, IsTried, IsGrouped, IsSurveyed, IsNextRing, survey_now};
 
 use one_thread_ring::{CallError, OneThreadRing};
 use ring_book::{GroupReceipt, Till};
@@ -249,7 +249,7 @@ impl EndlessRing {
     ///
     /// `Full` exactly where no segment has room after this one, or `OutOfMemory`.
     pub fn next(&self, alloc: Global) -> Result<EndlessRing, NextError>
-        ensures ok { IfOk result (λ next. IsNext self.now next) }
+        ensures ok { IfOk result (λ next. IsNextRing self.now next) }
         ensures is { IfOk result (λ next. IsEndless next) }
         ensures full { IfErr result (λ e. e ≡ error.Full
             → ¬ IsBase (base_after self.now.base self.now.ring.book.start
@@ -277,7 +277,7 @@ impl EndlessRing {
     ///
     /// The ring as it was, with the error of [`EndlessRing::next`].
     pub fn cut(self, alloc: Global) -> Result<EndlessRing, Uncut>
-        ensures ok { IfOk result (λ next. IsNext self next × IsEndless next) }
+        ensures ok { IfOk result (λ next. IsNextRing self next × IsEndless next) }
         ensures err { IfErr result (λ uncut. uncut.ring ≡ self) }
         ensures full { IfErr result (λ uncut. uncut.why ≡ error.Full
             → ¬ IsBase (base_after self.base self.ring.book.start self.ring.book.history)) }

@@ -5,7 +5,7 @@ use Rattle.saved_history.specs.Content.{Content}
 use Rattle.saved_history.specs.Spelling.{text}
 use Rattle.ring_check.specs.Lines.{lines}
 use Rattle.ring_check.proofs.SavedLines.{lines_some}
-use Rattle.journal.specs.Spelling.{first_line, head_text, journal_line, journal_text}
+use Rattle.journal.specs.Spelling.{first_line, journal_head, journal_line, journal_text}
 use Rattle.journal.specs.ContentAfter.{content_after}
 use Rattle.journal.specs.Recovery.{IsRecovered}
 use Rattle.journal.proofs.Countings.{lines_after}
@@ -19,7 +19,7 @@ recovered_lines bytes c r =
     let same : length (lines c) ≡ length (lines (content_after began calls)) = ap (λ (s : Content). length (lines s)) r.is in
     let some = lines_some began in
     let head = length-append first_line (text began) in
-    let behind = length-append (head_text began) (flat_map journal_line calls) in
+    let behind = length-append (journal_head began) (flat_map journal_line calls) in
     let whole : length bytes ≡ length (journal_text r.journal ++ r.tail) = ap length r.lines.spelled in
     let all = length-append (journal_text r.journal) r.tail in
     let within = calls_within calls (flat_map journal_line calls ++ r.tail) r.tail refl in

@@ -25,16 +25,16 @@ get_front {X = X} [] x i y e = let p : ◌≡◌ {A = Option X} None (Some y) = 
 get_front (z ∷ xs) x zero y e = e
 get_front (z ∷ xs) x (suc i) y e = get_front xs x i y e
 
-waits_push : (ls : List Lock) (l : Lock) (c : ℕ) → stands c l.line ≡ false → waits_for (ls ++ l ∷ []) c ≡ waits_for ls c
+waits_push : (ls : List Lock) (l : Lock) (c : ℕ) → stands c l.queue ≡ false → waits_for (ls ++ l ∷ []) c ≡ waits_for ls c
 waits_push [] l c e = ap (λ (b : Bool). if b then Some l else None) e
-waits_push (x ∷ ls) l c e = ap (λ (w : Option Lock). if stands c x.line then Some x else w) (waits_push ls l c e)
+waits_push (x ∷ ls) l c e = ap (λ (w : Option Lock). if stands c x.queue then Some x else w) (waits_push ls l c e)
 
-module _ (ls : List Lock) (l : Lock) (r : AreRight ls) (is : IsRightLock l) (empty : l.line ≡ []) where
-  nobody : (c : ℕ) → stands c l.line ≡ false
+module _ (ls : List Lock) (l : Lock) (r : AreRight ls) (is : IsRightLock l) (empty : l.queue ≡ []) where
+  nobody : (c : ℕ) → stands c l.queue ≡ false
   nobody c = ap (λ (x : List Waiter). stands c x) empty
 
-  nobody_in : (c : ℕ) (m : Lock) → m ≡ l → stands c m.line ≡ true → ⊥
-  nobody_in c m e s = both_ways (stands c l.line) (nobody c) (subst (λ (x : Lock). stands c x.line ≡ true) e s)
+  nobody_in : (c : ℕ) (m : Lock) → m ≡ l → stands c m.queue ≡ true → ⊥
+  nobody_in c m e s = both_ways (stands c l.queue) (nobody c) (subst (λ (x : Lock). stands c x.queue ≡ true) e s)
 
   pub right_push : AreRight (ls ++ l ∷ [])
   right_push = record {
@@ -61,12 +61,12 @@ module _ (ls : List Lock) (l : Lock) (r : AreRight ls) (is : IsRightLock l) (emp
     ];
   }
 
-right_view : (e : EndlessView) (h : Option Holder) → IsKeptRing e → is_settled (state_of e).ring.values ≡ true → IsRightLock (lock_of (record { ring = e; line = []; holder = h }))
+right_view : (e : EndlessView) (h : Option Holder) → IsKeptRing e → is_settled (state_of e).ring.values ≡ true → IsRightLock (lock_of (record { ring = e; queue = []; holder = h }))
 right_view e h k s = record { ring = kept_is_ring e k; settled = s; held = λ _. refl; apart = tt }
 
-pub kept_push : (vs : List LockView) (es : List (ℕ × ℕ)) (e : EndlessView) (h : Option Holder) → AreKept vs es → length vs < lock_limit → IsKeptRing e → is_settled (state_of e).ring.values ≡ true → AreKept (vs ++ record { ring = e; line = []; holder = h } ∷ []) es
+pub kept_push : (vs : List LockView) (es : List (ℕ × ℕ)) (e : EndlessView) (h : Option Holder) → AreKept vs es → length vs < lock_limit → IsKeptRing e → is_settled (state_of e).ring.values ≡ true → AreKept (vs ++ record { ring = e; queue = []; holder = h } ∷ []) es
 kept_push vs es e h k room r s =
-    let v : LockView = record { ring = e; line = []; holder = h } in
+    let v : LockView = record { ring = e; queue = []; holder = h } in
     let right = right_view e h r s in
     let ls : locks_of (vs ++ v ∷ []) ≡ locks_of vs ++ lock_of v ∷ [] = map-append lock_of vs (v ∷ []) in record {
       right = subst (λ (x : List Lock). AreRight x) (sym ls) (right_push (locks_of vs) (lock_of v) k.right right refl);

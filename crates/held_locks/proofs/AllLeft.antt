@@ -15,7 +15,7 @@ use Rattle.held_locks.specs.declared.answers.HoldEnd.{HoldEnd}
 use Rattle.held_locks.specs.declared.answers.Left.{Left}
 use Rattle.held_locks.specs.declared.parts.LockParts.{LockParts}
 use Rattle.held_locks.specs.Parts.{view_of, views_of}
-use Rattle.held_locks.specs.Kept.{LockView, state_of, lock_of, locks_of, AreMade, ended_in, ended_at, own_answer, other_grant, IsDone, left_by, left_at, left_of, grants_behind, IsLeft}
+use Rattle.held_locks.specs.Kept.{LockView, state_of, lock_of, locks_of, AreMade, ended_in, ended_at, own_answer, other_grant, IsDone, left_by, left_at, left_of, grants_after, IsLeft}
 use Rattle.held_locks.specs.Queues.{Lock, stands, without, is_held_by}
 use Rattle.held_locks.specs.Locks.{Leave, Asked, Input, Step, advanced, turn, step, step_at}
 use Rattle.held_locks.specs.Promises.{locks_after, answers_after, leaves, LeaversAreGone}
@@ -24,16 +24,16 @@ use Rattle.held_locks.proofs.Shown.{locks_append}
 
 -- the client holds the lock no more, and does not wait for it
 abbrev IsGone : ℕ → Lock → Type 0
-IsGone c l = (is_held_by c l.holder ≡ false) × (stands c l.line ≡ false)
+IsGone c l = (is_held_by c l.holder ≡ false) × (stands c l.queue ≡ false)
 
-gone_on : (a : State ℕ) (line : List Waiter) (c : ℕ) → stands c line ≡ false → IsGone c (advanced a line).lock
+gone_on : (a : State ℕ) (queue : List Waiter) (c : ℕ) → stands c queue ≡ false → IsGone c (advanced a queue).lock
 gone_on a [] c s = (refl, refl)
-gone_on a (w ∷ line) c s = or_parts (w.client == c) (stands c line) s
+gone_on a (w ∷ queue) c s = or_parts (w.client == c) (stands c queue) s
 
 gone_turn : (ls : List Lock) (l : Lock) (c : ℕ) → IsGone c (turn ls l c Leave).lock
 gone_turn ls l c = elim (cases_Bool (is_held_by c l.holder)) [
-  | inl h ↦ rw h (gone_on l.ring (without c l.line) c (stands_without c l.line))
-  | inr h ↦ rw h (h, stands_without c l.line)
+  | inl h ↦ rw h (gone_on l.ring (without c l.queue) c (stands_without c l.queue))
+  | inr h ↦ rw h (h, stands_without c l.queue)
 ]
 
 -- the locks so far
@@ -66,22 +66,22 @@ pub answers_append : (ls : List Lock) (is js : List Input) → answers_after ls 
 answers_append ls [] js = refl
 answers_append ls (i ∷ is) js = ap (λ (x : List (ℕ × Answer)). (step ls i).answers ++ x) (answers_append (step ls i).locks is js) ∙ sym (append_assoc (step ls i).answers (answers_after (step ls i).locks is) (answers_after (locks_after (step ls i).locks is) js))
 
-grants_append : (xs ys : List Left) → grants_behind (xs ++ ys) ≡ grants_behind xs ++ grants_behind ys
+grants_append : (xs ys : List Left) → grants_after (xs ++ ys) ≡ grants_after xs ++ grants_after ys
 grants_append [] ys = refl
-grants_append (x ∷ xs) ys = ap (λ (z : List (ℕ × Answer)). other_grant x.granted ++ z) (grants_append xs ys) ∙ sym (append_assoc (other_grant x.granted) (grants_behind xs) (grants_behind ys))
+grants_append (x ∷ xs) ys = ap (λ (z : List (ℕ × Answer)). other_grant x.granted ++ z) (grants_append xs ys) ∙ sym (append_assoc (other_grant x.granted) (grants_after xs) (grants_after ys))
 
 -- the client that is granted after the end of a hold
-holder_by : (a : State ℕ) (line : List Waiter) (h : Option Holder) → other_grant h ≡ (advanced a line).answers → h ≡ (advanced a line).lock.holder
+holder_by : (a : State ℕ) (queue : List Waiter) (h : Option Holder) → other_grant h ≡ (advanced a queue).answers → h ≡ (advanced a queue).lock.holder
 holder_by a [] None e = refl
 holder_by a [] (Some h) e = absurd (one h e)
   where
     one : (h : Holder) → ◌≡◌ {A = List (ℕ × Answer)} ((h.client, answer.Granted h.token) ∷ []) [] → ⊥
     one h e = cc
-holder_by a (w ∷ line) None e = absurd (one w e)
+holder_by a (w ∷ queue) None e = absurd (one w e)
   where
     one : (w : Waiter) → ◌≡◌ {A = List (ℕ × Answer)} [] ((w.client, answer.Granted (a.grants + 1)) ∷ []) → ⊥
     one w e = cc
-holder_by a (w ∷ line) (Some h) e =
+holder_by a (w ∷ queue) (Some h) e =
     let p : h.client ≡ w.client = client_is h.client w.client h.token (a.grants + 1) e in
     let q : h.token ≡ a.grants + 1 = token_is h.client w.client h.token (a.grants + 1) e in
     ap (λ (x : ℕ). Some (record { client = x; token = h.token })) p ∙ ap (λ (x : ℕ). Some (record { client = w.client; token = x })) q
@@ -98,16 +98,16 @@ holder_by a (w ∷ line) (Some h) e =
 -- what is reported of one lock
 pub record IsTold (c i : ℕ) (v : LockView) (said : List Left) : Type 0 where
   pub told : said ≡ left_at c i (Some v)
-  pub answers : grants_behind said ≡ (turn [] (lock_of v) c Leave).answers
+  pub answers : grants_after said ≡ (turn [] (lock_of v) c Leave).answers
 
 told_lock : (c i : ℕ) (v : LockView) (ended : Option HoldEnd) (granted : Option Holder) (held : Bool) → is_held_by c v.holder ≡ held →
     ended ≡ ended_in v.ring (turn [] (lock_of v) c Leave).marks → other_grant granted ≡ (turn [] (lock_of v) c Leave).answers → IsTold c i v (left_by i ended granted)
 told_lock c i v ended granted true h e f =
-    let line : List Waiter = without c v.line in
+    let queue : List Waiter = without c v.queue in
     let end : HoldEnd = record { seat = 2; survey = local_survey v.ring.ring } in
-    let g : other_grant granted ≡ (advanced (state_of v.ring) line).answers = rw h at f in
+    let g : other_grant granted ≡ (advanced (state_of v.ring) queue).answers = rw h at f in
     let d : ended ≡ Some end = rw h at e in
-    let holder : granted ≡ (advanced (state_of v.ring) line).lock.holder = holder_by (state_of v.ring) line granted g in
+    let holder : granted ≡ (advanced (state_of v.ring) queue).lock.holder = holder_by (state_of v.ring) queue granted g in
     subst (λ (x : Option HoldEnd). IsTold c i v (left_by i x granted)) (sym d) (record {
       told = rw h (ap (λ (x : Option Holder). left_by i (Some end) x) holder);
       answers = rw h (append-nil (other_grant granted) ∙ g);
@@ -119,7 +119,7 @@ told_lock c i v ended granted false h e f =
 -- the client has left the first of the locks
 pub record AreLeft (old now : List LockView) (c n : ℕ) (said : List Left) : Type 0 where
   pub locks : locks_of now ≡ locks_after (locks_of old) (leaves c n)
-  pub answers : grants_behind said ≡ answers_after (locks_of old) (leaves c n)
+  pub answers : grants_after said ≡ answers_after (locks_of old) (leaves c n)
   pub told : said ≡ left_of c old n
   pub rest : (j : ℕ) → n ≤ j → slice_get now j ≡ slice_get old j
   pub marks : (j : ℕ) (v w : LockView) → j < n → slice_get old j ≡ Some v → slice_get now j ≡ Some w → AreMade v.ring (turn [] (lock_of v) c Leave).marks w.ring
@@ -140,7 +140,7 @@ one_more_left old now new c n said v r at a d own =
     subst (λ (k : ℕ). AreLeft old new c k (said ++ left_by n r.ended r.granted)) (sym size) (record {
       locks = d.locks ∙ ap (λ (x : Step). x.locks) one ∙ sym (locks_append (locks_of old) (leaves c n) (Asked c n Leave ∷ []));
       answers = grants_append said (left_by n r.ended r.granted)
-          ∙ ap (λ (x : List (ℕ × Answer)). x ++ grants_behind (left_by n r.ended r.granted)) a.answers
+          ∙ ap (λ (x : List (ℕ × Answer)). x ++ grants_after (left_by n r.ended r.granted)) a.answers
           ∙ ap (λ (x : List (ℕ × Answer)). answers_after (locks_of old) (leaves c n) ++ x) (told.answers ∙ sym (ap (λ (x : Step). x.answers) s) ∙ ap (λ (x : Step). x.answers) one ∙ sym (append-nil (step (locks_after (locks_of old) (leaves c n)) (Asked c n Leave)).answers))
           ∙ sym (answers_append (locks_of old) (leaves c n) (Asked c n Leave ∷ []));
       told = ap (λ (x : List Left). x ++ left_by n r.ended r.granted) a.told ∙ ap (λ (x : List Left). left_of c old n ++ x) (told.told ∙ ap (λ (x : Option LockView). left_at c n x) (sym there));

@@ -33,9 +33,9 @@ round_and_round : (ls : List Lock) (c : ℕ) → whom ls c ≡ Some c → (steps
 round_and_round ls c w zero e = some_none c e
 round_and_round ls c w (suc steps) e = round_and_round ls c w steps (ap (λ (x : Option ℕ). comes steps ls x) (sym w) ∙ e)
 
--- the holder of a lock is not in its line
-pub not_in_own_line : (ls : List Lock) (i : ℕ) (l : Lock) (h : Holder) → AreRight ls → slice_get ls i ≡ Some l → l.holder ≡ Some h → stands h.client l.line ≡ false
-not_in_own_line ls i l h r e held = false_from_ne_true (stands h.client l.line) (λ s.
+-- the holder of a lock is not in its queue
+pub not_in_own_queue : (ls : List Lock) (i : ℕ) (l : Lock) (h : Holder) → AreRight ls → slice_get ls i ≡ Some l → l.holder ≡ Some h → stands h.client l.queue ≡ false
+not_in_own_queue ls i l h r e held = false_from_ne_true (stands h.client l.queue) (λ s.
     let w : whom ls h.client ≡ Some h.client = ap holder_of (waits_there ls h.client i l r.once e s) ∙ ap client_of held in
     let end = r.ends h.client in
     round_and_round ls h.client w end.0 end.1)
@@ -55,20 +55,20 @@ asking_answered : (c order : ℕ) (ask : Ask) (a : Answer) → IsAsking ask orde
 asking_answered c order ask a (Acquires e) = subst (λ (x : Ask). IsAnswered c x ((c, a) ∷ [])) (sym e) (a, [], refl, inl refl)
 asking_answered c order ask a (Tries e) = subst (λ (x : Ask). IsAnswered c x ((c, a) ∷ [])) (sym e) (a, [], refl, inl refl)
 
-another_granted : (a : State ℕ) (line : List Waiter) (c : ℕ) → stands c line ≡ false → IsGrantOfAnother c (advanced a line).answers
+another_granted : (a : State ℕ) (queue : List Waiter) (c : ℕ) → stands c queue ≡ false → IsGrantOfAnother c (advanced a queue).answers
 another_granted a [] c s = inl refl
-another_granted a (w ∷ line) c s = inr (w.client, a.grants + 1, refl, eqb-false w.client c (or_parts (w.client == c) (stands c line) s).0)
+another_granted a (w ∷ queue) c s = inr (w.client, a.grants + 1, refl, eqb-false w.client c (or_parts (w.client == c) (stands c queue) s).0)
 
-end_answered : (l : Lock) (c : ℕ) (h : Holder) (ask : Ask) (seat : ℕ) (line : List Waiter) (answers : List (ℕ × Answer)) → stands c l.line ≡ false → IsEnd l c h ask seat line answers →
-    IsAnswered c ask (answers ++ (advanced l.ring line).answers)
-end_answered l c h ask seat line answers s (Released a b e f) =
-    let out : stands c line ≡ false = ap (λ (x : List Waiter). stands c x) e ∙ s in
-    subst (λ (x : Ask). IsAnswered c x (answers ++ (advanced l.ring line).answers)) (sym a)
-    (answer.Released, (advanced l.ring line).answers, ap (λ (x : List (ℕ × Answer)). x ++ (advanced l.ring line).answers) f, another_granted l.ring line c out)
-end_answered l c h ask seat line answers s (Left a b e f) =
-    let out : stands c line ≡ false = ap (λ (x : List Waiter). stands c x) e ∙ stands_without c l.line in
-    subst (λ (x : Ask). IsAnswered c x (answers ++ (advanced l.ring line).answers)) (sym a)
-    (subst (λ (x : List (ℕ × Answer)). IsGrantOfAnother c (x ++ (advanced l.ring line).answers)) (sym f) (another_granted l.ring line c out))
+end_answered : (l : Lock) (c : ℕ) (h : Holder) (ask : Ask) (seat : ℕ) (queue : List Waiter) (answers : List (ℕ × Answer)) → stands c l.queue ≡ false → IsEnd l c h ask seat queue answers →
+    IsAnswered c ask (answers ++ (advanced l.ring queue).answers)
+end_answered l c h ask seat queue answers s (Released a b e f) =
+    let out : stands c queue ≡ false = ap (λ (x : List Waiter). stands c x) e ∙ s in
+    subst (λ (x : Ask). IsAnswered c x (answers ++ (advanced l.ring queue).answers)) (sym a)
+    (answer.Released, (advanced l.ring queue).answers, ap (λ (x : List (ℕ × Answer)). x ++ (advanced l.ring queue).answers) f, another_granted l.ring queue c out)
+end_answered l c h ask seat queue answers s (Left a b e f) =
+    let out : stands c queue ≡ false = ap (λ (x : List Waiter). stands c x) e ∙ stands_without c l.queue in
+    subst (λ (x : Ask). IsAnswered c x (answers ++ (advanced l.ring queue).answers)) (sym a)
+    (subst (λ (x : List (ℕ × Answer)). IsGrantOfAnother c (x ++ (advanced l.ring queue).answers)) (sym f) (another_granted l.ring queue c out))
 
 drop_answered : (c : ℕ) (ask : Ask) (answers : List (ℕ × Answer)) → IsDrop c ask answers → IsAnswered c ask answers
 drop_answered c ask answers (Cancelled a e) = subst (λ (x : Ask). IsAnswered c x answers) (sym a) (answer.Cancelled, [], e, inl refl)
@@ -77,11 +77,11 @@ drop_answered c ask answers (Gone a e) = subst (λ (x : Ask). IsAnswered c x ans
 answered_move : (ls : List Lock) (i : ℕ) (l : Lock) (c : ℕ) (ask : Ask) (t : Turn) → AreRight ls → slice_get ls i ≡ Some l → Move ls l c ask t → IsAnswered c ask t.answers
 answered_move ls i l c ask t r at (Stays a q leave e) = subst (λ (x : Turn). IsAnswered c ask x.answers) (sym e) (answered_once c ask a [] leave (inl refl))
 answered_move ls i l c ask t r at (Waits order k a held other free back e) =
-    subst (λ (x : Turn). IsAnswered c ask x.answers) (sym e) (asking_answered c order ask (answer.Waiting (length l.line)) (Acquires a))
+    subst (λ (x : Turn). IsAnswered c ask x.answers) (sym e) (asking_answered c order ask (answer.Waiting (length l.queue)) (Acquires a))
 answered_move ls i l c ask t r at (Gets order asking a e) = subst (λ (x : Turn). IsAnswered c ask x.answers) (sym e) (asking_answered c order ask (answer.Granted (l.ring.grants + 1)) asking)
-answered_move ls i l c ask t r at (Ends k seat line answers held own is e) =
-    let out : stands c l.line ≡ false = subst (λ (x : ℕ). stands x l.line ≡ false) own (not_in_own_line ls i l k r at held) in
-    subst (λ (x : Turn). IsAnswered c ask x.answers) (sym e) (end_answered l c k ask seat line answers out is)
+answered_move ls i l c ask t r at (Ends k seat queue answers held own is e) =
+    let out : stands c l.queue ≡ false = subst (λ (x : ℕ). stands x l.queue ≡ false) own (not_in_own_queue ls i l k r at held) in
+    subst (λ (x : Turn). IsAnswered c ask x.answers) (sym e) (end_answered l c k ask seat queue answers out is)
 answered_move ls i l c ask t r at (Drops answers is e) = subst (λ (x : Turn). IsAnswered c ask x.answers) (sym e) (drop_answered c ask answers is)
 answered_move ls i l c ask t r at (Faults k v a lt lk e) =
     subst (λ (x : Turn). IsAnswered c ask x.answers) (sym e) (subst (λ (x : Ask). IsAnswered c x ((c, answer.Corrupted (slice_index l.ring.ring.values k)) ∷ [])) (sym a) (answer.Corrupted (slice_index l.ring.ring.values k), [], refl, inl refl))

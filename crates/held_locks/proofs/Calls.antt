@@ -28,7 +28,7 @@ use Rattle.ring_book.specs.BookView.{BookView}
 use Rattle.held_locks.specs.Locks.{Mark, Call, Survey, called, first_pass, repairs, fault}
 use Rattle.held_locks.specs.Promises.{events_of}
 use Rattle.held_locks.specs.Kept.{state_of, IsKeptRing, AreMade}
-use Rattle.held_locks.specs.Parts.{IsMade, IsWantOf}
+use Rattle.held_locks.specs.Parts.{IsMade, IsLackOf}
 use Rattle.ring_model.proofs.FirstPasses.{passes_left_means}
 use Rattle.held_locks.proofs.Rings.{repairs_are, events_of_calls}
 
@@ -99,10 +99,10 @@ refused_full b seat machine e s m q =
     let p = last_refusal (b.events == event_limit) e last in
     (eqb-true b.events event_limit p.0, p.1)
 
-pub want_is : (v : EndlessView) (b : Bounds) (seat machine : ℕ) (e : CallError) (why : Refusal) → b.events ≡ length v.ring.book.history → seat < b.seats → machine < length b.ring.values →
+pub lack_is : (v : EndlessView) (b : Bounds) (seat machine : ℕ) (e : CallError) (why : Refusal) → b.events ≡ length v.ring.book.history → seat < b.seats → machine < length b.ring.values →
     (pass_refusal b seat machine ≡ Some e) ⊎ ((pass_refusal b seat machine ≡ None) × (e ≡ call.OutOfMemory)) →
-    (e ≡ call.HistoryFull → why ≡ refusal.Full) → (e ≡ call.OutOfMemory → why ≡ refusal.Memory) → IsWantOf v 1 why
-want_is v b seat machine e why n s m d full memory = elim d [
+    (e ≡ call.HistoryFull → why ≡ refusal.Full) → (e ≡ call.OutOfMemory → why ≡ refusal.Memory) → IsLackOf v 1 why
+lack_is v b seat machine e why n s m d full memory = elim d [
   | inl p ↦ let f = refused_full b seat machine e s m p in let many : b.events ≡ event_limit = f.0 in inl (full f.1, omega arith)
   | inr p ↦ inr (memory p.1)
 ]
@@ -183,10 +183,10 @@ faulted old now broken new machine value r s c m =
     let event : r.event ≡ called (state_of old) 8 (op.Corrupt machine value) = called_event now broken 8 (op.Corrupt machine value) r c ∙ ap (λ (a : State ℕ). called a 8 (op.Corrupt machine value)) same in
     (now, broken, r, s, c, event, subst (λ (a : State ℕ). AreMade broken (map Call (repairs (most_passes (length (state_of old).ring.values)) a)) new) state m)
 
-pub corrupt_want : (v : EndlessView) (b : Bounds) (seat machine value need : ℕ) (e : CallError) (why : Refusal) → b.events ≡ length v.ring.book.history → seat < b.seats → machine < length b.ring.values → value < b.ring.k → 0 < need →
+pub corrupt_lack : (v : EndlessView) (b : Bounds) (seat machine value need : ℕ) (e : CallError) (why : Refusal) → b.events ≡ length v.ring.book.history → seat < b.seats → machine < length b.ring.values → value < b.ring.k → 0 < need →
     (corrupt_refusal b seat machine value ≡ Some e) ⊎ ((corrupt_refusal b seat machine value ≡ None) × (e ≡ call.OutOfMemory)) →
-    (e ≡ call.HistoryFull → why ≡ refusal.Full) → (e ≡ call.OutOfMemory → why ≡ refusal.Memory) → IsWantOf v need why
-corrupt_want v b seat machine value need e why n s m k l d full memory = elim d [
+    (e ≡ call.HistoryFull → why ≡ refusal.Full) → (e ≡ call.OutOfMemory → why ≡ refusal.Memory) → IsLackOf v need why
+corrupt_lack v b seat machine value need e why n s m k l d full memory = elim d [
   | inl p ↦
       let last : first_of (when (b.events == event_limit) call.HistoryFull ∷ []) ≡ Some e = rw (lt-leb b.seats seat s, lt-leb (length b.ring.values) machine m, lt-leb b.ring.k value k) at p in
       let f = last_refusal (b.events == event_limit) e last in

@@ -36,11 +36,11 @@ no_grant c (answer.Refused why) e = refl
 pub no_grants : (c : ℕ) (a : Answer) → is_grant a ≡ false → grants_in ((c, a) ∷ []) ≡ []
 no_grants c a e = let q : grant_of c a ≡ None = no_grant c a e in rw q refl
 
--- the answers before the grant of the head of a line are not grants
-pub ended_grants : (l : Lock) (c : ℕ) (h : Holder) (ask : Ask) (seat : ℕ) (line : List Waiter) (answers : List (ℕ × Answer)) → IsEnd l c h ask seat line answers →
+-- the answers before the grant of the head of a queue are not grants
+pub ended_grants : (l : Lock) (c : ℕ) (h : Holder) (ask : Ask) (seat : ℕ) (queue : List Waiter) (answers : List (ℕ × Answer)) → IsEnd l c h ask seat queue answers →
     (more : List (ℕ × Answer)) → grants_in (answers ++ more) ≡ grants_in more
-ended_grants l c h ask seat line answers (Released a b e f) more = ap (λ (x : List (ℕ × Answer)). grants_in (x ++ more)) f
-ended_grants l c h ask seat line answers (Left a b e f) more = ap (λ (x : List (ℕ × Answer)). grants_in (x ++ more)) f
+ended_grants l c h ask seat queue answers (Released a b e f) more = ap (λ (x : List (ℕ × Answer)). grants_in (x ++ more)) f
+ended_grants l c h ask seat queue answers (Left a b e f) more = ap (λ (x : List (ℕ × Answer)). grants_in (x ++ more)) f
 
 pub drop_grants : (c : ℕ) (ask : Ask) (answers : List (ℕ × Answer)) → IsDrop c ask answers → grants_in answers ≡ []
 drop_grants c ask answers (Cancelled a e) = ap (λ (x : List (ℕ × Answer)). grants_in x) e
@@ -61,13 +61,13 @@ own_client c h k own (inl p) = or_left (c == h.client) (c == 0) (eq-eqb c h.clie
 own_client c h k own (inr p) = or_right (c == h.client) (c == 0) (eq-eqb c 0 (sym own ∙ p))
 
 -- the hold would have ended
-would_end : (at : ℕ) (l : Lock) (c : ℕ) (h k : Holder) (ask : Ask) (seat : ℕ) (line : List Waiter) (answers : List (ℕ × Answer)) → IsEnd l c k ask seat line answers → k.client ≡ c → k.token ≡ h.token →
+would_end : (at : ℕ) (l : Lock) (c : ℕ) (h k : Holder) (ask : Ask) (seat : ℕ) (queue : List Waiter) (answers : List (ℕ × Answer)) → IsEnd l c k ask seat queue answers → k.client ≡ c → k.token ≡ h.token →
     (k.client ≡ h.client) ⊎ (k.client ≡ 0) → ends_hold at h (Asked c at ask) ≡ true
-would_end at l c h k ask seat line answers (Released a b e f) own token client =
+would_end at l c h k ask seat queue answers (Released a b e f) own token client =
     subst (λ (x : Ask). ends_hold at h (Asked c at x) ≡ true) (sym a)
     (and_from (at == at) ((k.token == h.token) && ((c == h.client) || (c == 0))) (eq-eqb at at refl)
     (and_from (k.token == h.token) ((c == h.client) || (c == 0)) (eq-eqb k.token h.token token) (own_client c h k own client)))
-would_end at l c h k ask seat line answers (Left a b e f) own token client =
+would_end at l c h k ask seat queue answers (Left a b e f) own token client =
     subst (λ (x : Ask). ends_hold at h (Asked c at x) ≡ true) (sym a) (and_from (at == at) ((c == h.client) || (c == 0)) (eq-eqb at at refl) (own_client c h k own client))
 
 excluded_move : (ls : List Lock) (at : ℕ) (l : Lock) (c : ℕ) (ask : Ask) (t : Turn) (h : Holder) → GoesOn h l → ends_hold at h (Asked c at ask) ≡ false → Move ls l c ask t → IsExcluded h t.lock t.answers
@@ -75,13 +75,13 @@ excluded_move ls at l c ask t h g n (Stays a q leave e) = subst (λ (x : Turn). 
 excluded_move ls at l c ask t h g n (Waits order k a held other free back e) =
     subst (λ (x : Turn). IsExcluded h x.lock x.answers) (sym e) (record { goes_on = same_goes_on h l (joined l (waiter c order) (Some k)).lock refl g; nobody = refl })
 excluded_move ls at l c ask t h g n (Gets order asking a e) = absurd (none_some g.now (sym g.held ∙ a))
-excluded_move ls at l c ask t h g n (Ends k seat line answers held own is e) =
+excluded_move ls at l c ask t h g n (Ends k seat queue answers held own is e) =
     let same : k ≡ g.now = some_same k g.now (sym held ∙ g.held) in
     let token : k.token ≡ h.token = ap (λ (x : Holder). x.token) same ∙ g.token in
     let client : (k.client ≡ h.client) ⊎ (k.client ≡ 0) = subst (λ (x : Holder). (x.client ≡ h.client) ⊎ (x.client ≡ 0)) (sym same) g.client in
-    absurd (both_ways (ends_hold at h (Asked c at ask)) n (would_end at l c h k ask seat line answers is own token client))
+    absurd (both_ways (ends_hold at h (Asked c at ask)) n (would_end at l c h k ask seat queue answers is own token client))
 excluded_move ls at l c ask t h g n (Drops answers is e) =
-    subst (λ (x : Turn). IsExcluded h x.lock x.answers) (sym e) (record { goes_on = same_goes_on h l (record l { line = without c l.line }) refl g; nobody = drop_grants c ask answers is })
+    subst (λ (x : Turn). IsExcluded h x.lock x.answers) (sym e) (record { goes_on = same_goes_on h l (record l { queue = without c l.queue }) refl g; nobody = drop_grants c ask answers is })
 excluded_move ls at l c ask t h g n (Faults i v a lt lk e) =
     subst (λ (x : Turn). IsExcluded h x.lock x.answers) (sym e) (record { goes_on = same_goes_on h l (record l { ring = after till l.ring (fault l.ring i v) }) refl g; nobody = refl })
 
@@ -141,6 +141,6 @@ release_of false l c t e = refl
 pub others_release_nothing : OthersReleaseNothing
 others_release_nothing ls at l c token e n =
     let found : step ls (Asked c at (Release token)) ≡ step_at ls c at (Release token) (Some l) = ap (λ (w : Option Lock). step_at ls c at (Release token) w) e in
-    let turned : turn ls l c (Release token) ≡ told l c (answer.Refused refusal.Holder) = release_of (is_held_with c token l.holder) l c (ended l.ring l.line 1 ((c, answer.Released) ∷ [])) n in
+    let turned : turn ls l c (Release token) ≡ told l c (answer.Refused refusal.Holder) = release_of (is_held_with c token l.holder) l c (ended l.ring l.queue 1 ((c, answer.Released) ∷ [])) n in
     found ∙ ap (λ (t : Turn). told_step ls at t) turned
     ∙ ap (λ (ys : List Lock). record { locks = ys; marks = []; answers = (c, answer.Refused refusal.Holder) ∷ [] }) (set_same ls at l e)

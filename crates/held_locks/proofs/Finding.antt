@@ -21,7 +21,7 @@ none_some i e = cc
 
 -- a client of no entry waits for nothing
 pub no_entry : (ls : List Lock) (es : List (ℕ × ℕ)) (c : ℕ) → AreWaits ls es → lock_in es c ≡ None → waits_for ls c ≡ None
-no_entry ls es c k e = nowhere_waits ls c (λ i l f. false_from_ne_true (stands c l.line) (λ s. none_some i (sym e ∙ k.known c i l f s)))
+no_entry ls es c k e = nowhere_waits ls c (λ i l f. false_from_ne_true (stands c l.queue) (λ s. none_some i (sym e ∙ k.known c i l f s)))
 
 -- and one of an entry waits for that lock
 pub record HasEntry (ls : List Lock) (c i : ℕ) : Type 0 where
@@ -45,19 +45,19 @@ some_nat : (i j : ℕ) → ◌≡◌ {A = Option ℕ} (Some i) (Some j) → i �
 some_nat i j e = cc
 
 -- whether it waits for this lock
-pub stands_is : (ls : List Lock) (es : List (ℕ × ℕ)) (c i j : ℕ) (l : Lock) → AreWaits ls es → slice_get ls i ≡ Some l → lock_in es c ≡ Some j → (j == i) ≡ stands c l.line
-stands_is ls es c i j l k at e = elim (cases_Bool (stands c l.line)) [
+pub stands_is : (ls : List Lock) (es : List (ℕ × ℕ)) (c i j : ℕ) (l : Lock) → AreWaits ls es → slice_get ls i ≡ Some l → lock_in es c ≡ Some j → (j == i) ≡ stands c l.queue
+stands_is ls es c i j l k at e = elim (cases_Bool (stands c l.queue)) [
   | inl s ↦ eq-eqb j i (some_nat j i (sym e ∙ k.known c i l at s)) ∙ sym s
   | inr s ↦
       let t = k.there c j e in
       ne_eqb j i (λ (q : j ≡ i).
       let p : ◌≡◌ {A = Option Lock} (Some t.0) (Some l) = sym t.1 ∙ ap (λ (n : ℕ). slice_get ls n) q ∙ at in
       let r : t.0 ≡ l = cc in
-      both_ways (stands c l.line) s (subst (λ (x : Lock). stands c x.line ≡ true) r t.2)) ∙ sym s
+      both_ways (stands c l.queue) s (subst (λ (x : Lock). stands c x.queue ≡ true) r t.2)) ∙ sym s
 ]
 
-pub stands_not : (ls : List Lock) (es : List (ℕ × ℕ)) (c i : ℕ) (l : Lock) → AreWaits ls es → slice_get ls i ≡ Some l → lock_in es c ≡ None → false ≡ stands c l.line
-stands_not ls es c i l k at e = sym (false_from_ne_true (stands c l.line) (λ s. none_some i (sym e ∙ k.known c i l at s)))
+pub stands_not : (ls : List Lock) (es : List (ℕ × ℕ)) (c i : ℕ) (l : Lock) → AreWaits ls es → slice_get ls i ≡ Some l → lock_in es c ≡ None → false ≡ stands c l.queue
+stands_not ls es c i l k at e = sym (false_from_ne_true (stands c l.queue) (λ s. none_some i (sym e ∙ k.known c i l at s)))
 
 -- ---- parts
 

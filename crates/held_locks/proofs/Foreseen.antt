@@ -16,11 +16,11 @@ use Rattle.held_locks.proofs.Moves.{Move, Stays, Waits, Gets, Ends, Drops, Fault
 use Rattle.held_locks.proofs.Standing.{get_set_same, get_set_other, stands_append}
 use Rattle.held_locks.proofs.Right.{right_step, right_stays}
 use Rattle.held_locks.proofs.Excluded.{no_grants, ended_grants, grants_if}
-use Rattle.held_locks.proofs.Answered.{not_in_own_line}
+use Rattle.held_locks.proofs.Answered.{not_in_own_queue}
 use Rattle.held_locks.proofs.Order.{without_split}
 use Rattle.held_locks.proofs.Turned.{without_absent}
 
--- ---- lines
+-- ---- queues
 
 abbrev bit : Bool → ℕ
 bit b = if b then 1 else 0
@@ -55,8 +55,8 @@ fewer c (f ∷ front) a = fewer_more c f front a.0 (fewer c front a.1) (f.client
 
 -- the client still waits, or the first before it was granted, or it was
 pub data Nears (l m : Lock) (front : List Waiter) (w : Waiter) (answers : List (ℕ × Answer)) (gone : Bool) : Type 0 where
-  Keeps : grants_in answers ≡ [] → m.ring.grants ≡ l.ring.grants → (others back : List Waiter) → m.line ≡ others ++ w ∷ back → length front ≡ length others + bit gone → Nears l m front w answers gone
-  Serves : (h : Holder) (f : Waiter) (others back : List Waiter) → grants_in answers ≡ h ∷ [] → h.client ≡ f.client → m.ring.grants ≡ l.ring.grants + 1 → m.line ≡ others ++ w ∷ back → front ≡ f ∷ others → gone ≡ false →
+  Keeps : grants_in answers ≡ [] → m.ring.grants ≡ l.ring.grants → (others back : List Waiter) → m.queue ≡ others ++ w ∷ back → length front ≡ length others + bit gone → Nears l m front w answers gone
+  Serves : (h : Holder) (f : Waiter) (others back : List Waiter) → grants_in answers ≡ h ∷ [] → h.client ≡ f.client → m.ring.grants ≡ l.ring.grants + 1 → m.queue ≡ others ++ w ∷ back → front ≡ f ∷ others → gone ≡ false →
       Nears l m front w answers gone
   Its : (h : Holder) → grants_in answers ≡ h ∷ [] → h.client ≡ w.client → h.token ≡ l.ring.grants + 1 → front ≡ [] → Nears l m front w answers gone
 
@@ -70,41 +70,41 @@ nears_advanced l [] w back told none r = Its (record { client = w.client; token 
 nears_advanced l (f ∷ front) w back told none r =
     Serves (record { client = f.client; token = l.ring.grants + 1 }) f front back (none (granted l.ring (front ++ w ∷ back) f).answers) refl (grant_grants l.ring f.order r.ring) refl refl refl
 
-nears_dropped : (l : Lock) (c : ℕ) (front : List Waiter) (w : Waiter) (back : List Waiter) (answers : List (ℕ × Answer)) → l.line ≡ front ++ w ∷ back → AreApart front → c ≢ w.client → grants_in answers ≡ [] →
+nears_dropped : (l : Lock) (c : ℕ) (front : List Waiter) (w : Waiter) (back : List Waiter) (answers : List (ℕ × Answer)) → l.queue ≡ front ++ w ∷ back → AreApart front → c ≢ w.client → grants_in answers ≡ [] →
     Nears l (dropped l c answers).lock front w answers (stands c front)
 nears_dropped l c front w back answers p a n none = Keeps none refl (without c front) (without c back) (ap (λ (x : List Waiter). without c x) p ∙ without_split c front w back n) (fewer c front a)
 
-stays_there : (l m : Lock) (front : List Waiter) (w : Waiter) (back : List Waiter) (answers : List (ℕ × Answer)) (gone : Bool) → grants_in answers ≡ [] → m.ring.grants ≡ l.ring.grants → m.line ≡ front ++ w ∷ back → gone ≡ false → Nears l m front w answers gone
+stays_there : (l m : Lock) (front : List Waiter) (w : Waiter) (back : List Waiter) (answers : List (ℕ × Answer)) (gone : Bool) → grants_in answers ≡ [] → m.ring.grants ≡ l.ring.grants → m.queue ≡ front ++ w ∷ back → gone ≡ false → Nears l m front w answers gone
 stays_there l m front w back answers gone none e p g = subst (λ (b : Bool). Nears l m front w answers b) (sym g) (Keeps none e front back p (omega arith))
 
-out_of_front : (c : ℕ) (front : List Waiter) (w : Waiter) (back line : List Waiter) → line ≡ front ++ w ∷ back → stands c line ≡ false → stands c front ≡ false
-out_of_front c front w back line p s = (or_parts (stands c front) (stands c (w ∷ back)) (sym (stands_append c front (w ∷ back)) ∙ ap (λ (x : List Waiter). stands c x) (sym p) ∙ s)).0
+out_of_front : (c : ℕ) (front : List Waiter) (w : Waiter) (back queue : List Waiter) → queue ≡ front ++ w ∷ back → stands c queue ≡ false → stands c front ≡ false
+out_of_front c front w back queue p s = (or_parts (stands c front) (stands c (w ∷ back)) (sym (stands_append c front (w ∷ back)) ∙ ap (λ (x : List Waiter). stands c x) (sym p) ∙ s)).0
 
-nears_cancel : (ls : List Lock) (l : Lock) (c : ℕ) (front : List Waiter) (w : Waiter) (back : List Waiter) → l.line ≡ front ++ w ∷ back → AreApart front → c ≢ w.client → (b : Bool) → stands c l.line ≡ b →
+nears_cancel : (ls : List Lock) (l : Lock) (c : ℕ) (front : List Waiter) (w : Waiter) (back : List Waiter) → l.queue ≡ front ++ w ∷ back → AreApart front → c ≢ w.client → (b : Bool) → stands c l.queue ≡ b →
     Nears l (if b then dropped l c ((c, answer.Cancelled) ∷ []) else told l c (answer.Refused refusal.Waiter)).lock front w (if b then dropped l c ((c, answer.Cancelled) ∷ []) else told l c (answer.Refused refusal.Waiter)).answers (stands c front)
 nears_cancel ls l c front w back p a n true s = nears_dropped l c front w back ((c, answer.Cancelled) ∷ []) p a n refl
-nears_cancel ls l c front w back p a n false s = stays_there l l front w back ((c, answer.Refused refusal.Waiter) ∷ []) (stands c front) refl refl p (out_of_front c front w back l.line p s)
+nears_cancel ls l c front w back p a n false s = stays_there l l front w back ((c, answer.Refused refusal.Waiter) ∷ []) (stands c front) refl refl p (out_of_front c front w back l.queue p s)
 
-nears_leave : (ls : List Lock) (at : ℕ) (l : Lock) (c : ℕ) (front : List Waiter) (w : Waiter) (back : List Waiter) → AreRight ls → slice_get ls at ≡ Some l → l.line ≡ front ++ w ∷ back → AreApart front → c ≢ w.client → (h : Option Holder) → l.holder ≡ h →
+nears_leave : (ls : List Lock) (at : ℕ) (l : Lock) (c : ℕ) (front : List Waiter) (w : Waiter) (back : List Waiter) → AreRight ls → slice_get ls at ≡ Some l → l.queue ≡ front ++ w ∷ back → AreApart front → c ≢ w.client → (h : Option Holder) → l.holder ≡ h →
     (b : Bool) → is_held_by c h ≡ b →
-    Nears l (if b then ended l.ring (without c l.line) 2 [] else dropped l c []).lock front w (if b then ended l.ring (without c l.line) 2 [] else dropped l c []).answers (stands c front)
+    Nears l (if b then ended l.ring (without c l.queue) 2 [] else dropped l c []).lock front w (if b then ended l.ring (without c l.queue) 2 [] else dropped l c []).answers (stands c front)
 nears_leave ls at l c front w back r e p a n h q false f = nears_dropped l c front w back [] p a n refl
 nears_leave ls at l c front w back r e p a n None q true f = absurd (true≢false (sym f))
 nears_leave ls at l c front w back r e p a n (Some k) q true f =
-    let out : stands c l.line ≡ false = subst (λ (x : ℕ). stands x l.line ≡ false) (eqb-true k.client c f) (not_in_own_line ls at l k r e q) in
-    let line : without c l.line ≡ front ++ w ∷ back = without_absent c l.line out ∙ p in
-    let gone : stands c front ≡ false = out_of_front c front w back l.line p out in
-    subst (λ (b : Bool). Nears l (ended l.ring (without c l.line) 2 []).lock front w (ended l.ring (without c l.line) 2 []).answers b) (sym gone)
-    (subst (λ (x : List Waiter). Nears l (ended l.ring x 2 []).lock front w (ended l.ring x 2 []).answers false) (sym line)
+    let out : stands c l.queue ≡ false = subst (λ (x : ℕ). stands x l.queue ≡ false) (eqb-true k.client c f) (not_in_own_queue ls at l k r e q) in
+    let queue : without c l.queue ≡ front ++ w ∷ back = without_absent c l.queue out ∙ p in
+    let gone : stands c front ≡ false = out_of_front c front w back l.queue p out in
+    subst (λ (b : Bool). Nears l (ended l.ring (without c l.queue) 2 []).lock front w (ended l.ring (without c l.queue) 2 []).answers b) (sym gone)
+    (subst (λ (x : List Waiter). Nears l (ended l.ring x 2 []).lock front w (ended l.ring x 2 []).answers false) (sym queue)
     (nears_advanced l front w back [] (λ more. refl) (r.each at l e)))
 
--- an ask that takes nobody out of the line but who is granted
+-- an ask that takes nobody out of the queue but who is granted
 abbrev is_plain : Ask → Bool
 is_plain Cancel = false
 is_plain Leave = false
 is_plain _ = true
 
-nears_plain : (ls : List Lock) (at : ℕ) (l : Lock) (c : ℕ) (ask : Ask) (t : Turn) (front : List Waiter) (w : Waiter) (back : List Waiter) → IsRightLock l → l.line ≡ front ++ w ∷ back → is_plain ask ≡ true → breaks at (Asked c at ask) ≡ false →
+nears_plain : (ls : List Lock) (at : ℕ) (l : Lock) (c : ℕ) (ask : Ask) (t : Turn) (front : List Waiter) (w : Waiter) (back : List Waiter) → IsRightLock l → l.queue ≡ front ++ w ∷ back → is_plain ask ≡ true → breaks at (Asked c at ask) ≡ false →
     Move ls l c ask t → Nears l t.lock front w t.answers false
 nears_plain ls at l c ask t front w back r p plain n (Stays a q leave e) =
     subst (λ (x : Turn). Nears l x.lock front w x.answers false) (sym e) (stays_there l l front w back ((c, a) ∷ []) false (no_grants c a q) refl p refl)
@@ -112,11 +112,11 @@ nears_plain ls at l c ask t front w back r p plain n (Waits order k a held other
     subst (λ (x : Turn). Nears l x.lock front w x.answers false) (sym e)
     (Keeps refl refl front (back ++ waiter c order ∷ []) (ap (λ (x : List Waiter). x ++ waiter c order ∷ []) p ∙ append_assoc front (w ∷ back) (waiter c order ∷ [])) (omega arith))
 nears_plain ls at l c ask t front w back r p plain n (Gets order asking a e) = absurd (nobody_there front w back (sym p ∙ r.held a))
-nears_plain ls at l c ask t front w back r p plain n (Ends k seat line answers held own (Released a b e f) g) =
+nears_plain ls at l c ask t front w back r p plain n (Ends k seat queue answers held own (Released a b e f) g) =
     subst (λ (x : Turn). Nears l x.lock front w x.answers false) (sym g)
     (subst (λ (x : List Waiter). Nears l (advanced l.ring x).lock front w (answers ++ (advanced l.ring x).answers) false) (sym (e ∙ p))
-    (nears_advanced l front w back answers (ended_grants l c k ask seat line answers (Released a b e f)) r))
-nears_plain ls at l c ask t front w back r p plain n (Ends k seat line answers held own (Left a b e f) g) = absurd (true≢false (sym plain ∙ ap is_plain a))
+    (nears_advanced l front w back answers (ended_grants l c k ask seat queue answers (Released a b e f)) r))
+nears_plain ls at l c ask t front w back r p plain n (Ends k seat queue answers held own (Left a b e f) g) = absurd (true≢false (sym plain ∙ ap is_plain a))
 nears_plain ls at l c ask t front w back r p plain n (Drops answers (Cancelled a e) g) = absurd (true≢false (sym plain ∙ ap is_plain a))
 nears_plain ls at l c ask t front w back r p plain n (Drops answers (Gone a e) g) = absurd (true≢false (sym plain ∙ ap is_plain a))
 nears_plain ls at l c ask t front w back r p plain n (Faults k v a lt lk e) =
@@ -126,11 +126,11 @@ not_it : (at c d : ℕ) → ((at == at) && (c == d)) ≡ false → c ≢ d
 not_it at c d n e = both_ways ((at == at) && (c == d)) n (and_from (at == at) (c == d) (eq-eqb at at refl) (eq-eqb c d e))
 
 -- whether one of those before the client gives up
-way_is : (at c : ℕ) (l : Lock) (front : List Waiter) (w : Waiter) (back : List Waiter) → l.line ≡ front ++ w ∷ back → AreApart (front ++ w ∷ back) → ((at == at) && stands c (before w.client l.line)) ≡ stands c front
+way_is : (at c : ℕ) (l : Lock) (front : List Waiter) (w : Waiter) (back : List Waiter) → l.queue ≡ front ++ w ∷ back → AreApart (front ++ w ∷ back) → ((at == at) && stands c (before w.client l.queue)) ≡ stands c front
 way_is at c l front w back p a =
-    ap (λ (b : Bool). b && stands c (before w.client l.line)) (eq-eqb at at refl) ∙ ap (λ (x : List Waiter). stands c (before w.client x)) p ∙ ap (λ (x : List Waiter). stands c x) (before_is front w back a)
+    ap (λ (b : Bool). b && stands c (before w.client l.queue)) (eq-eqb at at refl) ∙ ap (λ (x : List Waiter). stands c (before w.client x)) p ∙ ap (λ (x : List Waiter). stands c x) (before_is front w back a)
 
-nears_asked : (ls : List Lock) (at : ℕ) (l : Lock) (c : ℕ) (ask : Ask) (front : List Waiter) (w : Waiter) (back : List Waiter) → AreRight ls → slice_get ls at ≡ Some l → l.line ≡ front ++ w ∷ back → gives_up at w.client (Asked c at ask) ≡ false →
+nears_asked : (ls : List Lock) (at : ℕ) (l : Lock) (c : ℕ) (ask : Ask) (front : List Waiter) (w : Waiter) (back : List Waiter) → AreRight ls → slice_get ls at ≡ Some l → l.queue ≡ front ++ w ∷ back → gives_up at w.client (Asked c at ask) ≡ false →
     breaks at (Asked c at ask) ≡ false → Nears l (turn ls l c ask).lock front w (turn ls l c ask).answers (gives_way at w.client (Some l) (Asked c at ask))
 nears_asked ls at l c (Acquire order) front w back r e p n m = nears_plain ls at l c (Acquire order) (turn ls l c (Acquire order)) front w back (r.each at l e) p refl m (move_of ls l c (Acquire order))
 nears_asked ls at l c (Try order) front w back r e p n m = nears_plain ls at l c (Try order) (turn ls l c (Try order)) front w back (r.each at l e) p refl m (move_of ls l c (Try order))
@@ -138,7 +138,7 @@ nears_asked ls at l c (Release token) front w back r e p n m = nears_plain ls at
 nears_asked ls at l c Cancel front w back r e p n m =
     let apart : AreApart (front ++ w ∷ back) = subst (λ (x : List Waiter). AreApart x) p (r.each at l e).apart in
     subst (λ (b : Bool). Nears l (turn ls l c Cancel).lock front w (turn ls l c Cancel).answers b) (sym (way_is at c l front w back p apart))
-    (nears_cancel ls l c front w back p (apart_front front (w ∷ back) apart) (not_it at c w.client n) (stands c l.line) refl)
+    (nears_cancel ls l c front w back p (apart_front front (w ∷ back) apart) (not_it at c w.client n) (stands c l.queue) refl)
 nears_asked ls at l c Leave front w back r e p n m =
     let apart : AreApart (front ++ w ∷ back) = subst (λ (x : List Waiter). AreApart x) p (r.each at l e).apart in
     subst (λ (b : Bool). Nears l (turn ls l c Leave).lock front w (turn ls l c Leave).answers b) (sym (way_is at c l front w back p apart))
@@ -156,12 +156,12 @@ no_way : (at c d j : ℕ) (l : Lock) (ask : Ask) → (j == at) ≡ false → giv
 no_way at c d j l (Acquire order) e = refl
 no_way at c d j l (Try order) e = refl
 no_way at c d j l (Release token) e = refl
-no_way at c d j l Cancel e = ap (λ (b : Bool). b && stands d (before c l.line)) e
-no_way at c d j l Leave e = ap (λ (b : Bool). b && stands d (before c l.line)) e
+no_way at c d j l Cancel e = ap (λ (b : Bool). b && stands d (before c l.queue)) e
+no_way at c d j l Leave e = ap (λ (b : Bool). b && stands d (before c l.queue)) e
 no_way at c d j l (Corrupt k v) e = refl
 no_way at c d j l Stats e = refl
 
-module _ (ls : List Lock) (at : ℕ) (l : Lock) (front : List Waiter) (w : Waiter) (back : List Waiter) (r : AreRight ls) (e : slice_get ls at ≡ Some l) (p : l.line ≡ front ++ w ∷ back) where
+module _ (ls : List Lock) (at : ℕ) (l : Lock) (front : List Waiter) (w : Waiter) (back : List Waiter) (r : AreRight ls) (e : slice_get ls at ≡ Some l) (p : l.queue ≡ front ++ w ∷ back) where
   near_here : (c : ℕ) (ask : Ask) → gives_up at w.client (Asked c at ask) ≡ false → breaks at (Asked c at ask) ≡ false → NearStep at l front w (Asked c at ask) (step_at ls c at ask (Some l))
   near_here c ask n m =
       let own : (at == at) ≡ true = eq-eqb at at refl in record {
@@ -223,7 +223,7 @@ pub record Ahead (ls : List Lock) (is : List Input) (at : ℕ) (l : Lock) (front
   pub there : slice_get (locks_after ls is) at ≡ Some lock
   pub others : List Waiter
   pub back : List Waiter
-  pub line : lock.line ≡ others ++ w ∷ back
+  pub queue : lock.queue ≡ others ++ w ∷ back
   pub count : lock.ring.grants + length others + given_up at w.client ls is ≡ l.ring.grants + length front
 
 grants_now : (at : ℕ) (ls : List Lock) (i : Input) (is : List Input) → grants_of at ls (i ∷ is) ≡ grants_in (if names at i then (step ls i).answers else []) ++ grants_of at (step ls i).locks is
@@ -231,31 +231,31 @@ grants_now at ls i is = ap (λ (x : List Holder). x ++ grants_of at (step ls i).
 
 -- after one more input
 ahead_on : (ls : List Lock) (i : Input) (is : List Input) (at : ℕ) (l m : Lock) (front : List Waiter) (w : Waiter) (answers : List (ℕ × Answer)) → slice_get ls at ≡ Some l →
-    ((others later : List Waiter) → m.line ≡ others ++ w ∷ later → NoneOf w.client (grants_of at (step ls i).locks is) → Ahead (step ls i).locks is at m others w) →
+    ((others later : List Waiter) → m.queue ≡ others ++ w ∷ later → NoneOf w.client (grants_of at (step ls i).locks is) → Ahead (step ls i).locks is at m others w) →
     NoneOf w.client (grants_in answers ++ grants_of at (step ls i).locks is) → Nears l m front w answers (gives_way at w.client (Some l) i) → Ahead ls (i ∷ is) at l front w
-ahead_on ls i is at l m front w answers e rec none (Keeps nobody grants others later line shorter) =
-    let more = rec others later line (none_append w.client (grants_in answers) (grants_of at (step ls i).locks is) none) in
+ahead_on ls i is at l m front w answers e rec none (Keeps nobody grants others later queue shorter) =
+    let more = rec others later queue (none_append w.client (grants_in answers) (grants_of at (step ls i).locks is) none) in
     let count : more.lock.ring.grants + length more.others + given_up at w.client (step ls i).locks is ≡ m.ring.grants + length others = more.count in
     let given : given_up at w.client ls (i ∷ is) ≡ bit (gives_way at w.client (Some l) i) + given_up at w.client (step ls i).locks is = ap (λ (o : Option Lock). bit (gives_way at w.client o i) + given_up at w.client (step ls i).locks is) e in
-    record { lock = more.lock; there = more.there; others = more.others; back = more.back; line = more.line; count = omega (arith, given, count, grants, shorter) }
-ahead_on ls i is at l m front w answers e rec none (Serves h f others later one client grants line first way) =
-    let more = rec others later line (none_append w.client (grants_in answers) (grants_of at (step ls i).locks is) none) in
+    record { lock = more.lock; there = more.there; others = more.others; back = more.back; queue = more.queue; count = omega (arith, given, count, grants, shorter) }
+ahead_on ls i is at l m front w answers e rec none (Serves h f others later one client grants queue first way) =
+    let more = rec others later queue (none_append w.client (grants_in answers) (grants_of at (step ls i).locks is) none) in
     let count : more.lock.ring.grants + length more.others + given_up at w.client (step ls i).locks is ≡ m.ring.grants + length others = more.count in
     let given : given_up at w.client ls (i ∷ is) ≡ bit (gives_way at w.client (Some l) i) + given_up at w.client (step ls i).locks is = ap (λ (o : Option Lock). bit (gives_way at w.client o i) + given_up at w.client (step ls i).locks is) e in
     let size : length front ≡ suc (length others) = ap (λ (x : List Waiter). length x) first in
     let zeroth : bit (gives_way at w.client (Some l) i) ≡ 0 = ap bit way in
-    record { lock = more.lock; there = more.there; others = more.others; back = more.back; line = more.line; count = omega (arith, given, count, grants, size, zeroth) }
+    record { lock = more.lock; there = more.there; others = more.others; back = more.back; queue = more.queue; count = omega (arith, given, count, grants, size, zeroth) }
 ahead_on ls i is at l m front w answers e rec none (Its h one client token empty) =
     let q : NoneOf w.client (h ∷ grants_of at (step ls i).locks is) = subst (λ (x : List Holder). NoneOf w.client (x ++ grants_of at (step ls i).locks is)) one none in
     absurd (q.0 client)
 
-ahead : (ls : List Lock) (is : List Input) (at : ℕ) (l : Lock) (front : List Waiter) (w : Waiter) (back : List Waiter) → AreRight ls → slice_get ls at ≡ Some l → l.line ≡ front ++ w ∷ back → NoneIs (gives_up at w.client) is → NoneIs (breaks at) is →
+ahead : (ls : List Lock) (is : List Input) (at : ℕ) (l : Lock) (front : List Waiter) (w : Waiter) (back : List Waiter) → AreRight ls → slice_get ls at ≡ Some l → l.queue ≡ front ++ w ∷ back → NoneIs (gives_up at w.client) is → NoneIs (breaks at) is →
     NoneOf w.client (grants_of at ls is) → Ahead ls is at l front w
-ahead ls [] at l front w back r e p n m none = record { lock = l; there = e; others = front; back = back; line = p; count = omega arith }
+ahead ls [] at l front w back r e p n m none = record { lock = l; there = e; others = front; back = back; queue = p; count = omega arith }
 ahead ls (i ∷ is) at l front w back r e p n m none =
     let s = near_step ls at l front w back r e p i n.0 m.0 in
     ahead_on ls i is at l s.lock front w (if names at i then (step ls i).answers else []) e
-    (λ others later line left. ahead (step ls i).locks is at s.lock others w later (right_step ls i r) s.there line n.1 m.1 left)
+    (λ others later queue left. ahead (step ls i).locks is at s.lock others w later (right_step ls i r) s.there queue n.1 m.1 left)
     (subst (λ (x : List Holder). NoneOf w.client x) (grants_now at ls i is) none) s.nears
 
 one_holder : (h k : Holder) → ◌≡◌ {A = List Holder} (h ∷ []) (k ∷ []) → h ≡ k
@@ -266,8 +266,8 @@ no_holder h e = cc
 
 token_is : (l m : Lock) (front others back : List Waiter) (w : Waiter) (h : Holder) (answers : List (ℕ × Answer)) (gone : Bool) (given : ℕ) (k : Lock) → AreApart (others ++ w ∷ back) → grants_in answers ≡ h ∷ [] → h.client ≡ w.client →
     m.ring.grants + length others + given ≡ l.ring.grants + length front → Nears m k others w answers gone → h.token + given ≡ l.ring.grants + 1 + length front
-token_is l m front others back w h answers gone given k a e own count (Keeps nobody grants more later line fewer) = absurd (no_holder h (sym nobody ∙ e))
-token_is l m front others back w h answers gone given k a e own count (Serves g f more later one client grants line first way) =
+token_is l m front others back w h answers gone given k a e own count (Keeps nobody grants more later queue fewer) = absurd (no_holder h (sym nobody ∙ e))
+token_is l m front others back w h answers gone given k a e own count (Serves g f more later one client grants queue first way) =
     let same : h ≡ g = one_holder h g (sym e ∙ one) in
     let is : f.client ≡ w.client = sym client ∙ ap (λ (x : Holder). x.client) (sym same) ∙ own in
     let apart : AreApart (f ∷ more ++ w ∷ back) = subst (λ (x : List Waiter). AreApart (x ++ w ∷ back)) first a in
@@ -285,9 +285,9 @@ tokens_are_foreseen ls is i at l front w back h r e p n m none now own =
     let broken = none_front (breaks at) is i m in
     let a = ahead ls is at l front w back r e p up.0 broken.0 none in
     let right : AreRight (locks_after ls is) = right_stays ls is r in
-    let s = near_step (locks_after ls is) at a.lock a.others w a.back right a.there a.line i up.1 broken.1 in
+    let s = near_step (locks_after ls is) at a.lock a.others w a.back right a.there a.queue i up.1 broken.1 in
     let answers : List (ℕ × Answer) = if names at i then (step (locks_after ls is) i).answers else [] in
     let last : grants_of at (locks_after ls is) (i ∷ []) ≡ h ∷ [] = same_rest (grants_of at ls is) (grants_of at (locks_after ls is) (i ∷ [])) (h ∷ []) (sym (grants_of_append at ls is i) ∙ now) in
     let one : grants_in answers ≡ h ∷ [] = sym (append-nil (grants_in answers)) ∙ sym (grants_now at (locks_after ls is) i []) ∙ last in
-    let apart : AreApart (a.others ++ w ∷ a.back) = subst (λ (x : List Waiter). AreApart x) a.line (right.each at a.lock a.there).apart in
+    let apart : AreApart (a.others ++ w ∷ a.back) = subst (λ (x : List Waiter). AreApart x) a.queue (right.each at a.lock a.there).apart in
     token_is l a.lock front a.others a.back w h answers (gives_way at w.client (Some a.lock) i) (given_up at w.client ls is) s.lock apart one own a.count s.nears

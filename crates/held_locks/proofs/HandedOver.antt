@@ -22,17 +22,17 @@ pub some_is : {X : Type 0} (x y : X) → ◌≡◌ {A = Option X} (Some x) (Some
 some_is x y e = cc
 
 -- what a client waits for that is neither here before nor here after the write
-waits_set : (ls : List Lock) (i : ℕ) (l m : Lock) (c : ℕ) → slice_get ls i ≡ Some l → stands c l.line ≡ false → stands c m.line ≡ false → waits_for (slice_set ls i m) c ≡ waits_for ls c
+waits_set : (ls : List Lock) (i : ℕ) (l m : Lock) (c : ℕ) → slice_get ls i ≡ Some l → stands c l.queue ≡ false → stands c m.queue ≡ false → waits_for (slice_set ls i m) c ≡ waits_for ls c
 waits_set [] i l m c e s t = refl
 waits_set (x ∷ ls) zero l m c e s t =
     let here : x ≡ l = some_is x l e in
-    let u : stands c x.line ≡ false = subst (λ (y : Lock). stands c y.line ≡ false) (sym here) s in
+    let u : stands c x.queue ≡ false = subst (λ (y : Lock). stands c y.queue ≡ false) (sym here) s in
     ap (λ (b : Bool). if b then Some m else waits_for ls c) t ∙ sym (ap (λ (b : Bool). if b then Some x else waits_for ls c) u)
-waits_set (x ∷ ls) (suc i) l m c e s t = ap (λ (w : Option Lock). if stands c x.line then Some x else w) (waits_set ls i l m c e s t)
+waits_set (x ∷ ls) (suc i) l m c e s t = ap (λ (w : Option Lock). if stands c x.queue then Some x else w) (waits_set ls i l m c e s t)
 
-module _ (ls : List Lock) (i : ℕ) (l m : Lock) (r : AreRight ls) (at : slice_get ls i ≡ Some l) (is : IsRightLock m) (before : l.line ≡ []) (behind : m.line ≡ []) where
-  nobody : (line : List Waiter) (c : ℕ) → line ≡ [] → stands c line ≡ false
-  nobody line c e = ap (λ (x : List Waiter). stands c x) e
+module _ (ls : List Lock) (i : ℕ) (l m : Lock) (r : AreRight ls) (at : slice_get ls i ≡ Some l) (is : IsRightLock m) (before : l.queue ≡ []) (behind : m.queue ≡ []) where
+  nobody : (queue : List Waiter) (c : ℕ) → queue ≡ [] → stands c queue ≡ false
+  nobody queue c e = ap (λ (x : List Waiter). stands c x) e
 
   pub right_set : AreRight (slice_set ls i m)
   right_set = record {
@@ -40,10 +40,10 @@ module _ (ls : List Lock) (i : ℕ) (l m : Lock) (r : AreRight ls) (at : slice_g
       | inl p ↦ subst (λ (y : Lock). IsRightLock y) (sym p.1) is
       | inr p ↦ r.each j x p.1
     ];
-    once = once_kept ls i l m r.once at (λ c s. absurd (both_ways (stands c m.line) (nobody m.line c behind) s));
+    once = once_kept ls i l m r.once at (λ c s. absurd (both_ways (stands c m.queue) (nobody m.queue c behind) s));
     ends = λ c.
         let e = r.ends c in
-        ends_kept ls (slice_set ls i m) (λ d. Same (ap holder_of (waits_set ls i l m d at (nobody l.line d before) (nobody m.line d behind)))) e.0 (Some c) e.1;
+        ends_kept ls (slice_set ls i m) (λ d. Same (ap holder_of (waits_set ls i l m d at (nobody l.queue d before) (nobody m.queue d behind)))) e.0 (Some c) e.1;
   }
 
 module _ (vs ws : List LockView) (es : List (ℕ × ℕ)) (h : Handover) (k : AreKept vs es) (is : IsHanded vs ws h) where
@@ -90,11 +90,11 @@ module _ (vs ws : List LockView) (es : List (ℕ × ℕ)) (h : Handover) (k : Ar
 
 -- ---- a hold that is handed back
 
-handed_back : (l : Lock) (v : LockView) (h : Handover) → l.holder ≡ Some (record { client = h.client; token = h.token }) → lock_of v ≡ restarted l → IsOpen v h.token × (lock_of (handed v h) ≡ record l { line = [] })
+handed_back : (l : Lock) (v : LockView) (h : Handover) → l.holder ≡ Some (record { client = h.client; token = h.token }) → lock_of v ≡ restarted l → IsOpen v h.token × (lock_of (handed v h) ≡ record l { queue = [] })
 handed_back l v h held same =
     let open_hold : v.holder ≡ Some (record { client = 0; token = h.token }) = ap (λ (x : Lock). x.holder) same ∙ ap (λ (x : Option Holder). option_map (λ (y : Holder). record { client = 0; token = y.token }) x) held in (
-      record { held = open_hold; free = ap (λ (x : Lock). x.line) same },
-      λ i. record { ring = (ap (λ (x : Lock). x.ring) same) i; line = (ap (λ (x : Lock). x.line) same) i; holder = (sym held) i },
+      record { held = open_hold; free = ap (λ (x : Lock). x.queue) same },
+      λ i. record { ring = (ap (λ (x : Lock). x.ring) same) i; queue = (ap (λ (x : Lock). x.queue) same) i; holder = (sym held) i },
     )
 
 pub holds_are_handed_back : HoldsAreHandedBack

@@ -15,11 +15,11 @@ use Rattle.held_locks.specs.Queues.{Lock, stands, without, is_held_by}
 use Rattle.held_locks.specs.Locks.{Ask, Turn, turn, Asked, Step, step, step_at}
 use Rattle.held_locks.specs.Promises.{AreRight, AreApart}
 use Rattle.held_locks.specs.Waiting.{lock_in, AreWaits}
-use Rattle.held_locks.specs.Kept.{LockView, state_of, lock_of, locks_of, lock_limit, IsKeptLock, AreKept, AreMade, ended_at, answers_of, IsDone, need, IsWant, IsAnswer}
-use Rattle.held_locks.specs.Parts.{view_of, views_of, IsEntryOf, WaitsChange, Unchanged, Begun, Passed, Dropped, IsTurnedIn, IsWantingIn}
+use Rattle.held_locks.specs.Kept.{LockView, state_of, lock_of, locks_of, lock_limit, IsKeptLock, AreKept, AreMade, ended_at, answers_of, IsDone, need, IsLack, IsAnswer}
+use Rattle.held_locks.specs.Parts.{view_of, views_of, IsEntryOf, WaitsChange, Unchanged, Begun, Passed, Dropped, IsTurnedIn, IsLackingIn}
 use Rattle.held_locks.proofs.Standing.{Once, get_set, get_set_same, get_set_other, stands_append, stands_without, stands_without_other, stood_before}
 use Rattle.held_locks.proofs.Right.{right_asked}
-use Rattle.held_locks.proofs.Answered.{not_in_own_line}
+use Rattle.held_locks.proofs.Answered.{not_in_own_queue}
 
 -- ---- the clients that wait
 
@@ -31,59 +31,59 @@ no_nat j e = cc
 
 module _ (ls : List Lock) (i : ℕ) (l m : Lock) (es fs : List (ℕ × ℕ)) (once : Once ls) (again : Once (slice_set ls i m)) (at : slice_get ls i ≡ Some l) (k : AreWaits ls es) where
   abbrev Here : Type 0
-  Here = (e : ℕ) → stands e m.line ≡ true → lock_in fs e ≡ Some i
+  Here = (e : ℕ) → stands e m.queue ≡ true → lock_in fs e ≡ Some i
 
   abbrev Left : Type 0
-  Left = (e : ℕ) → stands e m.line ≡ false → stands e l.line ≡ true → lock_in fs e ≡ None
+  Left = (e : ℕ) → stands e m.queue ≡ false → stands e l.queue ≡ true → lock_in fs e ≡ None
 
   abbrev Same : Type 0
-  Same = (e : ℕ) → stands e m.line ≡ false → stands e l.line ≡ false → lock_in fs e ≡ lock_in es e
+  Same = (e : ℕ) → stands e m.queue ≡ false → stands e l.queue ≡ false → lock_in fs e ≡ lock_in es e
 
-  there : Here → Left → Same → (e j : ℕ) → lock_in fs e ≡ Some j → (x : Lock) × (slice_get (slice_set ls i m) j ≡ Some x) × (stands e x.line ≡ true)
-  there here gone same e j q = elim (cases_Bool (stands e m.line)) [
+  there : Here → Left → Same → (e j : ℕ) → lock_in fs e ≡ Some j → (x : Lock) × (slice_get (slice_set ls i m) j ≡ Some x) × (stands e x.queue ≡ true)
+  there here gone same e j q = elim (cases_Bool (stands e m.queue)) [
     | inl s ↦
         let p : i ≡ j = some_nat i j (sym (here e s) ∙ q) in
         (m, ap (λ (n : ℕ). slice_get (slice_set ls i m) n) (sym p) ∙ get_set_same ls i m l at, s)
-    | inr s ↦ elim (cases_Bool (stands e l.line)) [
+    | inr s ↦ elim (cases_Bool (stands e l.queue)) [
       | inl t ↦ absurd (no_nat j (sym (gone e s t) ∙ q))
       | inr t ↦
           let w = k.there e j (sym (same e s t) ∙ q) in
           let n : j ≢ i = λ (p : j ≡ i).
           let is : ◌≡◌ {A = Option Lock} (Some w.0) (Some l) = sym w.1 ∙ ap (λ (n : ℕ). slice_get ls n) p ∙ at in
           let r : w.0 ≡ l = cc in
-          both_ways (stands e l.line) t (subst (λ (x : Lock). stands e x.line ≡ true) r w.2) in
+          both_ways (stands e l.queue) t (subst (λ (x : Lock). stands e x.queue ≡ true) r w.2) in
           (w.0, get_set_other ls i j m n ∙ w.1, w.2)
     ]
   ]
 
-  known : Here → Left → Same → (e j : ℕ) (x : Lock) → slice_get (slice_set ls i m) j ≡ Some x → stands e x.line ≡ true → lock_in fs e ≡ Some j
+  known : Here → Left → Same → (e j : ℕ) (x : Lock) → slice_get (slice_set ls i m) j ≡ Some x → stands e x.queue ≡ true → lock_in fs e ≡ Some j
   known here gone same e j x q s = elim (get_set ls i j m l x at q) [
-    | inl p ↦ here e (subst (λ (y : Lock). stands e y.line ≡ true) p.1 s) ∙ ap (λ (n : ℕ). Some n) (sym p.0)
-    | inr p ↦ elim (cases_Bool (stands e m.line)) [
+    | inl p ↦ here e (subst (λ (y : Lock). stands e y.queue ≡ true) p.1 s) ∙ ap (λ (n : ℕ). Some n) (sym p.0)
+    | inr p ↦ elim (cases_Bool (stands e m.queue)) [
       | inl t ↦ absurd (p.0 (sym (again e i j m x (get_set_same ls i m l at) q t s)))
-      | inr t ↦ elim (cases_Bool (stands e l.line)) [
+      | inr t ↦ elim (cases_Bool (stands e l.queue)) [
         | inl u ↦ absurd (p.0 (sym (once e i j l x at p.1 u s)))
         | inr u ↦ same e t u ∙ k.known e j x p.1 s
       ]
     ]
   ]
 
-  pub waits_behind : Here → Left → Same → AreWaits (slice_set ls i m) fs
-  waits_behind here gone same = record { there = there here gone same; known = known here gone same }
+  pub waits_after : Here → Left → Same → AreWaits (slice_set ls i m) fs
+  waits_after here gone same = record { there = there here gone same; known = known here gone same }
 
-  unchanged : m.line ≡ l.line → fs ≡ es → AreWaits (slice_set ls i m) fs
+  unchanged : m.queue ≡ l.queue → fs ≡ es → AreWaits (slice_set ls i m) fs
   unchanged e f =
-      let as_known : (c : ℕ) → stands c l.line ≡ true → lock_in fs c ≡ Some i = λ c s. ap (λ (x : List (ℕ × ℕ)). lock_in x c) f ∙ k.known c i l at s in
-      waits_behind (λ c s. as_known c (subst (λ (x : List Waiter). stands c x ≡ true) e s)) (λ c s t. absurd (both_ways (stands c m.line) s (subst (λ (x : List Waiter). stands c x ≡ true) (sym e) t)))
+      let as_known : (c : ℕ) → stands c l.queue ≡ true → lock_in fs c ≡ Some i = λ c s. ap (λ (x : List (ℕ × ℕ)). lock_in x c) f ∙ k.known c i l at s in
+      waits_after (λ c s. as_known c (subst (λ (x : List Waiter). stands c x ≡ true) e s)) (λ c s t. absurd (both_ways (stands c m.queue) s (subst (λ (x : List Waiter). stands c x ≡ true) (sym e) t)))
       (λ c s t. ap (λ (x : List (ℕ × ℕ)). lock_in x c) f)
 
-  begun : (w : Waiter) → m.line ≡ l.line ++ w ∷ [] → IsEntryOf w.client (Some i) es fs → AreWaits (slice_set ls i m) fs
+  begun : (w : Waiter) → m.queue ≡ l.queue ++ w ∷ [] → IsEntryOf w.client (Some i) es fs → AreWaits (slice_set ls i m) fs
   begun w e f =
-      let stand : (c : ℕ) → stands c m.line ≡ (stands c l.line || ((w.client == c) || false)) = λ c. ap (λ (x : List Waiter). stands c x) e ∙ stands_append c l.line (w ∷ []) in
-      waits_behind
+      let stand : (c : ℕ) → stands c m.queue ≡ (stands c l.queue || ((w.client == c) || false)) = λ c. ap (λ (x : List Waiter). stands c x) e ∙ stands_append c l.queue (w ∷ []) in
+      waits_after
       (λ c s. elim (cases_Bool (w.client == c)) [
         | inl q ↦ f c ∙ cond-true (w.client == c) (Some i) (lock_in es c) q
-        | inr q ↦ elim (or_cases (stands c l.line) ((w.client == c) || false) (sym (stand c) ∙ s)) [
+        | inr q ↦ elim (or_cases (stands c l.queue) ((w.client == c) || false) (sym (stand c) ∙ s)) [
           | inl t ↦ f c ∙ cond-false (w.client == c) (Some i) (lock_in es c) q ∙ k.known c i l at t
           | inr t ↦ elim (or_cases (w.client == c) false t) [
             | inl u ↦ absurd (both_ways (w.client == c) q u)
@@ -91,44 +91,44 @@ module _ (ls : List Lock) (i : ℕ) (l m : Lock) (es fs : List (ℕ × ℕ)) (on
           ]
         ]
       ])
-      (λ c s t. absurd (both_ways (stands c l.line) (or_parts (stands c l.line) ((w.client == c) || false) (sym (stand c) ∙ s)).0 t))
+      (λ c s t. absurd (both_ways (stands c l.queue) (or_parts (stands c l.queue) ((w.client == c) || false) (sym (stand c) ∙ s)).0 t))
       (λ c s t.
-      let p = or_parts (stands c l.line) ((w.client == c) || false) (sym (stand c) ∙ s) in
+      let p = or_parts (stands c l.queue) ((w.client == c) || false) (sym (stand c) ∙ s) in
       f c ∙ cond-false (w.client == c) (Some i) (lock_in es c) (or_parts (w.client == c) false p.1).0)
 
-  passed : (w : Waiter) → AreApart l.line → l.line ≡ w ∷ m.line → IsEntryOf w.client None es fs → AreWaits (slice_set ls i m) fs
+  passed : (w : Waiter) → AreApart l.queue → l.queue ≡ w ∷ m.queue → IsEntryOf w.client None es fs → AreWaits (slice_set ls i m) fs
   passed w apart e f =
-      let one : stands w.client m.line ≡ false = (subst (λ (x : List Waiter). AreApart x) e apart).0 in
-      let stand : (c : ℕ) → stands c l.line ≡ ((w.client == c) || stands c m.line) = λ c. ap (λ (x : List Waiter). stands c x) e in
-      waits_behind
+      let one : stands w.client m.queue ≡ false = (subst (λ (x : List Waiter). AreApart x) e apart).0 in
+      let stand : (c : ℕ) → stands c l.queue ≡ ((w.client == c) || stands c m.queue) = λ c. ap (λ (x : List Waiter). stands c x) e in
+      waits_after
       (λ c s. elim (cases_Bool (w.client == c)) [
-        | inl q ↦ absurd (both_ways (stands c m.line) (subst (λ (x : ℕ). stands x m.line ≡ false) (eqb-true w.client c q) one) s)
-        | inr q ↦ f c ∙ cond-false (w.client == c) None (lock_in es c) q ∙ k.known c i l at (stand c ∙ or_right (w.client == c) (stands c m.line) s)
+        | inl q ↦ absurd (both_ways (stands c m.queue) (subst (λ (x : ℕ). stands x m.queue ≡ false) (eqb-true w.client c q) one) s)
+        | inr q ↦ f c ∙ cond-false (w.client == c) None (lock_in es c) q ∙ k.known c i l at (stand c ∙ or_right (w.client == c) (stands c m.queue) s)
       ])
-      (λ c s t. elim (or_cases (w.client == c) (stands c m.line) (sym (stand c) ∙ t)) [
+      (λ c s t. elim (or_cases (w.client == c) (stands c m.queue) (sym (stand c) ∙ t)) [
         | inl q ↦ f c ∙ cond-true (w.client == c) None (lock_in es c) q
-        | inr q ↦ absurd (both_ways (stands c m.line) s q)
+        | inr q ↦ absurd (both_ways (stands c m.queue) s q)
       ])
-      (λ c s t. f c ∙ cond-false (w.client == c) None (lock_in es c) (or_parts (w.client == c) (stands c m.line) (sym (stand c) ∙ t)).0)
+      (λ c s t. f c ∙ cond-false (w.client == c) None (lock_in es c) (or_parts (w.client == c) (stands c m.queue) (sym (stand c) ∙ t)).0)
 
-  dropped : (d : ℕ) → stands d l.line ≡ true → m.line ≡ without d l.line → IsEntryOf d None es fs → AreWaits (slice_set ls i m) fs
+  dropped : (d : ℕ) → stands d l.queue ≡ true → m.queue ≡ without d l.queue → IsEntryOf d None es fs → AreWaits (slice_set ls i m) fs
   dropped d was e f =
-      let stand : (c : ℕ) → stands c m.line ≡ stands c (without d l.line) = λ c. ap (λ (x : List Waiter). stands c x) e in
-      waits_behind
+      let stand : (c : ℕ) → stands c m.queue ≡ stands c (without d l.queue) = λ c. ap (λ (x : List Waiter). stands c x) e in
+      waits_after
       (λ c s. elim (cases_eq c d) [
-        | inl q ↦ absurd (both_ways (stands d (without d l.line)) (stands_without d l.line) (subst (λ (x : ℕ). stands x (without d l.line) ≡ true) q (sym (stand c) ∙ s)))
-        | inr q ↦ f c ∙ cond-false (d == c) None (lock_in es c) (ne_eqb d c (λ r. q (sym r))) ∙ k.known c i l at (stood_before d c l.line (sym (stand c) ∙ s))
+        | inl q ↦ absurd (both_ways (stands d (without d l.queue)) (stands_without d l.queue) (subst (λ (x : ℕ). stands x (without d l.queue) ≡ true) q (sym (stand c) ∙ s)))
+        | inr q ↦ f c ∙ cond-false (d == c) None (lock_in es c) (ne_eqb d c (λ r. q (sym r))) ∙ k.known c i l at (stood_before d c l.queue (sym (stand c) ∙ s))
       ])
       (λ c s t. elim (cases_eq c d) [
         | inl q ↦ f c ∙ cond-true (d == c) None (lock_in es c) (eq-eqb d c (sym q))
-        | inr q ↦ absurd (both_ways (stands c l.line) (sym (stands_without_other d c l.line q) ∙ sym (stand c) ∙ s) t)
+        | inr q ↦ absurd (both_ways (stands c l.queue) (sym (stands_without_other d c l.queue q) ∙ sym (stand c) ∙ s) t)
       ])
       (λ c s t. elim (cases_eq c d) [
-        | inl q ↦ absurd (both_ways (stands d l.line) (subst (λ (x : ℕ). stands x l.line ≡ false) q t) was)
+        | inl q ↦ absurd (both_ways (stands d l.queue) (subst (λ (x : ℕ). stands x l.queue ≡ false) q t) was)
         | inr q ↦ f c ∙ cond-false (d == c) None (lock_in es c) (ne_eqb d c (λ r. q (sym r)))
       ])
 
-  pub waits_changed : AreApart l.line → WaitsChange i l.line m.line es fs → AreWaits (slice_set ls i m) fs
+  pub waits_changed : AreApart l.queue → WaitsChange i l.queue m.queue es fs → AreWaits (slice_set ls i m) fs
   waits_changed apart (Unchanged e f) = unchanged e f
   waits_changed apart (Begun w e f) = begun w e f
   waits_changed apart (Passed w e f) = passed w apart e f
@@ -149,14 +149,14 @@ module _ (vs : List LockView) (es : List (ℕ × ℕ)) (c i : ℕ) (ask : Ask) (
   locks_behind : (m : Lock) → lock_of w ≡ m → locks_of (slice_set vs i w) ≡ slice_set (locks_of vs) i m
   locks_behind m e = map-set lock_of vs i w ∙ ap (λ (x : Lock). slice_set (locks_of vs) i x) e
 
-  each_behind : IsKeptLock w → (j : ℕ) (x : LockView) → slice_get (slice_set vs i w) j ≡ Some x → IsKeptLock x
-  each_behind r j x e = elim (get_set vs i j w v x at e) [
+  each_after : IsKeptLock w → (j : ℕ) (x : LockView) → slice_get (slice_set vs i w) j ≡ Some x → IsKeptLock x
+  each_after r j x e = elim (get_set vs i j w v x at e) [
     | inl p ↦ subst (λ (y : LockView). IsKeptLock y) (sym p.1) r
     | inr p ↦ k.each j x p.1
   ]
 
-  few_behind : length (slice_set vs i w) ≤ lock_limit
-  few_behind = let n : length (slice_set vs i w) ≡ length vs = length-set vs i w in let few = k.few in omega arith
+  few_after : length (slice_set vs i w) ≤ lock_limit
+  few_after = let n : length (slice_set vs i w) ≡ length vs = length-set vs i w in let few = k.few in omega arith
 
   done : (fs : List (ℕ × ℕ)) (r : Answers) → IsTurnedIn i v w es fs c t r → IsDone vs (slice_set vs i w) c i ask r × AreKept (slice_set vs i w) fs
   done fs r d =
@@ -178,8 +178,8 @@ module _ (vs : List LockView) (es : List (ℕ × ℕ)) (c i : ℕ) (ask : Ask) (
         },
         record {
           right = subst (λ (x : List Lock). AreRight x) (sym ls) right;
-          few = few_behind;
-          each = each_behind d.turned.kept;
+          few = few_after;
+          each = each_after d.turned.kept;
           waits = subst (λ (x : List Lock). AreWaits x fs) (sym (locks_behind (lock_of w) refl))
               (waits_changed (locks_of vs) i (lock_of v) (lock_of w) es fs k.right.once right'.once (lock_there vs i v at) k.waits (k.right.each i (lock_of v) (lock_there vs i v at)).apart d.waits);
         },
@@ -199,16 +199,16 @@ module _ (vs : List LockView) (es : List (ℕ × ℕ)) (c i : ℕ) (ask : Ask) (
           one x y e = cc
       set_there (y ∷ xs) (suc i) x e = ap (λ (z : List LockView). y ∷ z) (set_there xs i x e)
 
-  want : (fs : List (ℕ × ℕ)) (r : Answers) → IsWantingIn v w es fs (need v ask) r → IsWant vs (slice_set vs i w) i ask r × AreKept (slice_set vs i w) fs
-  want fs r d =
-      let same : slice_set vs i w ≡ vs = still d.wanting.same in
-      let own : r.own ≡ Some (answer.Refused d.wanting.why) = ap (λ (x : Answers). x.own) d.wanting.refused in (
+  lack : (fs : List (ℕ × ℕ)) (r : Answers) → IsLackingIn v w es fs (need v ask) r → IsLack vs (slice_set vs i w) i ask r × AreKept (slice_set vs i w) fs
+  lack fs r d =
+      let same : slice_set vs i w ≡ vs = still d.lacking.same in
+      let own : r.own ≡ Some (answer.Refused d.lacking.why) = ap (λ (x : Answers). x.own) d.lacking.refused in (
         record {
-          why = elim d.wanting.want [
+          why = elim d.lacking.lack [
             | inl p ↦ inl (own ∙ ap (λ x. Some (answer.Refused x)) p.0, (v, at, p.1))
             | inr p ↦ inr (own ∙ ap (λ x. Some (answer.Refused x)) p)
           ];
-          none = (ap (λ (x : Answers). x.ended) d.wanting.refused, ap (λ (x : Answers). x.granted) d.wanting.refused);
+          none = (ap (λ (x : Answers). x.ended) d.lacking.refused, ap (λ (x : Answers). x.granted) d.lacking.refused);
           same = same;
         },
         subst (λ (x : List LockView). AreKept x fs) (sym same) (record {
@@ -222,11 +222,11 @@ module _ (vs : List LockView) (es : List (ℕ × ℕ)) (c i : ℕ) (ask : Ask) (
         }),
       )
 
-  pub lifted : (fs : List (ℕ × ℕ)) (u : Turn) (n : ℕ) (r : Answers) → u ≡ turn (locks_of vs) (lock_of v) c ask → n ≡ need v ask → IsTurnedIn i v w es fs c u r ⊎ IsWantingIn v w es fs n r →
+  pub lifted : (fs : List (ℕ × ℕ)) (u : Turn) (n : ℕ) (r : Answers) → u ≡ turn (locks_of vs) (lock_of v) c ask → n ≡ need v ask → IsTurnedIn i v w es fs c u r ⊎ IsLackingIn v w es fs n r →
       IsAnswer vs (slice_set vs i w) c i ask r × AreKept (slice_set vs i w) fs
   lifted fs u n r e f d = elim d [
     | inl p ↦ let x = done fs r (subst (λ (y : Turn). IsTurnedIn i v w es fs c y r) e p) in (inl x.0, x.1)
-    | inr p ↦ let x = want fs r (subst (λ (y : ℕ). IsWantingIn v w es fs y r) f p) in (inr x.0, x.1)
+    | inr p ↦ let x = lack fs r (subst (λ (y : ℕ). IsLackingIn v w es fs y r) f p) in (inr x.0, x.1)
   ]
 
 -- a lock that there is not
@@ -253,7 +253,7 @@ pub view_there : (ps : List LockParts) (i : ℕ) (p : LockParts) → slice_get p
 view_there ps i p e = slice_get-map view_of ps i ∙ ap (λ (x : Option LockParts). option_map view_of x) e
 
 pub lifted_parts : (ps qs : List LockParts) (es fs : List (ℕ × ℕ)) (c i : ℕ) (ask : Ask) (p q : LockParts) (u : Turn) (n : ℕ) (r : Answers) → AreKept (views_of ps) es → slice_get ps i ≡ Some p → qs ≡ slice_set ps i q →
-    u ≡ turn (locks_of (views_of ps)) (lock_of (view_of p)) c ask → n ≡ need (view_of p) ask → IsTurnedIn i (view_of p) (view_of q) es fs c u r ⊎ IsWantingIn (view_of p) (view_of q) es fs n r →
+    u ≡ turn (locks_of (views_of ps)) (lock_of (view_of p)) c ask → n ≡ need (view_of p) ask → IsTurnedIn i (view_of p) (view_of q) es fs c u r ⊎ IsLackingIn (view_of p) (view_of q) es fs n r →
     IsAnswer (views_of ps) (views_of qs) c i ask r × AreKept (views_of qs) fs
 lifted_parts ps qs es fs c i ask p q u n r k at set e f d =
     let s : views_of qs ≡ slice_set (views_of ps) i (view_of q) = ap (λ (x : List LockParts). views_of x) set ∙ map-set view_of ps i q in
@@ -278,11 +278,11 @@ lock_kept ps es i p k e = k.each i (view_of p) (view_there ps i p e)
 pub lock_settled : (ps : List LockParts) (es : List (ℕ × ℕ)) (i : ℕ) (p : LockParts) → AreKept (views_of ps) es → slice_get ps i ≡ Some p → is_settled (state_of p.ring).ring.values ≡ true
 lock_settled ps es i p k e = (k.right.each i (lock_of (view_of p)) (lock_there (views_of ps) i (view_of p) (view_there ps i p e))).settled
 
-held_out : (ls : List Lock) (i : ℕ) (l : Lock) (c : ℕ) (h : Option Holder) → AreRight ls → slice_get ls i ≡ Some l → l.holder ≡ h → is_held_by c h ≡ true → stands c l.line ≡ false
+held_out : (ls : List Lock) (i : ℕ) (l : Lock) (c : ℕ) (h : Option Holder) → AreRight ls → slice_get ls i ≡ Some l → l.holder ≡ h → is_held_by c h ≡ true → stands c l.queue ≡ false
 held_out ls i l c None r e f g = absurd (false≢true g)
-held_out ls i l c (Some h) r e f g = subst (λ (x : ℕ). stands x l.line ≡ false) (eqb-true h.client c g) (not_in_own_line ls i l h r e f)
+held_out ls i l c (Some h) r e f g = subst (λ (x : ℕ). stands x l.queue ≡ false) (eqb-true h.client c g) (not_in_own_queue ls i l h r e f)
 
-pub holder_out : (ps : List LockParts) (es : List (ℕ × ℕ)) (i : ℕ) (p : LockParts) (c : ℕ) → AreKept (views_of ps) es → slice_get ps i ≡ Some p → is_held_by c p.holder ≡ true → stands c p.line.items ≡ false
+pub holder_out : (ps : List LockParts) (es : List (ℕ × ℕ)) (i : ℕ) (p : LockParts) (c : ℕ) → AreKept (views_of ps) es → slice_get ps i ≡ Some p → is_held_by c p.holder ≡ true → stands c p.queue.items ≡ false
 holder_out ps es i p c k e g = held_out (locks_of (views_of ps)) i (lock_of (view_of p)) c p.holder k.right (lock_there (views_of ps) i (view_of p) (view_there ps i p e)) refl g
 
 pub parts_same : (ps : List LockParts) (i : ℕ) (p : LockParts) → slice_get ps i ≡ Some p → ps ≡ slice_set ps i p

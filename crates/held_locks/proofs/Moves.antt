@@ -30,9 +30,9 @@ pub data IsAsking (ask : Ask) (order : ℕ) : Type 0 where
   Tries : ask ≡ Try order → IsAsking ask order
 
 -- the client ends its hold: it releases with its token, or leaves
-pub data IsEnd (l : Lock) (c : ℕ) (h : Holder) (ask : Ask) (seat : ℕ) (line : List Waiter) (answers : List (ℕ × Answer)) : Type 0 where
-  Released : ask ≡ Release h.token → seat ≡ 1 → line ≡ l.line → answers ≡ (c, answer.Released) ∷ [] → IsEnd l c h ask seat line answers
-  Left : ask ≡ Leave → seat ≡ 2 → line ≡ without c l.line → answers ≡ [] → IsEnd l c h ask seat line answers
+pub data IsEnd (l : Lock) (c : ℕ) (h : Holder) (ask : Ask) (seat : ℕ) (queue : List Waiter) (answers : List (ℕ × Answer)) : Type 0 where
+  Released : ask ≡ Release h.token → seat ≡ 1 → queue ≡ l.queue → answers ≡ (c, answer.Released) ∷ [] → IsEnd l c h ask seat queue answers
+  Left : ask ≡ Leave → seat ≡ 2 → queue ≡ without c l.queue → answers ≡ [] → IsEnd l c h ask seat queue answers
 
 -- the client gives up
 pub data IsDrop (c : ℕ) (ask : Ask) (answers : List (ℕ × Answer)) : Type 0 where
@@ -43,10 +43,10 @@ pub data Move (ls : List Lock) (l : Lock) (c : ℕ) (ask : Ask) (t : Turn) : Typ
   Stays : (a : Answer) → is_grant a ≡ false → is_leave ask ≡ false → t ≡ told l c a → Move ls l c ask t
   Waits : (order : ℕ) (h : Holder) → ask ≡ Acquire order → l.holder ≡ Some h → is_held_by c l.holder ≡ false → is_some (waits_for ls c) ≡ false →
       comes_to (length ls) ls c (client_of l.holder) ≡ false → t ≡ joined l (waiter c order) (Some h) → Move ls l c ask t
-  Gets : (order : ℕ) → IsAsking ask order → l.holder ≡ None → t ≡ granted l.ring l.line (waiter c order) → Move ls l c ask t
-  Ends : (h : Holder) (seat : ℕ) (line : List Waiter) (answers : List (ℕ × Answer)) → l.holder ≡ Some h → h.client ≡ c → IsEnd l c h ask seat line answers →
-      t ≡ ended l.ring line seat answers → Move ls l c ask t
-  Drops : (answers : List (ℕ × Answer)) → IsDrop c ask answers → t ≡ record { lock = record l { line = without c l.line }; marks = []; answers = answers } → Move ls l c ask t
+  Gets : (order : ℕ) → IsAsking ask order → l.holder ≡ None → t ≡ granted l.ring l.queue (waiter c order) → Move ls l c ask t
+  Ends : (h : Holder) (seat : ℕ) (queue : List Waiter) (answers : List (ℕ × Answer)) → l.holder ≡ Some h → h.client ≡ c → IsEnd l c h ask seat queue answers →
+      t ≡ ended l.ring queue seat answers → Move ls l c ask t
+  Drops : (answers : List (ℕ × Answer)) → IsDrop c ask answers → t ≡ record { lock = record l { queue = without c l.queue }; marks = []; answers = answers } → Move ls l c ask t
   Faults : (i v : ℕ) → ask ≡ Corrupt i v → i < length l.ring.ring.values → v < l.ring.ring.k →
       t ≡ record { lock = record l { ring = after till l.ring (fault l.ring i v) }; marks = map Call (fault l.ring i v); answers = (c, answer.Corrupted (slice_index l.ring.ring.values i)) ∷ [] } →
       Move ls l c ask t
@@ -77,20 +77,20 @@ module _ (ls : List Lock) (l : Lock) (c : ℕ) where
   tries order false false = tries_of order l.holder refl
 
   releases : (token : ℕ) (h : Option Holder) (is : Bool) → is_held_with c token h ≡ is → l.holder ≡ h →
-      Move ls l c (Release token) (if is then ended l.ring l.line 1 ((c, answer.Released) ∷ []) else told l c (answer.Refused refusal.Holder))
+      Move ls l c (Release token) (if is then ended l.ring l.queue 1 ((c, answer.Released) ∷ []) else told l c (answer.Refused refusal.Holder))
   releases token h false a e = Stays (answer.Refused refusal.Holder) refl refl refl
   releases token None true a e = absurd (false≢true a)
   releases token (Some h) true a e =
       let b = both (h.client == c) (h.token == token) a in
-      Ends h 1 l.line ((c, answer.Released) ∷ []) e (eqb-true h.client c b.0) (Released (ap Release (sym (eqb-true h.token token b.1))) refl refl refl) refl
+      Ends h 1 l.queue ((c, answer.Released) ∷ []) e (eqb-true h.client c b.0) (Released (ap Release (sym (eqb-true h.token token b.1))) refl refl refl) refl
 
   leaves : (h : Option Holder) (is : Bool) → is_held_by c h ≡ is → l.holder ≡ h →
-      Move ls l c Leave (if is then ended l.ring (without c l.line) 2 [] else record { lock = record l { line = without c l.line }; marks = []; answers = [] })
+      Move ls l c Leave (if is then ended l.ring (without c l.queue) 2 [] else record { lock = record l { queue = without c l.queue }; marks = []; answers = [] })
   leaves h false a e = Drops [] (Gone refl refl) refl
   leaves None true a e = absurd (false≢true a)
-  leaves (Some h) true a e = Ends h 2 (without c l.line) [] e (eqb-true h.client c a) (Left refl refl refl refl) refl
+  leaves (Some h) true a e = Ends h 2 (without c l.queue) [] e (eqb-true h.client c a) (Left refl refl refl refl) refl
 
-  cancels : (is : Bool) → Move ls l c Cancel (if is then told (record l { line = without c l.line }) c answer.Cancelled else told l c (answer.Refused refusal.Waiter))
+  cancels : (is : Bool) → Move ls l c Cancel (if is then told (record l { queue = without c l.queue }) c answer.Cancelled else told l c (answer.Refused refusal.Waiter))
   cancels false = Stays (answer.Refused refusal.Waiter) refl refl refl
   cancels true = Drops ((c, answer.Cancelled) ∷ []) (Cancelled refl refl) refl
 
@@ -104,9 +104,9 @@ module _ (ls : List Lock) (l : Lock) (c : ℕ) where
   -- each ask is one of these
   pub move_of : (ask : Ask) → Move ls l c ask (turn ls l c ask)
   move_of (Acquire order) = acquires order (is_held_by c l.holder) (is_some (waits_for ls c)) (comes_to (length ls) ls c (client_of l.holder)) refl refl refl
-  move_of (Try order) = tries order (is_held_by c l.holder) (stands c l.line)
+  move_of (Try order) = tries order (is_held_by c l.holder) (stands c l.queue)
   move_of (Release token) = releases token l.holder (is_held_with c token l.holder) refl refl
-  move_of Cancel = cancels (stands c l.line)
+  move_of Cancel = cancels (stands c l.queue)
   move_of Leave = leaves l.holder (is_held_by c l.holder) refl refl
   move_of (Corrupt i v) = breaks i v (nat_le (length l.ring.ring.values) i) (nat_le l.ring.ring.k v) refl refl
-  move_of Stats = Stays (answer.Stats (record { machines = length l.ring.ring.values; waiters = length l.line; passes = l.ring.grants; holder = l.holder })) refl refl refl
+  move_of Stats = Stays (answer.Stats (record { machines = length l.ring.ring.values; waiters = length l.queue; passes = l.ring.grants; holder = l.holder })) refl refl refl

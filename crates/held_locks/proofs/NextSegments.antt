@@ -13,7 +13,7 @@ use Rattle.ring_model.specs.declared.events.Receipt.{Receipt}
 use Rattle.ring_model.specs.declared.bases.Base.{Base}
 use Rattle.ring_model.specs.Resources.{add_order}
 use Rattle.ring_model.proofs.Shifts.{add_order-none, add_order-amount, grants_legal}
-use Rattle.endless_ring.specs.Endless.{EndlessView, IsEndless, IsSameEndless, IsCalled, IsNext}
+use Rattle.endless_ring.specs.Endless.{EndlessView, IsEndless, IsSameEndless, IsCalled, IsNextRing}
 use Rattle.held_locks.specs.declared.answers.Waiter.{Waiter}
 use Rattle.held_locks.specs.declared.parts.LockParts.{LockParts}
 use Rattle.held_locks.specs.Queues.{Lock}
@@ -34,7 +34,7 @@ use Rattle.held_locks.proofs.Lifting.{view_there}
 state_like : (r s : Ring) (c d g h : ℕ) → r ≡ s → c ≡ d → g ≡ h → ◌≡◌ {A = State ℕ} (record { ring = r; content = c; grants = g }) (record { ring = s; content = d; grants = h })
 state_like r s c d g h e f k = ap (λ (x : Ring). record { ring = x; content = c; grants = g }) e ∙ ap (λ (x : ℕ). record { ring = s; content = x; grants = g }) f ∙ ap (λ (x : ℕ). record { ring = s; content = d; grants = x }) k
 
-pub next_state : (old new : EndlessView) → IsEndless old → IsEndless new → IsNext old new → state_of new ≡ state_of old
+pub next_state : (old new : EndlessView) → IsEndless old → IsEndless new → IsNextRing old new → state_of new ≡ state_of old
 next_state old new i j n =
     let h : List Event = old.ring.book.history in
     let now : after till (opening old.ring.book.start 0) h ≡ old.ring.book.now = i.ring.book.current in
@@ -53,7 +53,7 @@ next_state old new i j n =
     state_like new.ring.book.now.ring old.ring.book.now.ring (add_order new.base.amount new.ring.book.now.content) (add_order old.base.amount old.ring.book.now.content) (new.base.grants + new.ring.book.now.grants) (old.base.grants + old.ring.book.now.grants)
     ring whole (omega arith)
 
-pub next_kept : (old new : EndlessView) → IsKeptRing old → IsEndless new → IsNext old new → IsKeptRing new
+pub next_kept : (old new : EndlessView) → IsKeptRing old → IsEndless new → IsNextRing old new → IsKeptRing new
 next_kept old new k j n = record { endless = j; seats = n.clients.0 ∙ k.seats }
 
 -- ---- what is carried
@@ -69,8 +69,8 @@ other_in p n l = go (p == 0)
     go false = omega (arith, l)
 
 -- the next ring, of its parts
-pub next_of : (v : LockView) (empty reserved next : EndlessView) → IsKeptLock v → IsKeptRing empty → IsNext v.ring empty → IsSameEndless empty reserved → AreMade reserved (map Call (carried (state_of reserved) (token_of v.holder))) next →
-    IsKeptRing next → length v.line ≤ next.ring.book.room → IsNextOf v next
+pub next_of : (v : LockView) (empty reserved next : EndlessView) → IsKeptLock v → IsKeptRing empty → IsNextRing v.ring empty → IsSameEndless empty reserved → AreMade reserved (map Call (carried (state_of reserved) (token_of v.holder))) next →
+    IsKeptRing next → length v.queue ≤ next.ring.book.room → IsNextOf v next
 next_of v empty reserved next k f n s m r room =
     let state : state_of reserved ≡ state_of v.ring = same_state empty reserved s ∙ next_state v.ring empty k.ring.endless f.endless n in record {
       empty = empty;
@@ -83,14 +83,14 @@ next_of v empty reserved next k f n s m r room =
 
 -- ---- a lock continues
 
-pub next_lock : (v : LockView) (next : EndlessView) (line : List Waiter) → IsKeptLock v → IsRightLock (lock_of v) → IsNextOf v next → line ≡ v.line → IsNextLock v (record { ring = next; line = line; holder = v.holder })
-next_lock v next line k r n e =
+pub next_lock : (v : LockView) (next : EndlessView) (queue : List Waiter) → IsKeptLock v → IsRightLock (lock_of v) → IsNextOf v next → queue ≡ v.queue → IsNextLock v (record { ring = next; queue = queue; holder = v.holder })
+next_lock v next queue k r n e =
     let begun : state_of n.empty ≡ state_of v.ring = next_state v.ring n.empty k.ring.endless n.kept.endless n.begun in
     let state : state_of next ≡ state_of v.ring =
     made_state n.empty next (carries (lock_of v)) n.carried ∙ ap (λ (a : State ℕ). after till a (events_of (carries (lock_of v)))) begun ∙ carries_nothing (lock_of v) r in record {
       ring = n;
-      same = ap (λ (a : State ℕ). let l : Lock = record { ring = a; line = line; holder = v.holder } in l) state
-          ∙ ap (λ (x : List Waiter). let l : Lock = record { ring = state_of v.ring; line = x; holder = v.holder } in l) e;
+      same = ap (λ (a : State ℕ). let l : Lock = record { ring = a; queue = queue; holder = v.holder } in l) state
+          ∙ ap (λ (x : List Waiter). let l : Lock = record { ring = state_of v.ring; queue = x; holder = v.holder } in l) e;
     }
 
 -- ---- all of them, one by one
@@ -131,9 +131,9 @@ one_view x y e = cc
 
 kept_lock : (v w : LockView) → IsNextLock v w → IsKeptLock w
 kept_lock v w n =
-    let line : w.line ≡ v.line = ap (λ (l : Lock). l.line) n.same in record {
+    let queue : w.queue ≡ v.queue = ap (λ (l : Lock). l.queue) n.same in record {
       ring = n.ring.ring;
-      room = subst (λ (x : List Waiter). length x ≤ w.ring.ring.book.room) (sym line) n.ring.room;
+      room = subst (λ (x : List Waiter). length x ≤ w.ring.ring.book.room) (sym queue) n.ring.room;
     }
 
 kept_each : (vs ws : List LockView) (i : ℕ) (w : LockView) → AreNext vs ws → slice_get ws i ≡ Some w → IsKeptLock w

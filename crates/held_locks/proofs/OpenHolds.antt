@@ -28,7 +28,7 @@ use Rattle.held_locks.specs.Queues.{Lock}
 use Rattle.held_locks.specs.Locks.{Mark, Call, Survey}
 use Rattle.held_locks.specs.Promises.{marks_of, events_of, open_behind, open_after, carries}
 use Rattle.held_locks.specs.Kept.{state_of, IsKeptRing}
-use Rattle.held_locks.specs.Opened.{events_in, last_survey, log_of, later, ended_before, open_in, holder_behind, last_end, HoldsAreFound, RestartsAreRight}
+use Rattle.held_locks.specs.Opened.{events_in, last_survey, log_of, later, ended_before, open_in, holder_after, last_end, HoldsAreFound, RestartsAreRight}
 use Rattle.held_locks.proofs.Shown.{open_append, segments_recover}
 
 -- ---- the last survey of a client
@@ -177,8 +177,8 @@ holds_are_found a marks e r =
           ∙ ap (λ (x : State ℕ). after till x (events_in e)) (begins e.base e.ring.book.start r.amount ∙ r.start) ∙ ap (λ (x : List Event). after till a x) r.events,
     )
 
-lock_is : (a b : State ℕ) (s t : Option ℕ) → a ≡ b → s ≡ t → ◌≡◌ {A = Lock} (record { ring = a; line = []; holder = holder_behind s }) (record { ring = b; line = []; holder = holder_behind t })
-lock_is a b s t e f = ap (λ (x : State ℕ). record { ring = x; line = []; holder = holder_behind s }) e ∙ ap (λ (x : Option ℕ). record { ring = b; line = []; holder = holder_behind x }) f
+lock_is : (a b : State ℕ) (s t : Option ℕ) → a ≡ b → s ≡ t → ◌≡◌ {A = Lock} (record { ring = a; queue = []; holder = holder_after s }) (record { ring = b; queue = []; holder = holder_after t })
+lock_is a b s t e f = ap (λ (x : State ℕ). record { ring = x; queue = []; holder = holder_after s }) e ∙ ap (λ (x : Option ℕ). record { ring = b; queue = []; holder = holder_after x }) f
 
 pub restarts_are_right : RestartsAreRight
 restarts_are_right ls is at l e r at_l k =

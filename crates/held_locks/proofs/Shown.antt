@@ -54,41 +54,41 @@ unchanged : (l m : Lock) → m.ring ≡ l.ring → token_of m.holder ≡ token_o
 unchanged l m e f = record { legal = tt; ring = e; alternate = tt; open_hold = f }
 
 -- a grant while no hold is open
-shown_granted : (a : State ℕ) (line : List Waiter) (w : Waiter) → IsRing a.ring → IsShown (record { ring = a; line = line; holder = None }) (granted a line w).lock (granted a line w).marks
-shown_granted a line w g = record {
+shown_granted : (a : State ℕ) (queue : List Waiter) (w : Waiter) → IsRing a.ring → IsShown (record { ring = a; queue = queue; holder = None }) (granted a queue w).lock (granted a queue w).marks
+shown_granted a queue w g = record {
   legal = (grant_step a 0 w.order g, tt);
   ring = refl;
   alternate = ((λ e. (refl, ap (λ (x : Option ℕ). is_some x) (grant_number a w.order g))), (λ e. absurd (omega (arith, e))), tt);
   open_hold = sym (grant_number a w.order g);
 }
 
-shown_advanced : (a : State ℕ) (line : List Waiter) → IsRing a.ring → IsShown (record { ring = a; line = line; holder = None }) (advanced a line).lock (advanced a line).marks
+shown_advanced : (a : State ℕ) (queue : List Waiter) → IsRing a.ring → IsShown (record { ring = a; queue = queue; holder = None }) (advanced a queue).lock (advanced a queue).marks
 shown_advanced a [] g = record { legal = tt; ring = refl; alternate = tt; open_hold = refl }
-shown_advanced a (w ∷ line) g = let s = shown_granted a line w g in record { legal = s.legal; ring = s.ring; alternate = s.alternate; open_hold = s.open_hold }
+shown_advanced a (w ∷ queue) g = let s = shown_granted a queue w g in record { legal = s.legal; ring = s.ring; alternate = s.alternate; open_hold = s.open_hold }
 
-end_seat : (l : Lock) (c : ℕ) (h : Holder) (ask : Ask) (seat : ℕ) (line : List Waiter) (answers : List (ℕ × Answer)) → IsEnd l c h ask seat line answers → (seat ≡ 1) ⊎ (seat ≡ 2)
-end_seat l c h ask seat line answers (Released a b e f) = inl b
-end_seat l c h ask seat line answers (Left a b e f) = inr b
+end_seat : (l : Lock) (c : ℕ) (h : Holder) (ask : Ask) (seat : ℕ) (queue : List Waiter) (answers : List (ℕ × Answer)) → IsEnd l c h ask seat queue answers → (seat ≡ 1) ⊎ (seat ≡ 2)
+end_seat l c h ask seat queue answers (Released a b e f) = inl b
+end_seat l c h ask seat queue answers (Left a b e f) = inr b
 
-shown_ended : (l : Lock) (h : Holder) (line : List Waiter) (seat : ℕ) (answers : List (ℕ × Answer)) → IsRing l.ring.ring → l.holder ≡ Some h → (seat ≡ 1) ⊎ (seat ≡ 2) → IsShown l (ended l.ring line seat answers).lock (ended l.ring line seat answers).marks
-shown_ended l h line seat answers g held is =
-    let s = shown_advanced l.ring line g in
+shown_ended : (l : Lock) (h : Holder) (queue : List Waiter) (seat : ℕ) (answers : List (ℕ × Answer)) → IsRing l.ring.ring → l.holder ≡ Some h → (seat ≡ 1) ⊎ (seat ≡ 2) → IsShown l (ended l.ring queue seat answers).lock (ended l.ring queue seat answers).marks
+shown_ended l h queue seat answers g held is =
+    let s = shown_advanced l.ring queue g in
     record { legal = s.legal; ring = s.ring; alternate = (ap (λ (x : Option Holder). is_some (token_of x)) held, is, s.alternate); open_hold = s.open_hold }
 
 shown_move : (ls : List Lock) (at : ℕ) (l : Lock) (c : ℕ) (ask : Ask) (t : Turn) → IsRing l.ring.ring → Move ls l c ask t → IsShown l t.lock t.marks
 shown_move ls at l c ask t g (Stays a q leave e) = subst (λ (x : Turn). IsShown l x.lock x.marks) (sym e) (unchanged l l refl refl)
 shown_move ls at l c ask t g (Waits order k a held other free back e) = subst (λ (x : Turn). IsShown l x.lock x.marks) (sym e) (unchanged l (joined l (waiter c order) (Some k)).lock refl refl)
 shown_move ls at l c ask t g (Gets order asking a e) =
-    let s = shown_granted l.ring l.line (waiter c order) g in
+    let s = shown_granted l.ring l.queue (waiter c order) g in
     let free : token_of l.holder ≡ None = ap (λ (x : Option Holder). token_of x) a in
     subst (λ (x : Turn). IsShown l x.lock x.marks) (sym e) (record {
       legal = s.legal;
       ring = s.ring;
-      alternate = subst (λ (x : Option ℕ). Alternate x (granted l.ring l.line (waiter c order)).marks) (sym free) s.alternate;
+      alternate = subst (λ (x : Option ℕ). Alternate x (granted l.ring l.queue (waiter c order)).marks) (sym free) s.alternate;
       open_hold = s.open_hold;
     })
-shown_move ls at l c ask t g (Ends k seat line answers held own is e) = subst (λ (x : Turn). IsShown l x.lock x.marks) (sym e) (shown_ended l k line seat answers g held (end_seat l c k ask seat line answers is))
-shown_move ls at l c ask t g (Drops answers is e) = subst (λ (x : Turn). IsShown l x.lock x.marks) (sym e) (unchanged l (record l { line = without c l.line }) refl refl)
+shown_move ls at l c ask t g (Ends k seat queue answers held own is e) = subst (λ (x : Turn). IsShown l x.lock x.marks) (sym e) (shown_ended l k queue seat answers g held (end_seat l c k ask seat queue answers is))
+shown_move ls at l c ask t g (Drops answers is e) = subst (λ (x : Turn). IsShown l x.lock x.marks) (sym e) (unchanged l (record l { queue = without c l.queue }) refl refl)
 shown_move ls at l c ask t g (Faults i v a lt lk e) =
     let f = fault_is l.ring i v g lt lk in
     let n = fault_no_holds l.ring i v (token_of l.holder) in
@@ -133,8 +133,8 @@ of_nobody : (h : Option Holder) → option_map (λ (x : Holder). record { client
 of_nobody None = refl
 of_nobody (Some h) = refl
 
-same_lock : (a b : State ℕ) (h k : Option Holder) → a ≡ b → h ≡ k → ◌≡◌ {A = Lock} (record { ring = a; line = []; holder = h }) (record { ring = b; line = []; holder = k })
-same_lock a b h k e f = ap (λ (x : State ℕ). record { ring = x; line = []; holder = h }) e ∙ ap (λ (x : Option Holder). record { ring = b; line = []; holder = x }) f
+same_lock : (a b : State ℕ) (h k : Option Holder) → a ≡ b → h ≡ k → ◌≡◌ {A = Lock} (record { ring = a; queue = []; holder = h }) (record { ring = b; queue = []; holder = k })
+same_lock a b h k e f = ap (λ (x : State ℕ). record { ring = x; queue = []; holder = h }) e ∙ ap (λ (x : Option Holder). record { ring = b; queue = []; holder = x }) f
 
 recovers : (l m : Lock) (marks : List Mark) → IsShown l m marks → restarted m ≡ recovered l.ring (token_of l.holder) marks
 recovers l m marks s =
@@ -183,25 +183,25 @@ carried_changes_nothing ls at l r e = carries_nothing l (r.each at l e)
 
 -- ---- one event
 
-few_advanced : (a : State ℕ) (line : List Waiter) → length (events_of (advanced a line).marks) ≤ 1
+few_advanced : (a : State ℕ) (queue : List Waiter) → length (events_of (advanced a queue).marks) ≤ 1
 few_advanced a [] = omega arith
-few_advanced a (w ∷ line) = omega arith
+few_advanced a (w ∷ queue) = omega arith
 
 one_to_ask : (ls : List Lock) (c i order : ℕ) (ask : Ask) → IsAsking ask order → 1 ≤ most_events ls (Asked c i ask)
 one_to_ask ls c i order ask (Acquires e) = subst (λ (x : Ask). 1 ≤ most_events ls (Asked c i x)) (sym e) (omega arith)
 one_to_ask ls c i order ask (Tries e) = subst (λ (x : Ask). 1 ≤ most_events ls (Asked c i x)) (sym e) (omega arith)
 
-one_to_end : (ls : List Lock) (i : ℕ) (l : Lock) (c : ℕ) (h : Holder) (ask : Ask) (seat : ℕ) (line : List Waiter) (answers : List (ℕ × Answer)) → IsEnd l c h ask seat line answers → 1 ≤ most_events ls (Asked c i ask)
-one_to_end ls i l c h ask seat line answers (Released a b e f) = subst (λ (x : Ask). 1 ≤ most_events ls (Asked c i x)) (sym a) (omega arith)
-one_to_end ls i l c h ask seat line answers (Left a b e f) = subst (λ (x : Ask). 1 ≤ most_events ls (Asked c i x)) (sym a) (omega arith)
+one_to_end : (ls : List Lock) (i : ℕ) (l : Lock) (c : ℕ) (h : Holder) (ask : Ask) (seat : ℕ) (queue : List Waiter) (answers : List (ℕ × Answer)) → IsEnd l c h ask seat queue answers → 1 ≤ most_events ls (Asked c i ask)
+one_to_end ls i l c h ask seat queue answers (Released a b e f) = subst (λ (x : Ask). 1 ≤ most_events ls (Asked c i x)) (sym a) (omega arith)
+one_to_end ls i l c h ask seat queue answers (Left a b e f) = subst (λ (x : Ask). 1 ≤ most_events ls (Asked c i x)) (sym a) (omega arith)
 
 one_event_move : (ls : List Lock) (i : ℕ) (l : Lock) (c : ℕ) (ask : Ask) (t : Turn) → slice_get ls i ≡ Some l → Move ls l c ask t → length (events_of t.marks) ≤ most_events ls (Asked c i ask)
 one_event_move ls i l c ask t at (Stays a q leave e) = subst (λ (x : Turn). length (events_of x.marks) ≤ most_events ls (Asked c i ask)) (sym e) (omega arith)
 one_event_move ls i l c ask t at (Waits order k a held other free back e) = subst (λ (x : Turn). length (events_of x.marks) ≤ most_events ls (Asked c i ask)) (sym e) (omega arith)
 one_event_move ls i l c ask t at (Gets order asking a e) = subst (λ (x : Turn). length (events_of x.marks) ≤ most_events ls (Asked c i ask)) (sym e) (one_to_ask ls c i order ask asking)
-one_event_move ls i l c ask t at (Ends k seat line answers held own is e) =
-    let one : 1 ≤ most_events ls (Asked c i ask) = one_to_end ls i l c k ask seat line answers is in
-    let few : length (events_of (advanced l.ring line).marks) ≤ 1 = few_advanced l.ring line in
+one_event_move ls i l c ask t at (Ends k seat queue answers held own is e) =
+    let one : 1 ≤ most_events ls (Asked c i ask) = one_to_end ls i l c k ask seat queue answers is in
+    let few : length (events_of (advanced l.ring queue).marks) ≤ 1 = few_advanced l.ring queue in
     subst (λ (x : Turn). length (events_of x.marks) ≤ most_events ls (Asked c i ask)) (sym e) (omega arith)
 one_event_move ls i l c ask t at (Drops answers is e) = subst (λ (x : Turn). length (events_of x.marks) ≤ most_events ls (Asked c i ask)) (sym e) (omega arith)
 one_event_move ls i l c ask t at (Faults k v a lt lk e) =

@@ -18,8 +18,8 @@ use Rattle.held_locks.proofs.Standing.{get_set_same}
 use Rattle.held_locks.proofs.Excluded.{exclusion, others_release_nothing}
 
 -- a release with the token of the hold
-own_release : (b : Bool) (c : ℕ) (l : Lock) → b ≡ true → l.line ≡ [] → (if b then ended l.ring l.line 1 ((c, answer.Released) ∷ []) else told l c (answer.Refused refusal.Holder)).answers ≡ (c, answer.Released) ∷ []
-own_release true c l e free = ap (λ (line : List Waiter). (ended l.ring line 1 ((c, answer.Released) ∷ [])).answers) free
+own_release : (b : Bool) (c : ℕ) (l : Lock) → b ≡ true → l.queue ≡ [] → (if b then ended l.ring l.queue 1 ((c, answer.Released) ∷ []) else told l c (answer.Refused refusal.Holder)).answers ≡ (c, answer.Released) ∷ []
+own_release true c l e free = ap (λ (queue : List Waiter). (ended l.ring queue 1 ((c, answer.Released) ∷ [])).answers) free
 own_release false c l e free = absurd (true≢false (sym e))
 
 not_with : (a b : Bool) → (a ≡ false) ⊎ (b ≡ false) → (a && b) ≡ false
@@ -27,7 +27,7 @@ not_with true b (inl e) = absurd (true≢false e)
 not_with true b (inr e) = e
 not_with false b e = refl
 
-module _ (locks : List Lock) (at : ℕ) (l : Lock) (h : Holder) (there : slice_get locks at ≡ Some l) (held : l.holder ≡ Some h) (free : l.line ≡ []) where
+module _ (locks : List Lock) (at : ℕ) (l : Lock) (h : Holder) (there : slice_get locks at ≡ Some l) (held : l.holder ≡ Some h) (free : l.queue ≡ []) where
   own : is_held_with h.client h.token l.holder ≡ true
   own = ap (λ (x : Option Holder). is_held_with h.client h.token x) held ∙ and_from (h.client == h.client) (h.token == h.token) (eq-eqb h.client h.client refl) (eq-eqb h.token h.token refl)
 

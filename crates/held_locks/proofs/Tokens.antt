@@ -24,18 +24,18 @@ pub data Passes (l m : Lock) (faulty : Bool) (answers : List (ℕ × Answer)) : 
   Repaired : grants_in answers ≡ [] → l.ring.grants ≤ m.ring.grants → faulty ≡ true → Passes l m faulty answers
   OnePass : (c : ℕ) → grants_in answers ≡ token_next l c ∷ [] → m.ring.grants ≡ l.ring.grants + 1 → Passes l m faulty answers
 
-passes_advanced : (l : Lock) (line : List Waiter) (faulty : Bool) (front : List (ℕ × Answer)) → ((more : List (ℕ × Answer)) → grants_in (front ++ more) ≡ grants_in more) → IsRing l.ring.ring → Passes l (advanced l.ring line).lock faulty (front ++ (advanced l.ring line).answers)
+passes_advanced : (l : Lock) (queue : List Waiter) (faulty : Bool) (front : List (ℕ × Answer)) → ((more : List (ℕ × Answer)) → grants_in (front ++ more) ≡ grants_in more) → IsRing l.ring.ring → Passes l (advanced l.ring queue).lock faulty (front ++ (advanced l.ring queue).answers)
 passes_advanced l [] faulty front none g = NoPass (none []) refl
-passes_advanced l (w ∷ line) faulty front none g = OnePass w.client (none (granted l.ring line w).answers) (grant_grants l.ring w.order g)
+passes_advanced l (w ∷ queue) faulty front none g = OnePass w.client (none (granted l.ring queue w).answers) (grant_grants l.ring w.order g)
 
 passes_move : (ls : List Lock) (at : ℕ) (l : Lock) (c : ℕ) (ask : Ask) (t : Turn) → IsRing l.ring.ring → Move ls l c ask t → Passes l t.lock (breaks at (Asked c at ask)) t.answers
 passes_move ls at l c ask t g (Stays a q leave e) = subst (λ (x : Turn). Passes l x.lock (breaks at (Asked c at ask)) x.answers) (sym e) (NoPass (no_grants c a q) refl)
 passes_move ls at l c ask t g (Waits order k a held other free back e) = subst (λ (x : Turn). Passes l x.lock (breaks at (Asked c at ask)) x.answers) (sym e) (NoPass refl refl)
 passes_move ls at l c ask t g (Gets order asking a e) =
     subst (λ (x : Turn). Passes l x.lock (breaks at (Asked c at ask)) x.answers) (sym e) (OnePass c refl (grant_grants l.ring order g))
-passes_move ls at l c ask t g (Ends k seat line answers held own is e) =
+passes_move ls at l c ask t g (Ends k seat queue answers held own is e) =
     subst (λ (x : Turn). Passes l x.lock (breaks at (Asked c at ask)) x.answers) (sym e)
-    (passes_advanced l line (breaks at (Asked c at ask)) answers (ended_grants l c k ask seat line answers is) g)
+    (passes_advanced l queue (breaks at (Asked c at ask)) answers (ended_grants l c k ask seat queue answers is) g)
 passes_move ls at l c ask t g (Drops answers is e) = subst (λ (x : Turn). Passes l x.lock (breaks at (Asked c at ask)) x.answers) (sym e) (NoPass (drop_grants c ask answers is) refl)
 passes_move ls at l c ask t g (Faults i v a lt lk e) =
     subst (λ (x : Turn). Passes l x.lock (breaks at (Asked c at ask)) x.answers) (sym e)

@@ -2,7 +2,7 @@
 use Rattle.std.specs.Prelude.{◌≡◌, ℕ, ◌+◌, ◌<◌, ◌≤◌, ◌⊎◌, List, [], ◌∷◌, length, slice_get, Some}
 use Rattle.ring_model.specs.Limits.{event_limit}
 use Rattle.ring_model.specs.Bases.{IsBase, base_after}
-use Rattle.endless_ring.specs.Endless.{EndlessView, IsNext}
+use Rattle.endless_ring.specs.Endless.{EndlessView, IsNextRing}
 use Rattle.held_locks.specs.declared.answers.Refusal.{Refusal}
 use Rattle.held_locks.specs.declared.answers.Refusal.TheVariants as refusal
 use Rattle.held_locks.specs.Promises.{carries}
@@ -13,10 +13,10 @@ use Rattle.held_locks.specs.Kept.{LockView, lock_of, IsKeptRing, AreMade}
 pub record IsNextOf (v : LockView) (next : EndlessView) : Type 0 where
   pub empty : EndlessView
   pub kept : IsKeptRing empty
-  pub begun : IsNext v.ring empty
+  pub begun : IsNextRing v.ring empty
   pub carried : AreMade empty (carries (lock_of v)) next
   pub ring : IsKeptRing next
-  pub room : length v.line ≤ next.ring.book.room
+  pub room : length v.queue ≤ next.ring.book.room
 
 -- there is none: no segment has room after this one, or for a grant to each client that waits; or
 -- there is no memory
@@ -24,7 +24,7 @@ abbrev pub IsNoNext : LockView → Refusal → Type 0
 IsNoNext v why =
     ((why ≡ refusal.Full)
     × ((¬ IsBase (base_after v.ring.base v.ring.ring.book.start v.ring.ring.book.history))
-    ⊎ (event_limit < length v.line + 1)))
+    ⊎ (event_limit < length v.queue + 1)))
     ⊎ (why ≡ refusal.Memory)
 
 -- the lock continues in its next segment, and nothing of it changes

@@ -21,31 +21,31 @@ first_pass a order = op.Pass (first_privileged a.ring.values) order
 
 -- a grant: a pass on seat 0 with the client's order, whose number is the token
 abbrev pub granted : State ℕ → List Waiter → Waiter → Turn
-granted a line w = record {
+granted a queue w = record {
   lock = record {
     ring = next till a (first_pass a w.order);
-    line = line;
+    queue = queue;
     holder = Some (record { client = w.client; token = a.grants + 1 });
   };
   marks = Call (called a 0 (first_pass a w.order)) ∷ [];
   answers = (w.client, answer.Granted (a.grants + 1)) ∷ [];
 }
 
--- nobody holds any more: the head of the line is granted
+-- nobody holds any more: the head of the queue is granted
 abbrev pub advanced : State ℕ → List Waiter → Turn
 advanced a [] = record {
-  lock = record { ring = a; line = []; holder = None };
+  lock = record { ring = a; queue = []; holder = None };
   marks = [];
   answers = [];
 }
-advanced a (w ∷ line) = granted a line w
+advanced a (w ∷ queue) = granted a queue w
 
 -- a hold ends, with a survey by this seat
 abbrev pub ended : State ℕ → List Waiter → ℕ → List (ℕ × Answer) → Turn
-ended a line seat answers = record {
-  lock = (advanced a line).lock;
-  marks = Survey seat ∷ (advanced a line).marks;
-  answers = answers ++ (advanced a line).answers;
+ended a queue seat answers = record {
+  lock = (advanced a queue).lock;
+  marks = Survey seat ∷ (advanced a queue).marks;
+  answers = answers ++ (advanced a queue).answers;
 }
 
 -- The first event of a segment that begins while a hold is open carries the hold: a pass by seat 3

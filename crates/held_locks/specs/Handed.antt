@@ -12,13 +12,13 @@ use Rattle.held_locks.specs.Kept.{LockView, lock_of, locks_of}
 -- client 0 holds the lock with this token, and nobody waits for it
 pub record IsOpen (v : LockView) (token : ℕ) : Type 0 where
   pub held : v.holder ≡ Some (record { client = 0; token = token })
-  pub free : v.line ≡ []
+  pub free : v.queue ≡ []
 
 -- the lock, whose hold is this client's
 abbrev pub handed : LockView → Handover → LockView
 handed v h = record {
   ring = v.ring;
-  line = v.line;
+  queue = v.queue;
   holder = Some (record { client = h.client; token = h.token });
 }
 
@@ -44,7 +44,7 @@ abbrev pub HoldsAreHandedBack : Type 0
 HoldsAreHandedBack =
     (l : Lock) (was : Holder) (v : LockView) (h : Handover) → l.holder ≡ Some was
     → lock_of v ≡ restarted l → h.token ≡ was.token → h.client ≡ was.client
-    → IsOpen v h.token × (lock_of (handed v h) ≡ record l { line = [] })
+    → IsOpen v h.token × (lock_of (handed v h) ≡ record l { queue = [] })
 
 -- This hold of the lock is its client's. With its token the client may release the lock, for which
 -- nobody waits; a release by another client, client 0 too, or with another token is refused, and

@@ -22,7 +22,7 @@ use Rattle.held_locks.specs.Waiting.{AreWaits}
 -- a lock as it is kept
 pub record LockView : Type 0 where
   pub ring : EndlessView
-  pub line : List Waiter
+  pub queue : List Waiter
   pub holder : Option Holder
 
 -- the state of a ring, over all its segments
@@ -35,7 +35,7 @@ state_of e = record {
 
 -- the lock
 abbrev pub lock_of : LockView → Lock
-lock_of v = record { ring = state_of v.ring; line = v.line; holder = v.holder }
+lock_of v = record { ring = state_of v.ring; queue = v.queue; holder = v.holder }
 
 abbrev pub locks_of : List LockView → List Lock
 locks_of vs = map lock_of vs
@@ -53,7 +53,7 @@ pub record IsKeptRing (e : EndlessView) : Type 0 where
 -- end of a hold wants room or memory.
 pub record IsKeptLock (v : LockView) : Type 0 where
   pub ring : IsKeptRing v.ring
-  pub room : length v.line ≤ v.ring.ring.book.room
+  pub room : length v.queue ≤ v.ring.ring.book.room
 
 -- how many locks there may be
 abbrev pub lock_limit : ℕ
@@ -112,8 +112,8 @@ pub record IsDone (old new : List LockView) (c i : ℕ) (ask : Ask) (r : Answers
 -- how many events an ask needs: its own, and one for each client that waits
 abbrev pub need : LockView → Ask → ℕ
 need v (Corrupt machine value) =
-    length v.line + (1 + most_passes (length v.ring.ring.book.now.ring.values))
-need v _ = length v.line + 1
+    length v.queue + (1 + most_passes (length v.ring.ring.book.now.ring.values))
+need v _ = length v.queue + 1
 
 -- the segment of the lock's ring has no room for what the ask may need
 abbrev pub IsFull : List LockView → ℕ → Ask → Type 0
@@ -123,7 +123,7 @@ IsFull vs i ask =
     × (event_limit < length v.ring.ring.book.history + need v ask)
 
 -- The input is refused for lack of room or memory; nothing has changed.
-pub record IsWant (old new : List LockView) (i : ℕ) (ask : Ask) (r : Answers) : Type 0 where
+pub record IsLack (old new : List LockView) (i : ℕ) (ask : Ask) (r : Answers) : Type 0 where
   pub why : ((r.own ≡ Some (answer.Refused refusal.Full)) × IsFull old i ask)
       ⊎ (r.own ≡ Some (answer.Refused refusal.Memory))
   pub none : (r.ended ≡ None) × (r.granted ≡ None)
@@ -131,7 +131,7 @@ pub record IsWant (old new : List LockView) (i : ℕ) (ask : Ask) (r : Answers) 
 
 -- an input is answered as the machine says, or refused for lack of room or memory
 abbrev pub IsAnswer : List LockView → List LockView → ℕ → ℕ → Ask → Answers → Type 0
-IsAnswer old new c i ask r = IsDone old new c i ask r ⊎ IsWant old new i ask r
+IsAnswer old new c i ask r = IsDone old new c i ask r ⊎ IsLack old new i ask r
 
 -- what a leave reports of the first locks: of each that the client held, that its hold has ended, and
 -- the client that is granted it
@@ -149,14 +149,14 @@ left_of c vs zero = []
 left_of c vs (suc n) = left_of c vs n ++ left_at c n (slice_get vs n)
 
 -- the clients that are granted, as answers
-abbrev pub grants_behind : List Left → List (ℕ × Answer)
-grants_behind [] = []
-grants_behind (l ∷ ls) = other_grant l.granted ++ grants_behind ls
+abbrev pub grants_after : List Left → List (ℕ × Answer)
+grants_after [] = []
+grants_after (l ∷ ls) = other_grant l.granted ++ grants_after ls
 
 -- a client left all locks, one after the other
 pub record IsLeft (old new : List LockView) (c : ℕ) (said : List Left) : Type 0 where
   pub locks : locks_of new ≡ locks_after (locks_of old) (leaves c (length old))
-  pub answers : grants_behind said ≡ answers_after (locks_of old) (leaves c (length old))
+  pub answers : grants_after said ≡ answers_after (locks_of old) (leaves c (length old))
   pub told : said ≡ left_of c old (length old)
   pub marks : (i : ℕ) (v w : LockView) → slice_get old i ≡ Some v → slice_get new i ≡ Some w
       → AreMade v.ring (turn [] (lock_of v) c Leave).marks w.ring

@@ -15,11 +15,11 @@ pub use Rattle.held_locks.specs.Grants.{called, first_pass, granted, advanced, e
 
 -- a client acquires a lock that it may wait for
 abbrev pub joined : Lock → Waiter → Option Holder → Turn
-joined l w None = granted l.ring l.line w
+joined l w None = granted l.ring l.queue w
 joined l w (Some h) = record {
-  lock = record l { line = l.line ++ w ∷ [] };
+  lock = record l { queue = l.queue ++ w ∷ [] };
   marks = [];
-  answers = (w.client, answer.Waiting (length l.line)) ∷ [];
+  answers = (w.client, answer.Waiting (length l.queue)) ∷ [];
 }
 
 -- or it is refused
@@ -37,7 +37,7 @@ acquire_refusal ls l c =
 
 -- a client tries to acquire it, and waits in no case
 abbrev pub tried_of : Lock → Waiter → Option Holder → Turn
-tried_of l w None = granted l.ring l.line w
+tried_of l w None = granted l.ring l.queue w
 tried_of l w (Some h) = told l w.client answer.Busy
 
 -- or it is refused
@@ -49,13 +49,13 @@ tried l w None = tried_of l w l.holder
 abbrev pub try_refusal : Lock → ℕ → Option Refusal
 try_refusal l c =
     if is_held_by c l.holder then Some refusal.Holds
-    else if stands c l.line then Some refusal.Waits
+    else if stands c l.queue then Some refusal.Waits
     else None
 
--- a client that does not hold it goes out of its line
+-- a client that does not hold it goes out of its queue
 abbrev pub dropped : Lock → ℕ → List (ℕ × Answer) → Turn
 dropped l c answers = record {
-  lock = record l { line = without c l.line };
+  lock = record l { queue = without c l.queue };
   marks = [];
   answers = answers;
 }
@@ -75,20 +75,20 @@ turn ls l c (Acquire order) =
 turn ls l c (Try order) = tried l (record { client = c; order = order }) (try_refusal l c)
 turn ls l c (Release token) =
     if is_held_with c token l.holder
-    then ended l.ring l.line 1 ((c, answer.Released) ∷ [])
+    then ended l.ring l.queue 1 ((c, answer.Released) ∷ [])
     else told l c (answer.Refused refusal.Holder)
 turn ls l c Cancel =
-    if stands c l.line then dropped l c ((c, answer.Cancelled) ∷ [])
+    if stands c l.queue then dropped l c ((c, answer.Cancelled) ∷ [])
     else told l c (answer.Refused refusal.Waiter)
 turn ls l c Leave =
-    if is_held_by c l.holder then ended l.ring (without c l.line) 2 [] else dropped l c []
+    if is_held_by c l.holder then ended l.ring (without c l.queue) 2 [] else dropped l c []
 turn ls l c (Corrupt i v) =
     if nat_le (length l.ring.ring.values) i then told l c (answer.Refused refusal.Machine)
     else if nat_le l.ring.ring.k v then told l c (answer.Refused refusal.Value)
     else faulted l c i v
 turn ls l c Stats = told l c (answer.Stats (record {
   machines = length l.ring.ring.values;
-  waiters = length l.line;
+  waiters = length l.queue;
   passes = l.ring.grants;
   holder = l.holder;
 }))
@@ -110,7 +110,7 @@ step_at ls c i ask (Some l) = record {
 abbrev pub restarted : Lock → Lock
 restarted l = record {
   ring = l.ring;
-  line = [];
+  queue = [];
   holder = option_map (λ (h : Holder). record { client = 0; token = h.token }) l.holder;
 }
 

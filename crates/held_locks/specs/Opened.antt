@@ -45,8 +45,8 @@ abbrev pub open_in : EndlessView → Option ℕ
 open_in e = open_after None (map Call (drop (ended_before e) (events_in e)))
 
 -- after a restart it is client 0's
-abbrev pub holder_behind : Option ℕ → Option Holder
-holder_behind token = option_map (λ (t : ℕ). record { client = 0; token = t }) token
+abbrev pub holder_after : Option ℕ → Option Holder
+holder_after token = option_map (λ (t : ℕ). record { client = 0; token = t }) token
 
 -- A lock more, of this ring, repaired. No client waits for it; the hold that is open in the ring's
 -- history continues.
@@ -55,7 +55,7 @@ pub record IsAdded (old new : List LockView) (e : EndlessView) : Type 0 where
   pub repaired : AreMade e
       (map Call (repairs (most_passes (length e.ring.book.now.ring.values)) (state_of e))) ring
   pub added : new
-      ≡ old ++ record { ring = ring; line = []; holder = holder_behind (open_in e) } ∷ []
+      ≡ old ++ record { ring = ring; queue = []; holder = holder_after (open_in e) } ∷ []
 
 -- none is added: there are as many as there may be, or the ring has no room for its repair; or there
 -- is no memory
@@ -96,4 +96,4 @@ RestartsAreRight =
     (ls : List Lock) (is : List Input) (at : ℕ) (l : Lock) (e : EndlessView) → AreRight ls
     → slice_get ls at ≡ Some l → IsRecovered l.ring (carries l ++ marks_of at ls is) e
     → slice_get (locks_after ls (is ++ Restart ∷ [])) at
-    ≡ Some (lock_of (record { ring = e; line = []; holder = holder_behind (open_in e) }))
+    ≡ Some (lock_of (record { ring = e; queue = []; holder = holder_after (open_in e) }))

@@ -14,9 +14,9 @@ use Rattle.held_locks.specs.Waiting.{lock_in}
 use Rattle.held_locks.specs.Locks.{Call, called, Turn}
 use Rattle.held_locks.specs.Kept.{LockView, state_of, lock_of, IsKeptLock, AreMade, ended_in, answers_of}
 
--- contracts see the ring, the line and the holder
+-- contracts see the ring, the queue and the holder
 abbrev pub view_of : LockParts → LockView
-view_of p = record { ring = p.ring; line = p.line.items; holder = p.holder }
+view_of p = record { ring = p.ring; queue = p.queue.items; holder = p.holder }
 
 abbrev pub views_of : List LockParts → List LockView
 views_of ps = map view_of ps
@@ -26,8 +26,8 @@ abbrev pub IsMade : EndlessView → EndlessView → ℕ → Op → Type 0
 IsMade old new seat o = AreMade old (Call (called (state_of old) seat o) ∷ []) new
 
 -- why the ring refuses this many events
-abbrev pub IsWantOf : EndlessView → ℕ → Refusal → Type 0
-IsWantOf e need why =
+abbrev pub IsLackOf : EndlessView → ℕ → Refusal → Type 0
+IsLackOf e need why =
     ((why ≡ refusal.Full) × (event_limit < length e.ring.book.history + need))
     ⊎ (why ≡ refusal.Memory)
 
@@ -40,13 +40,13 @@ pub record IsTurned (old new : LockView) (c : ℕ) (t : Turn) (r : Answers) : Ty
   pub kept : IsKeptLock new
 
 -- or refused for lack of room for this many events, or of memory; nothing has changed
-pub record IsWanting (old new : LockView) (need : ℕ) (r : Answers) : Type 0 where
+pub record IsLacking (old new : LockView) (need : ℕ) (r : Answers) : Type 0 where
   pub why : Refusal
-  pub want : IsWantOf old.ring need why
+  pub lack : IsLackOf old.ring need why
   pub refused : r ≡ record { own = Some (answer.Refused why); ended = None; granted = None }
   pub same : new ≡ old
 
--- the entries of who waits, when the line of the lock of this number changes so
+-- the entries of who waits, when the queue of the lock of this number changes so
 abbrev pub IsEntryOf : ℕ → Option ℕ → List (ℕ × ℕ) → List (ℕ × ℕ) → Type 0
 IsEntryOf client lock old new =
     (c : ℕ) → lock_in new c ≡ cond (client == c) lock (lock_in old c)
@@ -65,9 +65,9 @@ pub data WaitsChange (lock : ℕ) (before after : List Waiter) (old new : List (
 pub record IsTurnedIn (lock : ℕ) (old new : LockView) (entries later : List (ℕ × ℕ)) (c : ℕ)
     (t : Turn) (r : Answers) : Type 0 where
   pub turned : IsTurned old new c t r
-  pub waits : WaitsChange lock old.line new.line entries later
+  pub waits : WaitsChange lock old.queue new.queue entries later
 
-pub record IsWantingIn (old new : LockView) (entries later : List (ℕ × ℕ)) (need : ℕ)
+pub record IsLackingIn (old new : LockView) (entries later : List (ℕ × ℕ)) (need : ℕ)
     (r : Answers) : Type 0 where
-  pub wanting : IsWanting old new need r
+  pub lacking : IsLacking old new need r
   pub waits : (c : ℕ) → lock_in later c ≡ lock_in entries c

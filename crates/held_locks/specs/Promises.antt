@@ -19,17 +19,17 @@ use Rattle.held_locks.specs.Locks.{Ask, Release, Cancel, Leave, Corrupt, Mark, C
 
 -- ---- what is true at every moment
 
--- no client is in the line twice
+-- no client is in the queue twice
 abbrev pub AreApart : List Waiter → Type 0
 AreApart [] = Unit {0}
-AreApart (w ∷ line) = (stands w.client line ≡ false) × AreApart line
+AreApart (w ∷ queue) = (stands w.client queue ≡ false) × AreApart queue
 
 -- the ring of the lock is settled, and no client waits for a lock that is not held
 pub record IsRightLock (l : Lock) : Type 0 where
   pub ring : IsRing l.ring.ring
   pub settled : is_settled l.ring.ring.values ≡ true
-  pub held : l.holder ≡ None → l.line ≡ []
-  pub apart : AreApart l.line
+  pub held : l.holder ≡ None → l.queue ≡ []
+  pub apart : AreApart l.queue
 
 -- From a client that waits to the holder of what it waits for, this many times: where one comes to.
 abbrev pub comes : ℕ → List Lock → Option ℕ → Option ℕ
@@ -46,7 +46,7 @@ ComesToAnEnd ls at = (steps : ℕ) × (comes steps ls at ≡ None)
 pub record AreRight (ls : List Lock) : Type 0 where
   pub each : (i : ℕ) (l : Lock) → slice_get ls i ≡ Some l → IsRightLock l
   pub once : (c i j : ℕ) (l m : Lock) → slice_get ls i ≡ Some l → slice_get ls j ≡ Some m
-      → stands c l.line ≡ true → stands c m.line ≡ true → i ≡ j
+      → stands c l.queue ≡ true → stands c m.queue ≡ true → i ≡ j
   pub ends : (c : ℕ) → ComesToAnEnd ls (Some c)
 
 -- ---- lists of inputs
@@ -118,11 +118,11 @@ NoneIs test (i ∷ is) = (test i ≡ false) × NoneIs test is
 -- ---- the promises
 
 -- Locks of settled rings are right, held or not, while no client waits; what is right stays right.
-abbrev pub EmptyLinesAreRight : Type 0
-EmptyLinesAreRight =
+abbrev pub EmptyQueuesAreRight : Type 0
+EmptyQueuesAreRight =
     (ls : List Lock)
     → ((i : ℕ) (l : Lock) → slice_get ls i ≡ Some l
-    → IsRing l.ring.ring × (is_settled l.ring.ring.values ≡ true) × (l.line ≡ [])) → AreRight ls
+    → IsRing l.ring.ring × (is_settled l.ring.ring.values ≡ true) × (l.queue ≡ [])) → AreRight ls
 
 abbrev pub RightStays : Type 0
 RightStays = (ls : List Lock) (is : List Input) → AreRight ls → AreRight (locks_after ls is)
@@ -131,7 +131,7 @@ RightStays = (ls : List Lock) (is : List Input) → AreRight ls → AreRight (lo
 abbrev pub NobodyWaitsForNothing : Type 0
 NobodyWaitsForNothing =
     (ls : List Lock) (is : List Input) → AreRight ls → (at : ℕ) (l : Lock)
-    → slice_get (locks_after ls is) at ≡ Some l → l.holder ≡ None → l.line ≡ []
+    → slice_get (locks_after ls is) at ≡ Some l → l.holder ≡ None → l.queue ≡ []
 
 -- no client waits for itself, however far round; and one that is refused because of a circle would
 abbrev pub NoCircle : Type 0
@@ -157,7 +157,7 @@ abbrev pub LeaversAreGone : Type 0
 LeaversAreGone =
     (ls : List Lock) (c i : ℕ) (l : Lock) → i < length ls
     → slice_get (locks_after ls (leaves c (length ls))) i ≡ Some l
-    → (is_held_by c l.holder ≡ false) × (stands c l.line ≡ false)
+    → (is_held_by c l.holder ≡ false) × (stands c l.queue ≡ false)
 
 -- exclusion: a hold continues until an input ends it, restarts or not, and until then no client is
 -- granted
@@ -215,18 +215,18 @@ AreServed front w (h ∷ hs) =
 abbrev pub FirstComeFirstServed : Type 0
 FirstComeFirstServed =
     (ls : List Lock) (is : List Input) (at : ℕ) (l : Lock) (front : List Waiter) (w : Waiter)
-    (back : List Waiter) → AreRight ls → slice_get ls at ≡ Some l → l.line ≡ front ++ w ∷ back
+    (back : List Waiter) → AreRight ls → slice_get ls at ≡ Some l → l.queue ≡ front ++ w ∷ back
     → NoneIs (gives_up at w.client) is → AreServed front w (grants_of at ls is)
 
--- the clients before a client in the line
+-- the clients before a client in the queue
 abbrev pub before : ℕ → List Waiter → List Waiter
 before c [] = []
-before c (w ∷ line) = if w.client == c then [] else (w ∷ before c line)
+before c (w ∷ queue) = if w.client == c then [] else (w ∷ before c queue)
 
 -- by this input one of those gives up
 abbrev pub gives_way : ℕ → ℕ → Option Lock → Input → Bool
-gives_way at c (Some l) (Asked d i Cancel) = (i == at) && stands d (before c l.line)
-gives_way at c (Some l) (Asked d i Leave) = (i == at) && stands d (before c l.line)
+gives_way at c (Some l) (Asked d i Cancel) = (i == at) && stands d (before c l.queue)
+gives_way at c (Some l) (Asked d i Leave) = (i == at) && stands d (before c l.queue)
 gives_way at c _ _ = false
 
 -- how many of them give up
@@ -246,7 +246,7 @@ abbrev pub TokensAreForeseen : Type 0
 TokensAreForeseen =
     (ls : List Lock) (is : List Input) (i : Input) (at : ℕ) (l : Lock) (front : List Waiter)
     (w : Waiter) (back : List Waiter) (h : Holder) → AreRight ls → slice_get ls at ≡ Some l
-    → l.line ≡ front ++ w ∷ back → NoneIs (gives_up at w.client) (is ++ i ∷ [])
+    → l.queue ≡ front ++ w ∷ back → NoneIs (gives_up at w.client) (is ++ i ∷ [])
     → NoneIs (breaks at) (is ++ i ∷ []) → NoneOf w.client (grants_of at ls is)
     → grants_of at ls (is ++ i ∷ []) ≡ grants_of at ls is ++ h ∷ [] → h.client ≡ w.client
     → h.token + given_up at w.client ls is ≡ l.ring.grants + 1 + length front
@@ -319,7 +319,7 @@ HistoryShowsHolds =
 abbrev pub recovered : State ℕ → Option ℕ → List Mark → Lock
 recovered a token marks = record {
   ring = after till a (events_of marks);
-  line = [];
+  queue = [];
   holder = option_map (λ (t : ℕ). record { client = 0; token = t }) (open_after token marks);
 }
 

@@ -7,17 +7,17 @@ use Rattle.held_locks.specs.declared.answers.Holder.{Holder}
 -- a lock: the state of its ring, the clients that wait for it, in order, and its holder
 pub record Lock : Type 0 where
   pub ring : State ℕ
-  pub line : List Waiter
+  pub queue : List Waiter
   pub holder : Option Holder
 
--- the client is in the line
+-- the client is in the queue
 abbrev pub stands : ℕ → List Waiter → Bool
 stands c [] = false
-stands c (w ∷ line) = (w.client == c) || stands c line
+stands c (w ∷ queue) = (w.client == c) || stands c queue
 
--- the line without the client
+-- the queue without the client
 abbrev pub without : ℕ → List Waiter → List Waiter
-without c line = filter (λ (w : Waiter). not (w.client == c)) line
+without c queue = filter (λ (w : Waiter). not (w.client == c)) queue
 
 -- the client holds, and it does so with this token
 abbrev pub is_held_by : ℕ → Option Holder → Bool
@@ -31,7 +31,7 @@ is_held_with c token (Some h) = (h.client == c) && (h.token == token)
 -- the lock for which a client waits
 abbrev pub waits_for : List Lock → ℕ → Option Lock
 waits_for [] c = None
-waits_for (l ∷ ls) c = if stands c l.line then Some l else waits_for ls c
+waits_for (l ∷ ls) c = if stands c l.queue then Some l else waits_for ls c
 
 -- the client that holds the lock
 abbrev pub client_of : Option Holder → Option ℕ

@@ -10,6 +10,6 @@ lock_in entries c = lookup (nat_eq c) entries
 -- the entries say where the clients are
 pub record AreWaits (ls : List Lock) (entries : List (ℕ × ℕ)) : Type 0 where
   pub there : (c i : ℕ) → lock_in entries c ≡ Some i
-      → (l : Lock) × (slice_get ls i ≡ Some l) × (stands c l.line ≡ true)
-  pub known : (c i : ℕ) (l : Lock) → slice_get ls i ≡ Some l → stands c l.line ≡ true
+      → (l : Lock) × (slice_get ls i ≡ Some l) × (stands c l.queue ≡ true)
+  pub known : (c i : ℕ) (l : Lock) → slice_get ls i ≡ Some l → stands c l.queue ≡ true
       → lock_in entries c ≡ Some i

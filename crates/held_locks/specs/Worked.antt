@@ -13,7 +13,7 @@ use Rattle.held_locks.specs.Promises.{answers_after, marks_of}
 abbrev pub worked_lock : Lock
 worked_lock = record {
   ring = record { ring = ring_with 3 (0 ∷ 0 ∷ 0 ∷ []); content = 0; grants = 0 };
-  line = [];
+  queue = [];
   holder = None;
 }
 

@@ -7,7 +7,7 @@ ghost use Rattle.held_locks.specs.Queues.{stands, is_held_by, is_held_with};
 ghost use Rattle.held_locks.specs.Locks.{Release, Cancel, Leave, Corrupt, Stats as Asks_stats, acquired, tried, turn};
 ghost use Rattle.held_locks.specs.Kept.{state_of, lock_of, need, IsKeptLock};
 ghost use Rattle.held_locks.specs.Waiting.{lock_in};
-ghost use Rattle.held_locks.specs.Parts.{view_of, IsTurnedIn, IsWantingIn};
+ghost use Rattle.held_locks.specs.Parts.{view_of, IsTurnedIn, IsLackingIn};
 
 use crate::answers::{Answer, Answers, Holder, Refusal, Stats, Waiter};
 use crate::parts::{LockParts, drop_waiter, end_hold, fault, grant, refused, told, wait};
@@ -49,8 +49,8 @@ pub(crate) fn acquire(
     requires free { why ≡ None → lock_in waits.old waiter.client ≡ None }
     ensures { IsTurnedIn number (view_of lock.old) (view_of lock.new) waits.old waits.new
         waiter.client (acquired (lock_of (view_of lock.old)) waiter why) result
-        ⊎ IsWantingIn (view_of lock.old) (view_of lock.new) waits.old waits.new
-        (length lock.old.line.items + 1) result }
+        ⊎ IsLackingIn (view_of lock.old) (view_of lock.new) waits.old waits.new
+        (length lock.old.queue.items + 1) result }
 {
     if let Some(why) = why {
         return refused(why);
@@ -68,8 +68,8 @@ pub(crate) fn try_acquire(lock: &mut LockParts, waiter: Waiter, why: Option<Refu
     ensures { (number : ℕ) (entries : List (ℕ × ℕ))
         → IsTurnedIn number (view_of lock.old) (view_of lock.new) entries entries waiter.client
         (tried (lock_of (view_of lock.old)) waiter why) result
-        ⊎ IsWantingIn (view_of lock.old) (view_of lock.new) entries entries
-        (length lock.old.line.items + 1) result }
+        ⊎ IsLackingIn (view_of lock.old) (view_of lock.new) entries entries
+        (length lock.old.queue.items + 1) result }
 {
     if let Some(why) = why {
         return refused(why);
@@ -109,7 +109,7 @@ pub(crate) fn cancel(
     waiting: bool,
 ) -> Answers
     requires kept { IsKeptLock (view_of lock.old) }
-    requires waiting { waiting ≡ stands client lock.old.line.items }
+    requires waiting { waiting ≡ stands client lock.old.queue.items }
     ensures { IsTurnedIn number (view_of lock.old) (view_of lock.new) waits.old waits.new client
         (turn [] (lock_of (view_of lock.old)) client Cancel) result }
 {
@@ -130,7 +130,7 @@ pub(crate) fn leave(
 ) -> Answers
     requires kept { IsKeptLock (view_of lock.old) }
     requires settled { is_settled (state_of lock.old.ring).ring.values ≡ true }
-    requires waiting { waiting ≡ stands client lock.old.line.items }
+    requires waiting { waiting ≡ stands client lock.old.queue.items }
     requires either { IsTrue (is_held_by client lock.old.holder) → waiting ≡ false }
     ensures turned { IsTurnedIn number (view_of lock.old) (view_of lock.new) waits.old waits.new
         client (turn [] (lock_of (view_of lock.old)) client Leave) result }
@@ -155,7 +155,7 @@ pub(crate) fn corrupt(lock: &mut LockParts, client: u64, machine: u32, value: u3
     ensures { (number : ℕ) (entries : List (ℕ × ℕ))
         → IsTurnedIn number (view_of lock.old) (view_of lock.new) entries entries client
         (turn [] (lock_of (view_of lock.old)) client (Corrupt machine value)) result
-        ⊎ IsWantingIn (view_of lock.old) (view_of lock.new) entries entries
+        ⊎ IsLackingIn (view_of lock.old) (view_of lock.new) entries entries
         (need (view_of lock.old) (Corrupt machine value)) result }
 {
     if machine >= lock.ring.segment().machines() {
@@ -176,7 +176,7 @@ pub(crate) fn stats(lock: &LockParts) -> Answers
 {
     told(Answer::Stats(Stats {
         machines: lock.ring.segment().machines(),
-        waiters: lock.line.len() as u64,
+        waiters: lock.queue.len() as u64,
         passes: lock.ring.grants(),
         holder: lock.holder,
     }))

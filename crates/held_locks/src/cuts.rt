@@ -23,7 +23,7 @@ fn next_ring(lock: &LockParts, alloc: Global) -> Result<EndlessRing, Refusal>
         Ok(ring) => ring,
         Err(why) => return Err(why),
     };
-    match marks::reserve(&mut ring, lock.line.len(), 1) {
+    match marks::reserve(&mut ring, lock.queue.len(), 1) {
         Ok(()) => {}
         Err(why) => return Err(why),
     }
@@ -31,7 +31,7 @@ fn next_ring(lock: &LockParts, alloc: Global) -> Result<EndlessRing, Refusal>
     Ok(ring)
 }
 
-/// The lock in its next segment: its line and its holder stay the same.
+/// The lock in its next segment: its queue and its holder stay the same.
 fn next_lock(lock: &LockParts, alloc: Global) -> Result<LockParts, Refusal>
     requires kept { IsKeptLock (view_of lock.now) }
     requires right { IsRightLock (lock_of (view_of lock.now)) }
@@ -42,11 +42,11 @@ fn next_lock(lock: &LockParts, alloc: Global) -> Result<LockParts, Refusal>
         Ok(ring) => ring,
         Err(why) => return Err(why),
     };
-    let Ok(line) = lock.line.clone() else {
+    let Ok(queue) = lock.queue.clone() else {
         return Err(Refusal::Memory);
     };
     let holder = lock.holder;
-    Ok(LockParts { ring, line, holder })
+    Ok(LockParts { ring, queue, holder })
 }
 
 /// The locks in their next segments.

@@ -21,7 +21,7 @@ fn is_open(lock: &LockParts, token: u64) -> bool
     ensures yes { result ≡ true → IsOpen (view_of lock.now) token }
     ensures no { result ≡ false → ¬ IsOpen (view_of lock.now) token }
 {
-    is_held_with(0, token, lock.holder) && lock.line.is_empty()
+    is_held_with(0, token, lock.holder) && lock.queue.is_empty()
 }
 
 /// Hands a hold over, if client 0 has it and nobody waits for its lock.

@@ -4,11 +4,11 @@
 ghost use Rattle.held_locks.specs.Handed.{HoldsAreHandedBack, HandedHoldsAreTheirs};
 ghost use Rattle.held_locks.specs.Opened.{HoldsAreFound, RestartsAreRight};
 ghost use Rattle.held_locks.specs.Worked.{WorkedAnswers, WorkedMarks};
-ghost use Rattle.held_locks.specs.Promises.{EmptyLinesAreRight, RightStays, Exclusion, OthersReleaseNothing, LeaversAreGone, TokensRise, TokensAreCounted, TokensAreForeseen, NobodyWaitsForNothing, FirstComeFirstServed, NoCircle, CirclesAreReal, OneEventEach, HistoryShowsHolds, RestartsRecover, SegmentsShowHolds, SegmentsRecover, CarriedChangesNothing, OneAnswerEach};
+ghost use Rattle.held_locks.specs.Promises.{EmptyQueuesAreRight, RightStays, Exclusion, OthersReleaseNothing, LeaversAreGone, TokensRise, TokensAreCounted, TokensAreForeseen, NobodyWaitsForNothing, FirstComeFirstServed, NoCircle, CirclesAreReal, OneEventEach, HistoryShowsHolds, RestartsRecover, SegmentsShowHolds, SegmentsRecover, CarriedChangesNothing, OneAnswerEach};
 
 /// Locks of settled rings for which nobody waits are right, and locks that are right stay so, whatever is asked.
 pub fn locks_stay_right()
-    ensures empty { EmptyLinesAreRight }
+    ensures empty { EmptyQueuesAreRight }
     ensures stay { RightStays }
 {}
 

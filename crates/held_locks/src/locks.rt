@@ -6,7 +6,7 @@ ghost use Rattle.held_locks.specs.Locks.{Acquire, Try, Release, Cancel, Corrupt,
 ghost use Rattle.held_locks.specs.Cuts.{AreNext, HaveNoNext};
 ghost use Rattle.held_locks.specs.Handed.{IsHanded, CannotBeHanded};
 ghost use Rattle.held_locks.specs.Kept.{LockView, lock_of, locks_of, lock_limit, IsKeptRing, IsKeptLock, AreKept, IsDone, IsAnswer, IsLeft};
-ghost use Rattle.held_locks.specs.Opened.{holder_behind, IsAdded, IsNotAdded};
+ghost use Rattle.held_locks.specs.Opened.{holder_after, IsAdded, IsNotAdded};
 ghost use Rattle.held_locks.specs.Waiting.{lock_in};
 ghost use Rattle.held_locks.specs.Parts.{view_of, views_of};
 ghost use Rattle.held_locks.specs.declared.answers.Left.{Left};
@@ -116,7 +116,7 @@ fn acquire_refusal(locks: &[LockParts], waits: &Waits, client: u64, lock: usize)
 pub(crate) fn stands_at(locks: &[LockParts], waits: &Waits, client: u64, lock: u32) -> bool
     requires { AreKept (views_of locks.now) waits.now }
     ensures { (p : LockParts) → slice_get locks.now lock ≡ Some p
-        → result ≡ stands client p.line.items }
+        → result ≡ stands client p.queue.items }
 {
     match waits.get(client) {
         Some(other) => other == lock,
@@ -249,7 +249,7 @@ fn add_to(
     holder: Option<Holder>,
 ) -> Result<(), Refusal>
     ensures ok { OnOk result (views_of locks.new.items ≡ views_of locks.old.items
-        ++ record { ring = ring; line = []; holder = holder } ∷ []) }
+        ++ record { ring = ring; queue = []; holder = holder } ∷ []) }
     ensures few { OnOk result (length locks.old.items < lock_limit) }
     ensures err { OnErr result (locks.new.items ≡ locks.old.items) }
     ensures why { IfErr result (λ e.
@@ -261,14 +261,14 @@ fn add_to(
     let Ok(()) = locks.reserve(1) else {
         return Err(Refusal::Memory);
     };
-    let line = VecDeque::new(alloc);
-    locks.push_reserved(LockParts { ring, line, holder });
+    let queue = VecDeque::new(alloc);
+    locks.push_reserved(LockParts { ring, queue, holder });
     Ok(())
 }
 
 /// The holder of a lock whose hold with this token was open at a restart.
 fn zeroth(held: Option<u64>) -> Option<Holder>
-    ensures { result ≡ holder_behind held }
+    ensures { result ≡ holder_after held }
 {
     match held {
         Some(token) => Some(Holder { client: 0, token }),
@@ -343,9 +343,9 @@ impl Locks {
     /// How many clients wait for a lock.
     pub fn waiters(&self, lock: u32) -> usize
         requires { lock < length self.now }
-        ensures { (v : LockView) → slice_get self.now lock ≡ Some v → result ≡ length v.line }
+        ensures { (v : LockView) → slice_get self.now lock ≡ Some v → result ≡ length v.queue }
     {
-        self.locks[lock as usize].line.len()
+        self.locks[lock as usize].queue.len()
     }
 
     /// The holder of a lock, if there is one.
@@ -356,13 +356,13 @@ impl Locks {
         self.locks[lock as usize].holder
     }
 
-    /// The client at this place of a lock's line, which begins with place 0.
+    /// The client at this place of a lock's queue, which begins with place 0.
     pub fn waiter(&self, lock: u32, place: usize) -> Waiter
-        requires { (v : LockView) × (slice_get self.now lock ≡ Some v) × (place < length v.line) }
+        requires { (v : LockView) × (slice_get self.now lock ≡ Some v) × (place < length v.queue) }
         ensures { (v : LockView) → slice_get self.now lock ≡ Some v
-            → slice_get v.line place ≡ Some result }
+            → slice_get v.queue place ≡ Some result }
     {
-        self.locks[lock as usize].line[place]
+        self.locks[lock as usize].queue[place]
     }
 
     /// The locks as they continue in the next segments of their rings: nothing of them changes. The history of such a segment has no
@@ -406,7 +406,7 @@ impl Locks {
         try_among(&mut self.locks, &mut self.waits, client, lock, order)
     }
 
-    /// Ends the hold of a client with this token, and grants the head of the line.
+    /// Ends the hold of a client with this token, and grants the head of the queue.
     ///
     /// Refused, the first that applies: `Lock`, `Holder`; `Full`, `Memory`. Nothing has changed then.
     #[inline(always)]
@@ -416,7 +416,7 @@ impl Locks {
         release_among(&mut self.locks, &mut self.waits, client, lock, token)
     }
 
-    /// Takes a client that waits out of the line.
+    /// Takes a client that waits out of the queue.
     ///
     /// Refused, the first that applies: `Lock`, `Waiter`. Nothing has changed then.
     pub fn cancel(&mut self, client: u64, lock: u32) -> Answers
@@ -425,7 +425,7 @@ impl Locks {
         cancel_among(&mut self.locks, &mut self.waits, client, lock)
     }
 
-    /// A client leaves all locks, one after the other: it goes out of the line, or its hold ends and the head of the line is
+    /// A client leaves all locks, one after the other: it goes out of the queue, or its hold ends and the head of the queue is
     /// granted. There is no answer to the client. For each lock that it held, `left` gets one more entry: that its
     /// hold has ended, and the client that is granted it next. This needs neither room nor memory.
     pub fn leave(&mut self, client: u64, left: &mut Vec<Left>)

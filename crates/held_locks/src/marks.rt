@@ -5,11 +5,11 @@ ghost use Rattle.ring_model.specs.Ring.{first_privileged, is_settled};
 ghost use Rattle.ring_model.specs.Replay.{machine_of};
 ghost use Rattle.ring_model.specs.Bases.{IsBase, base_after};
 ghost use Rattle.held_locks.specs.Grants.{carried, most_passes};
-ghost use Rattle.endless_ring.specs.Endless.{IsSameEndless, IsNext, local_survey};
+ghost use Rattle.endless_ring.specs.Endless.{IsSameEndless, IsNextRing, local_survey};
 ghost use Rattle.held_locks.specs.Locks.{Call, fault, first_pass, repairs};
 ghost use Rattle.held_locks.specs.Promises.{number_of, token_of};
 ghost use Rattle.held_locks.specs.Kept.{state_of, seat_count, IsKeptRing, AreMade};
-ghost use Rattle.held_locks.specs.Parts.{IsMade, IsWantOf};
+ghost use Rattle.held_locks.specs.Parts.{IsMade, IsLackOf};
 
 use crate::answers::{HoldEnd, Holder, Refusal};
 use endless_ring::{EndlessRing, NextError};
@@ -41,7 +41,7 @@ fn old_of(reply: Reply) -> u32
 
 /// Why a ring refuses a call that has its seat, its machine and its value right.
 #[inline(always)]
-fn want(error: CallError) -> Refusal
+fn lack(error: CallError) -> Refusal
     ensures full { error ≡ CallError.HistoryFull → result ≡ Refusal.Full }
     ensures memory { error ≡ CallError.OutOfMemory → result ≡ Refusal.Memory }
 {
@@ -111,14 +111,14 @@ pub(crate) fn reserve(ring: &mut EndlessRing, waiting: usize, events: u32) -> Re
     ensures same { IsSameEndless ring.old ring.new }
     ensures kept { IsKeptRing ring.new }
     ensures err { OnErr result (ring.new ≡ ring.old) }
-    ensures why { IfErr result (λ e. IsWantOf ring.old (waiting + events) e) }
+    ensures why { IfErr result (λ e. IsLackOf ring.old (waiting + events) e) }
 {
     if waiting > EVENT_LIMIT {
         return Err(Refusal::Full);
     }
     match ring.reserve(waiting as u32 + events) {
         Ok(()) => Ok(()),
-        Err(error) => Err(want(error)),
+        Err(error) => Err(lack(error)),
     }
 }
 
@@ -142,13 +142,13 @@ pub(crate) fn pass_first(
         (IsMade ring.old ring.new seat (first_pass (state_of ring.old) order)) }
     ensures kept { IsKeptRing ring.new }
     ensures err { OnErr result (ring.new ≡ ring.old) }
-    ensures why { IfErr result (λ e. IsWantOf ring.old 1 e) }
+    ensures why { IfErr result (λ e. IsLackOf ring.old 1 e) }
     ensures succeeds { 1 ≤ ring.old.ring.book.room → IsOk result }
     ensures room { OnOk result (ring.old.ring.book.room ≤ ring.new.ring.book.room + 1) }
 {
     match ring.pass(seat, first, order) {
         Ok(receipt) => Ok(number_of(receipt.event.reply)),
-        Err(error) => Err(want(error)),
+        Err(error) => Err(lack(error)),
     }
 }
 
@@ -165,7 +165,7 @@ pub(crate) fn pass(ring: &mut EndlessRing, seat: u32, order: u64) -> Result<u64,
         (IsMade ring.old ring.new seat (first_pass (state_of ring.old) order)) }
     ensures kept { IsKeptRing ring.new }
     ensures err { OnErr result (ring.new ≡ ring.old) }
-    ensures why { IfErr result (λ e. IsWantOf ring.old 1 e) }
+    ensures why { IfErr result (λ e. IsLackOf ring.old 1 e) }
     ensures succeeds { 1 ≤ ring.old.ring.book.room → IsOk result }
     ensures room { OnOk result (ring.old.ring.book.room ≤ ring.new.ring.book.room + 1) }
 {
@@ -180,7 +180,7 @@ pub(crate) fn pass(ring: &mut EndlessRing, seat: u32, order: u64) -> Result<u64,
 /// `Full`, `Memory`.
 pub(crate) fn next(ring: &EndlessRing, alloc: Global) -> Result<EndlessRing, Refusal>
     requires { IsKeptRing ring.now }
-    ensures ok { IfOk result (λ next. IsNext ring.now next) }
+    ensures ok { IfOk result (λ next. IsNextRing ring.now next) }
     ensures kept { IfOk result (λ next. IsKeptRing next) }
     ensures why { IfErr result (λ e. ((e ≡ Refusal.Full)
         × (¬ IsBase (base_after ring.now.base ring.now.ring.book.start
@@ -294,7 +294,7 @@ pub(crate) fn settle(ring: &mut EndlessRing) -> Result<(), Refusal>
     ensures settled { OnOk result (is_settled (state_of ring.new).ring.values ≡ true) }
     ensures kept { IsKeptRing ring.new }
     ensures why { IfErr result (λ e.
-        IsWantOf ring.old (most_passes (length (state_of ring.old).ring.values)) e) }
+        IsLackOf ring.old (most_passes (length (state_of ring.old).ring.values)) e) }
 {
     let most = most_repairs(ring);
     match reserve(ring, 0, most) {
@@ -327,7 +327,7 @@ pub(crate) fn fault(
         (map Call (fault (state_of ring.old) machine value)) ring.new) }
     ensures kept { IsKeptRing ring.new }
     ensures err { OnErr result (ring.new ≡ ring.old) }
-    ensures why { IfErr result (λ e. IsWantOf ring.old
+    ensures why { IfErr result (λ e. IsLackOf ring.old
         (waiting + (1 + most_passes (length (state_of ring.old).ring.values))) e) }
     ensures room { waiting ≤ ring.new.ring.book.room }
 {

@@ -1,4 +1,4 @@
-//! One lock: its ring, its line, its holder.
+//! One lock: its ring, its queue, its holder.
 
 ghost use Rattle.std.specs.Prelude.{◌≡◌, ◌+◌, ◌<◌, ◌⊎◌, List, ◌∷◌, length, Some, None, IsSome, true};
 ghost use Rattle.ring_model.specs.Ring.{first_privileged, is_settled};
@@ -8,11 +8,11 @@ ghost use Rattle.held_locks.specs.Waiting.{lock_in};
 ghost use Rattle.held_locks.specs.Locks.{Corrupt, ended, faulted, granted, joined};
 ghost use Rattle.held_locks.specs.declared.answers.Waiter.{Waiter};
 ghost use Rattle.held_locks.specs.Kept.{state_of, lock_of, need, IsKeptLock, own_answer};
-ghost use Rattle.held_locks.specs.Parts.{view_of, IsTurned, IsWanting, IsTurnedIn, IsWantingIn, IsEntryOf};
+ghost use Rattle.held_locks.specs.Parts.{view_of, IsTurned, IsLacking, IsTurnedIn, IsLackingIn, IsEntryOf};
 
 use crate::answers::{Answer, Answers, HoldEnd, Holder, Refusal, Waiter};
 use crate::waits::Waits;
-use crate::{line, marks};
+use crate::{queue, marks};
 use endless_ring::EndlessRing;
 use std::collections::VecDeque;
 
@@ -20,7 +20,7 @@ use std::collections::VecDeque;
 #[derive(Drop)]
 pub(crate) struct LockParts {
     pub(crate) ring: EndlessRing,
-    pub(crate) line: VecDeque<Waiter>,
+    pub(crate) queue: VecDeque<Waiter>,
     pub(crate) holder: Option<Holder>,
 }
 
@@ -51,10 +51,10 @@ pub(crate) fn grant(lock: &mut LockParts, waiter: Waiter) -> Answers
     requires kept { IsKeptLock (view_of lock.old) }
     requires settled { is_settled (state_of lock.old.ring).ring.values ≡ true }
     ensures { IsTurned (view_of lock.old) (view_of lock.new) waiter.client
-        (granted (state_of lock.old.ring) lock.old.line.items waiter) result
-        ⊎ IsWanting (view_of lock.old) (view_of lock.new) (length lock.old.line.items + 1) result }
+        (granted (state_of lock.old.ring) lock.old.queue.items waiter) result
+        ⊎ IsLacking (view_of lock.old) (view_of lock.new) (length lock.old.queue.items + 1) result }
 {
-    match marks::reserve(&mut lock.ring, lock.line.len(), 1) {
+    match marks::reserve(&mut lock.ring, lock.queue.len(), 1) {
         Ok(()) => {}
         Err(why) => return refused(why),
     }
@@ -71,7 +71,7 @@ pub(crate) fn grant(lock: &mut LockParts, waiter: Waiter) -> Answers
     }
 }
 
-/// Puts a client that does not wait into the line of a lock that is held, once there is room for its grant. The ring
+/// Puts a client that does not wait into the queue of a lock that is held, once there is room for its grant. The ring
 /// takes memory last, so that of a refusal nothing is seen.
 pub(crate) fn wait(lock: &mut LockParts, waits: &mut Waits, number: u32, waiter: Waiter) -> Answers
     requires kept { IsKeptLock (view_of lock.old) }
@@ -79,11 +79,11 @@ pub(crate) fn wait(lock: &mut LockParts, waits: &mut Waits, number: u32, waiter:
     requires free { lock_in waits.old waiter.client ≡ None }
     ensures { IsTurnedIn number (view_of lock.old) (view_of lock.new) waits.old waits.new
         waiter.client (joined (lock_of (view_of lock.old)) waiter lock.old.holder) result
-        ⊎ IsWantingIn (view_of lock.old) (view_of lock.new) waits.old waits.new
-        (length lock.old.line.items + 1) result }
+        ⊎ IsLackingIn (view_of lock.old) (view_of lock.new) waits.old waits.new
+        (length lock.old.queue.items + 1) result }
 {
-    let before = lock.line.len();
-    let Ok(()) = lock.line.reserve(1) else {
+    let before = lock.queue.len();
+    let Ok(()) = lock.queue.reserve(1) else {
         return refused(Refusal::Memory);
     };
     let Ok(()) = waits.begin(waiter.client, number) else {
@@ -96,11 +96,11 @@ pub(crate) fn wait(lock: &mut LockParts, waits: &mut Waits, number: u32, waiter:
             return refused(why);
         }
     }
-    lock.line.push_back_reserved(waiter);
+    lock.queue.push_back_reserved(waiter);
     told(Answer::Waiting(before as u64))
 }
 
-/// Ends the hold of a client, with a survey by this seat, and grants the head of the line. It wants neither room nor memory.
+/// Ends the hold of a client, with a survey by this seat, and grants the head of the queue. It wants neither room nor memory.
 #[inline(always)]
 pub(crate) fn end_hold(
     lock: &mut LockParts,
@@ -113,12 +113,12 @@ pub(crate) fn end_hold(
     requires kept { IsKeptLock (view_of lock.old) }
     requires settled { is_settled (state_of lock.old.ring).ring.values ≡ true }
     ensures turned { IsTurnedIn number (view_of lock.old) (view_of lock.new) waits.old waits.new
-        client (ended (state_of lock.old.ring) lock.old.line.items seat (own_answer client own))
+        client (ended (state_of lock.old.ring) lock.old.queue.items seat (own_answer client own))
         result }
     ensures own { result.own ≡ own }
 {
     let end = marks::end(&lock.ring, seat);
-    match line::head(&lock.line) {
+    match queue::head(&lock.queue) {
         Some(waiter) => pass_hold(lock, waits, number, client, own, end, waiter),
         None => {
             lock.holder = None;
@@ -131,7 +131,7 @@ pub(crate) fn end_hold(
     }
 }
 
-/// Grants this client, which is the head of the line, after this end of the hold of another.
+/// Grants this client, which is the head of the queue, after this end of the hold of another.
 fn pass_hold(
     lock: &mut LockParts,
     waits: &mut Waits,
@@ -142,13 +142,13 @@ fn pass_hold(
     waiter: Waiter,
 ) -> Answers
     requires kept { IsKeptLock (view_of lock.old) }
-    requires head { (others : List Waiter) × (lock.old.line.items ≡ waiter ∷ others) }
+    requires head { (others : List Waiter) × (lock.old.queue.items ≡ waiter ∷ others) }
     requires now { over.survey ≡ local_survey lock.old.ring.ring }
     requires first { over.survey.first
         ≡ first_privileged (state_of lock.old.ring).ring.values }
     ensures turned { IsTurnedIn number (view_of lock.old) (view_of lock.new) waits.old waits.new
         client
-        (ended (state_of lock.old.ring) lock.old.line.items over.seat (own_answer client own))
+        (ended (state_of lock.old.ring) lock.old.queue.items over.seat (own_answer client own))
         result }
     ensures own { result.own ≡ own }
 {
@@ -158,7 +158,7 @@ fn pass_hold(
                 client: waiter.client,
                 token,
             };
-            line::take_head(&mut lock.line);
+            queue::take_head(&mut lock.queue);
             waits.end(waiter.client);
             lock.holder = Some(holder);
             Answers {
@@ -171,14 +171,14 @@ fn pass_hold(
     }
 }
 
-/// Takes a client out of the line.
+/// Takes a client out of the queue.
 pub(crate) fn drop_waiter(lock: &mut LockParts, waits: &mut Waits, client: u64)
     ensures ring { lock.new.ring ≡ lock.old.ring }
     ensures holder { lock.new.holder ≡ lock.old.holder }
-    ensures line { lock.new.line.items ≡ without client lock.old.line.items }
+    ensures queue { lock.new.queue.items ≡ without client lock.old.queue.items }
     ensures waits { IsEntryOf client None waits.old waits.new }
 {
-    line::leave(&mut lock.line, client);
+    queue::leave(&mut lock.queue, client);
     waits.end(client);
 }
 
@@ -189,10 +189,10 @@ pub(crate) fn fault(lock: &mut LockParts, client: u64, machine: u32, value: u32)
     requires value { value < (state_of lock.old.ring).ring.k }
     ensures { IsTurned (view_of lock.old) (view_of lock.new) client
         (faulted (lock_of (view_of lock.old)) client machine value) result
-        ⊎ IsWanting (view_of lock.old) (view_of lock.new)
+        ⊎ IsLacking (view_of lock.old) (view_of lock.new)
         (need (view_of lock.old) (Corrupt machine value)) result }
 {
-    match marks::fault(&mut lock.ring, lock.line.len(), machine, value) {
+    match marks::fault(&mut lock.ring, lock.queue.len(), machine, value) {
         Ok(old) => told(Answer::Corrupted(old)),
         Err(why) => refused(why),
     }

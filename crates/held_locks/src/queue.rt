@@ -1,4 +1,4 @@
-//! The line of a lock: the clients that wait for it.
+//! The queue of a lock: the clients that wait for it.
 
 ghost use Rattle.std.specs.Prelude.{◌≡◌, ◌∷◌, [], List, MatchOption};
 ghost use Rattle.held_locks.specs.declared.answers.Waiter.{Waiter};
@@ -7,25 +7,25 @@ ghost use Rattle.held_locks.specs.Queues.{without};
 use crate::answers::Waiter;
 use std::collections::VecDeque;
 
-/// The head of the line, if a client is in it.
-pub(crate) fn head(line: &VecDeque<Waiter>) -> Option<Waiter>
-    ensures { MatchOption result (line.now.items ≡ [])
-        (λ w. (others : List Waiter) × (line.now.items ≡ w ∷ others)) }
+/// The head of the queue, if a client is in it.
+pub(crate) fn head(queue: &VecDeque<Waiter>) -> Option<Waiter>
+    ensures { MatchOption result (queue.now.items ≡ [])
+        (λ w. (others : List Waiter) × (queue.now.items ≡ w ∷ others)) }
 {
-    line.front().copied()
+    queue.front().copied()
 }
 
-/// The head of the line goes.
-pub(crate) fn take_head(line: &mut VecDeque<Waiter>) -> Option<Waiter>
-    ensures { MatchOption result ((line.old.items ≡ []) × (line.new.items ≡ []))
-        (λ w. line.old.items ≡ w ∷ line.new.items) }
+/// The head of the queue goes.
+pub(crate) fn take_head(queue: &mut VecDeque<Waiter>) -> Option<Waiter>
+    ensures { MatchOption result ((queue.old.items ≡ []) × (queue.new.items ≡ []))
+        (λ w. queue.old.items ≡ w ∷ queue.new.items) }
 {
-    line.pop_front()
+    queue.pop_front()
 }
 
 /// The client goes.
-pub(crate) fn leave(line: &mut VecDeque<Waiter>, client: u64)
-    ensures { line.new.items ≡ without client line.old.items }
+pub(crate) fn leave(queue: &mut VecDeque<Waiter>, client: u64)
+    ensures { queue.new.items ≡ without client queue.old.items }
 {
-    line.retain(|waiter| waiter.client != client);
+    queue.retain(|waiter| waiter.client != client);
 }

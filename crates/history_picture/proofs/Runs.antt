@@ -46,8 +46,8 @@ and_false : (a : Bool) → (a && false) ≡ false
 and_false true = refl
 and_false false = refl
 
-not_behind : (c b e : ℕ) → e ≤ c → covers c (record { begin = b; end = e }) ≡ false
-not_behind c b e h = let y : nat_lt c e ≡ false = grind (arith, nat_tests) in rw y (and_false (nat_le b c))
+not_after : (c b e : ℕ) → e ≤ c → covers c (record { begin = b; end = e }) ≡ false
+not_after c b e h = let y : nat_lt c e ≡ false = grind (arith, nat_tests) in rw y (and_false (nat_le b c))
 
 -- whether the run that ends before a column covers another column
 before_in : (p : ℕ → Bool) (m c : ℕ) → run_begin p m ≤ c → c < m → list_any (covers c) (run_before p m) ≡ true
@@ -64,7 +64,7 @@ before_off : (p : ℕ → Bool) (m c : ℕ) → c < run_begin p m → list_any (
 before_off p m c h = single_off c (record { begin = run_begin p m; end = m }) (nat_lt (run_begin p m) m) (not_before c (run_begin p m) m h)
 
 before_past : (p : ℕ → Bool) (m c : ℕ) → m ≤ c → list_any (covers c) (run_before p m) ≡ false
-before_past p m c h = single_off c (record { begin = run_begin p m; end = m }) (nat_lt (run_begin p m) m) (not_behind c (run_begin p m) m h)
+before_past p m c h = single_off c (record { begin = run_begin p m; end = m }) (nat_lt (run_begin p m) m) (not_after c (run_begin p m) m h)
 
 -- the runs that have ended cover no column past them
 ended_past : (p : ℕ → Bool) (m c : ℕ) → m ≤ c → list_any (covers c) (runs_ended p m) ≡ false

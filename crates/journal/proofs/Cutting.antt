@@ -25,7 +25,7 @@ use Rattle.journal.specs.declared.calls.Call.TheVariants.{Event, Survey}
 use Rattle.journal.specs.declared.calls.JournalLine.{JournalLine}
 use Rattle.journal.specs.declared.errors.RecoverError.{RecoverError}
 use Rattle.journal.specs.declared.errors.RecoverError.TheVariants.{Truncated, Syntax, Bad, OutOfMemory}
-use Rattle.journal.specs.Spelling.{Journal, head_text, journal_text, call_line, journal_line, CallFits, JournalLineFits}
+use Rattle.journal.specs.Spelling.{Journal, journal_head, journal_text, call_line, journal_line, CallFits, JournalLineFits}
 use Rattle.journal.specs.Reading.{BeginsNone, head_at}
 use Rattle.journal.specs.ContentAfter.{content_after}
 use Rattle.journal.specs.Recovery.{has_line_end, IsJournalThen, IsRecovered, IsNoBeginning, IsNoCall, IsBadBeginning, IsBadCall, IsRightRecovery}
@@ -121,7 +121,7 @@ all_front P (x ∷ xs) ys f = (f.0, all_front P xs ys f.1)
 
 -- ---- prefixes of some bytes
 
-same_heads : (a b : Content) (x y : List ℕ) → Fits a → Fits b → head_text a ++ x ≡ head_text b ++ y → (a ≡ b) × (x ≡ y)
+same_heads : (a b : Content) (x y : List ℕ) → Fits a → Fits b → journal_head a ++ x ≡ journal_head b ++ y → (a ≡ b) × (x ≡ y)
 same_heads a b x y f g e = first_is a b x y (sym (head_reads.again a x f) ∙ ap head_at e ∙ head_reads.again b y g)
 
 split : (bytes more head lines : List ℕ) → bytes ++ more ≡ head ++ lines → length head ≤ length bytes → bytes ≡ head ++ drop (length head) bytes
@@ -168,7 +168,7 @@ module _ (j : Journal) (bytes more : List ℕ) (right : IsRightJournal j) (cut :
   matched : (k : Journal) (tail : List ℕ) → IsJournalThen bytes k tail → Matches k tail
   matched k tail lines =
       let p = same_heads k.began j.began (lines_of k.calls ++ (tail ++ more)) (lines_of j.calls) lines.fits.began right.fits.began
-      (regroup (head_text k.began) (lines_of k.calls) tail more ∙ ap (λ (u : List ℕ). u ++ more) (sym lines.spelled) ∙ cut) in
+      (regroup (journal_head k.began) (lines_of k.calls) tail more ∙ ap (λ (u : List ℕ). u ++ more) (sym lines.spelled) ∙ cut) in
       let fit : FitIn j.began k.calls = subst (λ (c : Content). FitIn c k.calls) p.0 lines.fits.calls in
       let q = lines_front j.began.version (length j.began.rings) k.calls j.calls (tail ++ more) fit right.fits.calls p.1 in
       record { same = p.0; back = q.0; parts = q.1; left = q.2; fit = fit; none = subst (λ (c : Content). NoneIn c tail) p.0 lines.behind }
@@ -177,7 +177,7 @@ module _ (j : Journal) (bytes more : List ℕ) (right : IsRightJournal j) (cut :
   holds_all k tail lines calls others rest parts spelled =
       let m = matched k tail lines in
       let p = same_heads j.began k.began (lines_of calls ++ rest) (lines_of k.calls ++ tail) right.fits.began lines.fits.began
-      (sym (append_assoc (head_text j.began) (lines_of calls) rest) ∙ sym spelled ∙ lines.spelled ∙ append_assoc (head_text k.began) (lines_of k.calls) tail) in
+      (sym (append_assoc (journal_head j.began) (lines_of calls) rest) ∙ sym spelled ∙ lines.spelled ∙ append_assoc (journal_head k.began) (lines_of k.calls) tail) in
       let fit : FitIn j.began calls = all_front (JournalLineFits j.began.version (length j.began.rings)) calls others (subst (λ (rs : List JournalLine). FitIn j.began rs) parts right.fits.calls) in
       longest j.began.version (length j.began.rings) calls k.calls rest tail fit m.fit m.none p.1
 
@@ -186,32 +186,32 @@ module _ (j : Journal) (bytes more : List ℕ) (right : IsRightJournal j) (cut :
       let m = matched r.journal r.tail r.lines in
       record { front = r.journal.calls; back = m.back; parts = m.parts; is = r.is ∙ ap (λ (b : Content). content_after b r.journal.calls) m.same; holds = holds_all r.journal r.tail r.lines }
 
-  head_within : length (head_text j.began) ≤ length bytes → bytes ≡ head_text j.began ++ drop (length (head_text j.began)) bytes
-  head_within le = split bytes more (head_text j.began) (lines_of j.calls) cut le
+  head_within : length (journal_head j.began) ≤ length bytes → bytes ≡ journal_head j.began ++ drop (length (journal_head j.began)) bytes
+  head_within le = split bytes more (journal_head j.began) (lines_of j.calls) cut le
 
-  not_short : IsCutShort (Spells Fits head_text) bytes → length (head_text j.began) ≤ length bytes → ⊥
+  not_short : IsCutShort (Spells Fits journal_head) bytes → length (journal_head j.began) ≤ length bytes → ⊥
   not_short h le =
-      let rest = drop (length (head_text j.began)) bytes in
-      let e : head_text j.began ++ (rest ++ h.0 ∷ h.1) ≡ head_text h.2.0 = sym (append_assoc (head_text j.began) rest (h.0 ∷ h.1)) ∙ ap (λ (u : List ℕ). u ++ h.0 ∷ h.1) (sym (head_within le)) ∙ h.2.2 in
+      let rest = drop (length (journal_head j.began)) bytes in
+      let e : journal_head j.began ++ (rest ++ h.0 ∷ h.1) ≡ journal_head h.2.0 = sym (append_assoc (journal_head j.began) rest (h.0 ∷ h.1)) ∙ ap (λ (u : List ℕ). u ++ h.0 ∷ h.1) (sym (head_within le)) ∙ h.2.2 in
       let none = (spellings_are_apart head_reads j.began h.2.0 (rest ++ h.0 ∷ h.1) right.fits.began h.2.1 e).1 in
       let cut = length-append rest (h.0 ∷ h.1) in
       let long : length (rest ++ h.0 ∷ h.1) ≡ 0 = ap length none in
       omega (arith, cut, long)
 
-  short : IsCutShort (Spells Fits head_text) bytes → length bytes < length (head_text j.began)
-  short h = elim (cases_lt (length bytes) (length (head_text j.began))) [ inl lt ↦ lt | inr le ↦ absurd (not_short h le) ]
+  short : IsCutShort (Spells Fits journal_head) bytes → length bytes < length (journal_head j.began)
+  short h = elim (cases_lt (length bytes) (length (journal_head j.began))) [ inl lt ↦ lt | inr le ↦ absurd (not_short h le) ]
 
-  no_beginning_by : (line : ℕ) → IsNoBeginning bytes line → (length bytes < length (head_text j.began)) ⊎ (length (head_text j.began) ≤ length bytes) → ⊥
+  no_beginning_by : (line : ℕ) → IsNoBeginning bytes line → (length bytes < length (journal_head j.began)) ⊎ (length (journal_head j.began) ≤ length bytes) → ⊥
   no_beginning_by line n (inl lt) =
-      let le : length bytes ≤ length (head_text j.began) = omega (arith, lt) in
-      let whole = split (head_text j.began) (lines_of j.calls) bytes more (sym cut) le in
+      let le : length bytes ≤ length (journal_head j.began) = omega (arith, lt) in
+      let whole = split (journal_head j.began) (lines_of j.calls) bytes more (sym cut) le in
       let f = front_of line bytes in
-      let rest = drop (length bytes) (head_text j.began) in
+      let rest = drop (length bytes) (journal_head j.began) in
       n.first.bad (f.0 ++ rest, (j.began, right.fits.began, sym (append_assoc (first_lines line bytes) f.0 rest) ∙ ap (λ (u : List ℕ). u ++ rest) f.1 ∙ sym whole))
-  no_beginning_by line n (inr le) = n.none j.began (drop (length (head_text j.began)) bytes) right.fits.began (head_within le)
+  no_beginning_by line n (inr le) = n.none j.began (drop (length (journal_head j.began)) bytes) right.fits.began (head_within le)
 
   no_beginning : (line : ℕ) → IsNoBeginning bytes line → ⊥
-  no_beginning line n = no_beginning_by line n (cases_lt (length bytes) (length (head_text j.began)))
+  no_beginning line n = no_beginning_by line n (cases_lt (length bytes) (length (journal_head j.began)))
 
   no_line_by : (tail : List ℕ) (r : JournalLine) (rs : List JournalLine) → JournalLineFits j.began.version (length j.began.rings) r → NoneIn j.began tail → tail ++ more ≡ journal_line r ++ lines_of rs → has_line_end tail ≡ true
       → (length tail < length (journal_line r)) ⊎ (length (journal_line r) ≤ length tail) → ⊥
@@ -234,7 +234,7 @@ module _ (j : Journal) (bytes more : List ℕ) (right : IsRightJournal j) (cut :
 
   no_bad_beginning : (line : ℕ) (kind : Kind) → IsBadBeginning bytes line kind → ⊥
   no_bad_beginning line kind b =
-      let p = same_heads b.began j.began (b.rest ++ more) (lines_of j.calls) b.fits right.fits.began (sym (append_assoc (head_text b.began) b.rest more) ∙ ap (λ (u : List ℕ). u ++ more) (sym b.spelled) ∙ cut) in
+      let p = same_heads b.began j.began (b.rest ++ more) (lines_of j.calls) b.fits right.fits.began (sym (append_assoc (journal_head b.began) b.rest more) ∙ ap (λ (u : List ℕ). u ++ more) (sym b.spelled) ∙ cut) in
       not_both j.began b.said kind right.began (subst (λ (c : Content). IsRightCheck c (Err (check.Bad b.said kind))) p.0 b.bad)
 
   no_bad_call : (line : ℕ) (kind : Kind) → IsBadCall bytes line kind → ⊥
@@ -273,7 +273,7 @@ one_recovered bytes c d r s =
     let j = r.journal in
     let k = s.journal in
     let p = same_heads j.began k.began (lines_of j.calls ++ r.tail) (lines_of k.calls ++ s.tail) r.lines.fits.began s.lines.fits.began
-    (sym (append_assoc (head_text j.began) (lines_of j.calls) r.tail) ∙ sym r.lines.spelled ∙ s.lines.spelled ∙ append_assoc (head_text k.began) (lines_of k.calls) s.tail) in
+    (sym (append_assoc (journal_head j.began) (lines_of j.calls) r.tail) ∙ sym r.lines.spelled ∙ s.lines.spelled ∙ append_assoc (journal_head k.began) (lines_of k.calls) s.tail) in
     let fit : FitIn k.began j.calls = subst (λ (x : Content). FitIn x j.calls) p.0 r.lines.fits.calls in
     let none : NoneIn k.began r.tail = subst (λ (x : Content). NoneIn x r.tail) p.0 r.lines.behind in
     let q = same_calls k.began.version (length k.began.rings) j.calls k.calls r.tail s.tail fit s.lines.fits.calls none s.lines.behind p.1 in

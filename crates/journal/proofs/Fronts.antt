@@ -63,8 +63,8 @@ no_ring version rings bytes ring after k high r more f spelled =
     let low = f.ring in
     absurd (omega (arith, same, low, high))
 
-pub no_call_behind : (version rings : ℕ) (bytes : List ℕ) (ring : ℕ) (after : List ℕ) → number_at (2 ^ 32) 32 bytes ≡ Ok (ring, after) → BeginsNone (CallFits version) call_line after → BeginsNone (JournalLineFits version rings) journal_line bytes
-no_call_behind version rings bytes ring after k none r more f spelled =
+pub no_call_after : (version rings : ℕ) (bytes : List ℕ) (ring : ℕ) (after : List ℕ) → number_at (2 ^ 32) 32 bytes ≡ Ok (ring, after) → BeginsNone (CallFits version) call_line after → BeginsNone (JournalLineFits version rings) journal_line bytes
+no_call_after version rings bytes ring after k none r more f spelled =
     none r.call more f.call (subst (IsRead r.ring (call_line r.call ++ more)) k (is_read version rings bytes r more f spelled)).1
 
 pub ring_then_call : (version rings : ℕ) (bytes : List ℕ) (ring : ℕ) (after : List ℕ) (call : Call) (rest : List ℕ) → number_at (2 ^ 32) 32 bytes ≡ Ok (ring, after) → ring < rings → CallFits version call → after ≡ call_line call ++ rest

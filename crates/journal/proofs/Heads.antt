@@ -25,12 +25,12 @@ use Rattle.ring_check.specs.declared.answers.Kind.{Kind}
 use Rattle.ring_check.specs.declared.answers.CheckError.TheVariants as check
 use Rattle.ring_check.proofs.SavedLines.{lines_some}
 use Rattle.journal.specs.declared.calls.JournalLine.{JournalLine}
-use Rattle.journal.specs.Spelling.{JournalLineFits, first_line, head_text, call_line, journal_line}
+use Rattle.journal.specs.Spelling.{JournalLineFits, first_line, journal_head, call_line, journal_line}
 use Rattle.journal.specs.Reading.{BeginsNone, head_at}
 use Rattle.journal.specs.Recovery.{IsJournalThen, IsBadBeginning, IsRightRecovery, call_line_number}
 use Rattle.journal.specs.Judging.{refused_as, AreCallsOf}
 
-pub head_reads : Reads Fits head_text head_at
+pub head_reads : Reads Fits journal_head head_at
 unfolding head_at
 head_reads = after_reads first_line text_reads
 
@@ -44,10 +44,10 @@ abbrev IsRead : Result (Content × List ℕ) Fault → Type 0
 IsRead (Ok x) = Unit {0}
 IsRead (Err d) = ⊥
 
-no_head : (bytes : List ℕ) (d : Fault) → head_at bytes ≡ Err d → BeginsNone Fits head_text bytes
+no_head : (bytes : List ℕ) (d : Fault) → head_at bytes ≡ Err d → BeginsNone Fits journal_head bytes
 no_head bytes d k a more f e = subst IsRead k (subst IsRead (sym (ap head_at e ∙ head_reads.again a more f)) tt)
 
-as_recovery : (bytes : List ℕ) (d : Fault) → BeginsNone Fits head_text bytes → IsRightAnswer {X = Content} (λ x. x) Fits head_text bytes (Err (refusal_of bytes (stops.Fault d))) → IsRightRecovery bytes (Err (refused_as (refusal_of bytes (stops.Fault d))))
+as_recovery : (bytes : List ℕ) (d : Fault) → BeginsNone Fits journal_head bytes → IsRightAnswer {X = Content} (λ x. x) Fits journal_head bytes (Err (refusal_of bytes (stops.Fault d))) → IsRightRecovery bytes (Err (refused_as (refusal_of bytes (stops.Fault d))))
 as_recovery bytes Short none a = a
 as_recovery bytes (Bad left) none a = inl (record { none = none; first = a })
 
@@ -84,11 +84,11 @@ rings_of version rings calls fit = All-weaker (JournalLineFits version rings) (�
 -- ---- the part that was read
 
 module _ (bytes : List ℕ) (c : Content) (rest : List ℕ) (read : head_at bytes ≡ Ok (c, rest)) where
-  pub head_spelled : Fits c × (bytes ≡ head_text c ++ rest)
+  pub head_spelled : Fits c × (bytes ≡ journal_head c ++ rest)
   head_spelled = head_reads.takes bytes c rest read
 
-  pub head_lengths : length bytes ≡ length (head_text c) + length rest
-  head_lengths = ap length head_spelled.1 ∙ length-append (head_text c) rest
+  pub head_lengths : length bytes ≡ length (journal_head c) + length rest
+  head_lengths = ap length head_spelled.1 ∙ length-append (journal_head c) rest
 
   pub head_lines : length (lines c) + 2 + length rest ≤ length bytes
   head_lines =
@@ -97,27 +97,27 @@ module _ (bytes : List ℕ) (c : Content) (rest : List ℕ) (read : head_at byte
       let first = length-append first_line (text c) in
       omega arith
 
-  pub head_place : length bytes - length rest ≡ length (head_text c)
+  pub head_place : length bytes - length rest ≡ length (journal_head c)
   head_place = let long = head_lengths in omega arith
 
   pub bad_beginning : (line : ℕ) (kind : Kind) → IsRightCheck c (Err (check.Bad line kind)) → IsBadBeginning bytes (line + 1) kind
   bad_beginning line kind bad = record { began = c; rest = rest; fits = head_spelled.0; spelled = head_spelled.1; said = line; bad = bad; number = refl }
 
   pub line_number : (first n m : ℕ) → first ≡ line_of bytes (length bytes - length rest) → n ≡ m → first + n ≡ call_line_number bytes c m
-  line_number first n m e f = let g : first ≡ line_of bytes (length (head_text c)) = e ∙ ap (line_of bytes) head_place in omega (arith, g, f)
+  line_number first n m e f = let g : first ≡ line_of bytes (length (journal_head c)) = e ∙ ap (line_of bytes) head_place in omega (arith, g, f)
 
-  pub line_small : (first : ℕ) → first ≡ line_of bytes (length bytes - length rest) → first ≤ length (head_text c) + 1
+  pub line_small : (first : ℕ) → first ≡ line_of bytes (length bytes - length rest) → first ≤ length (journal_head c) + 1
   line_small first e =
-      let g : first ≡ line_of bytes (length (head_text c)) = e ∙ ap (line_of bytes) head_place in
-      let few = count_by-le-length (λ (b : ℕ). eqb b 10) (take (length (head_text c)) bytes) in
-      let cut = length-take (length (head_text c)) bytes in
+      let g : first ≡ line_of bytes (length (journal_head c)) = e ∙ ap (line_of bytes) head_place in
+      let few = count_by-le-length (λ (b : ℕ). eqb b 10) (take (length (journal_head c)) bytes) in
+      let cut = length-take (length (journal_head c)) bytes in
       omega (arith, g, few, cut)
 
   pub is_journal : (rings : ℕ) (calls : List JournalLine) (tail : List ℕ) → rings ≡ length c.rings → AllByRecursion (JournalLineFits c.version rings) calls → rest ≡ flat_map journal_line calls ++ tail → BeginsNone (JournalLineFits c.version rings) journal_line tail
       → IsJournalThen bytes (record { began = c; calls = calls }) tail
   is_journal rings calls tail same fit spelled none = record {
     fits = record { began = head_spelled.0; calls = subst (λ (n : ℕ). AllByRecursion (JournalLineFits c.version n) calls) same fit };
-    spelled = head_spelled.1 ∙ ap (λ (u : List ℕ). head_text c ++ u) spelled ∙ sym (append_assoc (head_text c) (flat_map journal_line calls) tail);
+    spelled = head_spelled.1 ∙ ap (λ (u : List ℕ). journal_head c ++ u) spelled ∙ sym (append_assoc (journal_head c) (flat_map journal_line calls) tail);
     behind = subst (λ (n : ℕ). BeginsNone (JournalLineFits c.version n) journal_line tail) same none;
   }
 

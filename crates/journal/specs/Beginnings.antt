@@ -8,7 +8,7 @@ use Rattle.ring_check.specs.Legal.{IsLegalText}
 use Rattle.journal.specs.declared.calls.JournalLine.{JournalLine}
 use Rattle.journal.specs.declared.errors.RecoverError.{RecoverError}
 use Rattle.journal.specs.declared.errors.RecoverError.TheVariants.{Truncated, Syntax, Bad, OutOfMemory}
-use Rattle.journal.specs.Spelling.{Journal, JournalFits, head_text, journal_text}
+use Rattle.journal.specs.Spelling.{Journal, JournalFits, journal_head, journal_text}
 use Rattle.journal.specs.ContentAfter.{content_after}
 use Rattle.journal.specs.Recovery.{IsRecovered, IsRightRecovery}
 
@@ -38,7 +38,7 @@ pub record IsOwnHistory (j : Journal) (bytes : List ℕ) (c : Content) : Type 0 
 -- the first call, that they are cut short; memory aside
 abbrev pub IsAnswerOfBeginning : Journal → List ℕ → Result Saved RecoverError → Type 0
 IsAnswerOfBeginning j bytes (Ok saved) = IsOwnHistory j bytes (content saved)
-IsAnswerOfBeginning j bytes (Err Truncated) = length bytes < length (head_text j.began)
+IsAnswerOfBeginning j bytes (Err Truncated) = length bytes < length (journal_head j.began)
 IsAnswerOfBeginning j bytes (Err (Syntax line)) = ⊥
 IsAnswerOfBeginning j bytes (Err (Bad line kind)) = ⊥
 IsAnswerOfBeginning j bytes (Err OutOfMemory) = Unit {0}

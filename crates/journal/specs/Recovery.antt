@@ -11,7 +11,7 @@ use Rattle.ring_check.specs.Legal.{IsLegalText, IsRightCheck}
 use Rattle.journal.specs.declared.calls.JournalLine.{JournalLine}
 use Rattle.journal.specs.declared.errors.RecoverError.{RecoverError}
 use Rattle.journal.specs.declared.errors.RecoverError.TheVariants.{Truncated, Syntax, Bad, OutOfMemory}
-use Rattle.journal.specs.Spelling.{Journal, JournalFits, JournalLineFits, journal_text, head_text, journal_line}
+use Rattle.journal.specs.Spelling.{Journal, JournalFits, JournalLineFits, journal_text, journal_head, journal_line}
 use Rattle.journal.specs.Reading.{BeginsNone}
 use Rattle.journal.specs.ContentAfter.{content_after}
 
@@ -28,7 +28,7 @@ pub record IsJournalThen (bytes : List ℕ) (j : Journal) (tail : List ℕ) : Ty
 -- the number of the line of this call, where lines are numbered from 1 and calls from 0: the first
 -- comes after the journal's start
 abbrev pub call_line_number : List ℕ → Content → ℕ → ℕ
-call_line_number bytes began call = line_of bytes (length (head_text began)) + call
+call_line_number bytes began call = line_of bytes (length (journal_head began)) + call
 
 -- The recovered history: the legal one that the journal's whole lines record. Only the tail is left
 -- out, in which no line ends, and the open members before it.
@@ -44,8 +44,8 @@ pub record IsRecovered (bytes : List ℕ) (c : Content) : Type 0 where
 -- no journal's start is at the front of the bytes, and up to this line, the first, they
 -- begin none
 pub record IsNoBeginning (bytes : List ℕ) (line : ℕ) : Type 0 where
-  pub none : BeginsNone Fits head_text bytes
-  pub first : IsFirstBadLine (Spells Fits head_text) bytes line
+  pub none : BeginsNone Fits journal_head bytes
+  pub first : IsFirstBadLine (Spells Fits journal_head) bytes line
 
 -- a whole line that is not a call's: the one after the journal's
 pub record IsNoCall (bytes : List ℕ) (line : ℕ) : Type 0 where
@@ -61,7 +61,7 @@ pub record IsBadBeginning (bytes : List ℕ) (line : ℕ) (kind : Kind) : Type 0
   pub began : Content
   pub rest : List ℕ
   pub fits : Fits began
-  pub spelled : bytes ≡ head_text began ++ rest
+  pub spelled : bytes ≡ journal_head began ++ rest
   pub said : ℕ
   pub bad : IsRightCheck began (Err (check.Bad said kind))
   pub number : line ≡ said + 1
@@ -89,7 +89,7 @@ pub record IsBadCall (bytes : List ℕ) (line : ℕ) (kind : Kind) : Type 0 wher
 -- journal's start, so that no call is recorded; or else a bad line.
 abbrev pub IsRightRecovery : List ℕ → Result Saved RecoverError → Type 0
 IsRightRecovery bytes (Ok saved) = IsRecovered bytes (content saved)
-IsRightRecovery bytes (Err Truncated) = IsCutShort (Spells Fits head_text) bytes
+IsRightRecovery bytes (Err Truncated) = IsCutShort (Spells Fits journal_head) bytes
 IsRightRecovery bytes (Err (Syntax line)) = IsNoBeginning bytes line ⊎ IsNoCall bytes line
 IsRightRecovery bytes (Err (Bad line kind)) =
     IsBadBeginning bytes line kind ⊎ IsBadCall bytes line kind

@@ -14,8 +14,8 @@ abbrev pub first_line : List ℕ
 first_line = codes "ringjournal 1\n"
 
 -- the part before the calls: the first line, and the saved rings
-abbrev pub head_text : Content → List ℕ
-head_text began = first_line ++ text began
+abbrev pub journal_head : Content → List ℕ
+journal_head began = first_line ++ text began
 
 -- an event or a survey as in a saved text
 abbrev pub call_line : Call → List ℕ
@@ -33,7 +33,7 @@ pub record Journal : Type 0 where
 
 -- The text: the part before the calls, and a line for each call.
 abbrev pub journal_text : Journal → List ℕ
-journal_text j = head_text j.began ++ flat_map journal_line j.calls
+journal_text j = journal_head j.began ++ flat_map journal_line j.calls
 
 -- an event or a survey that has a line in this version
 abbrev pub CallFits : ℕ → Call → Type 0

@@ -11,7 +11,7 @@ use Rattle.line_replica.specs.declared.reading.Tag.{Tag}
 use Rattle.line_replica.specs.declared.numbered.Numbered.{Numbered}
 use Rattle.line_replica.specs.declared.replica.Replica.{Replica}
 use Rattle.line_replica.specs.Keys.{Table, with_told, forgotten_if, line_to_asker}
-use Rattle.line_replica.specs.Log.{Numbers, numbers_of, given_at, given_behind, given_of, with_number, numbers_at, numbers_but, numbers_behind, numbers_after}
+use Rattle.line_replica.specs.Log.{Numbers, numbers_of, given_at, given_after, given_of, with_number, numbers_at, numbers_but, numbers_behind, numbers_after}
 use Rattle.line_replica.specs.Noted.{IsGiven}
 use Rattle.line_replica.specs.Reading.{Heard, Tagged, Place, Digest, Plain, heard, did_at, is_forget, kept_text}
 use Rattle.line_replica.specs.Replies.{IsTold, IsPlaced, IsHeard, IsAnsweredOnce, IsTagTaken, turn_of, forget_note}
@@ -77,7 +77,7 @@ module _ {S : Type 0} (A : AnsweringWith S) (Own : List ℕ → Type 0) where
     by_word false tag rest h a = by_turn (turn_of old.keys tag) tag rest h a
 
     behind : (did : Option (List ℕ)) (tag : Tag) (rest : List ℕ) → heard line ≡ Tagged tag rest → did_at rest ≡ did → IsTagTaken A did tag old was rest said noted new is →
-        IsTakenSo old was (given_behind did (numbers_of old.keys) tag rest) (own_behind did old.keys tag rest said) said noted new is (numbers_behind did (numbers_of old.keys) tag rest)
+        IsTakenSo old was (given_after did (numbers_of old.keys) tag rest) (own_behind did old.keys tag rest said) said noted new is (numbers_behind did (numbers_of old.keys) tag rest)
     behind (Some text) tag rest h d t = told_one [] (with_told old.keys tag.key tag.number (kept_text text)) (kept_line tag (kept_text text)) (brings.did tag rest text h d) t (with_number (numbers_of old.keys) tag) (numbers_inserted old.keys tag.key _)
     behind None tag rest h d a =
         subst (λ (r : Turn). IsTakenSo old was (cond (is_forget rest) [] (given_at r rest)) (own_behind None old.keys tag rest said) said noted new is (cond (is_forget rest) (numbers_but r (numbers_of old.keys) tag) (numbers_at r (numbers_of old.keys) tag)))

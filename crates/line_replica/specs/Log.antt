@@ -27,14 +27,14 @@ abbrev pub given_at : Turn → List ℕ → List (List ℕ)
 given_at turn.Fresh input = input ∷ []
 given_at _ input = []
 
-abbrev pub given_behind : Option (List ℕ) → Numbers → Tag → List ℕ → List (List ℕ)
-given_behind (Some text) numbers tag rest = []
-given_behind None numbers tag rest =
+abbrev pub given_after : Option (List ℕ) → Numbers → Tag → List ℕ → List (List ℕ)
+given_after (Some text) numbers tag rest = []
+given_after None numbers tag rest =
     cond (is_forget rest) [] (given_at (turn_in numbers tag) rest)
 
 -- a plain line, or what follows a key and a number; a place is the replica's
 abbrev pub given_of : Heard → Numbers → List ℕ → List (List ℕ)
-given_of (Tagged tag rest) numbers line = given_behind (did_at rest) numbers tag rest
+given_of (Tagged tag rest) numbers line = given_after (did_at rest) numbers tag rest
 given_of Plain numbers line = line ∷ []
 given_of _ numbers line = []
 

@@ -45,11 +45,11 @@ zeros_needed len z digits is (inl e) = omega arith
 zeros_needed len z digits is (inr e) = omega (arith, e.0, e.1)
 
 -- what follows the zeros begins with another byte
-first_behind : (name : List ℕ) (z : ℕ) → get_or (drop z name) 0 0 ≡ get_or name z 0
-first_behind name z = get_or-drop z name 0 0 ∙ ap (λ k. get_or name k 0) (omega arith)
+first_after : (name : List ℕ) (z : ℕ) → get_or (drop z name) 0 0 ≡ get_or name z 0
+first_after name z = get_or-drop z name 0 0 ∙ ap (λ k. get_or name k 0) (omega arith)
 
 no_zero : (name w : List ℕ) (z n : ℕ) → get_or name z 0 ≢ 48 → drop z name ≡ decimal n ++ w → 0 < n
-no_zero name w z zero next is = absurd (next (sym (first_behind name z) ∙ ap (λ (x : List ℕ). get_or x 0 0) (is ∙ ap (λ (x : List ℕ). x ++ w) (decimal_digit 0 (omega arith)))))
+no_zero name w z zero next is = absurd (next (sym (first_after name z) ∙ ap (λ (x : List ℕ). get_or x 0 0) (is ∙ ap (λ (x : List ℕ). x ++ w) (decimal_digit 0 (omega arith)))))
 no_zero name w z (suc n) next is = omega arith
 
 pub named : (name : List ℕ) (z n : ℕ) → z ≤ length name → ((k : ℕ) → k < z → get_or name k 0 ≡ 48) → get_or name z 0 ≢ 48
@@ -89,8 +89,8 @@ module _ (name digits w : List ℕ) (y : ℕ) (is : name ≡ replicate y 48 ++ (
       let many : y < z → ⊥ = λ h. omega (arith, zeros y h, at_end) in
       omega (arith, few, many)
 
-  pub behind_zeros : drop y name ≡ digits ++ w
-  behind_zeros =
+  pub after_zeros : drop y name ≡ digits ++ w
+  after_zeros =
       ap (λ (x : List ℕ). drop y x) is
       ∙ ap (λ k. drop k (replicate y 48 ++ (digits ++ w))) (sym (length-replicate {A = ℕ} y 48))
       ∙ drop-append_seam (replicate y 48) (digits ++ w)
@@ -108,7 +108,7 @@ spelled_read name z n zeros next is =
     let spelled : name ≡ replicate y 48 ++ (decimal n ++ codes ".ring") = is.spelled ∙ append_assoc (replicate y 48) (decimal n) (codes ".ring") in
     let same : z ≡ y = same_zeros name (decimal n) (codes ".ring") y spelled some z zeros next (first_decimal n is.number.0 small) in
     let behind : drop z name ≡ (decimal n ++ 46 ∷ []) ++ codes "ring" =
-    ap (λ k. drop k name) same ∙ behind_zeros name (decimal n) (codes ".ring") y spelled some ∙ sym (append_assoc (decimal n) (46 ∷ []) (codes "ring")) in
+    ap (λ k. drop k name) same ∙ after_zeros name (decimal n) (codes ".ring") y spelled some ∙ sym (append_assoc (decimal n) (46 ∷ []) (codes "ring")) in
     let whole : length name ≡ y + (length (decimal n) + 5) =
     ap length spelled ∙ length-append (replicate y 48) (decimal n ++ codes ".ring")
     ∙ ap (λ k. k + length (decimal n ++ codes ".ring")) (length-replicate {A = ℕ} y 48)

@@ -3,7 +3,7 @@ use Rattle.std.proofs.Common.{◌≡◌, ℕ, ◌+◌, ◌-◌, ◌≤◌, Bool,
 use Rattle.std.proofs.lemmas.List.{append-nil, drop_all, drop-drop, drop-take, length-take, take-append-drop}
 use Rattle.std.specs.Io.KnownBytes.{Consumes}
 use Rattle.text_lines.proofs.Writing.{appends_nil}
-use Rattle.line_service.specs.Answering.{Answering, HasBegun}
+use Rattle.line_service.specs.Answering.{Answering, HasLineBegun}
 use Rattle.line_service.specs.declared.faults.Ending.{Ending}
 use Rattle.line_service.specs.Loop.{Written, Rests, Stops, IsTaken, HasRead, ServesPart}
 use Rattle.line_service.proofs.LongLines.{cut_nil}
@@ -26,7 +26,7 @@ pub record Going {S : Type 0} (A : Answering S) (old : S) (begun unread read lef
   pub split : unread ++ read ≡ taken ++ left
   pub rests : Rests A old before after (begun ++ taken) new line
 
-pub begins : {S : Type 0} (A : Answering S) (old : S) (begun line : List ℕ) (before : Written) → HasBegun begun line → Rests A old before before begun old line
+pub begins : {S : Type 0} (A : Answering S) (old : S) (begun line : List ℕ) (before : Written) → HasLineBegun begun line → Rests A old before before begun old line
 begins A old begun line before h = record {
   begun = begun;
   told = record { said = []; noted = []; answered = none_answered A old begun; wrote = appends_nil before.out; wrote_notes = appends_nil before.journal };
@@ -34,7 +34,7 @@ begins A old begun line before h = record {
   kept = h.kept;
 }
 
-pub going_begins : {S : Type 0} (A : Answering S) (old : S) (begun unread line : List ℕ) (before : Written) → HasBegun begun line → Going A old begun unread [] unread line before before old
+pub going_begins : {S : Type 0} (A : Answering S) (old : S) (begun unread line : List ℕ) (before : Written) → HasLineBegun begun line → Going A old begun unread [] unread line before before old
 going_begins A old begun unread line before h = record {
   taken = [];
   split = append-nil unread;
@@ -88,5 +88,5 @@ block_stops {S} {A} {old} {new} {before} {after} bytes unread taken left split s
 
 -- ---- one part that is all
 
-pub first_begun : (line : List ℕ) → line ≡ [] → HasBegun [] line
+pub first_begun : (line : List ℕ) → line ≡ [] → HasLineBegun [] line
 first_begun line e = record { partial = tt; kept = e ∙ cut_nil }

@@ -10,9 +10,9 @@ use Rattle.line_service.specs.declared.faults.LoopFault.{LoopFault}
 use Rattle.line_service.specs.declared.faults.LoopFault.TheVariants as fault
 use Rattle.line_service.specs.declared.faults.Ending.{Ending}
 use Rattle.line_service.specs.declared.faults.Ending.TheVariants as ending
-use Rattle.line_service.specs.Answering.{Answering, IsLine, Answers, HasBegun, joined_lines}
+use Rattle.line_service.specs.Answering.{Answering, IsLine, Answers, HasLineBegun, joined_lines}
 use Rattle.line_service.specs.Stands.{Stand, AnsweringWith, by_stand, stand}
-use Rattle.line_service.specs.Loop.{HasRead, IsEnding, ServesPart, ServesSomeOf, IsFaultOf as IsPartFault}
+use Rattle.line_service.specs.Loop.{HasRead, IsEnding, ServesPart, ServesSomeOf, IsPartFault}
 use Rattle.line_service.proofs.Telling.{consumes_nil, consumes_then}
 use Rattle.line_service.proofs.Parting.{first_begun}
 use Rattle.line_service.specs.declared.segmented.EndFault.{EndFault}
@@ -43,7 +43,7 @@ pub record Served {S : Type 0} (A : AnsweringWith S) (G : Segmenting S) (folder 
   pub served : AreParts A G folder a parts b
   pub consumed : Consumes input rest read
   pub split : read ≡ all_lines parts ++ (begun ++ unread)
-  pub keeps : HasBegun begun line
+  pub keeps : HasLineBegun begun line
   pub wrote : Appends out after (all_said parts)
 
 -- n parts were served: at most one for each byte that was read, and one for each that was taken

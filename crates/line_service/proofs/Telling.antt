@@ -13,7 +13,7 @@ use Rattle.line_service.specs.declared.pending.Pending.{Pending}
 use Rattle.line_service.specs.declared.faults.LoopFault.{LoopFault}
 use Rattle.line_service.specs.declared.faults.LoopFault.TheVariants as fault
 use Rattle.line_service.specs.Answering.{Answering, IsLine, HasNoEnd, cut, IsByStart, Answers, joined_lines, AreAnswered}
-use Rattle.line_service.specs.Loop.{Written, AreTold, Stops, GoesOn, Rests, IsFaultOf}
+use Rattle.line_service.specs.Loop.{Written, AreTold, Stops, GoesOn, Rests, IsPartFault}
 use Rattle.line_service.proofs.LongLines.{cut_nil}
 
 -- ---- a line that is too long is answered as its start is
@@ -329,7 +329,7 @@ pub same_line : {S : Type 0} (A : Answering S) {old new : S} {x y said noted : L
 same_line {S} A {old} {new} {x} {y} {said} {noted} e a = subst (λ (l : List ℕ). A old l said noted new) e a
 
 -- any other fault
-pub not_long : (e : LoopFault) (unread rest : Option (List ℕ)) → (e ≡ fault.TooLong → ⊥) → IsFaultOf e unread rest
+pub not_long : (e : LoopFault) (unread rest : Option (List ℕ)) → (e ≡ fault.TooLong → ⊥) → IsPartFault e unread rest
 not_long fault.Read unread rest n = tt
 not_long fault.Journal unread rest n = tt
 not_long fault.Write unread rest n = tt

@@ -24,7 +24,7 @@ unfoldable pub cut : List ℕ → List ℕ
 cut begun = take (line_limit + 1) begun
 
 -- a line that has begun, and what is kept of it
-pub record HasBegun (begun line : List ℕ) : Type 0 where
+pub record HasLineBegun (begun line : List ℕ) : Type 0 where
   pub partial : HasNoEnd begun
   pub kept : line ≡ cut begun
 

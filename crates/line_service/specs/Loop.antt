@@ -15,9 +15,9 @@ pub record Written : Type 0 where
   pub out : Option (List ℕ)
 
 -- what a journal holds; nothing is known of it where none is kept
-abbrev pub held_by : {J : Type 0} → (J → Option (List ℕ)) → Option J → Option (List ℕ)
-held_by contents None = None
-held_by contents (Some journal) = contents journal
+abbrev pub written_by : {J : Type 0} → (J → Option (List ℕ)) → Option J → Option (List ℕ)
+written_by contents None = None
+written_by contents (Some journal) = contents journal
 
 -- what a journal holds is known, and all of it lasts
 abbrev pub AllLasts : Option (List ℕ) → Option (List ℕ) → Type 0
@@ -130,7 +130,7 @@ ServesSomeOf A old new begun unread input rest before after =
     × Stops A old before after (begun ++ (unread ++ read)) new
 
 -- `TooLong` is only reported of an input of 2^64 - 1 bytes or more
-abbrev pub IsFaultOf : LoopFault → Option (List ℕ) → Option (List ℕ) → Type 0
-IsFaultOf fault.TooLong unread rest =
+abbrev pub IsPartFault : LoopFault → Option (List ℕ) → Option (List ℕ) → Type 0
+IsPartFault fault.TooLong unread rest =
     (bytes : List ℕ) × Consumes unread rest bytes × (2 ^ 64 - 1 ≤ length bytes)
-IsFaultOf _ unread rest = Unit {0}
+IsPartFault _ unread rest = Unit {0}

@@ -40,8 +40,8 @@ pub record IsBegun (folder : List ℕ) (number : ℕ) (text : List ℕ) (was is 
 
 -- What the disk has where it could not be begun: the files as they were; or its file was put there,
 -- with all of the text.
-abbrev pub IsLeftUnbegun : List ℕ → ℕ → List ℕ → Option Held → Option Held → Type 0
-IsLeftUnbegun folder number text was is =
+abbrev pub IsFileUnbegun : List ℕ → ℕ → List ℕ → Option Held → Option Held → Type 0
+IsFileUnbegun folder number text was is =
     (is ≡ was) ⊎ Replaces was is (segment_file folder number) (Some text)
 
 -- The segment of this number has begun, with the text with which the service begins it after a file

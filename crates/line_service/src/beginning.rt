@@ -3,7 +3,7 @@
 ghost use Rattle.std.specs.Prelude.{◌≡◌, ◌<◌, ◌⊎◌, true, IfOk, IfErr, OnErr};
 ghost use Rattle.segment_files.specs.Spelling.{DigestFits};
 ghost use Rattle.line_service.specs.Digested.{hashed};
-ghost use Rattle.line_service.specs.Segments.{HasBegun, IsBegun, IsFileCause, IsLeftUnbegun, IsNamed, moment_of};
+ghost use Rattle.line_service.specs.Segments.{HasBegun, IsBegun, IsFileCause, IsFileUnbegun, IsNamed, moment_of};
 ghost use Rattle.disks.specs.Lasting.{outlives};
 
 use crate::ending::{Beginning, cause_of, open_segment};
@@ -34,7 +34,7 @@ pub fn begin_file<D: Disk>(
     ensures number { IfOk result (λ segment. segment.number ≡ number) }
     ensures named { IfOk result (λ segment. IsNamed rules.entry.folder.now segment) }
     ensures err { IfErr result (λ e. IsFileCause e) }
-    ensures left { OnErr result (IsLeftUnbegun rules.entry.folder.now number text.now
+    ensures left { OnErr result (IsFileUnbegun rules.entry.folder.now number text.now
         (D.holds disk.old) (D.holds disk.new)) }
     ensures lasts { IfOk result (λ segment. outlives D.keeps_written rules.entry.synced ≡ true
         → D.Grown.lasting segment.writer.inner ≡ D.Grown.contents segment.writer.inner) }
@@ -76,7 +76,7 @@ pub fn begin_segment<S: Segmented, D: Disk>(
     ensures named { IfOk result (λ segment. IsNamed rules.entry.folder.now segment) }
     ensures err { IfErr result
         (λ e. S.segmenting.HasNoText service.now e ⊎ IsFileCause e) }
-    ensures left { OnErr result (IsLeftUnbegun rules.entry.folder.now number
+    ensures left { OnErr result (IsFileUnbegun rules.entry.folder.now number
         (S.segmenting.text service.now number behind) (D.holds disk.old) (D.holds disk.new)) }
     ensures lasts { IfOk result (λ segment. outlives D.keeps_written rules.entry.synced ≡ true
         → D.Grown.lasting segment.writer.inner ≡ D.Grown.contents segment.writer.inner) }

@@ -2,8 +2,8 @@
 
 ghost use Rattle.std.specs.Prelude.{◌≡◌, ◌≢◌, ℕ, List, [], ◌++◌, false, OnOk, OnErr, IfOk, IfErr, MatchResult, is_some};
 ghost use Rattle.line_service.specs.declared.faults.LoopFault.TheVariants as fault;
-ghost use Rattle.line_service.specs.Answering.{HasBegun};
-ghost use Rattle.line_service.specs.Loop.{Written, Rests, Stops, IsTaken, ServesPart, IsEnding, ServesSomeOf, held_by, AllLasts, IsFaultOf};
+ghost use Rattle.line_service.specs.Answering.{HasLineBegun};
+ghost use Rattle.line_service.specs.Loop.{Written, Rests, Stops, IsTaken, ServesPart, IsEnding, ServesSomeOf, written_by, AllLasts, IsPartFault};
 ghost use Rattle.line_service.specs.Stands.{Stand, by_stand, stand};
 
 use crate::answering::AnswersLines;
@@ -35,31 +35,31 @@ fn serve_block<S: AnswersLines, D: Disk, J: Grow, W: Write>(
     ensures over { IfOk result (λ over. over ≡ S.is_over service.new) }
     ensures serves { (old : Stand S) (before : Written) (bytes : List ℕ)
         → Rests (by_stand S.is_answered) old before
-        (record { journal = held_by J.contents journal.old; out = W.contents out.old })
+        (record { journal = written_by J.contents journal.old; out = W.contents out.old })
         bytes (stand service.old (D.holds disk.old)) line.old.items
         → MatchResult result (λ over. IsTaken over unread.old unread.new
         (λ taken. Rests (by_stand S.is_answered) old before
-        (record { journal = held_by J.contents journal.new; out = W.contents out.new })
+        (record { journal = written_by J.contents journal.new; out = W.contents out.new })
         (bytes ++ taken) (stand service.new (D.holds disk.new)) line.new.items))
         (λ _. Stops (by_stand S.is_answered) old before
-        (record { journal = held_by J.contents journal.new; out = W.contents out.new })
+        (record { journal = written_by J.contents journal.new; out = W.contents out.new })
         (bytes ++ unread.old)
         (stand service.new (D.holds disk.new))) }
     ensures lasts { (old : Stand S) (before : Written) (bytes : List ℕ)
         → Rests (by_stand S.is_answered) old before
-        (record { journal = held_by J.lasting journal.old; out = W.contents out.old })
+        (record { journal = written_by J.lasting journal.old; out = W.contents out.old })
         bytes (stand service.old (D.holds disk.old)) line.old.items
         → MatchResult result (λ over. IsTaken over unread.old unread.new
         (λ taken. Rests (by_stand S.is_answered) old before
-        (record { journal = held_by J.lasting journal.new; out = W.contents out.new })
+        (record { journal = written_by J.lasting journal.new; out = W.contents out.new })
         (bytes ++ taken) (stand service.new (D.holds disk.new)) line.new.items))
         (λ _. Stops (by_stand S.is_answered) old before
-        (record { journal = held_by J.lasting journal.new; out = W.contents out.new })
+        (record { journal = written_by J.lasting journal.new; out = W.contents out.new })
         (bytes ++ unread.old)
         (stand service.new (D.holds disk.new))) }
     ensures whole { OnOk result
-        (AllLasts (held_by J.contents journal.old) (held_by J.lasting journal.old)
-        → AllLasts (held_by J.contents journal.new) (held_by J.lasting journal.new)) }
+        (AllLasts (written_by J.contents journal.old) (written_by J.lasting journal.old)
+        → AllLasts (written_by J.contents journal.new) (written_by J.lasting journal.new)) }
     ensures unchanged { S.changes_files service.old ≡ false
         → (D.leaves disk.new ≡ D.leaves disk.old) × (S.changes_files service.new ≡ false) }
 {
@@ -99,40 +99,40 @@ pub fn serve_part<S: AnswersLines, D: Disk, I: Read, J: Grow, W: Write>(
     out: &mut W,
 ) -> Result<Ending, LoopFault>
     requires { S.is_over service.old ≡ false }
-    ensures ok { IfOk result (λ ending. (begun : List ℕ) → HasBegun begun line.old.items
+    ensures ok { IfOk result (λ ending. (begun : List ℕ) → HasLineBegun begun line.old.items
         → ServesPart ending (by_stand S.is_answered) (stand service.old (D.holds disk.old))
         (stand service.new (D.holds disk.new)) begun unread.old unread.new line.new.items
         (I.remaining input.old) (I.remaining input.new)
-        (record { journal = held_by J.contents journal.old; out = W.contents out.old })
-        (record { journal = held_by J.contents journal.new; out = W.contents out.new })) }
+        (record { journal = written_by J.contents journal.old; out = W.contents out.old })
+        (record { journal = written_by J.contents journal.new; out = W.contents out.new })) }
     ensures ends { IfOk result (λ ending. IsEnding ending (S.is_over service.new) once unread.new
         (I.remaining input.new)) }
-    ensures err { OnErr result ((begun : List ℕ) → HasBegun begun line.old.items
+    ensures err { OnErr result ((begun : List ℕ) → HasLineBegun begun line.old.items
         → ServesSomeOf (by_stand S.is_answered) (stand service.old (D.holds disk.old))
         (stand service.new (D.holds disk.new)) begun unread.old
         (I.remaining input.old) (I.remaining input.new)
-        (record { journal = held_by J.contents journal.old; out = W.contents out.old })
-        (record { journal = held_by J.contents journal.new; out = W.contents out.new })) }
+        (record { journal = written_by J.contents journal.old; out = W.contents out.old })
+        (record { journal = written_by J.contents journal.new; out = W.contents out.new })) }
     ensures long { IfErr result (λ e.
-        IsFaultOf e (I.remaining input.old) (I.remaining input.new)) }
+        IsPartFault e (I.remaining input.old) (I.remaining input.new)) }
     ensures kept { is_some journal.new ≡ is_some journal.old }
 
     // The same of the bytes that last: whenever the power or the process ends, the journal has the notes of each delivered line.
-    ensures lasts { (begun : List ℕ) → HasBegun begun line.old.items
+    ensures lasts { (begun : List ℕ) → HasLineBegun begun line.old.items
         → MatchResult result
         (λ ending. ServesPart ending (by_stand S.is_answered) (stand service.old (D.holds disk.old))
         (stand service.new (D.holds disk.new)) begun unread.old unread.new line.new.items
         (I.remaining input.old) (I.remaining input.new)
-        (record { journal = held_by J.lasting journal.old; out = W.contents out.old })
-        (record { journal = held_by J.lasting journal.new; out = W.contents out.new }))
+        (record { journal = written_by J.lasting journal.old; out = W.contents out.old })
+        (record { journal = written_by J.lasting journal.new; out = W.contents out.new }))
         (λ _. ServesSomeOf (by_stand S.is_answered) (stand service.old (D.holds disk.old))
         (stand service.new (D.holds disk.new)) begun unread.old
         (I.remaining input.old) (I.remaining input.new)
-        (record { journal = held_by J.lasting journal.old; out = W.contents out.old })
-        (record { journal = held_by J.lasting journal.new; out = W.contents out.new })) }
+        (record { journal = written_by J.lasting journal.old; out = W.contents out.old })
+        (record { journal = written_by J.lasting journal.new; out = W.contents out.new })) }
     ensures whole { OnOk result
-        (AllLasts (held_by J.contents journal.old) (held_by J.lasting journal.old)
-        → AllLasts (held_by J.contents journal.new) (held_by J.lasting journal.new)) }
+        (AllLasts (written_by J.contents journal.old) (written_by J.lasting journal.old)
+        → AllLasts (written_by J.contents journal.new) (written_by J.lasting journal.new)) }
     ensures unchanged { S.changes_files service.old ≡ false
         → (D.leaves disk.new ≡ D.leaves disk.old) × (S.changes_files service.new ≡ false) }
 {

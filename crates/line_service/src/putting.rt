@@ -4,7 +4,7 @@ ghost use Rattle.std.specs.Prelude.{◌≡◌, ◌≢◌, ℕ, List, [], OnOk, I
 ghost use Rattle.std.specs.Io.KnownBytes.{Appends};
 ghost use Rattle.text_lines.specs.Writing.{Wrote};
 ghost use Rattle.line_service.specs.declared.faults.LoopFault.TheVariants as fault;
-ghost use Rattle.line_service.specs.Loop.{Written, GoesOn, Tells, held_by, AllLasts};
+ghost use Rattle.line_service.specs.Loop.{Written, GoesOn, Tells, written_by, AllLasts};
 ghost use Rattle.line_service.specs.Stands.{Stand, by_stand};
 
 use crate::answering::AnswersLines;
@@ -51,16 +51,16 @@ fn add_notes<J: Grow>(journal: &mut J, bytes: &[u8]) -> bool
 /// Adds all of these bytes to the journal, if there is one, and says whether it could.
 fn put_notes<J: Grow>(journal: &mut Option<J>, bytes: &[u8]) -> bool
     ensures all { IsTrue result
-        → Appends (held_by J.contents journal.old) (held_by J.contents journal.new) bytes.now }
+        → Appends (written_by J.contents journal.old) (written_by J.contents journal.new) bytes.now }
     ensures part { (left : List ℕ)
-        × Wrote (held_by J.contents journal.old) (held_by J.contents journal.new) bytes.now left }
+        × Wrote (written_by J.contents journal.old) (written_by J.contents journal.new) bytes.now left }
     ensures lasts { IsTrue result
-        → Appends (held_by J.lasting journal.old) (held_by J.lasting journal.new) bytes.now }
+        → Appends (written_by J.lasting journal.old) (written_by J.lasting journal.new) bytes.now }
     ensures lasts_part { (left : List ℕ)
-        × Wrote (held_by J.lasting journal.old) (held_by J.lasting journal.new) bytes.now left }
+        × Wrote (written_by J.lasting journal.old) (written_by J.lasting journal.new) bytes.now left }
     ensures whole { IsTrue result
-        → AllLasts (held_by J.contents journal.old) (held_by J.lasting journal.old)
-        → AllLasts (held_by J.contents journal.new) (held_by J.lasting journal.new) }
+        → AllLasts (written_by J.contents journal.old) (written_by J.lasting journal.old)
+        → AllLasts (written_by J.contents journal.new) (written_by J.lasting journal.new) }
     ensures kept { is_some journal.new ≡ is_some journal.old }
 {
     match journal {
@@ -80,21 +80,21 @@ pub(crate) fn put_pending<S: AnswersLines, J: Grow, W: Write>(
     ensures left { OnOk result ((pending.new.answers.items ≡ []) × (pending.new.notes.items ≡ [])) }
     ensures told { (old new : Stand S) (before : Written) (bytes line : List ℕ)
         → GoesOn (by_stand S.is_answered) old before
-        (record { journal = held_by J.contents journal.old; out = W.contents out.old })
+        (record { journal = written_by J.contents journal.old; out = W.contents out.old })
         bytes new line pending.old
         → Tells result (by_stand S.is_answered) old before
-        (record { journal = held_by J.contents journal.new; out = W.contents out.new })
+        (record { journal = written_by J.contents journal.new; out = W.contents out.new })
         bytes new line }
     ensures lasts { (old new : Stand S) (before : Written) (bytes line : List ℕ)
         → GoesOn (by_stand S.is_answered) old before
-        (record { journal = held_by J.lasting journal.old; out = W.contents out.old })
+        (record { journal = written_by J.lasting journal.old; out = W.contents out.old })
         bytes new line pending.old
         → Tells result (by_stand S.is_answered) old before
-        (record { journal = held_by J.lasting journal.new; out = W.contents out.new })
+        (record { journal = written_by J.lasting journal.new; out = W.contents out.new })
         bytes new line }
     ensures whole { OnOk result
-        (AllLasts (held_by J.contents journal.old) (held_by J.lasting journal.old)
-        → AllLasts (held_by J.contents journal.new) (held_by J.lasting journal.new)) }
+        (AllLasts (written_by J.contents journal.old) (written_by J.lasting journal.old)
+        → AllLasts (written_by J.contents journal.new) (written_by J.lasting journal.new)) }
 {
     if !put_notes(journal, pending.notes.as_slice()) {
         return Err(LoopFault::Journal);

@@ -3,10 +3,10 @@
 ghost use Rattle.std.specs.Prelude.{◌≡◌, ℕ, List, Option, true, false, IfOk, IfErr, IfSome, IsSome, OnOk, OnErr, MatchResult, is_some, string_bytes, ⊤};
 ghost use Rattle.disks.specs.Held.{Held};
 ghost use Rattle.disks.specs.Lasting.{Changes, HasFront, LeavesFront, outlives};
-ghost use Rattle.line_service.specs.Answering.{HasBegun};
+ghost use Rattle.line_service.specs.Answering.{HasLineBegun};
 ghost use Rattle.line_service.specs.Stands.{by_stand, stand};
 ghost use Rattle.line_service.specs.declared.faults.LoopFault.{LoopFault};
-ghost use Rattle.line_service.specs.Loop.{ServesPart, IsEnding, ServesSomeOf, AllLasts, IsFaultOf as IsPartFault};
+ghost use Rattle.line_service.specs.Loop.{ServesPart, IsEnding, ServesSomeOf, AllLasts, IsPartFault};
 ghost use Rattle.line_service.specs.Digested.{hashed};
 ghost use Rattle.line_service.specs.Segments.{IsNamed, moment_of};
 ghost use Rattle.line_service.specs.Service.{told_of, ServesSegments, ServesSomeSegments, IsFaultOf};
@@ -55,7 +55,7 @@ fn serve_in<S: AnswersLines, D: Disk, I: Read, W: Write>(
     out: &mut W,
 ) -> Result<PartEnd<D::Grown>, LoopFault>
     requires { S.is_over service.old ≡ false }
-    ensures ok { IfOk result (λ end. (begun : List ℕ) → HasBegun begun line.old.items
+    ensures ok { IfOk result (λ end. (begun : List ℕ) → HasLineBegun begun line.old.items
         → ServesPart end.ending (by_stand S.is_answered) (stand service.old (D.holds disk.old))
         (stand service.new (D.holds disk.new)) begun unread.old unread.new line.new.items
         (I.remaining input.old) (I.remaining input.new)
@@ -71,7 +71,7 @@ fn serve_in<S: AnswersLines, D: Disk, I: Read, W: Write>(
         (is_some ready.kept) unread.new (I.remaining input.new)) }
     ensures same { IfOk result (λ end. (end.segment.number ≡ ready.segment.number)
         × (string_bytes end.segment.name ≡ string_bytes ready.segment.name)) }
-    ensures err { OnErr result ((begun : List ℕ) → HasBegun begun line.old.items
+    ensures err { OnErr result ((begun : List ℕ) → HasLineBegun begun line.old.items
         → (journal : Option (List ℕ))
         × ServesSomeOf (by_stand S.is_answered) (stand service.old (D.holds disk.old))
         (stand service.new (D.holds disk.new)) begun unread.old (I.remaining input.old)
@@ -89,7 +89,7 @@ fn serve_in<S: AnswersLines, D: Disk, I: Read, W: Write>(
         (D.Grown.lasting ready.segment.writer.inner)
         → AllLasts (hashed (D.Grown.contents end.segment.writer.inner) end.segment.writer.hasher)
         (D.Grown.lasting end.segment.writer.inner)) }
-    ensures spared { OnErr result ((begun : List ℕ) → HasBegun begun line.old.items
+    ensures spared { OnErr result ((begun : List ℕ) → HasLineBegun begun line.old.items
         → (journal : Option (List ℕ))
         × ServesSomeOf (by_stand S.is_answered) (stand service.old (D.holds disk.old))
         (stand service.new (D.holds disk.new)) begun unread.old (I.remaining input.old)

@@ -21,7 +21,7 @@ use Rattle.lock_service.specs.State.{state_lines}
 use Rattle.line_service.specs.declared.segmented.EndFault.{EndFault}
 use Rattle.line_service.specs.Stands.{AnsweringWith}
 use Rattle.line_service.specs.Segmenting.{Segmenting}
-use Rattle.line_service.specs.Segments.{Moment, HasBegun, IsLeftUnbegun}
+use Rattle.line_service.specs.Segments.{Moment, HasBegun, IsFileUnbegun}
 use Rattle.line_service.specs.Service.{Part, ServesSegments, ServesSomeSegments, IsFaultOf}
 use Rattle.line_service.specs.Notes.{ToldLinesAreNoted}
 use Rattle.line_replica.specs.declared.replica.Replica.{Replica}
@@ -146,7 +146,7 @@ IsUnbegun words start before after e =
     ((after ≡ before) × (e ≡ tool.OutOfMemory))
     ⊎ ((service : Service)
     × BeginsWith words start.locks service
-    × IsLeftUnbegun (folder_of words) start.number
+    × IsFileUnbegun (folder_of words) start.number
     (by_segments.text service start.number start.behind) before after
     × ((why : EndFault) × IsBeginName (folder_of words) why e))
 

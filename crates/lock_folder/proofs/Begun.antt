@@ -9,7 +9,7 @@ use Rattle.saved_history.specs.declared.saved.SavedRing.{SavedRing}
 use Rattle.ring_model.specs.declared.bases.Base.{Base}
 use Rattle.endless_ring.specs.Endless.{EndlessView}
 use Rattle.held_locks.specs.Kept.{LockView, IsKeptRing}
-use Rattle.held_locks.specs.Opened.{IsAdded, HaveNoRoom, holder_behind, open_in}
+use Rattle.held_locks.specs.Opened.{IsAdded, HaveNoRoom, holder_after, open_in}
 use Rattle.lock_folder.specs.declared.locks.ListedLock.{ListedLock}
 use Rattle.lock_folder.specs.Lists.{Listed, listed}
 use Rattle.lock_folder.specs.declared.faults.StartFault.{StartFault}
@@ -45,7 +45,7 @@ pub begun_more : (bs : List Base) (ss : List SavedRing) (ls : List Listed) (old 
 begun_more bs ss ls old new place l e many each here ring kept added = (longer, more)
   where
     v : LockView
-    v = record { ring = added.ring; line = []; holder = holder_behind (open_in e) }
+    v = record { ring = added.ring; queue = []; holder = holder_after (open_in e) }
 
     longer : length new ≡ place + 1
     longer = ap (λ (x : List LockView). length x) added.added ∙ length-append old (v ∷ []) ∙ ap (λ (n : ℕ). n + 1) many
@@ -54,7 +54,7 @@ begun_more bs ss ls old new place l e many each here ring kept added = (longer, 
     more i k w named is = by i k w named (at_append old v i w (subst (λ (x : List LockView). slice_get x i ≡ Some w) added.added is))
       where
         starts : (w : LockView) → w ≡ v → Starts e w
-        starts w same = subst (Starts e) (sym same) (record { kept = kept; repaired = added.repaired; line = refl; holder = refl })
+        starts w same = subst (Starts e) (sym same) (record { kept = kept; repaired = added.repaired; queue = refl; holder = refl })
 
         ring_here : (i : ℕ) (k : Listed) → i ≡ place → slice_get ls i ≡ Some k → IsRingOf (slice_get bs i) (slice_get ss i) k e
         ring_here i k at named =

@@ -44,9 +44,9 @@ pub record IsBadLine (bytes : List ℕ) (line : ℕ) : Type 0 where
   pub none : HasNoHold rest
 
 -- why the bytes are not the lines of holds
-abbrev pub IsTextFault : List ℕ → HoldersError → Type 0
-IsTextFault bytes (fault.Line line) = IsBadLine bytes line
-IsTextFault bytes fault.OutOfMemory = Unit {0}
+abbrev pub IsHoldersFault : List ℕ → HoldersError → Type 0
+IsHoldersFault bytes (fault.Line line) = IsBadLine bytes line
+IsHoldersFault bytes fault.OutOfMemory = Unit {0}
 
 -- why no hold is read after these
 abbrev pub IsNoLine : List Handover → List ℕ → HoldersError → Type 0

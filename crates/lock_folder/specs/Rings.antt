@@ -10,7 +10,7 @@ use Rattle.one_thread_ring.specs.Rings.{AreFresh}
 use Rattle.endless_ring.specs.Endless.{EndlessView}
 use Rattle.held_locks.specs.Grants.{most_passes, repairs}
 use Rattle.held_locks.specs.Locks.{Call}
-use Rattle.held_locks.specs.Opened.{open_in, holder_behind, HaveNoRoom}
+use Rattle.held_locks.specs.Opened.{open_in, holder_after, HaveNoRoom}
 use Rattle.held_locks.specs.Kept.{LockView, IsKeptRing, AreMade, state_of, seat_count}
 use Rattle.lock_folder.specs.Lists.{Listed}
 use Rattle.lock_folder.specs.declared.faults.StartFault.{StartFault}
@@ -37,8 +37,8 @@ pub record Starts (e : EndlessView) (v : LockView) : Type 0 where
   pub kept : IsKeptRing e
   pub repaired : AreMade e
       (map Call (repairs (most_passes (length e.ring.book.now.ring.values)) (state_of e))) v.ring
-  pub line : v.line ≡ []
-  pub holder : v.holder ≡ holder_behind (open_in e)
+  pub queue : v.queue ≡ []
+  pub holder : v.holder ≡ holder_after (open_in e)
 
 -- a lock has its ring of the last segment, which is of its size, or, if there is none, a settled
 -- ring

@@ -3,7 +3,7 @@
 ghost use Rattle.std.specs.Prelude.{◌≡◌, ◌≢◌, List, ℕ, ◌∷◌, ◌++◌, [], IfOk, IfErr};
 ghost use Rattle.text_lines.specs.Reading.{Gives};
 ghost use Rattle.held_locks.specs.declared.handing.Handover.{Handover};
-ghost use Rattle.lock_folder.specs.Holders.{FitsLine, hold_line, AreHolders, IsNoLine, IsTextFault};
+ghost use Rattle.lock_folder.specs.Holders.{FitsLine, hold_line, AreHolders, IsNoLine, IsHoldersFault};
 ghost use Rattle.lock_folder.specs.HolderSteps.{hold_at};
 
 use held_locks::Handover;
@@ -61,7 +61,7 @@ fn add_hold<'t>(holders: &mut Vec<Handover>, bytes: &'t [u8]) -> Result<&'t [u8]
 /// `Line` with the first line that is something else; `OutOfMemory`.
 pub fn read_holders(alloc: Global, bytes: &[u8]) -> Result<Vec<Handover>, HoldersError>
     ensures ok { IfOk result (λ holders. AreHolders bytes.now holders.items) }
-    ensures err { IfErr result (λ e. IsTextFault bytes.now e) }
+    ensures err { IfErr result (λ e. IsHoldersFault bytes.now e) }
 {
     let mut holders = Vec::new(alloc);
     let mut rest = bytes;

@@ -3,9 +3,9 @@ use Rattle.std.proofs.Common.{◌≡◌, ℕ, List, [], ◌++◌, Option, Ok, re
 use Rattle.std.specs.Prelude.{codes}
 use Rattle.text_lines.specs.Reading.{Reader, nothing_at, or_at, none_at, word_at, whole_at}
 use Rattle.text_lines.proofs.Basics.{ok_is}
-use Rattle.text_lines.specs.LongNumbers.{spaced, ended, in_64_bits, order_at}
+use Rattle.text_lines.specs.LongNumbers.{number_spaced, number_ended, in_64_bits, order_at}
 use Rattle.text_lines.proofs.Spellings.{Any, Hears, both_hear, order_hears}
-use Rattle.text_lines.proofs.Commands.{Kind, Takes, kind_takes, kind_again, or_takes, none_takes, behind_takes, line_takes, line_again}
+use Rattle.text_lines.proofs.Commands.{Kind, Takes, kind_takes, kind_again, or_takes, none_takes, after_takes, line_takes, line_again}
 use Rattle.lock_lines.specs.Asks.{Ask, acquire, try, release, cancel, leave, corrupt, stats, ask_text, heard}
 use Rattle.lock_lines.specs.Readers.{acquire_of, acquire_at, try_of, try_at, release_of, release_at, cancel_of, cancel_at, corrupt_of, corrupt_at, c_at, leave_of, leave_at, stats_of, stats_at, ask_at}
 
@@ -17,10 +17,10 @@ TakesAsk before at = Takes asks before at
 
 -- ---- the kinds
 
-one : Hears in_64_bits Any spaced (order_at 32)
+one : Hears in_64_bits Any number_spaced (order_at 32)
 one = order_hears 32 (omega arith)
 
-last : Hears in_64_bits Any ended (order_at 10)
+last : Hears in_64_bits Any number_ended (order_at 10)
 last = order_hears 10 (omega arith)
 
 none : Hears (λ (u : Unit {0}). u) (λ _. Unit {0}) (λ _. []) nothing_at
@@ -89,7 +89,7 @@ stats_again lock rest = kind_again asks last stats_of (codes "stats ") lock rest
 
 c_takes : TakesAsk [] c_at
 unfolding c_at
-c_takes = behind_takes asks (codes "c") (or_at 97 cancel_at (or_at 111 corrupt_at none_at)) (or_takes asks (codes "c") 97 cancel_at (or_at 111 corrupt_at none_at) cancel_takes (or_takes asks (codes "c") 111 corrupt_at none_at corrupt_takes (none_takes asks (codes "c"))))
+c_takes = after_takes asks (codes "c") (or_at 97 cancel_at (or_at 111 corrupt_at none_at)) (or_takes asks (codes "c") 97 cancel_at (or_at 111 corrupt_at none_at) cancel_takes (or_takes asks (codes "c") 111 corrupt_at none_at corrupt_takes (none_takes asks (codes "c"))))
 
 ask_takes : TakesAsk [] ask_at
 unfolding ask_at

@@ -6,7 +6,7 @@ use Rattle.std.proofs.lemmas.List.{take_all, length-take}
 use Rattle.text_lines.specs.declared.fault.Fault.{Fault}
 use Rattle.text_lines.specs.declared.fault.Fault.TheVariants.{Bad}
 use Rattle.text_lines.proofs.Basics.{ok_is}
-use Rattle.text_lines.specs.LongNumbers.{spaced, ended, in_64_bits, order_at}
+use Rattle.text_lines.specs.LongNumbers.{number_spaced, number_ended, in_64_bits, order_at}
 use Rattle.text_lines.proofs.LongDecimals.{in_some, in_none}
 use Rattle.text_lines.proofs.Numerals.{decimal_fails}
 use Rattle.text_lines.proofs.Spellings.{order_hears}
@@ -40,23 +40,23 @@ bits_of n c e = elim (cases_lt n (2 ^ 64)) [
 
 -- ---- a front, as each of the two readers takes it
 
-pub spaced_some : (bytes : List ℕ) (c : ℕ) (rest : List ℕ) → order_at 32 bytes ≡ Ok (Some c, rest) → (c < 2 ^ 64) × (bytes ≡ spaced c ++ rest)
+pub spaced_some : (bytes : List ℕ) (c : ℕ) (rest : List ℕ) → order_at 32 bytes ≡ Ok (Some c, rest) → (c < 2 ^ 64) × (bytes ≡ number_spaced c ++ rest)
 spaced_some bytes c rest e =
     let t = (order_hears 32 (omega arith)).takes bytes (Some c) rest e in
-    let b = bits_of t.0 c t.2 in (b.1, subst (λ (n : ℕ). bytes ≡ spaced n ++ rest) b.0 t.3)
+    let b = bits_of t.0 c t.2 in (b.1, subst (λ (n : ℕ). bytes ≡ number_spaced n ++ rest) b.0 t.3)
 
-pub ended_some : (bytes : List ℕ) (c : ℕ) (rest : List ℕ) → order_at 10 bytes ≡ Ok (Some c, rest) → (c < 2 ^ 64) × (bytes ≡ ended c ++ rest)
+pub ended_some : (bytes : List ℕ) (c : ℕ) (rest : List ℕ) → order_at 10 bytes ≡ Ok (Some c, rest) → (c < 2 ^ 64) × (bytes ≡ number_ended c ++ rest)
 ended_some bytes c rest e =
     let t = (order_hears 10 (omega arith)).takes bytes (Some c) rest e in
-    let b = bits_of t.0 c t.2 in (b.1, subst (λ (n : ℕ). bytes ≡ ended n ++ rest) b.0 t.3)
+    let b = bits_of t.0 c t.2 in (b.1, subst (λ (n : ℕ). bytes ≡ number_ended n ++ rest) b.0 t.3)
 
-pub spaced_reads : (bytes : List ℕ) (c : ℕ) (rest : List ℕ) → c < 2 ^ 64 → bytes ≡ spaced c ++ rest → order_at 32 bytes ≡ Ok (Some c, rest)
+pub spaced_reads : (bytes : List ℕ) (c : ℕ) (rest : List ℕ) → c < 2 ^ 64 → bytes ≡ number_spaced c ++ rest → order_at 32 bytes ≡ Ok (Some c, rest)
 spaced_reads bytes c rest lt e = ap (order_at 32) e ∙ (order_hears 32 (omega arith)).again c rest tt ∙ ap (λ (o : Option ℕ). Ok (o, rest)) (in_some c lt)
 
-pub ended_reads : (bytes : List ℕ) (c : ℕ) (rest : List ℕ) → c < 2 ^ 64 → bytes ≡ ended c ++ rest → order_at 10 bytes ≡ Ok (Some c, rest)
+pub ended_reads : (bytes : List ℕ) (c : ℕ) (rest : List ℕ) → c < 2 ^ 64 → bytes ≡ number_ended c ++ rest → order_at 10 bytes ≡ Ok (Some c, rest)
 ended_reads bytes c rest lt e = ap (order_at 10) e ∙ (order_hears 10 (omega arith)).again c rest tt ∙ ap (λ (o : Option ℕ). Ok (o, rest)) (in_some c lt)
 
-pub ended_stops : (bytes : List ℕ) (c : ℕ) (rest : List ℕ) → bytes ≡ ended c ++ rest → order_at 32 bytes ≡ Err (Bad (suc (length rest)))
+pub ended_stops : (bytes : List ℕ) (c : ℕ) (rest : List ℕ) → bytes ≡ number_ended c ++ rest → order_at 32 bytes ≡ Err (Bad (suc (length rest)))
 unfolding order_at
 ended_stops bytes c rest e = ap (order_at 32) e ∙ rw (decimal_fails 32 (omega arith) c 10 rest (λ f. omega (arith, f)) refl) refl
 

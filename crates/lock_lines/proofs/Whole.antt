@@ -5,7 +5,7 @@ use Rattle.std.proofs.lemmas.List.{take-take, length-take}
 use Rattle.text_lines.specs.declared.fault.Fault.{Fault as Stop}
 use Rattle.text_lines.specs.Reading.{whole_at}
 use Rattle.text_lines.proofs.Basics.{ok_is}
-use Rattle.text_lines.specs.LongNumbers.{spaced, in_64_bits, order_at}
+use Rattle.text_lines.specs.LongNumbers.{number_spaced, in_64_bits, order_at}
 use Rattle.text_lines.proofs.LongDecimals.{in_some, in_none}
 use Rattle.lock_lines.specs.declared.inputs.Ask.{Ask as Read}
 use Rattle.lock_lines.specs.declared.inputs.Ask.TheVariants as reads
@@ -66,12 +66,12 @@ pub asked_whole : (line : List ℕ) (c : ℕ) (rest : List ℕ) (i : Input) → 
 asked_whole line c rest (input.Asked d ask) short e (same, read) =
     let t = whole_takes rest (Some (seen ask)) read in
     let is : t.0 ≡ seen ask = heard_is t.0 (seen ask) t.2 in
-    let whole : line ≡ input_line c (seen ask) = (spaced_some line c rest e).1 ∙ ap (λ (u : List ℕ). spaced c ++ u) (t.1 ∙ ap ask_text is) in
+    let whole : line ≡ input_line c (seen ask) = (spaced_some line c rest e).1 ∙ ap (λ (u : List ℕ). number_spaced c ++ u) (t.1 ∙ ap ask_text is) in
     let heard_whole : heard (seen ask) ≡ Some (seen ask) = subst (λ (a : Ask). heard a ≡ Some (seen ask)) is t.2 in
     subst (λ (x : ℕ). IsOf x line × IsInput x (seen ask) line × (heard (seen ask) ≡ Some (seen ask))) (sym same) (of_spaced line c rest short e, record { is = whole; short = short }, heard_whole)
 asked_whole line c rest (input.Refused d fault.Number) short e (same, read) =
     let t = whole_takes rest None read in
-    let whole : line ≡ input_line c t.0 = (spaced_some line c rest e).1 ∙ ap (λ (u : List ℕ). spaced c ++ u) t.1 in
+    let whole : line ≡ input_line c t.0 = (spaced_some line c rest e).1 ∙ ap (λ (u : List ℕ). number_spaced c ++ u) t.1 in
     subst (λ (x : ℕ). IsOf x line × ((ask : Ask) × IsInput x ask line × (heard ask ≡ None))) (sym same) (of_spaced line c rest short e, (t.0, record { is = whole; short = short }, t.2))
 asked_whole line c rest (input.Refused d fault.Syntax) short e (same, (f, read)) =
     let none : (ask : Ask) → IsInput c ask line → ⊥ = λ ask is. ok_not_err (whole_at ask_at rest) (heard ask) f (whole_again ask rest (rest_is line c rest ask e is)) read in

@@ -1,6 +1,6 @@
 -- What clients ask of locks, and how it is spelled (this project's own).
 use Rattle.std.specs.Prelude.{ℕ, List, ◌++◌, codes, Option, Some, None}
-use Rattle.text_lines.specs.LongNumbers.{spaced, ended, in_64_bits}
+use Rattle.text_lines.specs.LongNumbers.{number_spaced, number_ended, in_64_bits}
 use Rattle.lock_lines.specs.declared.inputs.Ask.{Ask as Read}
 use Rattle.lock_lines.specs.declared.inputs.Ask.TheVariants as reads
 
@@ -17,14 +17,14 @@ pub data Ask : Type 0 where
 
 -- how it is spelled, up to the end of the line
 abbrev pub ask_text : Ask → List ℕ
-ask_text (acquire lock order) = codes "acquire " ++ (spaced lock ++ ended order)
-ask_text (try lock order) = codes "try " ++ (spaced lock ++ ended order)
-ask_text (release lock token) = codes "release " ++ (spaced lock ++ ended token)
-ask_text (cancel lock) = codes "cancel " ++ ended lock
+ask_text (acquire lock order) = codes "acquire " ++ (number_spaced lock ++ number_ended order)
+ask_text (try lock order) = codes "try " ++ (number_spaced lock ++ number_ended order)
+ask_text (release lock token) = codes "release " ++ (number_spaced lock ++ number_ended token)
+ask_text (cancel lock) = codes "cancel " ++ number_ended lock
 ask_text leave = codes "leave\n"
 ask_text (corrupt lock machine value) =
-    codes "corrupt " ++ (spaced lock ++ (spaced machine ++ ended value))
-ask_text (stats lock) = codes "stats " ++ ended lock
+    codes "corrupt " ++ (number_spaced lock ++ (number_spaced machine ++ number_ended value))
+ask_text (stats lock) = codes "stats " ++ number_ended lock
 
 -- an ask of one, two or three numbers, if each of them is there
 abbrev pub of_one : (ℕ → Ask) → Option ℕ → Option Ask

@@ -1,7 +1,7 @@
 -- The lines of inputs: the number of a connection, and what it asks (this project's own).
 use Rattle.std.specs.Prelude.{◌≡◌, ℕ, ◌<◌, ◌≤◌, ◌^◌, List, ◌++◌, length, take, None, Some, ◌⊎◌}
 use Rattle.text_lines.specs.Limits.{line_limit}
-use Rattle.text_lines.specs.LongNumbers.{spaced, ended}
+use Rattle.text_lines.specs.LongNumbers.{number_spaced, number_ended}
 use Rattle.lock_lines.specs.declared.inputs.Input.{Input}
 use Rattle.lock_lines.specs.declared.inputs.Input.TheVariants as input
 use Rattle.lock_lines.specs.declared.inputs.Fault.TheVariants as fault
@@ -9,7 +9,7 @@ use Rattle.lock_lines.specs.Asks.{Ask, ask_text, heard, seen}
 
 -- the line of a connection that asks this
 abbrev pub input_line : ℕ → Ask → List ℕ
-input_line client ask = spaced client ++ ask_text ask
+input_line client ask = number_spaced client ++ ask_text ask
 
 pub record IsInput (client : ℕ) (ask : Ask) (line : List ℕ) : Type 0 where
   pub is : line ≡ input_line client ask
@@ -18,7 +18,7 @@ pub record IsInput (client : ℕ) (ask : Ask) (line : List ℕ) : Type 0 where
 -- The bytes begin with a connection's number, and a space or the end of the line.
 abbrev pub IsFront : ℕ → List ℕ → Type 0
 IsFront client bytes =
-    (rest : List ℕ) × ((bytes ≡ spaced client ++ rest) ⊎ (bytes ≡ ended client ++ rest))
+    (rest : List ℕ) × ((bytes ≡ number_spaced client ++ rest) ⊎ (bytes ≡ number_ended client ++ rest))
 
 -- the part of a line that is looked at: of a longer one the first 8 KiB
 unfoldable pub front_of : List ℕ → List ℕ

@@ -43,7 +43,7 @@ pub data Tells (a : State ℕ) (c : ℕ) (t : Turn) : Type 0 where
 
 module _ (ls : List Lock) (l : Lock) (c : ℕ) where
   tells_joined : (w : Waiter) (h : Option Holder) → Tells l.ring c (joined l w h)
-  tells_joined w None = Grants l.line w refl
+  tells_joined w None = Grants l.queue w refl
   tells_joined w (Some h) = Quiet (refl, tt)
 
   tells_acquired : (w : Waiter) (r : Option Refusal) → Tells l.ring c (acquired l w r)
@@ -51,23 +51,23 @@ module _ (ls : List Lock) (l : Lock) (c : ℕ) where
   tells_acquired w None = tells_joined w l.holder
 
   tells_tried_of : (w : Waiter) (h : Option Holder) → Tells l.ring c (tried_of l w h)
-  tells_tried_of w None = Grants l.line w refl
+  tells_tried_of w None = Grants l.queue w refl
   tells_tried_of w (Some h) = Quiet (refl, tt)
 
   tells_tried : (w : Waiter) (r : Option Refusal) → Tells l.ring c (tried l w r)
   tells_tried w (Some why) = Quiet (refl, tt)
   tells_tried w None = tells_tried_of w l.holder
 
-  tells_released : (is : Bool) → Tells l.ring c (if is then ended l.ring l.line 1 ((c, answer.Released) ∷ []) else told l c (answer.Refused refusal.Holder))
-  tells_released true = Releases l.line refl
+  tells_released : (is : Bool) → Tells l.ring c (if is then ended l.ring l.queue 1 ((c, answer.Released) ∷ []) else told l c (answer.Refused refusal.Holder))
+  tells_released true = Releases l.queue refl
   tells_released false = Quiet (refl, tt)
 
   tells_cancelled : (is : Bool) → Tells l.ring c (if is then dropped l c ((c, answer.Cancelled) ∷ []) else told l c (answer.Refused refusal.Waiter))
   tells_cancelled true = Quiet (refl, tt)
   tells_cancelled false = Quiet (refl, tt)
 
-  tells_left : (is : Bool) → Tells l.ring c (if is then ended l.ring (without c l.line) 2 [] else dropped l c [])
-  tells_left true = Leaves (without c l.line) refl
+  tells_left : (is : Bool) → Tells l.ring c (if is then ended l.ring (without c l.queue) 2 [] else dropped l c [])
+  tells_left true = Leaves (without c l.queue) refl
   tells_left false = Quiet tt
 
   tells_broken : (i v : ℕ) (far great : Bool) → Tells l.ring c (if far then told l c (answer.Refused refusal.Machine) else if great then told l c (answer.Refused refusal.Value) else faulted l c i v)
@@ -79,7 +79,7 @@ module _ (ls : List Lock) (l : Lock) (c : ℕ) where
   tells_of (Acquire order) = tells_acquired (record { client = c; order = order }) (acquire_refusal ls l c)
   tells_of (Try order) = tells_tried (record { client = c; order = order }) (try_refusal l c)
   tells_of (Release token) = tells_released (is_held_with c token l.holder)
-  tells_of Cancel = tells_cancelled (stands c l.line)
+  tells_of Cancel = tells_cancelled (stands c l.queue)
   tells_of Leave = tells_left (is_held_by c l.holder)
   tells_of (Corrupt i v) = tells_broken i v (nat_le (length l.ring.ring.values) i) (nat_le l.ring.ring.k v)
   tells_of Stats = Quiet (refl, tt)

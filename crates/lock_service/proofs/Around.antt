@@ -23,7 +23,7 @@ use Rattle.lock_service.specs.StateBack.{locks_in}
 use Rattle.line_replica.specs.declared.restorable.Restorable.{Restorable}
 use Rattle.line_replica.specs.State.{lines_of, is_state, IsStateTold}
 use Rattle.lock_service.specs.State.{state_lines}
-use Rattle.lock_service.specs.Around.{AreToldBehind, OtherLinesAreReplied, AreToldAround, ReplicaRunsAreStages}
+use Rattle.lock_service.specs.Around.{AreToldAfter, OtherLinesAreReplied, AreToldAround, ReplicaRunsAreStages}
 use Rattle.lock_service.proofs.Longer.{served_lines_are_answered, answered_lines_follow}
 use Rattle.lock_service.proofs.WithoutRemarks.{lines_bring, parts, remarks_go, begun_goes, no_hash_noted}
 use Rattle.lock_service.proofs.CutRemarks.{without_cut}
@@ -117,14 +117,14 @@ replica_runs_are_stages r k =
 record AreOthers (b : Bool) (old : Stand (Replica LockService)) (line : List ℕ) (lines : List (List ℕ)) (said noted : List ℕ) (new : Stand (Replica LockService)) : Type 0 where
   pub told : List ℕ
   pub answered : Answers (by_stand (IsReplied IsServed)) old (cond (not b) (line ∷ filter (λ line. not (is_state line)) lines) (filter (λ line. not (is_state line)) lines)) told noted new
-  pub behind : (first inner later more : List ℕ) × (said ≡ first ++ later) × (told ≡ inner ++ more) × (((b ≡ true) × (inner ≡ [])) ⊎ (inner ≡ first)) × AreToldBehind lines later more
+  pub behind : (first inner later more : List ℕ) × (said ≡ first ++ later) × (told ≡ inner ++ more) × (((b ≡ true) × (inner ≡ [])) ⊎ (inner ≡ first)) × AreToldAfter lines later more
 
 abbrev Inside : Stand (Restorable (Replica LockService)) → Stand (Replica LockService)
 Inside s = stand s.service.inner s.files
 
 other_line : (b : Bool) (old mid : Stand (Restorable (Replica LockService))) (new : Stand (Replica LockService)) (line : List ℕ) (lines : List (List ℕ)) (said noted first later note notes told : List ℕ) →
     cond b (IsStateTold (lines_of state_lines old.service.inner) old.service old.files first note mid.service mid.files) (IsReplied IsServed old.service.inner old.files line first note mid.service.inner mid.files) →
-    said ≡ first ++ later → noted ≡ note ++ notes → Answers (by_stand (IsReplied IsServed)) (Inside mid) (filter (λ line. not (is_state line)) lines) told notes new → AreToldBehind lines later told → AreOthers b (Inside old) line lines said noted new
+    said ≡ first ++ later → noted ≡ note ++ notes → Answers (by_stand (IsReplied IsServed)) (Inside mid) (filter (λ line. not (is_state line)) lines) told notes new → AreToldAfter lines later told → AreOthers b (Inside old) line lines said noted new
 other_line true old mid new line lines said noted first later note notes told t s n rest behind_ =
     let same : Inside mid ≡ Inside old = ap (λ (x : Restorable (Replica LockService)). stand x.inner mid.files) t.same ∙ ap (λ (x : Option Held). stand old.service.inner x) t.files in
     let all : noted ≡ notes = n ∙ ap (λ (u : List ℕ). u ++ notes) t.notes in record {

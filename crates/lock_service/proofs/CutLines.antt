@@ -14,7 +14,7 @@ use Rattle.held_locks.specs.declared.answers.Left.{Left}
 use Rattle.held_locks.specs.Queues.{Lock}
 use Rattle.held_locks.specs.Locks.{Ask, Acquire, Try, Release, Cancel, Leave, Stats, Mark, Asked, Turn, Step, turn, step, step_at}
 use Rattle.held_locks.specs.Promises.{AreRight, locks_after, leaves}
-use Rattle.held_locks.specs.Kept.{LockView, lock_of, locks_of, AreMade, ended_in, ended_at, answers_of, IsDone, IsWant, IsAnswer, IsLeft, left_at, left_of}
+use Rattle.held_locks.specs.Kept.{LockView, lock_of, locks_of, AreMade, ended_in, ended_at, answers_of, IsDone, IsLack, IsAnswer, IsLeft, left_at, left_of}
 use Rattle.held_locks.proofs.Right.{right_stays}
 use Rattle.held_locks.proofs.Shown.{locks_append}
 use Rattle.held_locks.proofs.Standing.{get_set_same}
@@ -39,7 +39,7 @@ use Rattle.lock_service.proofs.Marks.{IsSmallAsk}
 use Rattle.lock_service.proofs.Following.{Followed, some_is, none_is, step_is, also_there, lock_there, as_many, step_many}
 use Rattle.lock_service.proofs.LockLines.{AreBounded, IsNotedSo, AreLeftSo, all_past, order_small, stays, left_lock, left_note, left_so, left_many, noted_line}
 use Rattle.lock_service.proofs.Longer.{bounded_all}
-use Rattle.lock_service.proofs.Inputs.{IsHeardSo, AreHeardSo, none_taken, done, want_so, left_so as left_heard, heard_line, heard_lines}
+use Rattle.lock_service.proofs.Inputs.{IsHeardSo, AreHeardSo, none_taken, done, lack_so, left_so as left_heard, heard_line, heard_lines}
 use Rattle.lock_service.proofs.GivenUp.{same_lists}
 use Rattle.lock_service.proofs.Cutting.{IsCutSo, IsNoFault, cut_empty, cut_then, cut_behind, cut_turn, within_first}
 
@@ -85,8 +85,8 @@ module _ (rings : List Standing) (old new : List LockView) (few : length rings <
           cut_turn rings old few f i v c ask at w.0 small plain made lock (most i w.0 w.1) bytes lost (e ∙ note)
 
   -- nothing is noted of an ask that is refused for lack of room or memory
-  pub want_notes : (r : Answers) → IsWant old new i ask r → note_about i old new r.ended ≡ []
-  want_notes r d =
+  pub lack_notes : (r : Answers) → IsLack old new i ask r → note_about i old new r.ended ≡ []
+  lack_notes r d =
       ap (λ (x : Option HoldEnd). end_line i x ++ events_from i (events_at (slice_get old i)) (slice_get new i)) d.none.0
       ∙ (ap (λ (x : List LockView). events_from i (events_at (slice_get old i)) (slice_get x i)) d.same ∙ past (slice_get old i))
     where
@@ -220,8 +220,8 @@ module _ (rings : List Standing) (old new : SegmentView) (few : length rings < 2
         IsLineCut rings (locks_of old.locks) (locks_of new.locks) line said bytes
     line_answer i a r q says small plain (inl d) e = line_done i a r q says small plain d e
     line_answer i a r q says small plain (inr w) e = record {
-      taken = want_so old new line client ask read i a r said says w;
-      cut = cut_empty rings old.locks [] bytes lost f (e ∙ want_notes rings old.locks new.locks few f most client i a r w);
+      taken = lack_so old new line client ask read i a r said says w;
+      cut = cut_empty rings old.locks [] bytes lost f (e ∙ lack_notes rings old.locks new.locks few f most client i a r w);
     }
 
     line_of : (strict : Bool) (a : asks.Ask) (noted : List ℕ) → seen ask ≡ a → heard a ≡ Some a → is_off false a ≡ false → bytes ++ lost ≡ noted → IsTold strict true client (one_ask a) old said noted new → IsLineCut rings (locks_of old.locks) (locks_of new.locks) line said bytes

@@ -204,13 +204,13 @@ module _ (rings : List Standing) (vs : List LockView) (few : length rings < 2 ^ 
 
   -- the lock after the end of a hold, for which nobody waits
   abbrev ended_lock : LockView
-  ended_lock = record { ring = v.ring; line = []; holder = None }
+  ended_lock = record { ring = v.ring; queue = []; holder = None }
 
   cut_midst : (call : JournalLine) (later : List JournalLine) (mid s : Standing) → slice_get rings i ≡ Some s → Chain rings (call ∷ []) (slice_set rings i mid) → Follows mid ended_lock → (bytes torn : List ℕ) → bytes ≡ lines_of (call ∷ []) ++ torn → has_line_end torn ≡ false →
-      locks_of (slice_set vs i ended_lock) ≡ locks_after ls (all_give_up i v.line ++ Asked c i ask ∷ []) → IsCutSo rings ls (Asked c i ask ∷ []) bytes
+      locks_of (slice_set vs i ended_lock) ≡ locks_after ls (all_give_up i v.queue ++ Asked c i ask ∷ []) → IsCutSo rings ls (Asked c i ask ∷ []) bytes
   cut_midst call later mid s there chain follows bytes torn is none now = record {
-    kept = all_give_up i v.line ++ Asked c i ask ∷ [];
-    kept_so = inr (record { front = []; client = c; lock = i; ask = ask; back = []; given_up = all_give_up i v.line; asked_is = refl; kept_is = refl; each = each_gives_up i v.line });
+    kept = all_give_up i v.queue ++ Asked c i ask ∷ [];
+    kept_so = inr (record { front = []; client = c; lock = i; ask = ask; back = []; given_up = all_give_up i v.queue; asked_is = refl; kept_is = refl; each = each_gives_up i v.queue });
     locks = slice_set vs i ended_lock;
     notes = lines_of (call ∷ []);
     torn = torn;
@@ -220,7 +220,7 @@ module _ (rings : List Standing) (vs : List LockView) (few : length rings < 2 ^ 
       calls = call ∷ [];
       behind = slice_set rings i mid;
       chain = chain;
-      followed = set_followed rings vs i v ended_lock s mid f at there follows (chain_right rings (slice_set rings i mid) (call ∷ []) f.right chain) (subst AreRight (sym now) (right_stays ls (all_give_up i v.line ++ Asked c i ask ∷ []) f.locks));
+      followed = set_followed rings vs i v ended_lock s mid f at there follows (chain_right rings (slice_set rings i mid) (call ∷ []) f.right chain) (subst AreRight (sym now) (right_stays ls (all_give_up i v.queue ++ Asked c i ask ∷ []) f.locks));
       lines = refl;
     };
     behind = now;

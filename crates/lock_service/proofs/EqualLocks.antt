@@ -12,8 +12,8 @@ use Rattle.held_locks.specs.declared.answers.Left.{Left}
 use Rattle.held_locks.specs.Queues.{Lock}
 use Rattle.held_locks.specs.Locks.{Ask, Leave, Mark, Call, Survey, Asked, Turn, turn, step}
 use Rattle.held_locks.specs.Promises.{locks_after, leaves}
-use Rattle.held_locks.specs.Kept.{LockView, lock_of, locks_of, ended_in, ended_at, answers_of, IsDone, IsWant, IsAnswer, IsLeft, AreMade, left_by, left_at, left_of}
-use Rattle.lock_service.specs.Asking.{IsAnswerTo, is_want}
+use Rattle.held_locks.specs.Kept.{LockView, lock_of, locks_of, ended_in, ended_at, answers_of, IsDone, IsLack, IsAnswer, IsLeft, AreMade, left_by, left_at, left_of}
+use Rattle.lock_service.specs.Asking.{IsAnswerTo, is_lack}
 use Rattle.lock_service.specs.Noting.{events_at, events_from, end_line, note_about, note_of_left, notes_of_left}
 use Rattle.lock_service.specs.Due.{is_short, has_short}
 use Rattle.lock_service.specs.Counting.{count_about, count_of_left, count_of_all}
@@ -143,18 +143,18 @@ module _ (a b c d : List LockView) (e : AreEqualLocks a b) where
     }
 
 -- nobody is refused for lack of room or memory
-want_is : (old new : List LockView) (i : ℕ) (ask : Ask) (r : Answers) → IsWant old new i ask r → is_want r.own ≡ true
-want_is old new i ask r w = elim w.why [
-  | inl f ↦ ap is_want f.0
-  | inr m ↦ ap is_want m
+lack_is : (old new : List LockView) (i : ℕ) (ask : Ask) (r : Answers) → IsLack old new i ask r → is_lack r.own ≡ true
+lack_is old new i ask r w = elim w.why [
+  | inl f ↦ ap is_lack f.0
+  | inr m ↦ ap is_lack m
 ]
 
-pub asked_done : (old new : List LockView) (c i : ℕ) (ask : Ask) (r : Answers) → IsAnswerTo old new c i ask r → is_want r.own ≡ false → IsDone old new c i ask r
+pub asked_done : (old new : List LockView) (c i : ℕ) (ask : Ask) (r : Answers) → IsAnswerTo old new c i ask r → is_lack r.own ≡ false → IsDone old new c i ask r
 asked_done old new c i ask r a given = go (as_answer old new c i ask r a)
   where
     go : IsAnswer old new c i ask r → IsDone old new c i ask r
     go (inl d) = d
-    go (inr w) = absurd (true≢false (sym (want_is old new i ask r w) ∙ given))
+    go (inr w) = absurd (true≢false (sym (lack_is old new i ask r w) ∙ given))
 
 -- ---- a client leaves
 

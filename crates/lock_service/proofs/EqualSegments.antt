@@ -10,7 +10,7 @@ use Rattle.ring_book.specs.BookView.{BookView}
 use Rattle.one_thread_ring.specs.Rings.{AreFresh}
 use Rattle.ring_model.specs.declared.bases.Base.{Base}
 use Rattle.ring_model.specs.Bases.{base_after}
-use Rattle.endless_ring.specs.Endless.{EndlessView, IsSameEndless, IsNext as IsNextRing}
+use Rattle.endless_ring.specs.Endless.{EndlessView, IsSameEndless, IsNextRing}
 use Rattle.ring_service.specs.Standings.{Standing, standing_of}
 use Rattle.held_locks.specs.Queues.{Lock}
 use Rattle.held_locks.specs.Promises.{carries}

@@ -31,7 +31,7 @@ use Rattle.lock_service.proofs.Marks.{IsSmallAsk, AreMarksOf, IsEndFirst, marks_
 pub record Follows (s : Standing) (v : LockView) : Type 0 where
   pub shadows : Shadows s v.ring
   pub hold : open_of s ≡ token_of v.holder
-  pub small : AreSmall v.line
+  pub small : AreSmall v.queue
 
 -- all of them
 pub record Followed (rings : List Standing) (vs : List LockView) : Type 0 where
@@ -96,7 +96,7 @@ turned_so rings ring s old new ls c ask few there right f locks at small made is
       follows = record {
         shadows = m.shadows;
         hold = m.open_hold ∙ (ap (λ (x : Option ℕ). open_after x t.marks) f.hold ∙ (sym (turn_shows ls ring c ask (lock_of old) locks at) ∙ ap (λ (x : Lock). token_of x.holder) (sym is)));
-        small = subst AreSmall (sym (ap (λ (x : Lock). x.line) is)) shape.small;
+        small = subst AreSmall (sym (ap (λ (x : Lock). x.queue) is)) shape.small;
       };
       tells = turn_in s m.behind (state_of old.ring) c t m.es (tells_of ls (lock_of old) c ask) (locks.each ring (lock_of old) at).ring m.told m.shown m.ends;
       lines = m.lines;
@@ -109,7 +109,7 @@ pub follows_same : (s : Standing) (old new : LockView) → Follows s old → IsS
 follows_same s old new f e is = record {
   shadows = shadows_same s old.ring new.ring f.shadows e;
   hold = f.hold ∙ ap (λ (x : Lock). token_of x.holder) (sym is);
-  small = subst AreSmall (sym (ap (λ (x : Lock). x.line) is)) f.small;
+  small = subst AreSmall (sym (ap (λ (x : Lock). x.queue) is)) f.small;
 }
 
 -- ---- lists of as many

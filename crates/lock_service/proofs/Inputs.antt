@@ -14,7 +14,7 @@ use Rattle.held_locks.specs.declared.answers.Answers.{Answers}
 use Rattle.held_locks.specs.Queues.{Lock, without, is_held_by}
 use Rattle.held_locks.specs.Locks.{Ask, Acquire, Try, Release, Cancel, Leave, Corrupt, Stats, Input, Asked, Restart, Turn, Step, turn, step, advanced, ended, dropped}
 use Rattle.held_locks.specs.Promises.{locks_after, leaves}
-use Rattle.held_locks.specs.Kept.{LockView, state_of, lock_of, locks_of, own_answer, other_grant, answers_of, IsFull, IsDone, IsWant, IsAnswer, left_by, left_at, left_of, ended_in}
+use Rattle.held_locks.specs.Kept.{LockView, state_of, lock_of, locks_of, own_answer, other_grant, answers_of, IsFull, IsDone, IsLack, IsAnswer, left_by, left_at, left_of, ended_in}
 use Rattle.held_locks.proofs.Shown.{locks_append}
 use Rattle.held_locks.proofs.AllLeft.{there_is}
 use Rattle.lock_lines.specs.Asks.{seen}
@@ -81,7 +81,7 @@ leave_answers : (ls : List Lock) (l : Lock) (c n : ℕ) → slice_get ls n ≡ S
 leave_answers ls l c n e = ap (λ (x : Step). x.answers) (step_is ls n c Leave l e)
 
 abbrev left_turn : ℕ → LockView → Bool → Turn
-left_turn c v b = if b then ended (state_of v.ring) (without c v.line) 2 [] else dropped (lock_of v) c []
+left_turn c v b = if b then ended (state_of v.ring) (without c v.queue) 2 [] else dropped (lock_of v) c []
 
 left_says : (c n : ℕ) (v : LockView) → lines_of_left (left_at c n (Some v)) ≡ text_of (about n (turn [] (lock_of v) c Leave).answers)
 left_says c n v = go (is_held_by c v.holder)
@@ -91,7 +91,7 @@ left_says c n v = go (is_held_by c v.holder)
     grants a (w ∷ line) = refl
 
     go : (b : Bool) → lines_of_left (left_by n (ended_in v.ring (left_turn c v b).marks) (left_turn c v b).lock.holder) ≡ text_of (about n (left_turn c v b).answers)
-    go true = append-nil (lines_about n (other_grant (left_turn c v true).lock.holder)) ∙ (ap (λ (x : List (ℕ × Answer)). lines_about n x) (grants (state_of v.ring) (without c v.line)) ∙ lines_are n (left_turn c v true).answers)
+    go true = append-nil (lines_about n (other_grant (left_turn c v true).lock.holder)) ∙ (ap (λ (x : List (ℕ × Answer)). lines_about n x) (grants (state_of v.ring) (without c v.queue)) ∙ lines_are n (left_turn c v true).answers)
     go false = refl
 
 pub says_left : (old : List LockView) (c n : ℕ) → n ≤ length old → lines_of_left (left_of c old n) ≡ text_of (tellings (locks_of old) (leaves c n))
@@ -133,8 +133,8 @@ module _ (old new : SegmentView) (line : List ℕ) where
       locks = d.locks;
     }
 
-    abbrev pub want_so : (i : ℕ) (a : Ask) (r : Answers) (said : List ℕ) → said ≡ lines_about i (answers_of client r) → IsWant old.locks new.locks i a r → IsHeardSo ls (locks_of new.locks) line said
-    want_so i a r said says w = record {
+    abbrev pub lack_so : (i : ℕ) (a : Ask) (r : Answers) (said : List ℕ) → said ≡ lines_about i (answers_of client r) → IsLack old.locks new.locks i a r → IsHeardSo ls (locks_of new.locks) line said
+    lack_so i a r said says w = record {
       inputs = [];
       heard = inr (subst (IsNoAnswer line) (sym says) (wanted line old.locks i a client r w.none.1 w.why), refl);
       locks = ap locks_of w.same;
@@ -142,7 +142,7 @@ module _ (old new : SegmentView) (line : List ℕ) where
 
     answer_so : (i : ℕ) (a : Ask) (r : Answers) (said : List ℕ) → one_ask (seen ask) ≡ Some (i, a) → said ≡ lines_about i (answers_of client r) → IsAnswer old.locks new.locks client i a r → IsHeardSo ls (locks_of new.locks) line said
     answer_so i a r said q says (inl d) = done i a r said q says d
-    answer_so i a r said q says (inr w) = want_so i a r said says w
+    answer_so i a r said q says (inr w) = lack_so i a r said says w
 
     answer_to : (i : ℕ) (a : Ask) (r : Answers) (said : List ℕ) → one_ask (seen ask) ≡ Some (i, a) → said ≡ lines_about i (answers_of client r) → IsAnswerTo old.locks new.locks client i a r → IsHeardSo ls (locks_of new.locks) line said
     answer_to i (Acquire order) r said q says d = answer_so i (Acquire order) r said q says d

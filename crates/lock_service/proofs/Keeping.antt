@@ -7,7 +7,7 @@ use Rattle.std.proofs.lemmas.Grind.{flat_map-append}
 use Rattle.ring_model.specs.History.{opening}
 use Rattle.ring_model.specs.declared.events.Event.{Event}
 use Rattle.journal.specs.declared.calls.JournalLine.{JournalLine}
-use Rattle.journal.specs.Spelling.{journal_line, head_text}
+use Rattle.journal.specs.Spelling.{journal_line, journal_head}
 use Rattle.journal.specs.Recovery.{IsRecovered}
 use Rattle.endless_ring.specs.Endless.{EndlessView}
 use Rattle.ring_service.specs.Standings.{Standing, standing_of}
@@ -93,7 +93,7 @@ goes_on old new told rings calls f right chain gone es m i v e at there =
 pub nothing_told_is_lost : NothingToldIsLost
 nothing_told_is_lost terms old mid new entries told untold said noted unsaid notes kept lost begun a b k whole front =
     let rings : List Standing = rings_of old.locks in
-    let head : List ℕ = head_text (content_of rings) in
+    let head : List ℕ = journal_head (content_of rings) in
     let few : length rings < 2 ^ 32 = begun_few old.locks begun in
     let all : AllByRecursion IsRight rings = begun_right old.locks begun in
     let most : AreBounded new.locks = kept_bounded new.locks entries k in

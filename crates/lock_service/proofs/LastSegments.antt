@@ -37,7 +37,7 @@ use Rattle.ring_model.specs.declared.events.Event.{Event}
 use Rattle.ring_model.specs.Bases.{shifted}
 use Rattle.held_locks.specs.Locks.{Call}
 use Rattle.held_locks.specs.Promises.{open_after}
-use Rattle.held_locks.specs.Opened.{open_in, holder_behind, ended_before}
+use Rattle.held_locks.specs.Opened.{open_in, holder_after, ended_before}
 use Rattle.held_locks.specs.Kept.{LockView, IsKeptRing}
 use Rattle.held_locks.specs.Handed.{AreHanded}
 use Rattle.lock_folder.specs.Lists.{Listed}
@@ -140,7 +140,7 @@ new_behind bs ss ls vs n size rings b = all_behind vs n IsNew is_new
         let no_base : slice_get bs i ≡ None = slice_get_past bs i (omega (arith, size, le)) in
         let no_ring : slice_get ss i ≡ None = slice_get_past ss i (omega (arith, rings, le)) in
         let fresh : IsRingOf None None l.0 k.0 = subst (λ (o : Option Base). IsRingOf o None l.0 k.0) no_base (subst (λ (o : Option SavedRing). IsRingOf (slice_get bs i) o l.0 k.0) no_ring k.1) in
-        (k.2.line, k.2.holder ∙ ap (λ (t : Option ℕ). holder_behind t) (none_open k.0 fresh.history))
+        (k.2.queue, k.2.holder ∙ ap (λ (t : Option ℕ). holder_after t) (none_open k.0 fresh.history))
 
 -- locks start there, before a hold is handed over
 record IsThere (number : ℕ) (behind : List ℕ) (start : List LockView) (kept : List ℕ) (p : Place) : Type 0 where

@@ -4,7 +4,7 @@ use Rattle.std.specs.Prelude.{if◌then◌else◌}
 use Rattle.std.specs.List.{AllByRecursion}
 use Rattle.std.proofs.lemmas.List.{append-nil, append_cancel_left}
 use Rattle.saved_history.specs.Content.{Content}
-use Rattle.journal.specs.Spelling.{head_text}
+use Rattle.journal.specs.Spelling.{journal_head}
 use Rattle.journal.specs.Recovery.{IsRecovered}
 use Rattle.journal.proofs.Cutting.{one_recovered}
 use Rattle.ring_service.specs.Standings.{Standing}
@@ -42,7 +42,7 @@ module _ (s : Stage) (k : IsStage s) where
   rings = rings_of s.start.locks
 
   abbrev head : List ℕ
-  head = head_text (content_of rings)
+  head = journal_head (content_of rings)
 
   few : length rings < 2 ^ 32
   few = begun_few s.start.locks k.begun
@@ -60,11 +60,11 @@ module _ (s : Stage) (k : IsStage s) where
       let extra : List ℕ = k.has_told.0 in
       let one = noted_lines s.terms rings s.start s.mid s.told k.said k.noted few (followed_begun s.start.locks k.begun) k.answered.noting k.answered.answers (bounded_all s.terms s.mid s.end s.untold k.unsaid k.notes k.more.answers most) in
       let size : length one.notes.behind ≡ length rings = chain_many rings one.notes.behind one.notes.calls one.notes.chain in
-      let few_behind : length one.notes.behind < 2 ^ 32 = omega (arith, few, size) in
+      let few_after : length one.notes.behind < 2 ^ 32 = omega (arith, few, size) in
       let after : extra ++ lost ≡ k.notes = append_cancel_left (head ++ k.noted) (extra ++ lost) k.notes
       (sym (append_assoc (head ++ k.noted) extra lost) ∙ (ap (λ (u : List ℕ). u ++ lost) (sym k.has_told.1) ∙ (sym k.no_more.1 ∙ sym (append_assoc head k.noted k.notes)))) in
       let h = heard_lines s.terms s.start s.mid s.told k.said k.noted k.answered.answers in
-      let c = cut_lines s.terms one.notes.behind s.mid s.end s.untold k.unsaid k.notes few_behind one.notes.followed k.more.noting k.plain k.more.answers most extra lost after in
+      let c = cut_lines s.terms one.notes.behind s.mid s.end s.untold k.unsaid k.notes few_after one.notes.followed k.more.noting k.plain k.more.answers most extra lost after in
       let w = cut_behind rings ls s.mid.locks h.inputs c.taken.inputs k.noted extra (k.noted ++ extra) one.notes h.locks c.cut refl in
       let n : IsNotedSo rings w.locks w.notes = w.noted in
       let text : s.journal ≡ head ++ (lines_of n.calls ++ w.torn) =

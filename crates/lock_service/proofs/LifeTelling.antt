@@ -19,7 +19,7 @@ use Rattle.lock_service.specs.declared.service.LockService.{LockService}
 use Rattle.lock_service.specs.Serving.{IsServed}
 use Rattle.lock_service.specs.KeysBack.{IsKept, IsRunning, IsSound}
 use Rattle.lock_service.proofs.Heard.{IsReadSo, read_so}
-use Rattle.lock_service.proofs.SoundKeys.{inserted, taken_out, runs_on, at_digest, next_fits, key_is_line, place_is_line, none_or_behind}
+use Rattle.lock_service.proofs.SoundKeys.{inserted, taken_out, runs_on, at_digest, next_fits, key_is_line, place_is_line, none_or_after}
 use Rattle.lock_service.proofs.WithoutRemarks.{lines_bring}
 
 -- the line of each key is one, and the running digest can be written
@@ -41,7 +41,7 @@ pub own_are_lines : (r : Replica LockService) → CanTell r → AllByRecursion I
 own_are_lines r t = go r.numbered.keys t.keys
   where
     go : (es : Table) → AreKeyLines es → AllByRecursion IsLine (key_lines es ++ lines_at r.running.place r.running.since)
-    go [] all = place_is_line r.running.place r.running.since (none_or_behind r.running t.running)
+    go [] all = place_is_line r.running.place r.running.since (none_or_after r.running t.running)
     go (e ∷ es) all = (all.0, go es all.1)
 
 pub same_tells : (old new : Replica LockService) → CanTell old → new.numbered.keys ≡ old.numbered.keys → new.running ≡ old.running → CanTell new

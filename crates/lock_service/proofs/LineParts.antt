@@ -15,9 +15,9 @@ pub line_more : (b : ℕ) (line : List ℕ) → b ≢ 10 → IsLine line → IsL
 line_more b [] ne is = absurd is
 line_more b (c ∷ cs) ne is = (ne, is)
 
-pub line_behind : (front line : List ℕ) → HasNoEnd front → IsLine line → IsLine (front ++ line)
-line_behind [] line none is = is
-line_behind (b ∷ bs) line none is = line_more b (bs ++ line) none.0 (line_behind bs line none.1 is)
+pub line_after : (front line : List ℕ) → HasNoEnd front → IsLine line → IsLine (front ++ line)
+line_after [] line none is = is
+line_after (b ∷ bs) line none is = line_more b (bs ++ line) none.0 (line_after bs line none.1 is)
 
 -- what follows a part of a line is a line, or nothing
 pub line_rest : (front : List ℕ) (b : ℕ) (bs : List ℕ) → IsLine (front ++ b ∷ bs) → IsLine (b ∷ bs)

@@ -31,7 +31,7 @@ use Rattle.held_locks.specs.declared.answers.Left.{Left}
 use Rattle.held_locks.specs.Queues.{Lock, without, is_held_by}
 use Rattle.held_locks.specs.Locks.{Ask, Acquire, Try, Release, Cancel, Leave, Corrupt, Stats, Mark, Asked, Turn, Step, turn, step, step_at, advanced, ended, dropped}
 use Rattle.held_locks.specs.Promises.{AreRight, locks_after, leaves}
-use Rattle.held_locks.specs.Kept.{LockView, state_of, lock_of, locks_of, AreMade, ended_in, ended_at, own_answer, other_grant, answers_of, IsFull, IsDone, IsWant, IsAnswer, IsLeft, left_by, left_at, left_of}
+use Rattle.held_locks.specs.Kept.{LockView, state_of, lock_of, locks_of, AreMade, ended_in, ended_at, own_answer, other_grant, answers_of, IsFull, IsDone, IsLack, IsAnswer, IsLeft, left_by, left_at, left_of}
 use Rattle.held_locks.proofs.Calls.{same_itself}
 use Rattle.held_locks.proofs.Right.{right_step, right_stays}
 use Rattle.held_locks.proofs.Shown.{locks_append}
@@ -203,8 +203,8 @@ module _ (rings : List Standing) (old new : List LockView) (few : length rings <
       go None e = noted_none r d e
       go (Some v) e = noted_one v r d e small
 
-  noted_want : (r : Answers) → IsWant old new i ask r → IsLineSo rings new (lines_about i (answers_of c r)) (note_about i old new r.ended)
-  noted_want r d =
+  noted_lack : (r : Answers) → IsLack old new i ask r → IsLineSo rings new (lines_about i (answers_of c r)) (note_about i old new r.ended)
+  noted_lack r d =
       let note : note_about i old new r.ended ≡ [] = ap (λ (x : Option HoldEnd). end_line i x ++ events_from i (events_at (slice_get old i)) (slice_get new i)) d.none.0 ∙ go (slice_get old i) (slice_get new i) refl refl in
       let unchanged : IsNotedSo rings new [] = nothing_new rings old new f still in
       subst (λ (x : List ℕ). IsLineSo rings new (lines_about i (answers_of c r)) x) (sym note) (record { noted = unchanged; told = wanted unchanged.behind d.why })
@@ -229,7 +229,7 @@ module _ (rings : List Standing) (old new : List LockView) (few : length rings <
 
   noted_answer : (r : Answers) → IsAnswer old new c i ask r → IsSmallAsk ask → IsLineSo rings new (lines_about i (answers_of c r)) (note_about i old new r.ended)
   noted_answer r (inl d) small = noted_done r d small
-  noted_answer r (inr d) small = noted_want r d
+  noted_answer r (inr d) small = noted_lack r d
 
 -- an ask is answered
 pub noted_ask : (rings : List Standing) (old new : List LockView) → length rings < 2 ^ 32 → Followed rings old → AreBounded new → (c i : ℕ) (ask : Ask) (r : Answers) → IsAnswerTo old new c i ask r → IsSmallAsk ask → IsLineSo rings new (lines_about i (answers_of c r)) (note_about i old new r.ended)
@@ -275,7 +275,7 @@ left_many xs c (suc m) =
 
 -- the turn of a leave, of a client that holds the lock or does not
 abbrev pub left_turn : ℕ → LockView → Bool → Turn
-left_turn c v b = if b then ended (state_of v.ring) (without c v.line) 2 [] else dropped (lock_of v) c []
+left_turn c v b = if b then ended (state_of v.ring) (without c v.queue) 2 [] else dropped (lock_of v) c []
 
 -- what is noted of one lock
 pub left_note : (c n : ℕ) (v w : LockView) (new : List LockView) → slice_get new n ≡ Some w → AreMade v.ring (turn [] (lock_of v) c Leave).marks w.ring →
@@ -343,7 +343,7 @@ said_of rings behind c n v all = go (is_held_by c v.holder) all
     go : (b : Bool) → AllByRecursion (λ (t : Telling). IsToldIn rings behind t.lock t.said) (tellings_of n (left_turn c v b).answers) → AreLinesOf rings behind (left_by n (ended_in v.ring (left_turn c v b).marks) (left_turn c v b).lock.holder)
     go true all = record {
       tellings = tellings_of n (left_turn c v true).answers;
-      text = append-nil (lines_about n (other_grant (left_turn c v true).lock.holder)) ∙ (ap (λ (x : List (ℕ × Answer)). lines_about n x) (grants (state_of v.ring) (without c v.line)) ∙ lines_are n (left_turn c v true).answers);
+      text = append-nil (lines_about n (other_grant (left_turn c v true).lock.holder)) ∙ (ap (λ (x : List (ℕ × Answer)). lines_about n x) (grants (state_of v.ring) (without c v.queue)) ∙ lines_are n (left_turn c v true).answers);
       each = all;
     }
     go false all = record { tellings = []; text = refl; each = tt }

@@ -69,13 +69,13 @@ small_without c (w ∷ line) s = small_kept (not (w.client == c)) w (without c l
 -- the marks of a turn, and the clients that wait after it
 pub record AreMarksOf (t : Turn) : Type 0 where
   pub marks : AreMarks t.marks
-  pub small : AreSmall t.lock.line
+  pub small : AreSmall t.lock.queue
 
 advanced_calls : (a : State ℕ) (line : List Waiter) → AreSmall line → AreCalls (advanced a line).marks
 advanced_calls a [] s = tt
 advanced_calls a (w ∷ line) s = (omega arith, s.0, tt)
 
-advanced_small : (a : State ℕ) (line : List Waiter) → AreSmall line → AreSmall (advanced a line).lock.line
+advanced_small : (a : State ℕ) (line : List Waiter) → AreSmall line → AreSmall (advanced a line).lock.queue
 advanced_small a [] s = tt
 advanced_small a (w ∷ line) s = s.1
 
@@ -91,20 +91,20 @@ asking_small : (ask : Ask) (order : ℕ) → IsAsking ask order → IsSmallAsk a
 asking_small ask order (Acquires e) s = subst IsSmallAsk e s
 asking_small ask order (Tries e) s = subst IsSmallAsk e s
 
-end_seat : (l : Lock) (c : ℕ) (ask : Ask) (seat : ℕ) (h : Holder) (line : List Waiter) (answers : List (ℕ × Answer)) → IsEnd l c h ask seat line answers → ((seat ≡ 1) ⊎ (seat ≡ 2)) × (AreSmall l.line → AreSmall line)
+end_seat : (l : Lock) (c : ℕ) (ask : Ask) (seat : ℕ) (h : Holder) (line : List Waiter) (answers : List (ℕ × Answer)) → IsEnd l c h ask seat line answers → ((seat ≡ 1) ⊎ (seat ≡ 2)) × (AreSmall l.queue → AreSmall line)
 end_seat l c ask seat h line answers (Released a b e f) = (inl b, λ s. subst AreSmall (sym e) s)
-end_seat l c ask seat h line answers (Left a b e f) = (inr b, λ s. subst AreSmall (sym e) (small_without c l.line s))
+end_seat l c ask seat h line answers (Left a b e f) = (inr b, λ s. subst AreSmall (sym e) (small_without c l.queue s))
 
-pub marks_of_move : (ls : List Lock) (l : Lock) (c : ℕ) (ask : Ask) (t : Turn) → Move ls l c ask t → IsSmallAsk ask → AreSmall l.line → AreMarksOf t
+pub marks_of_move : (ls : List Lock) (l : Lock) (c : ℕ) (ask : Ask) (t : Turn) → Move ls l c ask t → IsSmallAsk ask → AreSmall l.queue → AreMarksOf t
 marks_of_move ls l c ask t (Stays a q leave e) small s = subst AreMarksOf (sym e) (record { marks = Calls tt; small = s })
 marks_of_move ls l c ask t (Waits order h a held other free back e) small s =
-    subst AreMarksOf (sym e) (record { marks = Calls tt; small = small_append l.line (record { client = c; order = order }) s (subst IsSmallAsk a small) })
+    subst AreMarksOf (sym e) (record { marks = Calls tt; small = small_append l.queue (record { client = c; order = order }) s (subst IsSmallAsk a small) })
 marks_of_move ls l c ask t (Gets order asking a e) small s =
     subst AreMarksOf (sym e) (record { marks = Calls (omega arith, asking_small ask order asking small, tt); small = s })
 marks_of_move ls l c ask t (Ends h seat line answers held own is e) small s =
     let k = end_seat l c ask seat h line answers is in
     subst AreMarksOf (sym e) (record { marks = EndsFirst seat (advanced l.ring line).marks refl k.0 (advanced_calls l.ring line (k.1 s)); small = advanced_small l.ring line (k.1 s) })
-marks_of_move ls l c ask t (Drops answers is e) small s = subst AreMarksOf (sym e) (record { marks = Calls tt; small = small_without c l.line s })
+marks_of_move ls l c ask t (Drops answers is e) small s = subst AreMarksOf (sym e) (record { marks = Calls tt; small = small_without c l.queue s })
 marks_of_move ls l c ask t (Faults i v a lt lk e) small s =
     subst AreMarksOf (sym e) (record { marks = Calls (omega arith, tt, repairs_calls (most_passes (length l.ring.ring.values)) (next till l.ring (op.Corrupt i v))); small = s })
 

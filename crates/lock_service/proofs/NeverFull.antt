@@ -6,7 +6,7 @@ use Rattle.held_locks.specs.declared.answers.Answer.TheVariants as answer
 use Rattle.held_locks.specs.declared.answers.Refusal.TheVariants as refusal
 use Rattle.held_locks.specs.Locks.{Ask, Acquire, Try, Release, Cancel, Leave, Corrupt, Stats}
 use Rattle.held_locks.specs.Kept.{LockView, IsKeptLock, need}
-use Rattle.lock_service.specs.Asking.{is_want}
+use Rattle.lock_service.specs.Asking.{is_lack}
 use Rattle.lock_service.specs.Due.{is_short, is_short_at, NoAskIsRefusedFull}
 use Rattle.lock_service.proofs.Short.{none_at}
 use Rattle.lock_service.proofs.Lacks.{done_not}
@@ -21,7 +21,7 @@ module _ (v : LockView) (kept : IsKeptLock v) (room : is_short v ≡ false) wher
       two : 2 ≤ length v.ring.ring.book.now.ring.values
       two = kept.ring.endless.ring.book.now_ring.ring.two
 
-      most : (a : Ask) → need v a ≤ length v.line + (machine_limit + 1)
+      most : (a : Ask) → need v a ≤ length v.queue + (machine_limit + 1)
       most (Corrupt machine value) = let s = size in let t = two in omega (arith, s, t)
       most (Acquire order) = omega arith
       most (Try order) = omega arith
@@ -30,14 +30,14 @@ module _ (v : LockView) (kept : IsKeptLock v) (room : is_short v ≡ false) wher
       most Leave = omega arith
       most Stats = omega arith
 
-      over : need v ask ≤ length v.line + (machine_limit + 1) → ⊥
-      over m = let few = ltb-false event_limit (length v.ring.ring.book.history + (length v.line + (machine_limit + 1))) room in omega (arith, l, m, few)
+      over : need v ask ≤ length v.queue + (machine_limit + 1) → ⊥
+      over m = let few = ltb-false event_limit (length v.ring.ring.book.history + (length v.queue + (machine_limit + 1))) room in omega (arith, l, m, few)
 
 other_why : Some (answer.Refused refusal.Memory) ≡ Some (answer.Refused refusal.Full) → ⊥
 other_why e = cc
 
 pub never_full : NoAskIsRefusedFull
-never_full old new c i ask r kept none (inl d) = λ e. done_not old new c i ask r d (ap is_want e)
+never_full old new c i ask r kept none (inl d) = λ e. done_not old new c i ask r d (ap is_lack e)
 never_full old new c i ask r kept none (inr w) = λ e. elim w.why [
   | inl f ↦
       let v = f.1.0 in

@@ -20,7 +20,7 @@ use Rattle.lock_service.specs.declared.service.Terms.{Terms}
 use Rattle.lock_service.specs.Counting.{SegmentView}
 use Rattle.lock_service.specs.Serving.{IsServed}
 use Rattle.lock_service.specs.Begun.{HaveBegun, AreAnswered}
-use Rattle.lock_service.specs.Around.{AreToldAround, AreToldBehind}
+use Rattle.lock_service.specs.Around.{AreToldAround, AreToldAfter}
 use Rattle.lock_service.specs.Runs.{Service, answering, inside, others_of}
 use Rattle.lock_service.proofs.Longer.{served_lines_are_answered, answered_lines_follow}
 use Rattle.lock_service.proofs.WholeTexts.{of_both}
@@ -56,11 +56,11 @@ around_then numbers (x ∷ xs) ys said later told more a b = (
   around_then (numbers_after (heard x) numbers) xs ys a.2 later a.3 more a.7 b,
 )
 
-pub behind_then : (xs ys : List (List ℕ)) (said later told more : List ℕ) → AreToldBehind xs said told → AreToldBehind ys later more → AreToldBehind (xs ++ ys) (said ++ later) (told ++ more)
-behind_then [] ys said later told more a b =
-    subst (λ (u : List ℕ). AreToldBehind ys (u ++ later) (told ++ more)) (sym a.0)
-    (subst (λ (u : List ℕ). AreToldBehind ys later (u ++ more)) (sym a.1) b)
-behind_then (x ∷ xs) ys said later told more a b = (
+pub after_then : (xs ys : List (List ℕ)) (said later told more : List ℕ) → AreToldAfter xs said told → AreToldAfter ys later more → AreToldAfter (xs ++ ys) (said ++ later) (told ++ more)
+after_then [] ys said later told more a b =
+    subst (λ (u : List ℕ). AreToldAfter ys (u ++ later) (told ++ more)) (sym a.0)
+    (subst (λ (u : List ℕ). AreToldAfter ys later (u ++ more)) (sym a.1) b)
+after_then (x ∷ xs) ys said later told more a b = (
   a.0,
   a.1,
   a.2 ++ later,
@@ -68,7 +68,7 @@ behind_then (x ∷ xs) ys said later told more a b = (
   ap (λ (u : List ℕ). u ++ later) a.4 ∙ append_assoc a.0 a.2 later,
   ap (λ (u : List ℕ). u ++ more) a.5 ∙ append_assoc a.1 a.3 more,
   a.6,
-  behind_then xs ys a.2 later a.3 more a.7 b,
+  after_then xs ys a.2 later a.3 more a.7 b,
 )
 
 keys_all : (old new : Replica LockService) (was is : Option Held) (lines : List (List ℕ)) (said noted : List ℕ) → AllByRecursion IsLine lines → Answers (by_stand (IsReplied IsServed)) (stand old was) lines said noted (stand new is) → new.lost ≡ false →
@@ -94,7 +94,7 @@ each_other (line ∷ lines) all = kept_if (is_state line) line (others_of lines)
 -- what the replica said of them, and the locks inside
 pub record IsPartSo (old new : Service) (was is : Option Held) (lines : List (List ℕ)) (said noted : List ℕ) : Type 0 where
   pub replied : List ℕ
-  pub behind : AreToldBehind lines said replied
+  pub behind : AreToldAfter lines said replied
   pub taken : AreTakenSo (numbers_of old.inner.numbered.keys) (stand (inside old) was) (stand (inside new) is) (others_of lines) replied noted
   pub numbers : numbers_of new.inner.numbered.keys ≡ numbers_all (numbers_of old.inner.numbered.keys) (others_of lines)
   pub answered : AreAnswered (inside old).terms (inside old).segment (given (numbers_of old.inner.numbered.keys) (others_of lines)) taken.told taken.inside (inside new).segment

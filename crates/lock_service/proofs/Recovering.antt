@@ -13,7 +13,7 @@ use Rattle.ring_model.specs.declared.events.Entry.TheVariants as entry
 use Rattle.saved_history.specs.Versions.{latest_version}
 use Rattle.saved_history.specs.Spelling.{Fits}
 use Rattle.journal.specs.declared.calls.JournalLine.{JournalLine}
-use Rattle.journal.specs.Spelling.{JournalLineFits, head_text}
+use Rattle.journal.specs.Spelling.{JournalLineFits, journal_head}
 use Rattle.journal.specs.Recovery.{has_line_end, IsRecovered}
 use Rattle.endless_ring.specs.Endless.{EndlessView}
 use Rattle.ring_service.specs.Standings.{Standing, standing_of}
@@ -102,13 +102,13 @@ kept_bounded vs entries k i v e = let most = (k.each i v e).ring.endless.ring.bo
 -- ---- what is recovered of a beginning, calls, and a tail in which no line ends
 
 pub recovered_of : (old new : List Standing) (calls : List JournalLine) (tail : List ℕ) → AllByRecursion IsRight old → Fits (content_of old) → Chain old calls new → has_line_end tail ≡ false →
-    IsRecovered (head_text (content_of old) ++ (lines_of calls ++ tail)) (content_of new)
+    IsRecovered (journal_head (content_of old) ++ (lines_of calls ++ tail)) (content_of new)
 recovered_of old new calls tail all fits chain none =
     let no_more : calls ++ [] ≡ calls = append-nil calls in
-    let whole : IsRecovered ((head_text (content_of old) ++ lines_of (calls ++ [])) ++ tail) (content_of new) = is_recovered old new calls [] tail all fits (chain_stands old [] old new calls (begins old all) chain) refl
+    let whole : IsRecovered ((journal_head (content_of old) ++ lines_of (calls ++ [])) ++ tail) (content_of new) = is_recovered old new calls [] tail all fits (chain_stands old [] old new calls (begins old all) chain) refl
     (subst (λ (x : List JournalLine). AllByRecursion (JournalLineFits latest_version (length old)) x) (sym no_more) (chain_fits old new calls chain)) none in
-    let text : (head_text (content_of old) ++ lines_of (calls ++ [])) ++ tail ≡ head_text (content_of old) ++ (lines_of calls ++ tail) =
-    ap (λ (x : List JournalLine). (head_text (content_of old) ++ lines_of x) ++ tail) no_more ∙ append_assoc (head_text (content_of old)) (lines_of calls) tail in
+    let text : (journal_head (content_of old) ++ lines_of (calls ++ [])) ++ tail ≡ journal_head (content_of old) ++ (lines_of calls ++ tail) =
+    ap (λ (x : List JournalLine). (journal_head (content_of old) ++ lines_of x) ++ tail) no_more ∙ append_assoc (journal_head (content_of old)) (lines_of calls) tail in
     subst (λ (x : List ℕ). IsRecovered x (content_of new)) text whole
 
 -- ---- how far bytes reach

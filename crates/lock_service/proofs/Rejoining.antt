@@ -43,7 +43,7 @@ no_way_round ls c steps end back = never ls c steps back end.0 end.0 (omega arit
 
 -- each has the same holder, and the clients in its line are in the other's
 abbrev pub ArePart : List Lock → List Lock → Type 0
-ArePart ms ls = (i : ℕ) (m : Lock) → slice_get ms i ≡ Some m → (l : Lock) × (slice_get ls i ≡ Some l) × (m.holder ≡ l.holder) × ((c : ℕ) → stands c m.line ≡ true → stands c l.line ≡ true)
+ArePart ms ls = (i : ℕ) (m : Lock) → slice_get ms i ≡ Some m → (l : Lock) × (slice_get ls i ≡ Some l) × (m.holder ≡ l.holder) × ((c : ℕ) → stands c m.queue ≡ true → stands c l.queue ≡ true)
 
 module _ (ls ms : List Lock) (right : AreRight ls) (part : ArePart ms ls) where
   -- a client that waits for somebody in the part does so in the whole
@@ -95,9 +95,9 @@ is_held c None e = absurd cc
 is_held c (Some h) e = ap (λ (x : ℕ). Some x) (eqb-true h.client c e)
 
 module _ (ls ms : List Lock) (right : AreRight ls) (also : AreRight ms) (part : ArePart ms ls) (i : ℕ) (l m : Lock) (at : slice_get ls i ≡ Some l) (here : slice_get ms i ≡ Some m)
-    (w : Waiter) (back : List Waiter) (line : l.line ≡ m.line ++ w ∷ back) (held : m.holder ≡ l.holder) where
-  waits : stands w.client l.line ≡ true
-  waits = subst (λ (u : List Waiter). stands w.client u ≡ true) (sym line) (stands_there m.line w back)
+    (w : Waiter) (back : List Waiter) (line : l.queue ≡ m.queue ++ w ∷ back) (held : m.holder ≡ l.holder) where
+  waits : stands w.client l.queue ≡ true
+  waits = subst (λ (u : List Waiter). stands w.client u ≡ true) (sym line) (stands_there m.queue w back)
 
   whom_is : whom ls w.client ≡ client_of m.holder
   whom_is = ap holder_of (waits_there ls w.client i l right.once at waits) ∙ ap client_of (sym held)
@@ -110,12 +110,12 @@ module _ (ls ms : List Lock) (right : AreRight ls) (also : AreRight ms) (part : 
   no_holder = none_true (is_held_by w.client m.holder) (λ e. no_way_round ls w.client 0 (right.ends w.client) (comes_none (whom ls w.client) (whom_is ∙ is_held w.client m.holder e)))
 
   nowhere : waits_for ms w.client ≡ None
-  nowhere = nowhere_waits ms w.client (λ j x f. none_true (stands w.client x.line) (λ s.
+  nowhere = nowhere_waits ms w.client (λ j x f. none_true (stands w.client x.queue) (λ s.
       let y = part j x f in
       let same : i ≡ j = right.once w.client i j l y.0 at y.1 waits (y.3 w.client s) in
       let is : x ≡ m = some_is x m (sym f ∙ ap (λ (k : ℕ). slice_get ms k) (sym same) ∙ here) in
-      let apart : AreApart (m.line ++ w ∷ back) = subst (λ (u : List Waiter). AreApart u) line (right.each i l at).apart in
-      both_ways (stands w.client m.line) (not_before m.line w back apart) (subst (λ (z : Lock). stands w.client z.line ≡ true) is s)))
+      let apart : AreApart (m.queue ++ w ∷ back) = subst (λ (u : List Waiter). AreApart u) line (right.each i l at).apart in
+      both_ways (stands w.client m.queue) (not_before m.queue w back apart) (subst (λ (z : Lock). stands w.client z.queue ≡ true) is s)))
 
   no_circle : comes_to (length ms) ms w.client (client_of m.holder) ≡ false
   no_circle = none_true (comes_to (length ms) ms w.client (client_of m.holder)) (λ e.
@@ -130,12 +130,12 @@ module _ (ls ms : List Lock) (right : AreRight ls) (also : AreRight ms) (part : 
   some_holder : (h : Option Holder) → l.holder ≡ h → (x : Holder) × (h ≡ Some x)
   some_holder (Some x) e = (x, refl)
   some_holder None e =
-      let none : m.line ++ w ∷ back ≡ [] = sym line ∙ (right.each i l at).held e in
-      absurd (not_empty m.line w back none)
+      let none : m.queue ++ w ∷ back ≡ [] = sym line ∙ (right.each i l at).held e in
+      absurd (not_empty m.queue w back none)
 
   -- and waits again, after those who wait
   pub waits_again : turn ms m w.client (Acquire w.order)
-      ≡ record { lock = record m { line = m.line ++ w ∷ [] }; marks = []; answers = (w.client, answer.Waiting (length m.line)) ∷ [] }
+      ≡ record { lock = record m { queue = m.queue ++ w ∷ [] }; marks = []; answers = (w.client, answer.Waiting (length m.queue)) ∷ [] }
   waits_again =
       let h = some_holder l.holder refl in
       ap (λ (x : Option Refusal). acquired m w x) not_refused ∙ ap (λ (x : Option Holder). joined m w x) (held ∙ h.1)

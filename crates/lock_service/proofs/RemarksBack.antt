@@ -36,7 +36,7 @@ use Rattle.lock_service.proofs.Heard.{IsOfKey, IsReadSo, read_so}
 use Rattle.lock_service.proofs.KeyLines.{key_tagged, spaced_short, first_digits}
 use Rattle.lock_service.proofs.KeysBack.{key_line_told, place_line_told, same_running, keys_come_back}
 use Rattle.lock_service.proofs.Longer.{served_lines_are_answered}
-use Rattle.lock_service.proofs.SoundKeys.{text_kept, did_is, own_kept, next_fits, grown_behind, sound_stays, own_lines_are_lines}
+use Rattle.lock_service.proofs.SoundKeys.{text_kept, did_is, own_kept, next_fits, grown_after, sound_stays, own_lines_are_lines}
 use Rattle.lock_service.proofs.WholeTexts.{notes_of_lines}
 use Rattle.lock_service.proofs.WithoutRemarks.{lines_bring, all_end_once, parts, begun_ends, begun_no_hash, no_hash_noted}
 
@@ -72,7 +72,7 @@ take_told since said digest told long e = first_digits digest (told ++ said) lon
 pub last_stays : (r : RunningView) (said : List ℕ) → IsRunning r → at_last (with_said r said) ≡ at_last r
 last_stays r said (inl fresh) = subst (λ (v : RunningView). at_last (with_said v said) ≡ at_last v) (sym fresh) refl
 last_stays r said (inr b) =
-    ap (at_place r.place) (ap (take digest_digits) (grown_behind r.since b.digest b.told said b.digits.long b.since) ∙ take_told r.since said b.digest b.told b.digits.long b.since)
+    ap (at_place r.place) (ap (take digest_digits) (grown_after r.since b.digest b.told said b.digits.long b.since) ∙ take_told r.since said b.digest b.told b.digits.long b.since)
 
 last_place : (place : ℕ) (digest : List ℕ) → DigestFits digest → at_last (at_place place digest) ≡ at_place place digest
 last_place place digest fits = ap (at_place place) (ap (take digest_digits) (sym (append-nil digest)) ∙ first_digits digest [] fits.long)

@@ -24,7 +24,7 @@ use Rattle.one_thread_ring.specs.Resuming.{CanGoOnWith}
 use Rattle.ring_service.proofs.Legality.{right_block}
 use Rattle.one_thread_ring.specs.SavedOf.{saved_for, saved_event, entry_surveys}
 use Rattle.journal.specs.ContentAfter.{is_of}
-use Rattle.journal.specs.Spelling.{head_text}
+use Rattle.journal.specs.Spelling.{journal_head}
 use Rattle.journal.specs.Recovery.{IsRecovered}
 use Rattle.ring_model.specs.declared.bases.Base.{Base}
 use Rattle.ring_model.specs.Bases.{shifted}
@@ -43,7 +43,7 @@ use Rattle.held_locks.specs.Queues.{Lock}
 use Rattle.held_locks.specs.Locks.{Call, restarted}
 use Rattle.held_locks.specs.Promises.{IsRightLock, token_of, open_after}
 use Rattle.held_locks.specs.Kept.{seat_count, LockView, state_of, lock_of, locks_of, AreMade}
-use Rattle.held_locks.specs.Opened.{last_survey, later, open_in, holder_behind}
+use Rattle.held_locks.specs.Opened.{last_survey, later, open_in, holder_after}
 use Rattle.held_locks.proofs.Calls.{made_state, repairs_none}
 use Rattle.ring_service.specs.Segments.{bases_of}
 use Rattle.lock_service.specs.Segments.{rings_of}
@@ -109,7 +109,7 @@ pub record Returns (s : Standing) (before : Base) (v : LockView) : Type 0 where
   pub of_base : s.base ≡ before
   pub lock : IsRightLock (lock_of v)
 
-restarted_holder : (h : Option Holder) → holder_behind (token_of h) ≡ option_map (λ (x : Holder). record { client = 0; token = x.token }) h
+restarted_holder : (h : Option Holder) → holder_after (token_of h) ≡ option_map (λ (x : Holder). record { client = 0; token = x.token }) h
 restarted_holder None = refl
 restarted_holder (Some h) = refl
 
@@ -118,8 +118,8 @@ state_like : (b c : Base) (x y : State ℕ) → b ≡ c → x ≡ y →
 state_like b c x y e f =
     ap (λ (z : Base). record { ring = x.ring; content = add_order z.amount x.content; grants = z.grants + x.grants }) e ∙ ap (λ (z : State ℕ). record { ring = z.ring; content = add_order c.amount z.content; grants = c.grants + z.grants }) f
 
-lock_like : (a b : State ℕ) (h k : Option Holder) → a ≡ b → h ≡ k → ◌≡◌ {A = Lock} (record { ring = a; line = []; holder = h }) (record { ring = b; line = []; holder = k })
-lock_like a b h k e f = ap (λ (x : State ℕ). record { ring = x; line = []; holder = h }) e ∙ ap (λ (x : Option Holder). record { ring = b; line = []; holder = x }) f
+lock_like : (a b : State ℕ) (h k : Option Holder) → a ≡ b → h ≡ k → ◌≡◌ {A = Lock} (record { ring = a; queue = []; holder = h }) (record { ring = b; queue = []; holder = k })
+lock_like a b h k e f = ap (λ (x : State ℕ). record { ring = x; queue = []; holder = h }) e ∙ ap (λ (x : Option Holder). record { ring = b; queue = []; holder = x }) f
 
 module _ (place : ℕ) (s : Standing) (base : Base) (v : LockView) (e : EndlessView) (k : Returns s base v) (m : IsMadeOf base (block_at place s) e) where
   history_back : e.ring.book.history ≡ s.history
@@ -137,12 +137,12 @@ module _ (place : ℕ) (s : Standing) (base : Base) (v : LockView) (e : EndlessV
   open_back : open_in e ≡ token_of v.holder
   open_back = same_open (standing_of e) s (e, m.kept.endless, refl) k.right (m.base ∙ sym k.of_base) history_back m.surveys ∙ k.follows.hold
 
-  lock_back : (ring : EndlessView) → AreMade e (map Call (repairs (most_passes (length e.ring.book.now.ring.values)) (state_of e))) ring → lock_of (record { ring = ring; line = []; holder = holder_behind (open_in e) }) ≡ restarted (lock_of v)
+  lock_back : (ring : EndlessView) → AreMade e (map Call (repairs (most_passes (length e.ring.book.now.ring.values)) (state_of e))) ring → lock_of (record { ring = ring; queue = []; holder = holder_after (open_in e) }) ≡ restarted (lock_of v)
   lock_back ring made =
       let settled : is_settled (state_of e).ring.values ≡ true = ap (λ (a : State ℕ). is_settled a.ring.values) state_back ∙ k.lock.settled in
       let none : repairs (most_passes (length e.ring.book.now.ring.values)) (state_of e) ≡ [] = repairs_none (most_passes (length e.ring.book.now.ring.values)) (state_of e) settled in
       let same : AreMade e [] ring = subst (λ (x : List Event). AreMade e (map Call x) ring) none made in
-      lock_like (state_of ring) (state_of v.ring) (holder_behind (open_in e)) (option_map (λ (x : Holder). record { client = 0; token = x.token }) v.holder) (made_state e ring [] same ∙ state_back) (ap holder_behind open_back ∙ restarted_holder v.holder)
+      lock_like (state_of ring) (state_of v.ring) (holder_after (open_in e)) (option_map (λ (x : Holder). record { client = 0; token = x.token }) v.holder) (made_state e ring [] same ∙ state_back) (ap holder_after open_back ∙ restarted_holder v.holder)
 
 -- ---- all locks
 
@@ -171,7 +171,7 @@ locks_back place (s ∷ ss) bs [] es old made r m a = absurd r
 locks_back place (s ∷ ss) [] (v ∷ vs) es old made r m a = absurd r
 locks_back place (s ∷ ss) (b ∷ bs) (v ∷ vs) [] old made r m a = absurd m
 locks_back place (s ∷ ss) (b ∷ bs) (v ∷ vs) (e ∷ es) old made r m a =
-    let one : LockView = record { ring = a.1.ring; line = []; holder = holder_behind (open_in e) } in
+    let one : LockView = record { ring = a.1.ring; queue = []; holder = holder_after (open_in e) } in
     let lock : lock_of one ≡ restarted (lock_of v) = lock_back place s b v e r.0 m.0 a.1.ring a.1.repaired in
     let here : locks_of a.0 ≡ locks_of old ++ restarted (lock_of v) ∷ [] = ap locks_of a.1.added ∙ (map-append lock_of old (one ∷ []) ∙ ap (λ (x : Lock). locks_of old ++ x ∷ []) lock) in
     locks_back (place + 1) ss bs vs es a.0 made r.1 m.1 a.2 ∙ (ap (λ (x : List Lock). x ++ map restarted (locks_of vs)) here ∙ append_assoc (locks_of old) (restarted (lock_of v) ∷ []) (map restarted (locks_of vs)))
@@ -239,7 +239,7 @@ module _ (old new : List LockView) (noted : List ℕ) (n : IsNotedSo (rings_of o
 pub locks_come_back : LocksComeBack
 locks_come_back terms old new entries lines said noted torn begun a k none =
     let rings : List Standing = rings_of old.locks in
-    let head : List ℕ = head_text (content_of rings) in
+    let head : List ℕ = journal_head (content_of rings) in
     let few : length rings < 2 ^ 32 = begun_few old.locks begun in
     let all : AllByRecursion IsRight rings = begun_right old.locks begun in
     let n = (noted_lines terms rings old new lines said noted few (followed_begun old.locks begun) a.noting a.answers (kept_bounded new.locks entries k)).notes in

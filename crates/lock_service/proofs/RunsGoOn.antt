@@ -15,7 +15,7 @@ use Rattle.lock_service.specs.Started.{head_with, IsKeptLast, IsTornAfter, IsTak
 use Rattle.lock_service.specs.Runs.{Service, by_segments, inside, RunsGoOn}
 use Rattle.lock_service.proofs.LastSegments.{kept_segments_start}
 use Rattle.lock_service.proofs.WholeEnds.{within, found_before}
-use Rattle.lock_service.proofs.WholeTexts.{ends_behind}
+use Rattle.lock_service.proofs.WholeTexts.{ends_after}
 
 -- a segment's file is its head, and then what it begins with
 text_is : (s : Service) (number : ℕ) (digest kept : List ℕ) →
@@ -40,7 +40,7 @@ cut_front front a b p = (p.0, append_cancel_left front b (a ++ p.0) (p.1 ∙ app
 whole_then : (begun lines noted : List ℕ) → AreLines (begun ++ noted) → IsPrefix noted lines → AreLines lines → AreLines (begun ++ lines)
 whole_then begun lines [] told has (inl none) = subst (λ (u : List ℕ). AreLines (begun ++ u)) (sym none) told
 whole_then begun lines (b ∷ noted) told has (inl none) = absurd (not_none [] b (noted ++ has.0) (sym has.1 ∙ none))
-whole_then begun lines noted told has (inr e) = inr (ends_behind begun lines e)
+whole_then begun lines noted told has (inr e) = inr (ends_after begun lines e)
 
 -- what a start takes
 taken_so : (number : ℕ) (behind : List ℕ) (start : List LockView) (kept front left_out : List ℕ) → kept ≡ front ++ left_out → (left_out ≡ []) ⊎ IsTornAfter number behind start kept front → IsTakenOf number behind start kept front

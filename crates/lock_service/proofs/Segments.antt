@@ -22,7 +22,7 @@ use Rattle.held_locks.specs.Queues.{Lock}
 use Rattle.held_locks.specs.Locks.{Mark, Call, Survey, called}
 use Rattle.held_locks.specs.Promises.{open_behind, open_after, token_of}
 use Rattle.held_locks.specs.Kept.{LockView, state_of, IsKeptRing, AreMade}
-use Rattle.held_locks.specs.Opened.{open_in, holder_behind}
+use Rattle.held_locks.specs.Opened.{open_in, holder_after}
 use Rattle.held_locks.specs.Cuts.{IsNextLock, AreNext}
 use Rattle.held_locks.proofs.Rings.{repairs_no_holds}
 use Rattle.held_locks.proofs.Adding.{get_push}
@@ -45,11 +45,11 @@ open_kept e k = record { seats = k.seats; ended = end_within e k }
 -- ---- calls
 
 -- the ring after a call, and the hold that is open in it
-record IsOpenBehind (old new : EndlessView) (shown : Event) : Type 0 where
+record IsOpenAfter (old new : EndlessView) (shown : Event) : Type 0 where
   pub ring : IsOpen new
   pub open_hold : open_in new ≡ open_behind (open_in old) shown
 
-called_open : (old new : EndlessView) (seat : ℕ) (o : Op) (r : Receipt) → IsOpen old → IsCalled old new seat o r → seat < 10 → IsOpenBehind old new r.event
+called_open : (old new : EndlessView) (seat : ℕ) (o : Op) (r : Receipt) → IsOpen old → IsCalled old new seat o r → seat < 10 → IsOpenAfter old new r.event
 called_open old new seat o r k c within =
     let x : Event = c.local.event in
     let s : Standing = standing_of old in
@@ -112,11 +112,11 @@ repairs_seated (suc most) a = go (is_settled a.ring.values) (repairs_seated most
     go true more = tt
     go false more = (omega arith, more)
 
-behind_is : (t : Option ℕ) → t ≡ token_of (holder_behind t)
+behind_is : (t : Option ℕ) → t ≡ token_of (holder_after t)
 behind_is None = refl
 behind_is (Some t) = refl
 
-pub added_begins : (e ring : EndlessView) → IsKeptRing e → AreMade e (map Call (repairs (most_passes (length e.ring.book.now.ring.values)) (state_of e))) ring → IsBegun (record { ring = ring; line = []; holder = holder_behind (open_in e) })
+pub added_begins : (e ring : EndlessView) → IsKeptRing e → AreMade e (map Call (repairs (most_passes (length e.ring.book.now.ring.values)) (state_of e))) ring → IsBegun (record { ring = ring; queue = []; holder = holder_after (open_in e) })
 added_begins e ring k m =
     let most : ℕ = most_passes (length e.ring.book.now.ring.values) in record {
       shown = made_open e ring (map Call (repairs most (state_of e))) (open_kept e k) (repairs_seated most (state_of e)) m ∙ ((repairs_no_holds most (state_of e) (open_in e)).same ∙ behind_is (open_in e));
@@ -127,7 +127,7 @@ added_to : (old : List LockView) (es : List EndlessView) (made : List LockView) 
     (i : ℕ) (v : LockView) → slice_get made i ≡ Some v → IsBegun v
 added_to old [] made begun all a i v e = begun i v (ap (λ (x : List LockView). slice_get x i) (sym a) ∙ e)
 added_to old (x ∷ es) made begun all a i v e =
-    let one : LockView = record { ring = a.1.ring; line = []; holder = holder_behind (open_in x) } in
+    let one : LockView = record { ring = a.1.ring; queue = []; holder = holder_after (open_in x) } in
     added_to a.0 es made (λ j w f. elim (get_push old one j w (ap (λ (y : List LockView). slice_get y j) (sym a.1.added) ∙ f)) [
       | inl p ↦ begun j w p
       | inr p ↦ subst IsBegun (sym p) (added_begins x a.1.ring all.0 a.1.repaired)
@@ -162,17 +162,17 @@ drop_none m h e = ap (λ (x : List Event). drop m x) e ∙ go m
 no_events : (n : ℕ) (b : Base) (h : List Event) → h ≡ [] → open_after None (map Call (drop n (shifted b h))) ≡ None
 no_events n b h e = ap (λ (x : List Event). open_after None (map Call x)) (drop_none n (shifted b h) (ap (λ (x : List Event). shifted b x) e))
 
-next_begins : (v w : LockView) → IsNextLock v w → AreSmall v.line → IsBegun w
+next_begins : (v w : LockView) → IsNextLock v w → AreSmall v.queue → IsBegun w
 next_begins v w n small =
     let token : Option ℕ = token_of v.holder in
     let empty : EndlessView = n.ring.empty in record {
       shown = made_open empty w.ring (map Call (carried (state_of v.ring) token)) (open_kept empty n.ring.kept) (carried_seated (state_of v.ring) token) n.ring.carried
           ∙ (ap (λ (t : Option ℕ). open_after t (map Call (carried (state_of v.ring) token))) (no_events (end_of empty.ring.clients) empty.base empty.ring.book.history n.ring.begun.history)
           ∙ (carried_opens (state_of v.ring) token ∙ sym (ap (λ (l : Lock). token_of l.holder) n.same)));
-      small = subst AreSmall (sym (ap (λ (l : Lock). l.line) n.same)) small;
+      small = subst AreSmall (sym (ap (λ (l : Lock). l.queue) n.same)) small;
     }
 
-all_next : (vs ws : List LockView) → AreNext vs ws → ((i : ℕ) (v : LockView) → slice_get vs i ≡ Some v → AreSmall v.line) → (i : ℕ) (w : LockView) → slice_get ws i ≡ Some w → IsBegun w
+all_next : (vs ws : List LockView) → AreNext vs ws → ((i : ℕ) (v : LockView) → slice_get vs i ≡ Some v → AreSmall v.queue) → (i : ℕ) (w : LockView) → slice_get ws i ≡ Some w → IsBegun w
 all_next [] ws n small i w e = absurd (none_is w (ap (λ (x : List LockView). slice_get x i) (sym n) ∙ e))
 all_next (v ∷ vs) [] n small i w e = absurd n
 all_next (v ∷ vs) (x ∷ ws) n small zero w e = subst IsBegun (some_is x w e) (next_begins v x n.0 (small 0 v refl))

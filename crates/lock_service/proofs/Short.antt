@@ -10,7 +10,7 @@ use Rattle.held_locks.specs.declared.answers.Answers.{Answers}
 use Rattle.held_locks.specs.Queues.{Lock}
 use Rattle.held_locks.specs.Locks.{Ask, Acquire, Try, Release, Cancel, Leave, Corrupt, Stats, Input, Asked, Restart, step, step_at, restarted}
 use Rattle.held_locks.specs.Promises.{locks_after, leaves}
-use Rattle.held_locks.specs.Kept.{LockView, lock_of, locks_of, IsDone, IsWant, IsAnswer, IsLeft}
+use Rattle.held_locks.specs.Kept.{LockView, lock_of, locks_of, IsDone, IsLack, IsAnswer, IsLeft}
 use Rattle.ring_model.specs.Limits.{event_limit, machine_limit}
 use Rattle.std.specs.Prelude.{nat_lt, ◌+◌}
 use Rattle.lock_service.specs.Asking.{IsAnswerTo}
@@ -39,9 +39,9 @@ only (v ∷ vs) (suc i) f = ap (λ (b : Bool). b || has_short vs) (f 0 (λ e. cc
 
 pub short_like : (v w : LockView) → lock_of w ≡ lock_of v → IsSameEndless v.ring w.ring → is_short w ≡ is_short v
 short_like v w l s =
-    let line : w.line ≡ v.line = ap (λ (x : Lock). x.line) l in
+    let line : w.queue ≡ v.queue = ap (λ (x : Lock). x.queue) l in
     let history : w.ring.ring.book.history ≡ v.ring.ring.book.history = ap (λ b. b.history) s.ring.book in
-    ap (λ (h : List Event). nat_lt event_limit (length h + (length w.line + (machine_limit + 1)))) history
+    ap (λ (h : List Event). nat_lt event_limit (length h + (length w.queue + (machine_limit + 1)))) history
     ∙ ap (λ (x : List Waiter). nat_lt event_limit (length v.ring.ring.book.history + (length x + (machine_limit + 1)))) line
 
 some_one : {X : Type 0} (x y : X) → Some x ≡ Some y → x ≡ y
@@ -50,15 +50,15 @@ some_one x y e = cc
 some_none : {X : Type 0} (x : X) → Some x ≡ None → ⊥
 some_none x e = cc
 
-want_still : (old new : List LockView) (i : ℕ) (ask : Ask) (r : Answers) → IsWant old new i ask r → (j : ℕ) → is_short_at (slice_get new j) ≡ is_short_at (slice_get old j)
-want_still old new i ask r w j = ap (λ (vs : List LockView). is_short_at (slice_get vs j)) w.same
+lack_still : (old new : List LockView) (i : ℕ) (ask : Ask) (r : Answers) → IsLack old new i ask r → (j : ℕ) → is_short_at (slice_get new j) ≡ is_short_at (slice_get old j)
+lack_still old new i ask r w j = ap (λ (vs : List LockView). is_short_at (slice_get vs j)) w.same
 
 done_still : (old new : List LockView) (c i : ℕ) (ask : Ask) (r : Answers) → IsDone old new c i ask r → (j : ℕ) → j ≢ i → is_short_at (slice_get new j) ≡ is_short_at (slice_get old j)
 done_still old new c i ask r d j n = ap is_short_at (d.others j n)
 
 answer_still : (old new : List LockView) (c i : ℕ) (ask : Ask) (r : Answers) → IsAnswer old new c i ask r → (j : ℕ) → j ≢ i → is_short_at (slice_get new j) ≡ is_short_at (slice_get old j)
 answer_still old new c i ask r (inl d) j n = done_still old new c i ask r d j n
-answer_still old new c i ask r (inr w) j n = want_still old new i ask r w j
+answer_still old new c i ask r (inr w) j n = lack_still old new i ask r w j
 
 -- each answer is one that may be a refusal for lack of room or memory
 pub as_answer : (old new : List LockView) (c i : ℕ) (ask : Ask) (r : Answers) → IsAnswerTo old new c i ask r → IsAnswer old new c i ask r

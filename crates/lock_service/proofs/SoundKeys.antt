@@ -30,7 +30,7 @@ use Rattle.line_replica.specs.State.{key_line, key_lines, did_text, lines_at}
 use Rattle.line_replica.proofs.Given.{whole_line}
 use Rattle.lock_service.specs.KeysBack.{IsFirst, IsKept, IsRising, IsBehind, IsRunning, FreshIsSound, IsKeepable, SoundStays, OwnLinesAreLines, at_last, PlacesAreLast}
 use Rattle.lock_service.proofs.KeyLines.{spaced_short, first_digits}
-use Rattle.lock_service.proofs.LineParts.{line_behind, line_rest, spaced_ends, digits_end}
+use Rattle.lock_service.proofs.LineParts.{line_after, line_rest, spaced_ends, digits_end}
 use Rattle.lock_service.proofs.Heard.{IsOfKey, IsReadSo, read_so}
 use Rattle.lock_service.proofs.Digests.{digest_of_fits, no_digest_fits}
 
@@ -176,12 +176,12 @@ text_kept k n (b ∷ c ∷ bs) line is of = record {
 
 -- ---- the digest
 
-pub grown_behind : (since digest told said : List ℕ) → length digest ≡ digest_digits → since ≡ digest ++ told → grown since said ≡ digest ++ (told ++ said)
-grown_behind [] digest told said long e =
+pub grown_after : (since digest told said : List ℕ) → length digest ≡ digest_digits → since ≡ digest ++ told → grown since said ≡ digest ++ (told ++ said)
+grown_after [] digest told said long e =
     let same : length digest ≡ 64 = long in
     let none : 0 ≡ length digest + length told = ap length e ∙ length-append digest told in
     absurd (omega (arith, same, none))
-grown_behind (b ∷ bs) digest told said long e = ap (λ (u : List ℕ). u ++ said) e ∙ append_assoc digest told said
+grown_after (b ∷ bs) digest told said long e = ap (λ (u : List ℕ). u ++ said) e ∙ append_assoc digest told said
 
 pub runs_on : (r : RunningView) (said : List ℕ) → IsRunning r → IsRunning (with_said r said)
 runs_on r said (inl fresh) = inl (ap (λ (v : RunningView). with_said v said) fresh)
@@ -189,7 +189,7 @@ runs_on r said (inr b) = inr (record {
   place = b.place;
   digest = b.digest;
   told = b.told ++ said;
-  since = grown_behind r.since b.digest b.told said b.digits.long b.since;
+  since = grown_after r.since b.digest b.told said b.digits.long b.since;
   digits = b.digits;
 })
 
@@ -284,9 +284,9 @@ first_is_line (b ∷ bs) (inr f) = f.0
 
 pub key_is_line : (e : ℕ × ToldView) → IsKept e → IsLine (key_line e)
 key_is_line e kept =
-    line_behind (spaced e.0) _ (spaced_ends e.0 kept.key)
-    (line_behind (spaced e.1.number) _ (spaced_ends e.1.number kept.number)
-    (line_behind (codes "did ") (did_text e.1.first) (word_ends) (first_is_line e.1.first kept.first)))
+    line_after (spaced e.0) _ (spaced_ends e.0 kept.key)
+    (line_after (spaced e.1.number) _ (spaced_ends e.1.number kept.number)
+    (line_after (codes "did ") (did_text e.1.first) (word_ends) (first_is_line e.1.first kept.first)))
 
 keys_are_lines : (keys : Table) (more : List (List ℕ)) → AllByRecursion IsKept keys → AllByRecursion IsLine more → AllByRecursion IsLine (key_lines keys ++ more)
 keys_are_lines [] more kept all = all
@@ -294,7 +294,7 @@ keys_are_lines (e ∷ es) more kept all = (key_is_line e kept.0, keys_are_lines 
 
 pub digest_is_line : (place : ℕ) (digest : List ℕ) → place < 2 ^ 64 → DigestFits digest → IsLine (place_line place digest)
 digest_is_line place digest lt fits =
-    line_behind (codes "at ") _ at_ends (line_behind (spaced place) _ (spaced_ends place lt) (line_behind digest (codes "\n") (digits_end digest fits.digits) refl))
+    line_after (codes "at ") _ at_ends (line_after (spaced place) _ (spaced_ends place lt) (line_after digest (codes "\n") (digits_end digest fits.digits) refl))
 
 pub place_is_line : (place : ℕ) (since : List ℕ) → (since ≡ []) ⊎ IsBehind (at_place place since) → AllByRecursion IsLine (lines_at place since)
 place_is_line place [] r = tt
@@ -303,9 +303,9 @@ place_is_line place (b ∷ bs) (inr r) =
     let first : take digest_digits (b ∷ bs) ≡ r.digest = ap (take digest_digits) r.since ∙ first_digits r.digest r.told r.digits.long in
     (subst (λ (d : List ℕ). IsLine (place_line place d)) (sym first) (digest_is_line place r.digest r.place r.digits), tt)
 
-pub none_or_behind : (r : RunningView) → IsRunning r → (r.since ≡ []) ⊎ IsBehind r
-none_or_behind r (inl e) = inl (ap (λ (v : RunningView). v.since) e)
-none_or_behind r (inr b) = inr b
+pub none_or_after : (r : RunningView) → IsRunning r → (r.since ≡ []) ⊎ IsBehind r
+none_or_after r (inl e) = inl (ap (λ (v : RunningView). v.since) e)
+none_or_after r (inr b) = inr b
 
 pub own_lines_are_lines : {S : Type 0} (A : AnsweringWith S) → OwnLinesAreLines A
-own_lines_are_lines A r sound = keys_are_lines r.numbered.keys (lines_at r.running.place r.running.since) sound.each (place_is_line r.running.place r.running.since (none_or_behind r.running sound.running))
+own_lines_are_lines A r sound = keys_are_lines r.numbered.keys (lines_at r.running.place r.running.since) sound.each (place_is_line r.running.place r.running.since (none_or_after r.running sound.running))

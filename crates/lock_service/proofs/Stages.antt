@@ -28,7 +28,7 @@ use Rattle.lock_service.specs.Serving as serving
 use Rattle.lock_service.specs.Begun.{begun_text, HaveBegun}
 use Rattle.lock_service.specs.Remarked.{begun_with_remarks}
 use Rattle.lock_service.specs.Life.{Stage, IsStage, AreFound, Follows, AreStages}
-use Rattle.lock_service.specs.Around.{AreToldAround, AreToldBehind}
+use Rattle.lock_service.specs.Around.{AreToldAround, AreToldAfter}
 use Rattle.lock_service.specs.Runs.{Service, answering, by_segments, inside, IsPlain, others_of, lines_in, told_of, said_of, EndWith, IsWholeJournal, PartsAreStages, RunsFollow}
 use Rattle.lock_service.proofs.CutRemarks.{without_cut}
 use Rattle.lock_service.proofs.WholeTexts.{of_both}
@@ -37,7 +37,7 @@ use Rattle.lock_service.proofs.WithoutRemarks.{begun_ends, begun_goes_by, remark
 use Rattle.lock_service.proofs.Segments.{next_locks_begin}
 use Rattle.lock_service.proofs.LifeTelling.{CanTell, sound_tells, own_are_lines, same_tells}
 use Rattle.lock_service.proofs.Around.{without_nothing}
-use Rattle.lock_service.proofs.Parted.{numbers_all, given_then, around_then, behind_then, part_so, whole_before, SoFar, none_so_far, goes_on, part_more}
+use Rattle.lock_service.proofs.Parted.{numbers_all, given_then, around_then, after_then, part_so, whole_before, SoFar, none_so_far, goes_on, part_more}
 use Rattle.lock_service.proofs.Untold.{kept_after, are_asked}
 
 -- ---- what the file of a segment holds
@@ -142,7 +142,7 @@ module _ (first : Moment Service) (before : List ℕ) where
     pub ends : EndWith one more (inside last).segment (without_remarks kept)
     pub told : told_of (one ∷ more) ≡ given (numbers_of start.inner.numbered.keys) (lines ++ others_of (lines_in ps))
     pub later : List ℕ
-    pub behind : AreToldBehind (lines_in ps) (all_said ps) later
+    pub behind : AreToldAfter (lines_in ps) (all_said ps) later
     pub around : AreToldAround (numbers_of start.inner.numbered.keys) (lines ++ others_of (lines_in ps)) (replied ++ later) (said_of (one ∷ more))
 
   module _ (folder : List ℕ) (b : Moment Service) (untold : List (List ℕ)) (unsaid notes : List ℕ) (new : Service) (is : Option Held) (whole_b : b.service.inner.lost ≡ false) (each : AllByRecursion IsLine untold) (answers : Answers (by_stand answering) (stand_of b) untold unsaid notes (stand new is)) where
@@ -221,7 +221,7 @@ module _ (first : Moment Service) (before : List ℕ) where
         }
 
     -- a part more before it
-    goes_more : (start : Service) (lines : List (List ℕ)) (replied part_replied : List ℕ) (p : Part Service) (ps : List (Part Service)) → AreToldBehind p.lines p.said part_replied → Goes start (lines ++ others_of p.lines) (replied ++ part_replied) ps → Goes start lines replied (p ∷ ps)
+    goes_more : (start : Service) (lines : List (List ℕ)) (replied part_replied : List ℕ) (p : Part Service) (ps : List (Part Service)) → AreToldAfter p.lines p.said part_replied → Goes start (lines ++ others_of p.lines) (replied ++ part_replied) ps → Goes start lines replied (p ∷ ps)
     goes_more start lines replied part_replied p ps behind g =
         let n : Numbers = numbers_of start.inner.numbered.keys in
         let joined : (lines ++ others_of p.lines) ++ others_of (lines_in ps) ≡ lines ++ others_of (p.lines ++ lines_in ps) =
@@ -241,7 +241,7 @@ module _ (first : Moment Service) (before : List ℕ) where
                 ends = a.ends;
                 told = a.told ∙ ap (λ (ls : List (List ℕ)). given n ls) joined;
                 later = part_replied ++ a.later;
-                behind = behind_then p.lines (lines_in ps) p.said (all_said ps) part_replied a.later behind a.behind;
+                behind = after_then p.lines (lines_in ps) p.said (all_said ps) part_replied a.later behind a.behind;
                 around = subst (λ (ls : List (List ℕ)). AreToldAround n ls (replied ++ (part_replied ++ a.later)) (said_of (a.one ∷ a.more))) joined
                     (subst (λ (u : List ℕ). AreToldAround n ((lines ++ others_of p.lines) ++ others_of (lines_in ps)) u (said_of (a.one ∷ a.more))) (append_assoc replied part_replied a.later) a.around);
               };

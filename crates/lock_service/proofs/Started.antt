@@ -9,7 +9,7 @@ use Rattle.ring_service.specs.Segments.{bases_of}
 use Rattle.held_locks.specs.declared.answers.Waiter.{Waiter}
 use Rattle.held_locks.specs.declared.answers.Holder.{Holder}
 use Rattle.held_locks.specs.Kept.{LockView}
-use Rattle.held_locks.specs.Opened.{open_in, holder_behind}
+use Rattle.held_locks.specs.Opened.{open_in, holder_after}
 use Rattle.lock_folder.specs.Rings.{IsRingOf, Starts}
 use Rattle.lock_service.specs.Segments.{rings_of}
 use Rattle.lock_service.specs.Recovered.{IsMadeOf, AreMadeOf, AreAdded}
@@ -26,8 +26,8 @@ AreEach : List Base → List SavedRing → List LockView → Type 0
 AreEach bs ss vs =
     (i : ℕ) (b : Base) (s : SavedRing) (v : LockView) → slice_get bs i ≡ Some b → slice_get ss i ≡ Some s → slice_get vs i ≡ Some v → IsStarted b s v
 
-pub lock_is : (v : LockView) (line : List Waiter) (holder : Option Holder) → v.line ≡ line → v.holder ≡ holder → v ≡ record { ring = v.ring; line = line; holder = holder }
-lock_is v line holder e f = ap (λ (x : List Waiter). record { ring = v.ring; line = x; holder = v.holder }) e ∙ ap (λ (x : Option Holder). record { ring = v.ring; line = line; holder = x }) f
+pub lock_is : (v : LockView) (line : List Waiter) (holder : Option Holder) → v.queue ≡ line → v.holder ≡ holder → v ≡ record { ring = v.ring; queue = line; holder = holder }
+lock_is v line holder e f = ap (λ (x : List Waiter). record { ring = v.ring; queue = x; holder = v.holder }) e ∙ ap (λ (x : Option Holder). record { ring = v.ring; queue = line; holder = x }) f
 
 -- the rings of all
 record HaveRings (bs : List Base) (ss : List SavedRing) (old vs : List LockView) : Type 0 where
@@ -43,8 +43,8 @@ have_rings bs (s ∷ ss) old [] n m each = absurd (omega (arith, n))
 have_rings [] (s ∷ ss) old (v ∷ vs) n m each = absurd (omega (arith, m))
 have_rings (b ∷ bs) (s ∷ ss) old (v ∷ vs) n m each =
     let one = each 0 b s v refl refl refl in
-    let added : LockView = record { ring = v.ring; line = []; holder = holder_behind (open_in one.ring) } in
-    let same : v ≡ added = lock_is v [] (holder_behind (open_in one.ring)) one.starts.line one.starts.holder in
+    let added : LockView = record { ring = v.ring; queue = []; holder = holder_after (open_in one.ring) } in
+    let same : v ≡ added = lock_is v [] (holder_after (open_in one.ring)) one.starts.queue one.starts.holder in
     let more = have_rings bs ss (old ++ v ∷ []) vs (omega (arith, n)) (omega (arith, m)) (λ i c t w p q r. each (suc i) c t w p q r) in record {
       rings = one.ring ∷ more.rings;
       made = (one.made, more.made);

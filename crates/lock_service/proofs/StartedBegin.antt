@@ -7,7 +7,7 @@ use Rattle.saved_history.specs.declared.saved.SavedRing.{SavedRing}
 use Rattle.held_locks.specs.declared.handing.Handover.{Handover}
 use Rattle.held_locks.specs.Handed.{AreHanded}
 use Rattle.held_locks.specs.Kept.{LockView}
-use Rattle.held_locks.specs.Opened.{open_in, holder_behind}
+use Rattle.held_locks.specs.Opened.{open_in, holder_after}
 use Rattle.lock_folder.specs.Lists.{Listed}
 use Rattle.lock_folder.specs.Rings.{AreBegun}
 use Rattle.lock_folder.specs.Folders.{Place, StandsAt}
@@ -25,7 +25,7 @@ each_found : (bs : List Base) (ss : List SavedRing) (ls : List Listed) (vs : Lis
 each_found bs ss ls vs b i v at =
     let l = also_there vs ls i v b.many at in
     let k = b.each i l.0 v l.1 at in
-    subst (λ (w : LockView). IsBegun w) (sym (lock_is v [] (holder_behind (open_in k.0)) k.2.line k.2.holder)) (added_begins k.0 v.ring k.2.kept k.2.repaired)
+    subst (λ (w : LockView). IsBegun w) (sym (lock_is v [] (holder_after (open_in k.0)) k.2.queue k.2.holder)) (added_begins k.0 v.ring k.2.kept k.2.repaired)
 
 each_stands : (files : Option Held) (folder : List ℕ) (range : Option SegmentNumbers) (ls : List Listed) (p : Place) → StandsAt files folder range ls p → EachBegun p.locks
 each_stands files folder None ls p s = each_found [] [] ls p.locks s.begun

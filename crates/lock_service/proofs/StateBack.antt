@@ -82,9 +82,9 @@ line_plain : (k : ℕ) (line : List Waiter) → k < lock_limit → AllByRecursio
 line_plain k [] lt bits = tt
 line_plain k (w ∷ line) lt bits = (wait_plain k w lt bits.0, line_plain k line lt bits.1)
 
-waits_plain : (vs : List LockView) (k : ℕ) → k + length vs ≤ lock_limit → AllByRecursion (λ (v : LockView). AllByRecursion IsOfBits v.line) vs → ArePlain (waits_from k vs)
+waits_plain : (vs : List LockView) (k : ℕ) → k + length vs ≤ lock_limit → AllByRecursion (λ (v : LockView). AllByRecursion IsOfBits v.queue) vs → ArePlain (waits_from k vs)
 waits_plain [] k few bits = tt
-waits_plain (v ∷ vs) k few bits = plain_then (wait_lines k v.line) (waits_from (k + 1) vs) (line_plain k v.line (omega (arith, few)) bits.0) (waits_plain vs (k + 1) (omega (arith, few)) bits.1)
+waits_plain (v ∷ vs) k few bits = plain_then (wait_lines k v.queue) (waits_from (k + 1) vs) (line_plain k v.queue (omega (arith, few)) bits.0) (waits_plain vs (k + 1) (omega (arith, few)) bits.1)
 
 -- ---- plain lines are answered inside, before the first place
 

@@ -19,7 +19,7 @@ holds_there vs i h l is =
     ap (λ (xs : List LockView). holds_from i xs) (drop_there vs i v.0 v.1)
     ∙ ap (λ (x : Option Holder). hold_lines i x ++ holds_from (i + 1) (drop (i + 1) vs)) (sym (is v.0 v.1))
 
-pub waits_there : (vs : List LockView) (i : ℕ) (v : LockView) → slice_get vs i ≡ Some v → waits_from i (drop i vs) ≡ wait_lines i v.line ++ waits_from (i + 1) (drop (i + 1) vs)
+pub waits_there : (vs : List LockView) (i : ℕ) (v : LockView) → slice_get vs i ≡ Some v → waits_from i (drop i vs) ≡ wait_lines i v.queue ++ waits_from (i + 1) (drop (i + 1) vs)
 waits_there vs i v at = ap (λ (xs : List LockView). waits_from i xs) (drop_there vs i v at)
 
 pub wait_there : (lock : ℕ) (ws : List Waiter) (i : ℕ) (w : Waiter) → slice_get ws i ≡ Some w → wait_lines lock (drop i ws) ≡ wait_line lock w ∷ wait_lines lock (drop (i + 1) ws)

@@ -45,35 +45,35 @@ bits_without : (c : ℕ) (line : List Waiter) → AreOfBits line → AreOfBits (
 bits_without c [] s = tt
 bits_without c (w ∷ line) s = kept (not (w.client == c)) w (without c line) s.0 (bits_without c line s.1)
 
-bits_advanced : (a : State ℕ) (line : List Waiter) → AreOfBits line → AreOfBits (advanced a line).lock.line
+bits_advanced : (a : State ℕ) (line : List Waiter) → AreOfBits line → AreOfBits (advanced a line).lock.queue
 bits_advanced a [] s = tt
 bits_advanced a (w ∷ line) s = s.1
 
-bits_ended : (l : Lock) (c : ℕ) (h : Holder) (ask : Ask) (seat : ℕ) (line : List Waiter) (answers : List (ℕ × Answer)) → IsEnd l c h ask seat line answers → AreOfBits l.line → AreOfBits line
+bits_ended : (l : Lock) (c : ℕ) (h : Holder) (ask : Ask) (seat : ℕ) (line : List Waiter) (answers : List (ℕ × Answer)) → IsEnd l c h ask seat line answers → AreOfBits l.queue → AreOfBits line
 bits_ended l c h ask seat line answers (Released a b e f) s = subst (λ (u : List Waiter). AreOfBits u) (sym e) s
-bits_ended l c h ask seat line answers (Left a b e f) s = subst (λ (u : List Waiter). AreOfBits u) (sym e) (bits_without c l.line s)
+bits_ended l c h ask seat line answers (Left a b e f) s = subst (λ (u : List Waiter). AreOfBits u) (sym e) (bits_without c l.queue s)
 
 -- an ask brings a client of 64 bits, if any
 abbrev Brings : ℕ → Ask → Type 0
 Brings c ask = (order : ℕ) → ask ≡ Acquire order → IsOfBits (waiter c order)
 
-bits_moved : (ls : List Lock) (l : Lock) (c : ℕ) (ask : Ask) (t : Turn) → Move ls l c ask t → Brings c ask → AreOfBits l.line → AreOfBits t.lock.line
-bits_moved ls l c ask t (Stays a q leave e) b s = subst (λ (u : Turn). AreOfBits u.lock.line) (sym e) s
-bits_moved ls l c ask t (Waits order h a held other free back e) b s = subst (λ (u : Turn). AreOfBits u.lock.line) (sym e) (all_push IsOfBits l.line (waiter c order) s (b order a))
-bits_moved ls l c ask t (Gets order asking a e) b s = subst (λ (u : Turn). AreOfBits u.lock.line) (sym e) s
-bits_moved ls l c ask t (Ends h seat line answers held own is e) b s = subst (λ (u : Turn). AreOfBits u.lock.line) (sym e) (bits_advanced l.ring line (bits_ended l c h ask seat line answers is s))
-bits_moved ls l c ask t (Drops answers is e) b s = subst (λ (u : Turn). AreOfBits u.lock.line) (sym e) (bits_without c l.line s)
-bits_moved ls l c ask t (Faults i v a lt lk e) b s = subst (λ (u : Turn). AreOfBits u.lock.line) (sym e) s
+bits_moved : (ls : List Lock) (l : Lock) (c : ℕ) (ask : Ask) (t : Turn) → Move ls l c ask t → Brings c ask → AreOfBits l.queue → AreOfBits t.lock.queue
+bits_moved ls l c ask t (Stays a q leave e) b s = subst (λ (u : Turn). AreOfBits u.lock.queue) (sym e) s
+bits_moved ls l c ask t (Waits order h a held other free back e) b s = subst (λ (u : Turn). AreOfBits u.lock.queue) (sym e) (all_push IsOfBits l.queue (waiter c order) s (b order a))
+bits_moved ls l c ask t (Gets order asking a e) b s = subst (λ (u : Turn). AreOfBits u.lock.queue) (sym e) s
+bits_moved ls l c ask t (Ends h seat line answers held own is e) b s = subst (λ (u : Turn). AreOfBits u.lock.queue) (sym e) (bits_advanced l.ring line (bits_ended l c h ask seat line answers is s))
+bits_moved ls l c ask t (Drops answers is e) b s = subst (λ (u : Turn). AreOfBits u.lock.queue) (sym e) (bits_without c l.queue s)
+bits_moved ls l c ask t (Faults i v a lt lk e) b s = subst (λ (u : Turn). AreOfBits u.lock.queue) (sym e) s
 
 -- ---- all locks
 
 abbrev AllOfBits : List Lock → Type 0
-AllOfBits ls = (i : ℕ) (l : Lock) → slice_get ls i ≡ Some l → AreOfBits l.line
+AllOfBits ls = (i : ℕ) (l : Lock) → slice_get ls i ≡ Some l → AreOfBits l.queue
 
 bits_at : (ls : List Lock) (c i : ℕ) (ask : Ask) → Brings c ask → AllOfBits ls → (o : Option Lock) → slice_get ls i ≡ o → AllOfBits (step_at ls c i ask o).locks
 bits_at ls c i ask b all None e = all
 bits_at ls c i ask b all (Some l) e = λ j m f. elim (get_set ls i j (turn ls l c ask).lock l m e f) [
-  | inl q ↦ subst (λ (z : Lock). AreOfBits z.line) (sym q.1) (bits_moved ls l c ask (turn ls l c ask) (move_of ls l c ask) b (all i l e))
+  | inl q ↦ subst (λ (z : Lock). AreOfBits z.queue) (sym q.1) (bits_moved ls l c ask (turn ls l c ask) (move_of ls l c ask) b (all i l e))
   | inr q ↦ all j m q.1
 ]
 
@@ -107,11 +107,11 @@ all_from : {X : Type 0} (P : X → Type 0) (xs : List X) → ((i : ℕ) (x : X) 
 all_from P [] each = tt
 all_from P (x ∷ xs) each = (each 0 x refl, all_from P xs (λ i y e. each (suc i) y e))
 
-all_in : (vs : List LockView) → AllByRecursion (λ (v : LockView). AreOfBits v.line) vs → AllOfBits (locks_of vs)
+all_in : (vs : List LockView) → AllByRecursion (λ (v : LockView). AreOfBits v.queue) vs → AllOfBits (locks_of vs)
 all_in vs all i l at =
     let v = also_there (locks_of vs) vs i l (length-map vs lock_of) at in
     let is : lock_of v.0 ≡ l = some_is (lock_of v.0) l (sym (lock_there vs i v.0 v.1) ∙ at) in
-    subst (λ (z : Lock). AreOfBits z.line) is (all_at (λ (u : LockView). AreOfBits u.line) vs i v.0 all v.1)
+    subst (λ (z : Lock). AreOfBits z.queue) is (all_at (λ (u : LockView). AreOfBits u.queue) vs i v.0 all v.1)
 
 -- ---- a line
 
@@ -119,7 +119,7 @@ stays_by : (old new : List LockView) (ls : List Lock) → HaveState old → lock
 stays_by old new ls state e fair n all = record {
   right = subst (λ (x : List Lock). AreRight x) (sym e) fair;
   few = (let many = as_many old new ls e n in let few = state.few in omega (arith, many, few));
-  bits = all_from (λ (v : LockView). AreOfBits v.line) new (λ i v at. all i (lock_of v) (ap (λ (x : List Lock). slice_get x i) (sym e) ∙ lock_there new i v at));
+  bits = all_from (λ (v : LockView). AreOfBits v.queue) new (λ i v at. all i (lock_of v) (ap (λ (x : List Lock). slice_get x i) (sym e) ∙ lock_there new i v at));
 }
 
 answer_stays : (old new : List LockView) (c i : ℕ) (ask : Ask) (r : Answers) → Brings c ask → HaveState old → IsAnswer old new c i ask r → HaveState new

@@ -29,7 +29,7 @@ use Rattle.lock_lines.specs.Answers.{answer_line}
 use Rattle.lock_lines.proofs.Whole.{one_reading}
 use Rattle.lock_service.specs.declared.service.LockService.{LockService}
 use Rattle.lock_service.specs.declared.service.Terms.{Terms}
-use Rattle.lock_service.specs.Asking.{is_want}
+use Rattle.lock_service.specs.Asking.{is_lack}
 use Rattle.lock_service.specs.Noting.{lines_about, note_about, events_at, events_from}
 use Rattle.lock_service.specs.Serving.{IsToldOf, IsInputAnswered, IsServed}
 use Rattle.lock_service.specs.State.{wait_line, wait_lines, waits_from}
@@ -43,22 +43,22 @@ use Rattle.lock_service.proofs.WaitingLines.{same_lock, reads_wait}
 
 record IsAt (k : ℕ) (front : List Waiter) (j : ℕ) (l m : Lock) : Type 0 where
   pub held : m.holder ≡ l.holder
-  pub below : j < k → m.line ≡ l.line
-  pub here : j ≡ k → m.line ≡ front
-  pub above : k < j → m.line ≡ []
+  pub below : j < k → m.queue ≡ l.queue
+  pub here : j ≡ k → m.queue ≡ front
+  pub above : k < j → m.queue ≡ []
 
 record Partly (ls : List Lock) (k : ℕ) (front : List Waiter) (ms : List Lock) : Type 0 where
   pub many : length ms ≡ length ls
   pub each : (j : ℕ) (m : Lock) → slice_get ms j ≡ Some m → (l : Lock) × (slice_get ls j ≡ Some l) × IsAt k front j l m
 
-part_of : (ls ms : List Lock) (k : ℕ) (front back : List Waiter) (l : Lock) → slice_get ls k ≡ Some l → l.line ≡ front ++ back → Partly ls k front ms → ArePart ms ls
+part_of : (ls ms : List Lock) (k : ℕ) (front back : List Waiter) (l : Lock) → slice_get ls k ≡ Some l → l.queue ≡ front ++ back → Partly ls k front ms → ArePart ms ls
 part_of ls ms k front back l at line p j m there =
     let x = p.each j m there in
-    let stood : (c : ℕ) → stands c m.line ≡ true → stands c x.0.line ≡ true = λ c s. elim (cases_order j k) [
+    let stood : (c : ℕ) → stands c m.queue ≡ true → stands c x.0.queue ≡ true = λ c s. elim (cases_order j k) [
       | inl same ↦
           let is : x.0 ≡ l = some_is x.0 l (sym x.1 ∙ ap (λ (i : ℕ). slice_get ls i) same ∙ at) in
           let s : stands c front ≡ true = subst (λ (u : List Waiter). stands c u ≡ true) (x.2.here same) s in
-          subst (λ (z : Lock). stands c z.line ≡ true) (sym is) (subst (λ (u : List Waiter). stands c u ≡ true) (sym line) (stands_append c front back ∙ or_left (stands c front) (stands c back) s))
+          subst (λ (z : Lock). stands c z.queue ≡ true) (sym is) (subst (λ (u : List Waiter). stands c u ≡ true) (sym line) (stands_append c front back ∙ or_left (stands c front) (stands c back) s))
       | inr other ↦ elim other [
         | inl lt ↦ subst (λ (u : List Waiter). stands c u ≡ true) (x.2.below lt) s
         | inr gt ↦ absurd (true≢false (sym s ∙ ap (λ (u : List Waiter). stands c u) (x.2.above gt)))
@@ -68,13 +68,13 @@ part_of ls ms k front back l at line p j m there =
 
 -- one client more waits
 abbrev with_one : Lock → Waiter → Lock
-with_one m w = record m { line = m.line ++ w ∷ [] }
+with_one m w = record m { queue = m.queue ++ w ∷ [] }
 
 at_one : (k : ℕ) (front : List Waiter) (w : Waiter) (j : ℕ) (l m x : Lock) → j ≡ k → x ≡ with_one m w → IsAt k front k l m → IsAt k (front ++ w ∷ []) j l x
 at_one k front w j l m x same is a = record {
   held = ap (λ (z : Lock). z.holder) is ∙ a.held;
   below = λ lt. absurd (omega (arith, lt, same));
-  here = λ e. ap (λ (z : Lock). z.line) is ∙ ap (λ (u : List Waiter). u ++ w ∷ []) (a.here refl);
+  here = λ e. ap (λ (z : Lock). z.queue) is ∙ ap (λ (u : List Waiter). u ++ w ∷ []) (a.here refl);
   above = λ gt. absurd (omega (arith, gt, same));
 }
 
@@ -88,15 +88,15 @@ one_more ls ms k front w m there p = record {
 }
 
 -- the next lock
-one_on : (ls ms : List Lock) (k : ℕ) (l : Lock) → slice_get ls k ≡ Some l → Partly ls k l.line ms → Partly ls (k + 1) [] ms
+one_on : (ls ms : List Lock) (k : ℕ) (l : Lock) → slice_get ls k ≡ Some l → Partly ls k l.queue ms → Partly ls (k + 1) [] ms
 one_on ls ms k l at p = record {
   many = p.many;
   each = λ j m there.
       let x = p.each j m there in
-      let full : j < k + 1 → m.line ≡ x.0.line = λ lt. elim (cases_order j k) [
+      let full : j < k + 1 → m.queue ≡ x.0.queue = λ lt. elim (cases_order j k) [
         | inl same ↦
             let is : l ≡ x.0 = some_is l x.0 (sym at ∙ ap (λ (i : ℕ). slice_get ls i) (sym same) ∙ x.1) in
-            x.2.here same ∙ ap (λ (z : Lock). z.line) is
+            x.2.here same ∙ ap (λ (z : Lock). z.queue) is
         | inr other ↦ elim other [
           | inl less ↦ x.2.below less
           | inr more ↦ absurd (omega (arith, lt, more))
@@ -109,15 +109,15 @@ one_on ls ms k l at p = record {
 
 -- the step of the machine
 abbrev waiting_step : Lock → Waiter → List Lock → ℕ → Step
-waiting_step m w ms k = record { locks = slice_set ms k (with_one m w); marks = []; answers = (w.client, answer.Waiting (length m.line)) ∷ [] }
+waiting_step m w ms k = record { locks = slice_set ms k (with_one m w); marks = []; answers = (w.client, answer.Waiting (length m.queue)) ∷ [] }
 
-joins : (ls ms : List Lock) (k : ℕ) (front back : List Waiter) (w : Waiter) (l m : Lock) → AreRight ls → AreRight ms → Partly ls k front ms → slice_get ls k ≡ Some l → slice_get ms k ≡ Some m → l.line ≡ front ++ w ∷ back →
+joins : (ls ms : List Lock) (k : ℕ) (front back : List Waiter) (w : Waiter) (l m : Lock) → AreRight ls → AreRight ms → Partly ls k front ms → slice_get ls k ≡ Some l → slice_get ms k ≡ Some m → l.queue ≡ front ++ w ∷ back →
     step ms (Asked w.client k (Acquire w.order)) ≡ waiting_step m w ms k
 joins ls ms k front back w l m good fair p at there line =
     let x = p.each k m there in
     let is : x.0 ≡ l = some_is x.0 l (sym x.1 ∙ at) in
     let held : m.holder ≡ l.holder = x.2.held ∙ ap (λ (z : Lock). z.holder) is in
-    let whole : l.line ≡ m.line ++ w ∷ back = line ∙ ap (λ (u : List Waiter). u ++ w ∷ back) (sym (x.2.here refl)) in
+    let whole : l.queue ≡ m.queue ++ w ∷ back = line ∙ ap (λ (u : List Waiter). u ++ w ∷ back) (sym (x.2.here refl)) in
     step_is ms k w.client (Acquire w.order) m there
     ∙ ap (λ (t : Turn). record { locks = slice_set ms k t.lock; marks = t.marks; answers = t.answers })
     (waits_again ls ms good fair (part_of ls ms k front (w ∷ back) l at line p) k l m at there w back whole held)
@@ -160,17 +160,17 @@ module _ (vs : List LockView) (state : HaveState vs) where
         let told : IsInputAnswered old.terms (input.Asked w.client (reads.Acquire k w.order)) old.segment said noted new.segment = subst (λ (i : Input). IsInputAnswered old.terms i old.segment said noted new.segment) read a.2 in
         subst (λ (j : ℕ). IsToldOf old.terms.strict old.terms.noting w.client j (Acquire w.order) old.segment said noted new.segment) (same_lock k lt) told
 
-    waits_on : (front back : List Waiter) (w : Waiter) (old new : LockService) (was is : Option Held) (said noted : List ℕ) → IsOfBits w → v.line ≡ front ++ w ∷ back → old.terms.strict ≡ true → AreRight (locks_of old.segment.locks) → Partly (locks_of vs) k front (locks_of old.segment.locks) →
+    waits_on : (front back : List Waiter) (w : Waiter) (old new : LockService) (was is : Option Held) (said noted : List ℕ) → IsOfBits w → v.queue ≡ front ++ w ∷ back → old.terms.strict ≡ true → AreRight (locks_of old.segment.locks) → Partly (locks_of vs) k front (locks_of old.segment.locks) →
         IsServed old was (wait_line k w) said noted new is → IsWaiting k front w was said noted new is
     waits_on front back w old new was is said noted bits line strict fair p s =
         let a = old.segment.locks in
         let b = new.segment.locks in
         let t = told_of w old new was is said noted bits s in
-        let done : IsDone a b w.client k (Acquire w.order) t.answers = asked_done a b w.client k (Acquire w.order) t.answers t.done (subst (λ (x : Bool). (x && is_want t.answers.own) ≡ false) strict t.given) in
+        let done : IsDone a b w.client k (Acquire w.order) t.answers = asked_done a b w.client k (Acquire w.order) t.answers t.done (subst (λ (x : Bool). (x && is_lack t.answers.own) ≡ false) strict t.given) in
         let there = also_there (locks_of vs) (locks_of a) k (lock_of v) (sym p.many) at in
         let m = there.0 in
         let e : step (locks_of a) (Asked w.client k (Acquire w.order)) ≡ waiting_step m w (locks_of a) k = joins (locks_of vs) (locks_of a) k front back w (lock_of v) m state.right fair p at there.1 line in
-        let front_is : m.line ≡ front = (p.each k m there.1).2.here refl in
+        let front_is : m.queue ≡ front = (p.each k m there.1).2.here refl in
         let no_marks : (step (locks_of a) (Asked w.client k (Acquire w.order))).marks ≡ [] = ap (λ (x : Step). x.marks) e in
         let many : length (locks_of a) ≡ length a = length-map a lock_of in
         let x = also_there (locks_of a) a k m many there.1 in
@@ -183,7 +183,7 @@ module _ (vs : List LockView) (state : HaveState vs) where
           fair = subst (λ (ms : List Lock). AreRight ms) (sym done.locks) (right_step (locks_of a) (Asked w.client k (Acquire w.order)) fair);
           strict = ap (λ (x : Terms). x.strict) s.terms ∙ strict;
           says = t.says ∙ ap (λ (x : List (ℕ × Answer)). lines_about k x) (done.answers ∙ ap (λ (x : Step). x.answers) e)
-              ∙ append-nil (answer_line w.client k (answer.Waiting (length m.line))) ∙ ap (λ (u : List Waiter). answer_line w.client k (answer.Waiting (length u))) front_is;
+              ∙ append-nil (answer_line w.client k (answer.Waiting (length m.queue))) ∙ ap (λ (u : List Waiter). answer_line w.client k (answer.Waiting (length u))) front_is;
           notes = t.notes ∙ ap (λ (u : List ℕ). cond old.terms.noting u []) (no_note k a b x.0 y.0 t.answers.ended x.1 y.1 none same) ∙ nothing old.terms.noting;
           files = s.files;
         }
@@ -217,8 +217,8 @@ module _ (vs : List LockView) (state : HaveState vs) where
           rest = subst (λ (u : List ℕ). Answers (by_stand IsServed) (stand g.mid g.between) more g.later u (stand new is)) (sym (q ∙ ap (λ (u : List ℕ). u ++ notes) one.notes)) g.rest;
         }
 
-    of_lock : (back front : List Waiter) (more : List (List ℕ)) (old new : LockService) (was is : Option Held) (said noted : List ℕ) → AllByRecursion IsOfBits back → v.line ≡ front ++ back → old.terms.strict ≡ true → AreRight (locks_of old.segment.locks) →
-        Partly (locks_of vs) k front (locks_of old.segment.locks) → Answers (by_stand IsServed) (stand old was) (wait_lines k back ++ more) said noted (stand new is) → Went v.line (waiting_lines k (length front) back) more was said noted new is
+    of_lock : (back front : List Waiter) (more : List (List ℕ)) (old new : LockService) (was is : Option Held) (said noted : List ℕ) → AllByRecursion IsOfBits back → v.queue ≡ front ++ back → old.terms.strict ≡ true → AreRight (locks_of old.segment.locks) →
+        Partly (locks_of vs) k front (locks_of old.segment.locks) → Answers (by_stand IsServed) (stand old was) (wait_lines k back ++ more) said noted (stand new is) → Went v.queue (waiting_lines k (length front) back) more was said noted new is
     of_lock [] front more old new was is said noted bits line strict fair p a = record {
       mid = old;
       between = was;
@@ -233,8 +233,8 @@ module _ (vs : List LockView) (state : HaveState vs) where
     of_lock (w ∷ back) front more old new was is said noted bits line strict fair p a =
         let one = waits_on front back w old a.0.service was a.0.files a.1 a.3 bits.0 line strict fair p a.5 in
         let g = of_lock back (front ++ w ∷ []) more a.0.service new a.0.files is a.2 a.4 bits.1 (line ∙ sym (append_assoc front (w ∷ []) back)) one.strict one.fair one.partly a.8 in
-        let all = went_on front v.line w (waiting_lines k (length (front ++ w ∷ [])) back) more a.0.service new was a.0.files is a.1 a.2 said a.3 a.4 noted one a.6 a.7 g in
-        subst (λ (n : ℕ). Went v.line (answer_line w.client k (answer.Waiting (length front)) ++ waiting_lines k n back) more was said noted new is) (length-append front (w ∷ [])) all
+        let all = went_on front v.queue w (waiting_lines k (length (front ++ w ∷ [])) back) more a.0.service new was a.0.files is a.1 a.2 said a.3 a.4 noted one a.6 a.7 g in
+        subst (λ (n : ℕ). Went v.queue (answer_line w.client k (answer.Waiting (length front)) ++ waiting_lines k n back) more was said noted new is) (length-append front (w ∷ [])) all
 
   -- ---- all locks
 
@@ -245,7 +245,7 @@ module _ (vs : List LockView) (state : HaveState vs) where
     pub files : is ≡ was
 
   of_all : (us : List LockView) (k : ℕ) (old new : LockService) (was is : Option Held) (said noted : List ℕ) → ((i : ℕ) (v : LockView) → slice_get us i ≡ Some v → slice_get (locks_of vs) (k + i) ≡ Some (lock_of v)) →
-      k + length us ≤ lock_limit → AllByRecursion (λ (v : LockView). AllByRecursion IsOfBits v.line) us → old.terms.strict ≡ true → AreRight (locks_of old.segment.locks) →
+      k + length us ≤ lock_limit → AllByRecursion (λ (v : LockView). AllByRecursion IsOfBits v.queue) us → old.terms.strict ≡ true → AreRight (locks_of old.segment.locks) →
       Partly (locks_of vs) k [] (locks_of old.segment.locks) → Answers (by_stand IsServed) (stand old was) (waits_from k us) said noted (stand new is) → AllWait (k + length us) (waiting_from k us) was said noted new is
   of_all [] k old new was is said noted at few bits strict fair p a = record {
     partly = subst (λ (n : ℕ). Partly (locks_of vs) n [] (locks_of new.segment.locks)) (let e : k ≡ k + 0 = omega arith in e)
@@ -257,13 +257,13 @@ module _ (vs : List LockView) (state : HaveState vs) where
   of_all (v ∷ us) k old new was is said noted at few bits strict fair p a =
       let lt : k < lock_limit = omega (arith, few) in
       let here : slice_get (locks_of vs) k ≡ Some (lock_of v) = ap (λ (n : ℕ). slice_get (locks_of vs) n) (let e : k ≡ k + 0 = omega arith in e) ∙ at 0 v refl in
-      let g = of_lock k v here lt v.line [] (waits_from (k + 1) us) old new was is said noted bits.0 refl strict fair p a in
+      let g = of_lock k v here lt v.queue [] (waits_from (k + 1) us) old new was is said noted bits.0 refl strict fair p a in
       let on = one_on (locks_of vs) (locks_of g.mid.segment.locks) k (lock_of v) here g.partly in
       let there : (i : ℕ) (u : LockView) → slice_get us i ≡ Some u → slice_get (locks_of vs) (k + 1 + i) ≡ Some (lock_of u) = λ i u e. ap (λ (n : ℕ). slice_get (locks_of vs) n) (let q : k + 1 + i ≡ k + suc i = omega arith in q) ∙ at (suc i) u e in
       let w = of_all us (k + 1) g.mid new g.between is g.later noted there (omega (arith, few)) bits.1 g.strict g.fair on g.rest in
       record {
         partly = subst (λ (n : ℕ). Partly (locks_of vs) n [] (locks_of new.segment.locks)) (let q : k + 1 + length us ≡ k + suc (length us) = omega arith in q) w.partly;
-        says = g.says ∙ ap (λ (u : List ℕ). waiting_lines k 0 v.line ++ u) w.says;
+        says = g.says ∙ ap (λ (u : List ℕ). waiting_lines k 0 v.queue ++ u) w.says;
         notes = w.notes;
         files = w.files ∙ g.files;
       }
@@ -299,7 +299,7 @@ begins vs now h =
           let x = also_there (locks_of now) now j m c there in
           let y = also_there now vs j x.0 many x.1 in
           let is : m ≡ lock_of x.0 = some_is m (lock_of x.0) (sym there ∙ lock_there now j x.0 x.1) in
-          let none : m.line ≡ [] = ap (λ (l : Lock). l.line) is ∙ same_at (λ (v : LockView). v.line) (λ (v : LockView). []) now vs j x.0 y.0 h.nobody x.1 y.1 in (
+          let none : m.queue ≡ [] = ap (λ (l : Lock). l.queue) is ∙ same_at (λ (v : LockView). v.queue) (λ (v : LockView). []) now vs j x.0 y.0 h.nobody x.1 y.1 in (
             lock_of y.0,
             lock_there vs j y.0 y.1,
             record {
@@ -317,7 +317,7 @@ ends vs now n le p =
     let at : (j : ℕ) (x y : LockView) → slice_get now j ≡ Some x → slice_get vs j ≡ Some y → IsAt n [] j (lock_of y) (lock_of x) = λ j x y e f.
     let a = p.each j (lock_of x) (lock_there now j x e) in
     subst (λ (l : Lock). IsAt n [] j l (lock_of x)) (some_is a.0 (lock_of y) (sym a.1 ∙ lock_there vs j y f)) a.2 in (
-      same_lists (λ (v : LockView). v.line) now vs many (λ j x y e f. (at j x y e f).below (let within = slice_get_within vs j y f in omega (arith, within, le))),
+      same_lists (λ (v : LockView). v.queue) now vs many (λ j x y e f. (at j x y e f).below (let within = slice_get_within vs j y f in omega (arith, within, le))),
       same_lists (λ (v : LockView). v.holder) now vs many (λ j x y e f. (at j x y e f).held),
     )
 

@@ -10,7 +10,7 @@ use Rattle.saved_history.specs.Spelling.{Fits}
 use Rattle.saved_history.specs.Versions.{latest_version}
 use Rattle.ring_check.specs.Legal.{IsLegalText}
 use Rattle.journal.specs.declared.calls.JournalLine.{JournalLine}
-use Rattle.journal.specs.Spelling.{Journal, JournalLineFits, journal_line, journal_text, head_text as start_text}
+use Rattle.journal.specs.Spelling.{Journal, JournalLineFits, journal_line, journal_text, journal_head}
 use Rattle.journal.specs.Recovery.{has_line_end, IsRecovered}
 use Rattle.journal.specs.Beginnings.{IsRightJournal}
 use Rattle.segment_files.specs.Remarks.{IsEnded, without_remarks}
@@ -31,7 +31,7 @@ use Rattle.lock_service.specs.Life.{AreFound}
 use Rattle.lock_service.proofs.Chains.{Chain, chain_fits, chain_front, chain_stands}
 use Rattle.lock_service.proofs.Longer.{noted_lines}
 use Rattle.lock_service.proofs.Recovering.{begun_right, begun_few, followed_begun, kept_bounded}
-use Rattle.lock_service.proofs.WholeTexts.{ends_behind, of_each, journal_line_ends}
+use Rattle.lock_service.proofs.WholeTexts.{ends_after, of_each, journal_line_ends}
 use Rattle.lock_service.proofs.WithoutRemarks.{head_ends, torn_none}
 
 -- ---- the journal of a run
@@ -55,16 +55,16 @@ noted_journal terms old new lines said noted entries begun a kept =
     let one = noted_lines terms rings old new lines said noted (begun_few old.locks begun) (followed_begun old.locks begun) a.noting a.answers (kept_bounded new.locks entries kept) in (
       record { began = content_of rings; calls = one.notes.calls },
       calls_right rings one.notes.behind one.notes.calls (begun_right old.locks begun) begun.text one.notes.chain,
-      ap (λ (u : List ℕ). start_text (content_of rings) ++ u) one.notes.lines,
+      ap (λ (u : List ℕ). journal_head (content_of rings) ++ u) one.notes.lines,
     )
 
 -- it ends with a line
 calls_then : (front : List ℕ) (calls : List ℕ) → IsEnded front → AreLines calls → IsEnded (front ++ calls)
 calls_then front calls ended (inl none) = subst IsEnded (sym (ap (λ (u : List ℕ). front ++ u) none ∙ append-nil front)) ended
-calls_then front calls ended (inr e) = ends_behind front calls e
+calls_then front calls ended (inr e) = ends_after front calls e
 
 journal_ends : (j : Journal) → IsEnded (journal_text j)
-journal_ends j = calls_then (start_text j.began) _ (head_ends j.began) (of_each journal_line (λ r. inr (journal_line_ends r)) j.calls)
+journal_ends j = calls_then (journal_head j.began) _ (head_ends j.began) (of_each journal_line (λ r. inr (journal_line_ends r)) j.calls)
 
 -- ---- bytes after whole lines
 

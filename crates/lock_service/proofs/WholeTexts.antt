@@ -44,15 +44,15 @@ use Rattle.lock_service.specs.Serving.{IsTold, IsAnsweredIf, IsInputAnswered, Is
 use Rattle.line_replica.specs.Keys.{first_line}
 use Rattle.lock_service.proofs.LineParts.{line_more}
 
-pub ends_behind : (front xs : List ℕ) → IsEnded xs → IsEnded (front ++ xs)
-ends_behind front xs e = (front ++ e.0, ap (λ (u : List ℕ). front ++ u) e.1 ∙ sym (append_assoc front e.0 (10 ∷ [])))
+pub ends_after : (front xs : List ℕ) → IsEnded xs → IsEnded (front ++ xs)
+ends_after front xs e = (front ++ e.0, ap (λ (u : List ℕ). front ++ u) e.1 ∙ sym (append_assoc front e.0 (10 ∷ [])))
 
 pub number_ends : (n : ℕ) → IsEnded (ended n)
 number_ends n = (decimal n, refl)
 
 pub of_both : (a b : List ℕ) → AreLines a → AreLines b → AreLines (a ++ b)
 of_both a b p (inl e) = subst (λ (u : List ℕ). AreLines u) (sym (ap (λ (u : List ℕ). a ++ u) e ∙ append-nil a)) p
-of_both a b p (inr e) = inr (ends_behind a b e)
+of_both a b p (inr e) = inr (ends_after a b e)
 
 pub of_each : {A : Type 0} (line : A → List ℕ) → ((a : A) → AreLines (line a)) → (all : List A) → AreLines (flat_map line all)
 of_each line each [] = inl refl
@@ -62,53 +62,53 @@ of_each line each (a ∷ all) = of_both (line a) (flat_map line all) (each a) (o
 
 refusal_ends : (lock : ℕ) (r : Refusal) → IsEnded (refusal_text lock r)
 refusal_ends lock refusal.Lock = (codes "refused lock", refl)
-refusal_ends lock refusal.Holds = ends_behind (codes "refused holds ") (ended lock) (number_ends lock)
-refusal_ends lock refusal.Waits = ends_behind (codes "refused waits ") (ended lock) (number_ends lock)
-refusal_ends lock refusal.Circle = ends_behind (codes "refused circle ") (ended lock) (number_ends lock)
-refusal_ends lock refusal.Holder = ends_behind (codes "refused holder ") (ended lock) (number_ends lock)
-refusal_ends lock refusal.Waiter = ends_behind (codes "refused waiter ") (ended lock) (number_ends lock)
-refusal_ends lock refusal.Machine = ends_behind (codes "refused machine ") (ended lock) (number_ends lock)
-refusal_ends lock refusal.Value = ends_behind (codes "refused value ") (ended lock) (number_ends lock)
-refusal_ends lock refusal.Full = ends_behind (codes "refused full ") (ended lock) (number_ends lock)
-refusal_ends lock refusal.Memory = ends_behind (codes "refused memory ") (ended lock) (number_ends lock)
+refusal_ends lock refusal.Holds = ends_after (codes "refused holds ") (ended lock) (number_ends lock)
+refusal_ends lock refusal.Waits = ends_after (codes "refused waits ") (ended lock) (number_ends lock)
+refusal_ends lock refusal.Circle = ends_after (codes "refused circle ") (ended lock) (number_ends lock)
+refusal_ends lock refusal.Holder = ends_after (codes "refused holder ") (ended lock) (number_ends lock)
+refusal_ends lock refusal.Waiter = ends_after (codes "refused waiter ") (ended lock) (number_ends lock)
+refusal_ends lock refusal.Machine = ends_after (codes "refused machine ") (ended lock) (number_ends lock)
+refusal_ends lock refusal.Value = ends_after (codes "refused value ") (ended lock) (number_ends lock)
+refusal_ends lock refusal.Full = ends_after (codes "refused full ") (ended lock) (number_ends lock)
+refusal_ends lock refusal.Memory = ends_after (codes "refused memory ") (ended lock) (number_ends lock)
 
 holder_ends : (h : Option Holder) → IsEnded (holder_text h)
 holder_ends None = (codes "0 0", refl)
-holder_ends (Some h) = ends_behind (spaced h.client) (ended h.token) (number_ends h.token)
+holder_ends (Some h) = ends_after (spaced h.client) (ended h.token) (number_ends h.token)
 
 answer_ends : (lock : ℕ) (a : Answer) → IsEnded (answer_text lock a)
-answer_ends lock (answer.Granted token) = ends_behind (codes "granted ") _ (ends_behind (spaced lock) (ended token) (number_ends token))
-answer_ends lock (answer.Waiting before) = ends_behind (codes "waiting ") _ (ends_behind (spaced lock) (ended before) (number_ends before))
-answer_ends lock answer.Busy = ends_behind (codes "busy ") (ended lock) (number_ends lock)
-answer_ends lock answer.Released = ends_behind (codes "released ") (ended lock) (number_ends lock)
-answer_ends lock answer.Cancelled = ends_behind (codes "cancelled ") (ended lock) (number_ends lock)
-answer_ends lock (answer.Corrupted old) = ends_behind (codes "corrupted ") _ (ends_behind (spaced lock) (ended old) (number_ends old))
+answer_ends lock (answer.Granted token) = ends_after (codes "granted ") _ (ends_after (spaced lock) (ended token) (number_ends token))
+answer_ends lock (answer.Waiting before) = ends_after (codes "waiting ") _ (ends_after (spaced lock) (ended before) (number_ends before))
+answer_ends lock answer.Busy = ends_after (codes "busy ") (ended lock) (number_ends lock)
+answer_ends lock answer.Released = ends_after (codes "released ") (ended lock) (number_ends lock)
+answer_ends lock answer.Cancelled = ends_after (codes "cancelled ") (ended lock) (number_ends lock)
+answer_ends lock (answer.Corrupted old) = ends_after (codes "corrupted ") _ (ends_after (spaced lock) (ended old) (number_ends old))
 answer_ends lock (answer.Stats s) =
-    ends_behind (codes "stats ") _ (ends_behind (spaced lock) _ (ends_behind (spaced s.machines) _ (ends_behind (spaced s.waiters) _ (ends_behind (spaced s.passes) (holder_text s.holder) (holder_ends s.holder)))))
+    ends_after (codes "stats ") _ (ends_after (spaced lock) _ (ends_after (spaced s.machines) _ (ends_after (spaced s.waiters) _ (ends_after (spaced s.passes) (holder_text s.holder) (holder_ends s.holder)))))
 answer_ends lock (answer.Refused why) = refusal_ends lock why
 
 about_lines : (lock : ℕ) (all : List (ℕ × Answer)) → AreLines (lines_about lock all)
 about_lines lock [] = inl refl
-about_lines lock ((c, a) ∷ all) = of_both (answer_line c lock a) (lines_about lock all) (inr (ends_behind (spaced c) (answer_text lock a) (answer_ends lock a))) (about_lines lock all)
+about_lines lock ((c, a) ∷ all) = of_both (answer_line c lock a) (lines_about lock all) (inr (ends_after (spaced c) (answer_text lock a) (answer_ends lock a))) (about_lines lock all)
 
 denial_ends : (client : ℕ) (why : Denial) → IsEnded (denial_line client why)
-denial_ends client denial.Syntax = ends_behind (spaced client) (codes "refused syntax\n") (codes "refused syntax", refl)
-denial_ends client denial.Number = ends_behind (spaced client) (codes "refused number\n") (codes "refused number", refl)
-denial_ends client denial.Off = ends_behind (spaced client) (codes "refused off\n") (codes "refused off", refl)
+denial_ends client denial.Syntax = ends_after (spaced client) (codes "refused syntax\n") (codes "refused syntax", refl)
+denial_ends client denial.Number = ends_after (spaced client) (codes "refused number\n") (codes "refused number", refl)
+denial_ends client denial.Off = ends_after (spaced client) (codes "refused off\n") (codes "refused off", refl)
 
 -- ---- what is noted
 
 event_ends : (e : SavedEvent) → IsEnded (event_line e)
-event_ends (Granted s m o n r) = ends_behind (codes "p ") _ (ends_behind (spaced s) _ (ends_behind (spaced m) _ (ends_behind (spaced o) _ (ends_behind (codes "g ") _ (ends_behind (spaced n) (ended r) (number_ends r))))))
-event_ends (Refused s m o) = ends_behind (codes "p ") _ (ends_behind (spaced s) _ (ends_behind (spaced m) _ (ends_behind (spaced o) (codes "n\n") (codes "n", refl))))
-event_ends (Member s m o l n r) = ends_behind (codes "m ") _ (ends_behind (spaced s) _ (ends_behind (spaced m) _ (ends_behind (spaced o) _ (ends_behind (spaced l) _ (ends_behind (spaced n) (ended r) (number_ends r))))))
-event_ends (Corrupted s m v o) = ends_behind (codes "c ") _ (ends_behind (spaced s) _ (ends_behind (spaced m) _ (ends_behind (spaced v) (ended o) (number_ends o))))
+event_ends (Granted s m o n r) = ends_after (codes "p ") _ (ends_after (spaced s) _ (ends_after (spaced m) _ (ends_after (spaced o) _ (ends_after (codes "g ") _ (ends_after (spaced n) (ended r) (number_ends r))))))
+event_ends (Refused s m o) = ends_after (codes "p ") _ (ends_after (spaced s) _ (ends_after (spaced m) _ (ends_after (spaced o) (codes "n\n") (codes "n", refl))))
+event_ends (Member s m o l n r) = ends_after (codes "m ") _ (ends_after (spaced s) _ (ends_after (spaced m) _ (ends_after (spaced o) _ (ends_after (spaced l) _ (ends_after (spaced n) (ended r) (number_ends r))))))
+event_ends (Corrupted s m v o) = ends_after (codes "c ") _ (ends_after (spaced s) _ (ends_after (spaced m) _ (ends_after (spaced v) (ended o) (number_ends o))))
 
 survey_ends : (v : SavedSurvey) → IsEnded (survey_line v)
-survey_ends v = ends_behind (codes "s ") _ (ends_behind (spaced v.seat) _ (ends_behind (spaced v.position) _ (ends_behind (spaced v.privileged) _ (ends_behind (spaced v.first) _ (ends_behind (spaced v.calm) (ended v.rest) (number_ends v.rest))))))
+survey_ends v = ends_after (codes "s ") _ (ends_after (spaced v.seat) _ (ends_after (spaced v.position) _ (ends_after (spaced v.privileged) _ (ends_after (spaced v.first) _ (ends_after (spaced v.calm) (ended v.rest) (number_ends v.rest))))))
 
 pub journal_line_ends : (r : JournalLine) → IsEnded (journal_line r)
-journal_line_ends r = ends_behind (spaced r.ring) (call_line r.call) (go r.call)
+journal_line_ends r = ends_after (spaced r.ring) (call_line r.call) (go r.call)
   where
     go : (c : Call) → IsEnded (call_line c)
     go (call.Event e) = event_ends e

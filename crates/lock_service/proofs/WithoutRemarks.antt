@@ -13,7 +13,7 @@ use Rattle.saved_history.specs.Content.{Content}
 use Rattle.saved_history.specs.Spelling.{text, block_text, done_line}
 use Rattle.saved_history.specs.Spelling as saved
 use Rattle.journal.specs.declared.calls.JournalLine.{JournalLine}
-use Rattle.journal.specs.Spelling.{JournalLineFits, head_text, journal_line}
+use Rattle.journal.specs.Spelling.{JournalLineFits, journal_head, journal_line}
 use Rattle.journal.specs.Recovery.{has_line_end}
 use Rattle.segment_files.specs.RemarkLaws.{IsOneLine, AreLines}
 use Rattle.segment_files.specs.Remarks.{IsEnded, lines_in, is_remark, remark_of, without_remarks}
@@ -42,9 +42,9 @@ use Rattle.lock_service.proofs.Longer.{served_lines_are_answered, noted_lines}
 use Rattle.lock_service.proofs.Recovering.{begun_few, followed_begun, kept_bounded}
 use Rattle.lock_service.proofs.Restarting.{locks_come_back}
 use Rattle.lock_service.proofs.Heard.{IsOfKey, IsReadSo, read_so}
-use Rattle.lock_service.proofs.LineParts.{line_behind, spaced_ends}
+use Rattle.lock_service.proofs.LineParts.{line_after, spaced_ends}
 use Rattle.lock_service.proofs.SoundKeys.{text_kept, did_is, next_fits, key_is_line, word_ends, digest_is_line, own_lines_are_lines}
-use Rattle.lock_service.proofs.WholeTexts.{ends_behind, number_ends, of_both, of_lines, notes_of_lines, first_of_lines}
+use Rattle.lock_service.proofs.WholeTexts.{ends_after, number_ends, of_both, of_lines, notes_of_lines, first_of_lines}
 
 -- ---- the replica's own lines are lines
 
@@ -64,16 +64,16 @@ pub lines_bring : BringAll IsServed IsLine IsLine
 lines_bring since old new was is line said is_line = record {
   done = λ tag rest inside e a.
       let of : IsOfKey tag.key tag.number rest line = read_as line (Tagged tag rest) e in
-      line_behind (spaced tag.key) _ (spaced_ends tag.key of.key_small)
-      (line_behind (spaced tag.number) _ (spaced_ends tag.number of.number_small)
-      (line_behind (codes "did ") (did_text (line_to_asker rest said)) word_ends (first_is_line (line_to_asker rest said) (if_to_asker (is_to_asker (order_at 32 rest) said) (first_line said) (first_of_lines said (of_lines old new was is rest said inside a).told)))));
+      line_after (spaced tag.key) _ (spaced_ends tag.key of.key_small)
+      (line_after (spaced tag.number) _ (spaced_ends tag.number of.number_small)
+      (line_after (codes "did ") (did_text (line_to_asker rest said)) word_ends (first_is_line (line_to_asker rest said) (if_to_asker (is_to_asker (order_at 32 rest) said) (first_line said) (first_of_lines said (of_lines old new was is rest said inside a).told)))));
   did = λ tag rest text e d.
       let of : IsOfKey tag.key tag.number rest line = read_as line (Tagged tag rest) e in
       let spelled : IsOfKey tag.key tag.number (codes "did " ++ text) line = subst (λ (u : List ℕ). IsOfKey tag.key tag.number u line) (did_is rest text d) of in
       key_is_line (tag.key, record { number = tag.number; first = kept_text text }) (text_kept tag.key tag.number text line is_line spelled);
   forgets = λ tag rest e.
       let of : IsOfKey tag.key tag.number rest line = read_as line (Tagged tag rest) e in
-      line_behind (spaced tag.key) _ (spaced_ends tag.key of.key_small) (line_behind (spaced tag.number) (codes "forget\n") (spaced_ends tag.number of.number_small) forget_word);
+      line_after (spaced tag.key) _ (spaced_ends tag.key of.key_small) (line_after (spaced tag.number) (codes "forget\n") (spaced_ends tag.number of.number_small) forget_word);
   place = λ place e. digest_is_line place (next_of since) (read_as line (Place place) e) (next_fits since);
   digest = λ place digest e. let r : IsReadSo line (Digest place digest) = read_as line (Digest place digest) e in digest_is_line place digest r.0 r.1;
 }
@@ -165,10 +165,10 @@ torn_none (b ∷ bs) none = ap (λ (ls : List (List ℕ)). has_line_end (flat_ma
 
 -- ---- the locks come back
 
-pub head_ends : (c : Content) → IsEnded (head_text c)
+pub head_ends : (c : Content) → IsEnded (journal_head c)
 head_ends c =
-    ends_behind (codes "ringjournal 1\n") (text c)
-    (ends_behind (saved.first_line c.version) _ (ends_behind (flat_map block_text c.rings) (done_line c.rings_said) (ends_behind (codes "done ") (ended c.rings_said) (number_ends c.rings_said))))
+    ends_after (codes "ringjournal 1\n") (text c)
+    (ends_after (saved.first_line c.version) _ (ends_after (flat_map block_text c.rings) (done_line c.rings_said) (ends_after (codes "done ") (ended c.rings_said) (number_ends c.rings_said))))
 
 pub begun_ends : (r : Replica LockService) → AreLines (begun_text (locks_in r))
 begun_ends r = inr (head_ends (content_of (locks_in r)))

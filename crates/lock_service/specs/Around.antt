@@ -35,14 +35,14 @@ AreToldAround numbers (line ∷ lines) said told =
 
 -- Of each line either the state is answered, and nothing else happens; or what is said is what the
 -- replica says.
-abbrev pub AreToldBehind : List (List ℕ) → List ℕ → List ℕ → Type 0
-AreToldBehind [] said told = (said ≡ []) × (told ≡ [])
-AreToldBehind (line ∷ lines) said told =
+abbrev pub AreToldAfter : List (List ℕ) → List ℕ → List ℕ → Type 0
+AreToldAfter [] said told = (said ≡ []) × (told ≡ [])
+AreToldAfter (line ∷ lines) said told =
     (first inner later more : List ℕ)
     × (said ≡ first ++ later)
     × (told ≡ inner ++ more)
     × (((is_state line ≡ true) × (inner ≡ [])) ⊎ (inner ≡ first))
-    × AreToldBehind lines later more
+    × AreToldAfter lines later more
 
 -- A law: a replica whose state is answered where it is asked for answers all other lines as the
 -- replica itself, with the same notes.
@@ -55,7 +55,7 @@ OtherLinesAreReplied =
     → (told : List ℕ)
     × Answers (by_stand (IsReplied IsServed)) (stand old.inner was)
     (filter (λ line. not (is_state line)) lines) told noted (stand new.inner is)
-    × AreToldBehind lines said told
+    × AreToldAfter lines said told
 
 -- a run of a replica in a segment: as a stage is of the locks inside
 pub record ReplicaRun : Type 0 where

@@ -47,7 +47,7 @@ asked (one.Corrupt machine value) = Corrupt machine value
 asked one.Stats = Stats
 
 -- whether the asker is refused for lack of room or of memory
-abbrev pub is_want : Option Answer → Bool
-is_want (Some (answer.Refused refusal.Full)) = true
-is_want (Some (answer.Refused refusal.Memory)) = true
-is_want _ = false
+abbrev pub is_lack : Option Answer → Bool
+is_lack (Some (answer.Refused refusal.Full)) = true
+is_lack (Some (answer.Refused refusal.Memory)) = true
+is_lack _ = false

@@ -3,7 +3,7 @@ use Rattle.std.specs.Prelude.{◌≡◌, ℕ, ◌<◌, ◌^◌, true, List, ◌+
 use Rattle.std.specs.List.{AllByRecursion}
 use Rattle.disks.specs.Held.{Held}
 use Rattle.saved_history.specs.Spelling.{Fits}
-use Rattle.journal.specs.Spelling.{head_text}
+use Rattle.journal.specs.Spelling.{journal_head}
 use Rattle.held_locks.specs.declared.answers.Waiter.{Waiter}
 use Rattle.held_locks.specs.Promises.{token_of}
 use Rattle.held_locks.specs.Kept.{LockView, AreKept}
@@ -18,7 +18,7 @@ use Rattle.lock_service.specs.Serving.{IsLineAnswered, IsServed}
 
 -- the text with which the journal of a segment begins, after the head of its file
 abbrev pub begun_text : List LockView → List ℕ
-begun_text vs = head_text (content_of vs)
+begun_text vs = journal_head (content_of vs)
 
 -- those who wait asked with orders of 64 bits
 abbrev pub AreSmall : List Waiter → Type 0
@@ -27,7 +27,7 @@ AreSmall line = AllByRecursion (λ (w : Waiter). w.order < 2 ^ 64) line
 -- the hold that is open in the history of the lock's ring is the lock's
 pub record IsBegun (v : LockView) : Type 0 where
   pub shown : open_in v.ring ≡ token_of v.holder
-  pub small : AreSmall v.line
+  pub small : AreSmall v.queue
 
 -- locks with which a segment begins: each ring shows the hold of its lock, and the rings have a
 -- text

@@ -14,7 +14,7 @@ use Rattle.held_locks.specs.Kept.{LockView, IsKeptLock, IsAnswer}
 -- A lock is short if its segment has fewer places left for events than an ask may need: one for
 -- each client that waits, and one more than a ring may have machines.
 abbrev pub is_short : LockView → Bool
-is_short v = nat_lt event_limit (length v.ring.ring.book.history + (length v.line + (machine_limit + 1)))
+is_short v = nat_lt event_limit (length v.ring.ring.book.history + (length v.queue + (machine_limit + 1)))
 
 abbrev pub is_short_at : Option LockView → Bool
 is_short_at None = false

@@ -60,7 +60,7 @@ pub record IsHandedOver (old new : List Lock) (h : Handover) : Type 0 where
   pub lock : Lock
   pub there : slice_get old h.lock ≡ Some lock
   pub held : lock.holder ≡ Some (record { client = 0; token = h.token })
-  pub free : lock.line ≡ []
+  pub free : lock.queue ≡ []
   pub new_is : new ≡ slice_set old h.lock
       (record lock { holder = Some (record { client = h.client; token = h.token }) })
 
@@ -72,7 +72,7 @@ AreHandedOver old (h ∷ hs) new =
 
 -- locks that are new: no client waits for one, and none holds it
 abbrev pub AreNew : List Lock → Type 0
-AreNew added = AllByRecursion (λ (l : Lock). (l.line ≡ []) × (l.holder ≡ None)) added
+AreNew added = AllByRecursion (λ (l : Lock). (l.queue ≡ []) × (l.holder ≡ None)) added
 
 -- One list of inputs, with a restart between two runs: each run is a life of its part of the list,
 -- and begins with the locks after all inputs before it, with new ones after them, when its holds

@@ -35,7 +35,7 @@ use Rattle.lock_service.specs.KeysBack.{IsSound}
 use Rattle.lock_service.specs.Remarked.{begun_with_remarks}
 use Rattle.lock_service.specs.Started.{IsTakenOf, IsNew}
 use Rattle.lock_service.specs.Life.{Stage, AreFound, AreStages}
-use Rattle.lock_service.specs.Around.{AreToldAround, AreToldBehind}
+use Rattle.lock_service.specs.Around.{AreToldAround, AreToldAfter}
 
 -- ---- the service that a program of locks runs
 
@@ -96,7 +96,7 @@ pub record IsRun (start last : Service) (lines : List (List ℕ)) (said kept : L
   pub ends : EndWith first more (inside last).segment (without_remarks kept)
   pub told : told_of (first ∷ more) ≡ given (numbers_of start.inner.numbered.keys) (others_of lines)
   pub replied : List ℕ
-  pub replied_so : AreToldBehind lines said replied
+  pub replied_so : AreToldAfter lines said replied
   pub said_so : AreToldAround (numbers_of start.inner.numbered.keys) (others_of lines) replied
       (said_of (first ∷ more))
 

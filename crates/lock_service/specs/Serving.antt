@@ -17,7 +17,7 @@ use Rattle.lock_lines.specs.Answers.{denial_line}
 use Rattle.disks.specs.Held.{Held}
 use Rattle.line_service.specs.declared.pending.Pending.{Pending}
 use Rattle.lock_service.specs.declared.service.LockService.{LockService}
-use Rattle.lock_service.specs.Asking.{one_ask, is_off, IsAnswerTo, is_want}
+use Rattle.lock_service.specs.Asking.{one_ask, is_off, IsAnswerTo, is_lack}
 use Rattle.lock_service.specs.declared.service.Stage.{Stage}
 use Rattle.lock_service.specs.declared.service.Stage.TheVariants as stage
 use Rattle.lock_service.specs.declared.service.Terms.{Terms}
@@ -41,7 +41,7 @@ pub record IsToldOf (strict noting : Bool) (client lock : ℕ) (ask : Ask) (old 
     (said noted : List ℕ) (new : SegmentView) : Type 0 where
   pub answers : Answers
   pub done : IsAnswerTo old.locks new.locks client lock ask answers
-  pub given : (strict && is_want answers.own) ≡ false
+  pub given : (strict && is_lack answers.own) ≡ false
   pub says : said ≡ lines_about lock (answers_of client answers)
   pub notes : noted ≡ cond noting (note_about lock old.locks new.locks answers.ended) []
   pub counted : IsCounted old new (count_about lock old.locks new.locks answers.ended)

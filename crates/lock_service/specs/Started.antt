@@ -69,7 +69,7 @@ IsTakenOf number behind start kept front =
 
 -- a lock that is new: no client waits for it, and none holds it
 abbrev pub IsNew : LockView → Type 0
-IsNew v = (v.line ≡ []) × (v.holder ≡ None)
+IsNew v = (v.queue ≡ []) × (v.holder ≡ None)
 
 -- Locks start in that segment: those that are found in what is kept of it, or before a torn end, and
 -- new ones after them. Then each of these open holds was handed to its client. That front has each

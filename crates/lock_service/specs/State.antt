@@ -29,7 +29,7 @@ holds_from lock (v ∷ vs) = hold_lines lock v.holder ++ holds_from (lock + 1) v
 
 abbrev pub waits_from : ℕ → List LockView → List (List ℕ)
 waits_from lock [] = []
-waits_from lock (v ∷ vs) = wait_lines lock v.line ++ waits_from (lock + 1) vs
+waits_from lock (v ∷ vs) = wait_lines lock v.queue ++ waits_from (lock + 1) vs
 
 -- first the holds, lock by lock, and then those who wait, lock by lock and in their order
 abbrev pub lines_of : List LockView → List (List ℕ)

@@ -17,13 +17,13 @@ abbrev pub locks_in : Replica LockService → List LockView
 locks_in r = r.numbered.inner.segment.locks
 
 -- the lines of a state after those of the holds, which are handed over at a start
-abbrev pub lines_behind_holds : Replica LockService → List (List ℕ)
-lines_behind_holds r = waits_from 0 (locks_in r) ++ own_lines r
+abbrev pub lines_after_holds : Replica LockService → List (List ℕ)
+lines_after_holds r = waits_from 0 (locks_in r) ++ own_lines r
 
 abbrev pub HoldsAreFirst : Type 0
 HoldsAreFirst =
     (r : Replica LockService)
-    → lines_of state_lines r ≡ holds_from 0 (locks_in r) ++ lines_behind_holds r
+    → lines_of state_lines r ≡ holds_from 0 (locks_in r) ++ lines_after_holds r
 
 -- It has the waiting clients, the holds, the keys and the digest at the last place of another one,
 -- and no file has changed. What is noted are the remarks of the other's own lines.
@@ -43,6 +43,6 @@ StateComesBack =
     (source old new : Replica LockService) (was is : Option Held) (said noted : List ℕ)
     → IsSound source → HaveState (locks_in source) → IsFresh old
     → old.numbered.inner.terms.strict ≡ true → HaveTheHolds (locks_in source) (locks_in old)
-    → Answers (by_stand (IsReplied IsServed)) (stand old was) (lines_behind_holds source) said
+    → Answers (by_stand (IsReplied IsServed)) (stand old was) (lines_after_holds source) said
     noted (stand new is)
     → new.lost ≡ false → HasTheState source was said noted new is

@@ -21,7 +21,7 @@ abbrev pub holders_of : List LockView → List (Option Holder)
 holders_of vs = map (λ (v : LockView). v.holder) vs
 
 abbrev pub waiters_of : List LockView → List (List Waiter)
-waiters_of vs = map (λ (v : LockView). v.line) vs
+waiters_of vs = map (λ (v : LockView). v.queue) vs
 
 -- a client and an order have 64 bits
 abbrev pub IsOfBits : Waiter → Type 0
@@ -31,7 +31,7 @@ IsOfBits w = (w.client < 2 ^ 64) × (w.order < 2 ^ 64)
 pub record HaveState (vs : List LockView) : Type 0 where
   pub right : AreRight (locks_of vs)
   pub few : length vs ≤ lock_limit
-  pub bits : AllByRecursion (λ (v : LockView). AllByRecursion IsOfBits v.line) vs
+  pub bits : AllByRecursion (λ (v : LockView). AllByRecursion IsOfBits v.queue) vs
 
 -- a law: they stay so, whatever is asked
 abbrev pub HavingStateStays : Type 0
@@ -54,7 +54,7 @@ waiting_lines lock before (w ∷ line) =
 
 abbrev pub waiting_from : ℕ → List LockView → List ℕ
 waiting_from lock [] = []
-waiting_from lock (v ∷ vs) = waiting_lines lock 0 v.line ++ waiting_from (lock + 1) vs
+waiting_from lock (v ∷ vs) = waiting_lines lock 0 v.queue ++ waiting_from (lock + 1) vs
 
 -- Each got the answer that it waits. The same clients wait for each lock, with the same orders and
 -- in the same order, and the same clients hold them, with the same tokens.

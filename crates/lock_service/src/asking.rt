@@ -4,7 +4,7 @@ ghost use Rattle.std.specs.Prelude.{◌≡◌};
 ghost use Rattle.std.specs.Option.{option_map};
 ghost use Rattle.text_lines.specs.LongNumbers.{in_32_bits};
 ghost use Rattle.lock_lines.specs.Asks.{seen};
-ghost use Rattle.lock_service.specs.Asking.{one_ask, is_off, asked, IsAnswerTo, is_want};
+ghost use Rattle.lock_service.specs.Asking.{one_ask, is_off, asked, IsAnswerTo, is_lack};
 
 use held_locks::{Answer, Answers, Locks, Refusal};
 use lock_lines::Ask;
@@ -65,8 +65,8 @@ pub(crate) fn one_ask(ask: Ask) -> Option<(u32, OneAsk)>
 }
 
 /// Whether the asker is refused for lack of room or of memory.
-pub(crate) fn is_want(own: Option<Answer>) -> bool
-    ensures { result ≡ is_want own }
+pub(crate) fn is_lack(own: Option<Answer>) -> bool
+    ensures { result ≡ is_lack own }
 {
     match own {
         Some(Answer::Refused(Refusal::Full | Refusal::Memory)) => true,

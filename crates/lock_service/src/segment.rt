@@ -4,7 +4,7 @@ ghost use Rattle.std.specs.Prelude.{◌≡◌, ◌||◌, ◌⊎◌, true, false,
 ghost use Rattle.held_locks.specs.declared.answers.Refusal.{Refusal};
 ghost use Rattle.held_locks.specs.Cuts.{AreNext};
 ghost use Rattle.held_locks.specs.Kept.{IsLeft};
-ghost use Rattle.lock_service.specs.Asking.{asked, IsAnswerTo, is_want};
+ghost use Rattle.lock_service.specs.Asking.{asked, IsAnswerTo, is_lack};
 ghost use Rattle.lock_service.specs.Due.{is_due, has_short, HaveNoSegment};
 ghost use Rattle.lock_service.specs.Counting.{IsCounted, IsStart, count_about, count_of_all};
 
@@ -94,7 +94,7 @@ impl Segment {
         ensures answer { IsAnswerTo self.old.locks self.new.locks client lock (asked ask) result }
         ensures counted { IsCounted self.old self.new
             (count_about lock self.old.locks self.new.locks result.ended) }
-        ensures want { is_want result.own ≡ true → self.new ≡ self.old }
+        ensures lack { is_lack result.own ≡ true → self.new ≡ self.old }
     {
         let place = events_at(&self.locks, lock);
         let answers = ask_lock(&mut self.locks, client, lock, ask);

@@ -2,16 +2,16 @@
 
 ghost use Rattle.std.specs.Prelude.{◌≡◌, ◌⊎◌, ◌&&◌, List, ℕ, OnOk, OnErr, IfOk};
 ghost use Rattle.text_lines.specs.Writing.{Writes};
-ghost use Rattle.journal.specs.Spelling.{head_text as journal_text};
+ghost use Rattle.journal.specs.Spelling.{journal_head};
 ghost use Rattle.held_locks.specs.declared.answers.Refusal.{Refusal};
 ghost use Rattle.lock_lines.specs.Asks.{seen};
-ghost use Rattle.lock_service.specs.Asking.{is_off, asked, is_want};
+ghost use Rattle.lock_service.specs.Asking.{is_off, asked, is_lack};
 ghost use Rattle.lock_service.specs.Segments.{content_of};
 ghost use Rattle.lock_service.specs.Counting.{IsStart};
 ghost use Rattle.lock_service.specs.Segmented.{limit_of, is_to_end};
 ghost use Rattle.lock_service.specs.Serving.{IsToldOf, IsToldOfLeave, IsAnsweredIf, denial_of, IsInputAnswered, AnswersInput, IsKept, IsAdded, Leaves, put, is_past, stage_after};
 
-use crate::asking::{OneAsk, is_off, is_want, one_ask};
+use crate::asking::{OneAsk, is_off, is_lack, one_ask};
 use crate::noting::{events_at, note_if, note_left_if, tell, tell_left};
 use crate::segment::Segment;
 use crate::texts::put_beginning;
@@ -96,9 +96,9 @@ fn put(told: Result<(), AllocError>) -> Result<(), Untold>
 
 /// Whether it is a refusal for lack of room or memory, on strict terms.
 fn is_stop(strict: bool, own: Option<Answer>) -> bool
-    ensures { result ≡ (strict && is_want own) }
+    ensures { result ≡ (strict && is_lack own) }
 {
-    strict && is_want(own)
+    strict && is_lack(own)
 }
 
 /// Asks one lock, and adds the lines of the answers.
@@ -321,7 +321,7 @@ impl LockService {
     /// `WriteFault` at the first error of the writer: it holds a prefix of the text then.
     pub fn write_beginning<W: Write>(&self, out: &mut W) -> Result<(), WriteFault>
         ensures { Writes (W.contents out.old) (W.contents out.new) result
-            (journal_text (content_of self.now.segment.locks)) }
+            (journal_head (content_of self.now.segment.locks)) }
     {
         put_beginning(out, self.segment.locks())
     }

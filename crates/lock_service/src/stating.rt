@@ -79,7 +79,7 @@ fn put_waiter(lock: u32, waiter: Waiter, text: &mut Vec<u8>) -> Result<(), Alloc
 fn put_line(locks: &Locks, lock: u32, text: &mut Vec<u8>) -> Result<(), AllocError>
     requires { lock < length locks.now }
     ensures { (v : LockView) → slice_get locks.now lock ≡ Some v
-        → OnOk result (text.new.items ≡ text.old.items ++ joined_lines (wait_lines lock v.line)) }
+        → OnOk result (text.new.items ≡ text.old.items ++ joined_lines (wait_lines lock v.queue)) }
 {
     let waiting = locks.waiters(lock);
     for place in 0..waiting {
@@ -108,9 +108,9 @@ fn put_counted(locks: &Locks, lock: u32, count: u64, text: &mut Vec<u8>) -> Resu
     requires lock { lock < length locks.now }
     requires count { count < 2 ^ 63 }
     ensures lines { (v : LockView) → slice_get locks.now lock ≡ Some v
-        → OnOk result (text.new.items ≡ text.old.items ++ joined_lines (wait_lines lock v.line)) }
+        → OnOk result (text.new.items ≡ text.old.items ++ joined_lines (wait_lines lock v.queue)) }
     ensures count { (v : LockView) → slice_get locks.now lock ≡ Some v
-        → IfOk result (λ n. n ≡ count + length (wait_lines lock v.line)) }
+        → IfOk result (λ n. n ≡ count + length (wait_lines lock v.queue)) }
     ensures few { IfOk result (λ n. n < 2 ^ 63) }
 {
     match put_line(locks, lock, text) {

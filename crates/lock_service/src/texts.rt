@@ -5,7 +5,7 @@ ghost use Rattle.std.specs.List.{flat_map};
 ghost use Rattle.text_lines.specs.Writing.{Writes};
 ghost use Rattle.saved_history.specs.Versions.{latest_version};
 ghost use Rattle.saved_history.specs.Spelling.{block_text, text, BlockFits};
-ghost use Rattle.journal.specs.Spelling.{head_text as journal_text};
+ghost use Rattle.journal.specs.Spelling.{journal_head};
 ghost use Rattle.segment_files.specs.Spelling.{head_of, head_text, DigestFits, HeadFits};
 ghost use Rattle.ring_service.specs.Standings.{standing_of};
 ghost use Rattle.ring_service.specs.Segments.{bases_of};
@@ -78,7 +78,7 @@ fn put_rings<W: Write>(out: &mut W, locks: &Locks) -> Result<(), WriteFault>
 /// Writes the beginning of a journal of these locks.
 pub(crate) fn put_beginning<W: Write>(out: &mut W, locks: &Locks) -> Result<(), WriteFault>
     ensures written { Writes (W.contents out.old) (W.contents out.new) result
-        (journal_text (content_of locks.now)) }
+        (journal_head (content_of locks.now)) }
     ensures fits { IfOk result (λ _. BlocksFit locks.now) }
 {
     match put_first_line(out) {
@@ -95,7 +95,7 @@ fn put_segment<W: Write>(out: &mut W, head: &SegmentHead, locks: &Locks) -> Resu
     requires some { 0 < length head.now.bases.items }
     requires most { length head.now.bases.items < 2 ^ 32 }
     ensures written { Writes (W.contents out.old) (W.contents out.new) result
-        (head_text (head_of head.now) ++ journal_text (content_of locks.now)) }
+        (head_text (head_of head.now) ++ journal_head (content_of locks.now)) }
     ensures fits { IfOk result (λ _. HeadFits (head_of head.now) × BlocksFit locks.now) }
 {
     match put_head(out, head) {

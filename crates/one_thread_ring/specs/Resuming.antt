@@ -40,8 +40,8 @@ pub record IsToldFirst (number : ℕ) (ss : List SavedSurvey) (c : ClientView) :
   pub onward : AreOnward number 0 ss → AreOnward (number + 1) 0 (drop (length c.surveys) ss)
 
 -- out of memory, whoever asked for it
-abbrev pub IsWantOfMemory : ResumeError → Type 0
-IsWantOfMemory resume.OutOfMemory = Unit {0}
-IsWantOfMemory (resume.Open opens.OutOfMemory) = Unit {0}
-IsWantOfMemory (resume.Call call.OutOfMemory) = Unit {0}
-IsWantOfMemory _ = ⊥
+abbrev pub IsOutOfMemory : ResumeError → Type 0
+IsOutOfMemory resume.OutOfMemory = Unit {0}
+IsOutOfMemory (resume.Open opens.OutOfMemory) = Unit {0}
+IsOutOfMemory (resume.Call call.OutOfMemory) = Unit {0}
+IsOutOfMemory _ = ⊥

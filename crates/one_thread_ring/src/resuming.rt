@@ -13,7 +13,7 @@ ghost use Rattle.ring_check.specs.Table.{event_of};
 ghost use Rattle.ring_check.specs.Meaning.{survey_of};
 ghost use Rattle.one_thread_ring.specs.Rings.{IsOneThreadRing};
 ghost use Rattle.one_thread_ring.specs.Texts.{surveys_told};
-ghost use Rattle.one_thread_ring.specs.Resuming.{CanGoOnWith, IsWantOfMemory};
+ghost use Rattle.one_thread_ring.specs.Resuming.{CanGoOnWith, IsOutOfMemory};
 
 mod events;
 mod surveys;
@@ -53,7 +53,7 @@ impl From<AllocError> for ResumeError {
 
 /// Why a history is not resumed.
 fn history_refused(error: HistoryError) -> ResumeError
-    ensures { error ≡ HistoryError.OutOfMemory → IsWantOfMemory result }
+    ensures { error ≡ HistoryError.OutOfMemory → IsOutOfMemory result }
 {
     match error {
         HistoryError::WrongEvent(_) | HistoryError::BrokenGroup => ResumeError::Differs,
@@ -75,7 +75,7 @@ fn book_of(
     ensures seats { IfOk result (λ b. AreOfSeats seats b.history) }
     ensures legal { IsHistory till (opening start 0) (map event_of events.now)
         → AreOfSeats seats (map event_of events.now) → seats ≤ seat_limit
-        → length (map event_of events.now) ≤ event_limit → IfErr result (λ e. IsWantOfMemory e) }
+        → length (map event_of events.now) ≤ event_limit → IfErr result (λ e. IsOutOfMemory e) }
 {
     let Ok(history) = events_of(alloc, events) else {
         return Err(ResumeError::OutOfMemory);
@@ -120,7 +120,7 @@ pub fn from_saved(
     ensures start { IfOk result (λ d. d.book.start ≡ ring_with saved.now.k saved.now.start.items) }
     ensures history { IfOk result (λ d. d.book.history ≡ map event_of saved.now.events.items) }
     ensures surveys { IfOk result (λ d. surveys_told d.clients ≡ saved.now.surveys.items) }
-    ensures legal { CanGoOnWith seats (block_of saved.now) → IfErr result (λ e. IsWantOfMemory e) }
+    ensures legal { CanGoOnWith seats (block_of saved.now) → IfErr result (λ e. IsOutOfMemory e) }
 {
     let start = match start_of(alloc, saved.n, saved.k, &saved.start, seats) {
         Ok(start) => start,

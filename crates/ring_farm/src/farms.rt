@@ -11,7 +11,7 @@ ghost use Rattle.ring_farm.specs.Runs.{IsRunOf, AreRunsOf, CanRun, ring_of_data,
 ghost use Rattle.ring_farm.specs.Headline.{EachDone, IsFarmRing, IsFarmOf};
 ghost use Rattle.ring_farm.specs.Consequences.{IsLawfulAt, IsLawfulFarm};
 
-use crate::faults::{FarmError, want_of_memory};
+use crate::faults::{FarmError, out_of_memory};
 use crate::gates::Gate;
 use crate::outcomes::Outcome;
 use crate::rings::run_ring;
@@ -34,11 +34,11 @@ fn book_of(alloc: Global, settings: &Settings, ring: usize) -> Result<Book<Till>
 {
     let params = settings.params(ring);
     let Ok(state) = RingState::from_values(alloc, &params, settings.start(ring)) else {
-        return Err(want_of_memory());
+        return Err(out_of_memory());
     };
     match Book::new(alloc, state, Till::new()) {
         Ok(book) => Ok(book),
-        Err(_) => Err(want_of_memory()),
+        Err(_) => Err(out_of_memory()),
     }
 }
 
@@ -158,10 +158,10 @@ pub fn run_farm<G: Gate + Sync, W: Threads + Wait + Sync>(
     ensures lawful { IfOk result (IsLawfulFarm settings.now) }
 {
     let Ok(rings) = Vec::with_capacity(alloc, settings.ring_count()) else {
-        return Err(want_of_memory());
+        return Err(out_of_memory());
     };
     let Ok(results) = run_rings(rt, alloc, settings, gate) else {
-        return Err(want_of_memory());
+        return Err(out_of_memory());
     };
     collect(results, rings)
 }

@@ -28,7 +28,7 @@ pub enum FarmError {
 }
 
 /// The refusal when memory runs out.
-pub(crate) fn want_of_memory() -> FarmError
+pub(crate) fn out_of_memory() -> FarmError
     ensures { result ≡ FarmError.OutOfMemory }
 {
     FarmError::OutOfMemory

@@ -7,7 +7,7 @@ ghost use Rattle.ring_farm.specs.Plans.{IsShort, IsPlanOn};
 ghost use Rattle.ring_farm.specs.Refusals.{told_of, told_of_close};
 ghost use Rattle.ring_farm.specs.Runs.{IsRun};
 
-use crate::faults::{FarmError, want_of_memory};
+use crate::faults::{FarmError, out_of_memory};
 use crate::gates::Gate;
 use crate::rooms::Room;
 use crate::threads::run_threads;
@@ -117,7 +117,7 @@ pub(crate) fn run_ring<G: Gate + Sync, W: Threads + Wait + Sync>(
     let seats = plans.len() as u32;
     let draft = match Draft::new(book, seats) {
         Ok(draft) => draft,
-        Err(_) => return Err(want_of_memory()),
+        Err(_) => return Err(out_of_memory()),
     };
     run_named::<Brand, G, W>(rt, alloc, gate, number, plans, room, draft)
 }

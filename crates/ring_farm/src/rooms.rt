@@ -3,7 +3,7 @@ ghost use Rattle.std.specs.Prelude.{◌≡◌, ◌≤◌, [], IfErr, OnOk};
 ghost use Rattle.ring_model.specs.Limits.{event_limit};
 ghost use Rattle.ring_farm.specs.Promises.{AreUnchanged};
 
-use crate::faults::{FarmError, want_of_memory};
+use crate::faults::{FarmError, out_of_memory};
 use crate::workers::fault_of;
 use ring_book::{Book, Till};
 use ring_model::limits::{EVENT_LIMIT, SEAT_LIMIT};
@@ -57,7 +57,7 @@ impl Room {
             let seat = &mut seats[i];
             if let Some(entries) = self.entries.get(seat.number() as usize) {
                 if seat.reserve(*entries as usize).is_err() {
-                    return Err(want_of_memory());
+                    return Err(out_of_memory());
                 }
             }
         }

@@ -5,7 +5,7 @@ ghost use Rattle.ring_farm.specs.Plans.{Pairs, actions_of, planned, IsShort, IsP
 ghost use Rattle.ring_farm.specs.Promises.{IsPromised, DidAsPromised, IsDone, AreReady};
 ghost use Rattle.ring_settings.specs.declared.actions.Plan.{Plan};
 
-use crate::faults::{FarmError, first_fault, want_of_memory};
+use crate::faults::{FarmError, first_fault, out_of_memory};
 use crate::gates::Gate;
 use crate::workers::{Work, run_plan};
 use ring_book::Resource;
@@ -214,10 +214,10 @@ pub(crate) fn run_threads<
     ensures each { IfOk result (λ v. Pairs (IsDone number) plans.now.items v.items) }
 {
     let Ok(handles) = Vec::with_capacity(alloc, plans.len()) else {
-        return Err(want_of_memory());
+        return Err(out_of_memory());
     };
     let Ok(back) = Vec::with_capacity(alloc, plans.len()) else {
-        return Err(want_of_memory());
+        return Err(out_of_memory());
     };
     let driven = DrivenRing { ring, gate, number };
     run_in_scope(rt, &driven, plans, seats, handles, back)

@@ -3,7 +3,7 @@ use Rattle.std.proofs.Common.{◌≡◌, ℕ, ◌^◌, ◌<◌, List, [], ◌∷
 use Rattle.std.specs.List.{AllByRecursion}
 use Rattle.disks.specs.Held.{Held}
 use Rattle.journal.specs.declared.calls.JournalLine.{JournalLine}
-use Rattle.journal.specs.Spelling.{head_text as journal_text}
+use Rattle.journal.specs.Spelling.{journal_head}
 use Rattle.line_service.specs.Answering as told
 use Rattle.line_service.specs.Stands.{Stand, stand, by_stand}
 use Rattle.line_service.specs.declared.segmented.EndFault.{EndFault}
@@ -138,7 +138,7 @@ keeps_calls folder a new input rest out after journal right t earlier first othe
     let later_turned = parts_turned folder old few turned.calls first.to t.mid others first.from.number turned.stands at.is.number at.then_ within in
     let notes : List ℕ = t.more ++ t.back in
     let untold = ring_answers (stand_of t.mid) (stand new t.is) t.untold.lines t.unsaid notes t.untold.answers in
-    let head : List ℕ = journal_text (content_of old) in
+    let head : List ℕ = journal_head (content_of old) in
     let noted : List ℕ = all_noted (first ∷ others) in
     let all_notes : kept ++ (lost ++ t.back) ≡ head ++ (noted ++ notes) =
     sym (append_assoc kept lost t.back)

@@ -4,7 +4,7 @@ use Rattle.std.specs.Prelude.{is_some}
 use Rattle.std.specs.List.{AllByRecursion}
 use Rattle.std.specs.Io.KnownBytes.{Appends}
 use Rattle.disks.specs.Held.{Held}
-use Rattle.journal.specs.Spelling.{head_text}
+use Rattle.journal.specs.Spelling.{journal_head}
 use Rattle.line_service.specs.Loop.{Written}
 use Rattle.ring_service.specs.declared.serving.Journal.{Journal}
 use Rattle.ring_service.specs.Permits.{Terms}
@@ -33,7 +33,7 @@ held_some {J} contents (Some j) xs e = refl
 keeps_answers : {terms : Terms} {old new : List Standing} {was is : Option Held} {before after : Written} {bytes : List ℕ} (s : Stops terms old was before after bytes new is) → ((xs : List ℕ) → before.journal ≡ Some xs → is_some terms.journal ≡ true) → AllByRecursion IsRight old →
     KeepsAnswers s
 keeps_answers {terms} {old} {new} {was} {is} {before} {after} s noting all begun kept lost now front =
-    let head : List ℕ = head_text (content_of old) in
+    let head : List ℕ = journal_head (content_of old) in
     let whole : kept ++ lost ≡ head ++ (s.noted ++ s.front) = appended before.journal after.journal head (s.noted ++ s.front) (kept ++ lost) begun.0 s.wrote_notes now in
     let all_notes : kept ++ (lost ++ s.back) ≡ head ++ (s.noted ++ (s.front ++ s.back)) =
     sym (append_assoc kept lost s.back)

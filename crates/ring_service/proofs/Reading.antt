@@ -7,11 +7,11 @@ use Rattle.text_lines.specs.declared.fault.Stop.{Stop}
 use Rattle.text_lines.specs.declared.fault.Stop.TheVariants as stops
 use Rattle.text_lines.specs.Reading.{Reader, ◌>>=◌, Gives, word_at, or_at, none_at, whole_at}
 use Rattle.text_lines.proofs.Basics.{bind_ok, ok_is}
-use Rattle.text_lines.specs.LongNumbers.{spaced, ended, in_64_bits, in_32_bits, order_at, place_at}
+use Rattle.text_lines.specs.LongNumbers.{number_spaced, number_ended, in_64_bits, in_32_bits, order_at, place_at}
 use Rattle.ring_service.specs.Commands.{Command, pass, try, group, corrupt, survey, glance, save, command_line, HasLine, IsLineOf, heard, seen, IsReadAs}
 use Rattle.ring_service.specs.declared.commands.Command.{Command as Read}
 use Rattle.ring_service.specs.Readers.{pass_of, pass_at, try_of, try_at, group_of, group_at, corrupt_of, corrupt_at, survey_of, survey_at, glance_of, glance_at, name_at, save_at, g_at, s_at, command_at}
-use Rattle.text_lines.proofs.Commands.{Kind, Takes, kind_takes, kind_again, or_takes, none_takes, behind_takes, line_takes, line_again}
+use Rattle.text_lines.proofs.Commands.{Kind, Takes, kind_takes, kind_again, or_takes, none_takes, after_takes, line_takes, line_again}
 use Rattle.text_lines.proofs.Spellings.{Any, Hears, both_hear, word_takes, place_hears, order_hears}
 use Rattle.ring_service.proofs.Spellings.{machines_hear, name_takes, name_again}
 
@@ -23,16 +23,16 @@ TakesCommand before at = Takes commands before at
 
 -- ---- the kinds
 
-spaced_hears : Hears in_32_bits Any spaced (place_at 32)
+spaced_hears : Hears in_32_bits Any number_spaced (place_at 32)
 spaced_hears = place_hears 32 (omega arith)
 
-ended_hears : Hears in_32_bits Any ended (place_at 10)
+ended_hears : Hears in_32_bits Any number_ended (place_at 10)
 ended_hears = place_hears 10 (omega arith)
 
-order_spaced : Hears in_64_bits Any spaced (order_at 32)
+order_spaced : Hears in_64_bits Any number_spaced (order_at 32)
 order_spaced = order_hears 32 (omega arith)
 
-order_ended : Hears in_64_bits Any ended (order_at 10)
+order_ended : Hears in_64_bits Any number_ended (order_at 10)
 order_ended = order_hears 10 (omega arith)
 
 pass_takes : TakesCommand [] pass_at
@@ -106,11 +106,11 @@ save_again name rest f = rw (name_again name rest f) refl
 
 g_takes : TakesCommand [] g_at
 unfolding g_at
-g_takes = behind_takes commands (codes "g") (or_at 114 group_at (or_at 108 glance_at none_at)) (or_takes commands (codes "g") 114 group_at (or_at 108 glance_at none_at) group_takes (or_takes commands (codes "g") 108 glance_at none_at glance_takes (none_takes commands (codes "g"))))
+g_takes = after_takes commands (codes "g") (or_at 114 group_at (or_at 108 glance_at none_at)) (or_takes commands (codes "g") 114 group_at (or_at 108 glance_at none_at) group_takes (or_takes commands (codes "g") 108 glance_at none_at glance_takes (none_takes commands (codes "g"))))
 
 s_takes : TakesCommand [] s_at
 unfolding s_at
-s_takes = behind_takes commands (codes "s") (or_at 117 survey_at (or_at 97 save_at none_at)) (or_takes commands (codes "s") 117 survey_at (or_at 97 save_at none_at) survey_takes (or_takes commands (codes "s") 97 save_at none_at save_takes (none_takes commands (codes "s"))))
+s_takes = after_takes commands (codes "s") (or_at 117 survey_at (or_at 97 save_at none_at)) (or_takes commands (codes "s") 117 survey_at (or_at 97 save_at none_at) survey_takes (or_takes commands (codes "s") 97 save_at none_at save_takes (none_takes commands (codes "s"))))
 
 command_takes : TakesCommand [] command_at
 unfolding command_at

@@ -21,7 +21,7 @@ use Rattle.one_thread_ring.specs.Journals.{line_of_event, event_lines}
 use Rattle.journal.specs.declared.calls.Call.{Call}
 use Rattle.journal.specs.declared.calls.Call.TheVariants as call
 use Rattle.journal.specs.declared.calls.JournalLine.{JournalLine}
-use Rattle.journal.specs.Spelling.{Journal, JournalLineFits, call_line, journal_line, head_text, journal_text}
+use Rattle.journal.specs.Spelling.{Journal, JournalLineFits, call_line, journal_line, journal_head, journal_text}
 use Rattle.journal.specs.Reading.{BeginsNone}
 use Rattle.journal.specs.ContentAfter.{are_open, with_calls, in_order, content_after}
 use Rattle.journal.specs.Recovery.{has_line_end, IsRecovered}
@@ -47,8 +47,8 @@ or_true : (a : Bool) → (a || true) ≡ true
 or_true true = refl
 or_true false = refl
 
-end_behind : (xs ys : List ℕ) → has_line_end ys ≡ true → has_line_end (xs ++ ys) ≡ true
-end_behind xs ys e = list_any-append (λ b. eqb b 10) xs ys ∙ (ap (λ (b : Bool). has_line_end xs || b) e ∙ or_true (has_line_end xs))
+end_after : (xs ys : List ℕ) → has_line_end ys ≡ true → has_line_end (xs ++ ys) ≡ true
+end_after xs ys e = list_any-append (λ b. eqb b 10) xs ys ∙ (ap (λ (b : Bool). has_line_end xs || b) e ∙ or_true (has_line_end xs))
 
 end_before : (xs ys : List ℕ) → has_line_end xs ≡ true → has_line_end (xs ++ ys) ≡ true
 end_before xs ys e = list_any-append (λ b. eqb b 10) xs ys ∙ ap (λ (b : Bool). b || has_line_end ys) e
@@ -58,10 +58,10 @@ record HasEnd (line : List ℕ) : Type 0 where
   pub has : has_line_end line ≡ true
 
 behind : (xs ys : List ℕ) → HasEnd ys → HasEnd (xs ++ ys)
-behind xs ys e = record { has = end_behind xs ys e.has }
+behind xs ys e = record { has = end_after xs ys e.has }
 
 ended_ends : (n : ℕ) → HasEnd (ended n)
-ended_ends n = record { has = end_behind (decimal n) (10 ∷ []) refl }
+ended_ends n = record { has = end_after (decimal n) (10 ∷ []) refl }
 
 event_ends : (e : SavedEvent) → HasEnd (event_line e)
 event_ends (Granted s m o n r) = behind (codes "p ") _ (behind (spaced s) _ (behind (spaced m) _ (behind (spaced o) _ (behind (codes "g ") _ (behind (spaced n) _ (ended_ends r))))))
@@ -383,10 +383,10 @@ pub record Rebuilt (terms : Terms) (mid new : List Standing) (between : Option H
   pub grown : HaveGrown rings new
 
 pub rebuilt : (terms : Terms) → is_some terms.journal ≡ true → (old mid new : List Standing) (between is : Option Held) (untold : List (List ℕ)) (noted unsaid notes kept lost : List ℕ) → AllByRecursion IsRight old → Fits (content_of old) → AllTurned old [] mid noted →
-    Answers terms mid between untold unsaid notes new is → kept ++ lost ≡ head_text (content_of old) ++ (noted ++ notes) → IsPrefix (head_text (content_of old) ++ noted) kept → Rebuilt terms mid new between kept
+    Answers terms mid between untold unsaid notes new is → kept ++ lost ≡ journal_head (content_of old) ++ (noted ++ notes) → IsPrefix (journal_head (content_of old) ++ noted) kept → Rebuilt terms mid new between kept
 rebuilt terms noting old mid new between is untold noted unsaid notes kept lost all fits t k whole_ front =
     let few : length old < 2 ^ 32 = fits.rings_said in
-    let head : List ℕ = head_text (content_of old) in
+    let head : List ℕ = journal_head (content_of old) in
     let extra : List ℕ = front.0 in
     let after : extra ++ lost ≡ notes = append_cancel_left (head ++ noted) (extra ++ lost) notes
     (sym (append_assoc (head ++ noted) extra lost) ∙ (ap (λ (u : List ℕ). u ++ lost) (sym front.1) ∙ (whole_ ∙ sym (append_assoc head noted notes)))) in

@@ -4,7 +4,7 @@ use Rattle.std.specs.List.{AllByRecursion}
 use Rattle.std.proofs.lemmas.Bool.{eqb-true, eqb-false, ne_eqb}
 use Rattle.text_lines.specs.declared.fault.Fault.TheVariants.{Bad}
 use Rattle.text_lines.proofs.Basics.{chosen, ok_is}
-use Rattle.text_lines.specs.LongNumbers.{number_text, row, in_32_bits, places_at}
+use Rattle.text_lines.specs.LongNumbers.{number_text, number_row, in_32_bits, places_at}
 use Rattle.text_lines.proofs.Numerals.{by_digits}
 use Rattle.text_lines.proofs.Spellings.{Hears, places_take, places_again}
 use Rattle.ring_service.specs.Readers.{gaps, machines_at, end_of_line, name_at}
@@ -23,25 +23,25 @@ gaps_number n = by_digits (λ m ds. (u : List ℕ) → gaps (ds ++ u) ≡ gaps u
     more : (m : ℕ) (ds : List ℕ) → 10 ≤ m → ((u : List ℕ) → gaps (ds ++ u) ≡ gaps u) → (u : List ℕ) → gaps ((ds ++ (48 + m % 10) ∷ []) ++ u) ≡ gaps u
     more m ds ge ih u = ap gaps (append_assoc ds ((48 + m % 10) ∷ []) u) ∙ (ih ((48 + m % 10) ∷ u) ∙ digit (48 + m % 10) u (omega arith))
 
-gaps_row : (x : ℕ) (xs rest : List ℕ) → gaps (row (x ∷ xs) ++ rest) ≡ length xs
+gaps_row : (x : ℕ) (xs rest : List ℕ) → gaps (number_row (x ∷ xs) ++ rest) ≡ length xs
 unfolding gaps
 gaps_row x [] rest = ap gaps (append_assoc (number_text x) (10 ∷ []) rest) ∙ gaps_number x (10 ∷ rest)
 gaps_row x (y ∷ ys) rest =
-    ap gaps (append_assoc (number_text x ++ 32 ∷ []) (row (y ∷ ys)) rest ∙ append_assoc (number_text x) (32 ∷ []) (row (y ∷ ys) ++ rest))
-    ∙ (gaps_number x (32 ∷ (row (y ∷ ys) ++ rest)) ∙ (ap (λ (g : ℕ). g + 1) (gaps_row y ys rest) ∙ omega arith))
+    ap gaps (append_assoc (number_text x ++ 32 ∷ []) (number_row (y ∷ ys)) rest ∙ append_assoc (number_text x) (32 ∷ []) (number_row (y ∷ ys) ++ rest))
+    ∙ (gaps_number x (32 ∷ (number_row (y ∷ ys) ++ rest)) ∙ (ap (λ (g : ℕ). g + 1) (gaps_row y ys rest) ∙ omega arith))
 
-pub machines_hear : Hears (λ xs. map in_32_bits xs) (λ xs. 0 < length xs) row machines_at
+pub machines_hear : Hears (λ xs. map in_32_bits xs) (λ xs. 0 < length xs) number_row machines_at
 unfolding machines_at
 machines_hear = record { takes = takes; again = again }
   where
-    takes : (bytes ms rest : List ℕ) → places_at (gaps bytes + 1) bytes ≡ Ok (ms, rest) → (xs : List ℕ) × (0 < length xs) × (map in_32_bits xs ≡ ms) × (bytes ≡ row xs ++ rest)
+    takes : (bytes ms rest : List ℕ) → places_at (gaps bytes + 1) bytes ≡ Ok (ms, rest) → (xs : List ℕ) × (0 < length xs) × (map in_32_bits xs ≡ ms) × (bytes ≡ number_row xs ++ rest)
     takes bytes ms rest e = let p = places_take (gaps bytes + 1) bytes ms rest e in let many = p.1 in (p.0, omega (arith, many), p.2, p.3)
 
-    again : (xs rest : List ℕ) → 0 < length xs → places_at (gaps (row xs ++ rest) + 1) (row xs ++ rest) ≡ Ok (map in_32_bits xs, rest)
+    again : (xs rest : List ℕ) → 0 < length xs → places_at (gaps (number_row xs ++ rest) + 1) (number_row xs ++ rest) ≡ Ok (map in_32_bits xs, rest)
     again [] rest some = absurd (omega (arith, some))
     again (x ∷ xs) rest some =
-        let many : gaps (row (x ∷ xs) ++ rest) + 1 ≡ length (x ∷ xs) = ap (λ (g : ℕ). g + 1) (gaps_row x xs rest) ∙ omega arith in
-        ap (λ (k : ℕ). places_at k (row (x ∷ xs) ++ rest)) many ∙ places_again (x ∷ xs) rest
+        let many : gaps (number_row (x ∷ xs) ++ rest) + 1 ≡ length (x ∷ xs) = ap (λ (g : ℕ). g + 1) (gaps_row x xs rest) ∙ omega arith in
+        ap (λ (k : ℕ). places_at k (number_row (x ∷ xs) ++ rest)) many ∙ places_again (x ∷ xs) rest
 
 -- ---- a name
 

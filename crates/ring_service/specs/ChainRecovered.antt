@@ -3,7 +3,7 @@ use Rattle.std.specs.Prelude.{◌≡◌, ℕ, List, ◌∷◌, ◌++◌, Option}
 use Rattle.std.specs.List.{AllByRecursion}
 use Rattle.disks.specs.Held.{Held}
 use Rattle.saved_history.specs.Spelling.{Fits}
-use Rattle.journal.specs.Spelling.{head_text as journal_text}
+use Rattle.journal.specs.Spelling.{journal_head}
 use Rattle.journal.specs.Recovery.{IsRecovered}
 use Rattle.line_service.specs.Segments.{Moment}
 use Rattle.line_service.specs.Service.{Part}
@@ -38,9 +38,9 @@ KeepsCalls parts more new =
     → parts ≡ earlier ++ first ∷ others → AreIn first.from.number others
     → Fits (content_of first.from.service.rings)
     → kept ++ lost
-    ≡ journal_text (content_of first.from.service.rings)
+    ≡ journal_head (content_of first.from.service.rings)
     ++ (all_noted (first ∷ others) ++ more)
-    → IsPrefix (journal_text (content_of first.from.service.rings) ++ all_noted (first ∷ others))
+    → IsPrefix (journal_head (content_of first.from.service.rings) ++ all_noted (first ∷ others))
     kept
     → AreRecovered (first ∷ others) kept new
 

@@ -4,7 +4,7 @@ use Rattle.std.specs.Option.{option_map}
 use Rattle.std.specs.List.{AllByRecursion}
 use Rattle.text_lines.specs.declared.fault.Stop.{Stop}
 use Rattle.text_lines.specs.declared.fault.Stop.TheVariants as stops
-use Rattle.text_lines.specs.LongNumbers.{spaced, ended, row, in_64_bits, in_32_bits}
+use Rattle.text_lines.specs.LongNumbers.{number_spaced, number_ended, number_row, in_64_bits, in_32_bits}
 use Rattle.ring_service.specs.declared.commands.Command.{Command as Read}
 use Rattle.ring_service.specs.declared.commands.Command.TheVariants as reads
 
@@ -23,15 +23,15 @@ pub data Command : Type 0 where
 -- the line of a command
 abbrev pub command_line : Command → List ℕ
 command_line (pass ring seat machine order) =
-    codes "pass " ++ (spaced ring ++ (spaced seat ++ (spaced machine ++ ended order)))
+    codes "pass " ++ (number_spaced ring ++ (number_spaced seat ++ (number_spaced machine ++ number_ended order)))
 command_line (try ring seat machine order) =
-    codes "try " ++ (spaced ring ++ (spaced seat ++ (spaced machine ++ ended order)))
+    codes "try " ++ (number_spaced ring ++ (number_spaced seat ++ (number_spaced machine ++ number_ended order)))
 command_line (group ring seat order machines) =
-    codes "group " ++ (spaced ring ++ (spaced seat ++ (spaced order ++ row machines)))
+    codes "group " ++ (number_spaced ring ++ (number_spaced seat ++ (number_spaced order ++ number_row machines)))
 command_line (corrupt ring seat machine value) =
-    codes "corrupt " ++ (spaced ring ++ (spaced seat ++ (spaced machine ++ ended value)))
-command_line (survey ring seat) = codes "survey " ++ (spaced ring ++ ended seat)
-command_line (glance ring) = codes "glance " ++ ended ring
+    codes "corrupt " ++ (number_spaced ring ++ (number_spaced seat ++ (number_spaced machine ++ number_ended value)))
+command_line (survey ring seat) = codes "survey " ++ (number_spaced ring ++ number_ended seat)
+command_line (glance ring) = codes "glance " ++ number_ended ring
 command_line (save name) = codes "save " ++ (name ++ 10 ∷ [])
 
 -- which commands have a line: a group has a machine at least, a name has a byte at least and no LF

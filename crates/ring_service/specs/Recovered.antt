@@ -9,7 +9,7 @@ use Rattle.ring_model.specs.declared.events.Survey.{Survey}
 use Rattle.ring_model.specs.declared.events.Entry.{Entry}
 use Rattle.ring_model.specs.Bases.{is_quiet, shifted_reply, shifted_survey}
 use Rattle.saved_history.specs.Spelling.{Fits}
-use Rattle.journal.specs.Spelling.{head_text}
+use Rattle.journal.specs.Spelling.{journal_head}
 use Rattle.journal.specs.Recovery.{IsRecovered}
 use Rattle.line_service.specs.Loop.{Written}
 use Rattle.ring_service.specs.declared.answers.Answer.{Answer}
@@ -139,8 +139,8 @@ AnswersAreRecovered =
     → is_some terms.journal ≡ true → AllByRecursion IsRight old → Fits (content_of old)
     → Answers terms old was told said noted mid between
     → Answers terms mid between untold unsaid notes new is
-    → kept ++ lost ≡ head_text (content_of old) ++ (noted ++ notes)
-    → IsPrefix (head_text (content_of old) ++ noted) kept
+    → kept ++ lost ≡ journal_head (content_of old) ++ (noted ++ notes)
+    → IsPrefix (journal_head (content_of old) ++ noted) kept
     → AreRecovered terms old was told said kept new
 
 -- ---- with the journal of served lines
@@ -148,7 +148,7 @@ AnswersAreRecovered =
 -- the journal holds the rings as they are, which have a text, and no more
 abbrev pub IsJustBegun : Option (List ℕ) → List Standing → Type 0
 IsJustBegun journal rings =
-    (journal ≡ Some (head_text (content_of rings))) × Fits (content_of rings)
+    (journal ≡ Some (journal_head (content_of rings))) × Fits (content_of rings)
 
 -- Of whatever is kept of a journal that had just begun, if it has the notes of the delivered lines,
 -- rings are recovered that have the call of each delivered line, with its answer.
@@ -157,7 +157,7 @@ abbrev pub KeepsAnswers : {terms : Terms} {old new : List Standing} {was is : Op
     → Type 0
 KeepsAnswers {terms} {old} {new} {was} {is} {before} {after} {bytes} ended =
     IsJustBegun before.journal old → (kept lost : List ℕ) → after.journal ≡ Some (kept ++ lost)
-    → IsPrefix (head_text (content_of old) ++ ended.noted) kept
+    → IsPrefix (journal_head (content_of old) ++ ended.noted) kept
     → AreRecovered terms old was ended.told.lines ended.said kept new
 
 -- Wherever serving ended: some lines were delivered, the output has a prefix of their answers, and

@@ -1,6 +1,6 @@
 -- The text with which the file of a segment begins (this project's own).
 use Rattle.std.specs.Prelude.{◌≡◌, ℕ, ◌≤◌, ◌^◌, ◌⊎◌, List, ◌++◌, length}
-use Rattle.journal.specs.Spelling.{head_text as journal_text}
+use Rattle.journal.specs.Spelling.{journal_head}
 use Rattle.segment_files.specs.Spelling.{head_text}
 use Rattle.line_service.specs.declared.segmented.EndFault.{EndFault}
 use Rattle.line_service.specs.declared.segmented.EndFault.TheVariants as end
@@ -13,7 +13,7 @@ use Rattle.ring_service.specs.Saved.{content_of}
 abbrev pub segment_text : ℕ → List ℕ → List Standing → List ℕ
 segment_text number behind rings =
     head_text (record { number = number; behind = behind; bases = bases_of rings })
-    ++ journal_text (content_of rings)
+    ++ journal_head (content_of rings)
 
 -- no segment begins with a text of these rings: there is none, or there are too many; or there is no
 -- memory

@@ -4,7 +4,7 @@ ghost use Rattle.std.specs.Prelude.{◌≡◌, ℕ, List, Option, [], ◌++◌, 
 ghost use Rattle.std.specs.List.{AllByRecursion};
 ghost use Rattle.std.specs.Option.{option_map};
 ghost use Rattle.text_lines.specs.Writing.{Writes};
-ghost use Rattle.line_service.specs.Loop.{IsFaultOf, held_by as written_by};
+ghost use Rattle.line_service.specs.Loop.{IsPartFault, written_by};
 ghost use Rattle.ring_service.specs.declared.answers.Answer.TheVariants as answer;
 ghost use Rattle.ring_service.specs.declared.answers.Refusal.TheVariants as refusal;
 ghost use Rattle.ring_service.specs.Answers.{answer_line};
@@ -367,7 +367,7 @@ pub fn serve<D: Disk, I: Read, J: Grow + Drop, W: Write>(
         (record { journal = held_by J.contents journal.old; out = W.contents out.old })
         (record { journal = held_by J.contents journal.new; out = W.contents out.new })) }
     ensures long { IfErr result (λ e.
-        IsFaultOf e (I.remaining input.old) (I.remaining input.new)) }
+        IsPartFault e (I.remaining input.old) (I.remaining input.new)) }
     ensures kept { named_by journal.new ≡ named_by journal.old }
     ensures recovered { AnsweredCallsAreRecovered (terms_of (named_by journal.old) permits.entry)
         served.old served.new (D.holds disk.old) (D.holds disk.new) (I.remaining input.old)

@@ -2,7 +2,7 @@
 
 ghost use Rattle.std.specs.Prelude.{◌≡◌, ◌≤◌, ◌<◌, ◌^◌, ◌++◌, length, IfOk, IfErr};
 ghost use Rattle.text_lines.specs.Writing.{Writes};
-ghost use Rattle.journal.specs.Spelling.{head_text as journal_text};
+ghost use Rattle.journal.specs.Spelling.{journal_head};
 ghost use Rattle.segment_files.specs.Spelling.{head_of, head_text, DigestFits};
 ghost use Rattle.ring_service.specs.Saved.{content_of};
 ghost use Rattle.ring_service.specs.Texts.{segment_text, HaveNoText};
@@ -21,7 +21,7 @@ fn put_beginning<W: Write>(out: &mut W, served: &Served) -> Result<(), WriteFaul
     requires some { 1 ≤ length served.now }
     requires most { length served.now < 2 ^ 32 }
     ensures { Writes (W.contents out.old) (W.contents out.new) result
-        (journal_text (content_of served.now)) }
+        (journal_head (content_of served.now)) }
 {
     match put_first_line(out) {
         Ok(()) => write_rings(out, served),
@@ -39,7 +39,7 @@ fn put_segment<W: Write>(out: &mut W, head: &SegmentHead, served: &Served) -> Re
     requires some { 1 ≤ length served.now }
     requires most { length served.now < 2 ^ 32 }
     ensures { Writes (W.contents out.old) (W.contents out.new) result
-        (head_text (head_of head.now) ++ journal_text (content_of served.now)) }
+        (head_text (head_of head.now) ++ journal_head (content_of served.now)) }
 {
     match put_head(out, head) {
         Ok(()) => put_beginning(out, served),

@@ -193,13 +193,13 @@ as_body z = Ok (z.0.1, z.1)
 abbrev pub as_blocks : Rings × List ℕ → Result (Body × List ℕ) Fault
 as_blocks x = Ok ((blocks x.0, x.0.1.1), x.1)
 
-behind_rings : (h : RingHeader) (r : Result (Rings × List ℕ) Fault) → (((r >>= as_blocks) >>= with_first h) >>= as_body) ≡ ((r >>= with_head h) >>= as_linked)
-behind_rings h (Ok x) = refl
-behind_rings h (Err d) = refl
+after_rings : (h : RingHeader) (r : Result (Rings × List ℕ) Fault) → (((r >>= as_blocks) >>= with_first h) >>= as_body) ≡ ((r >>= with_head h) >>= as_linked)
+after_rings h (Ok x) = refl
+after_rings h (Err d) = refl
 
 behind_head : (version : ℕ) (r : Result (RingHeader × List ℕ) Fault) → ((r >>= λ x. rings_at version x.0 x.1 >>= with_first x.0) >>= as_body) ≡ ((r >>= λ x. linked_rings_at version x.0 x.1 >>= with_head x.0) >>= as_linked)
 unfolding rings_at
-behind_head version (Ok x) = behind_rings x.0 (linked_rings_at version x.0 x.1)
+behind_head version (Ok x) = after_rings x.0 (linked_rings_at version x.0 x.1)
 behind_head version (Err d) = refl
 
 alike : (version : ℕ) (bytes : List ℕ) → body_at version bytes ≡ linked_body_at version bytes

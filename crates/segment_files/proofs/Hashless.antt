@@ -15,7 +15,7 @@ use Rattle.saved_history.specs.Spelling.{first_line, head_line, head_of, start_l
 use Rattle.journal.specs.declared.calls.Call.{Call}
 use Rattle.journal.specs.declared.calls.Call.TheVariants.{Event, Survey}
 use Rattle.journal.specs.declared.calls.JournalLine.{JournalLine}
-use Rattle.journal.specs.Spelling.{Journal, JournalFits, CallFits, JournalLineFits, call_line, journal_line, head_text, journal_text}
+use Rattle.journal.specs.Spelling.{Journal, JournalFits, CallFits, JournalLineFits, call_line, journal_line, journal_head, journal_text}
 use Rattle.segment_files.specs.Remarks.{without_remarks}
 use Rattle.segment_files.specs.RemarkLaws.{AreLines}
 use Rattle.segment_files.proofs.LineCounts.{call_ended, journal_ended}
@@ -97,12 +97,12 @@ no_hash_text c f =
     (no_hash_append (flat_map block_text c.rings) (done_line c.rings_said) (each (BlockFits c.version) block_text (block c.version) c.rings f.rings) done)
 
 -- the start of a journal
-pub no_hash_head : (c : Content) → Fits c → HasNoHash (head_text c)
+pub no_hash_head : (c : Content) → Fits c → HasNoHash (journal_head c)
 no_hash_head c f = word (codes "ringjournal 1\n") (text c) refl (no_hash_text c f)
 
 -- a whole journal
 pub no_hash_journal : (j : Journal) → JournalFits j → HasNoHash (journal_text j)
-no_hash_journal j f = no_hash_append (head_text j.began) (flat_map journal_line j.calls) (no_hash_head j.began f.began) (each (JournalLineFits j.began.version (length j.began.rings)) journal_line (no_hash_call j.began.version (length j.began.rings)) j.calls f.calls)
+no_hash_journal j f = no_hash_append (journal_head j.began) (flat_map journal_line j.calls) (no_hash_head j.began f.began) (each (JournalLineFits j.began.version (length j.began.rings)) journal_line (no_hash_call j.began.version (length j.began.rings)) j.calls f.calls)
 
 -- it is all kept, and what follows it is as if it were by itself
 pub journal_without : (j : Journal) → JournalFits j → without_remarks (journal_text j) ≡ journal_text j
@@ -117,10 +117,10 @@ no_hash_calls version rings rs f = each (JournalLineFits version rings) journal_
 
 -- ---- what follows a part of a journal
 
-pub head_then : (c : Content) (rest : List ℕ) → Fits c → without_remarks (head_text c ++ rest) ≡ head_text c ++ without_remarks rest
+pub head_then : (c : Content) (rest : List ℕ) → Fits c → without_remarks (journal_head c ++ rest) ≡ journal_head c ++ without_remarks rest
 head_then c rest f =
     let e = journal_ended (record { began = c; calls = [] }) (record { began = f; calls = tt }) in
-    plain_then (head_text c) rest (subst AreLines (append-nil (head_text c)) (inr e)) (no_hash_head c f)
+    plain_then (journal_head c) rest (subst AreLines (append-nil (journal_head c)) (inr e)) (no_hash_head c f)
 
 pub call_then : (version rings : ℕ) (r : JournalLine) (rest : List ℕ) → JournalLineFits version rings r → without_remarks (journal_line r ++ rest) ≡ journal_line r ++ without_remarks rest
 call_then version rings r rest f = plain_then (journal_line r) rest (inr (call_ended version rings r f)) (no_hash_call version rings r f)

@@ -10,7 +10,7 @@ use Rattle.ring_check.specs.Lines.{lines}
 use Rattle.ring_check.proofs.SavedLines.{lines_some}
 use Rattle.journal.specs.declared.errors.RecoverError.{RecoverError}
 use Rattle.journal.specs.declared.errors.RecoverError.TheVariants as recovery
-use Rattle.journal.specs.Spelling.{Journal, first_line, head_text, journal_line, journal_text}
+use Rattle.journal.specs.Spelling.{Journal, first_line, journal_head, journal_line, journal_text}
 use Rattle.journal.specs.Recovery.{call_line_number, IsNoCall, IsBadBeginning, IsBadCall, IsRightRecovery}
 use Rattle.journal.proofs.Heads.{calls_some, bad_within}
 use Rattle.segment_files.specs.Chain.{line_in}
@@ -38,11 +38,11 @@ first_bad_within P bytes line h =
 call_within : (bytes : List ℕ) (j : Journal) (tail : List ℕ) (call : ℕ) → bytes ≡ journal_text j ++ tail → call ≤ length j.calls → call_line_number bytes j.began call ≤ length bytes + 1
 call_within bytes j tail call e le =
     let some = calls_some j.calls in
-    let few = count_by-le-length (λ (b : ℕ). eqb b 10) (take (length (head_text j.began)) bytes) in
-    let cut = length-take (length (head_text j.began)) bytes in
+    let few = count_by-le-length (λ (b : ℕ). eqb b 10) (take (length (journal_head j.began)) bytes) in
+    let cut = length-take (length (journal_head j.began)) bytes in
     let long : length bytes ≡ length (journal_text j ++ tail) = ap length e in
     let a = length-append (journal_text j) tail in
-    let b = length-append (head_text j.began) (flat_map journal_line j.calls) in
+    let b = length-append (journal_head j.began) (flat_map journal_line j.calls) in
     omega (arith, some, few, cut, long, a, b, le)
 
 beginning_within : (bytes : List ℕ) (line : ℕ) (kind : _) → IsBadBeginning bytes line kind → line ≤ length bytes + 1
@@ -50,8 +50,8 @@ beginning_within bytes line kind h =
     let c = h.began in
     let within = bad_within c.version (lines c) h.said kind h.bad in
     let some = lines_some c in
-    let long : length bytes ≡ length (head_text c ++ h.rest) = ap length h.spelled in
-    let a = length-append (head_text c) h.rest in
+    let long : length bytes ≡ length (journal_head c ++ h.rest) = ap length h.spelled in
+    let a = length-append (journal_head c) h.rest in
     let b = length-append first_line (text c) in
     let n = h.number in
     omega (arith, within, some, long, a, b, n)

@@ -20,7 +20,7 @@ use Rattle.ring_check.proofs.BlockLines.{lines_long}
 use Rattle.journal.specs.declared.calls.Call.{Call}
 use Rattle.journal.specs.declared.calls.Call.TheVariants.{Event, Survey}
 use Rattle.journal.specs.declared.calls.JournalLine.{JournalLine}
-use Rattle.journal.specs.Spelling.{Journal, JournalFits, CallFits, JournalLineFits, call_line, journal_line, head_text, journal_text}
+use Rattle.journal.specs.Spelling.{Journal, JournalFits, CallFits, JournalLineFits, call_line, journal_line, journal_head, journal_text}
 use Rattle.journal.specs.Recovery.{has_line_end}
 use Rattle.segment_files.specs.Remarks.{IsEnded}
 
@@ -161,7 +161,7 @@ pub journal_ends : (j : Journal) → JournalFits j → ends (journal_text j) ≡
 journal_ends j f =
     let one = text_ends j.began f.began in
     let calls = many_end (JournalLineFits j.began.version (length j.began.rings)) journal_line (call_is j.began.version (length j.began.rings)) j.calls f.calls in
-    let a = ends-append (head_text j.began) (flat_map journal_line j.calls) in
+    let a = ends-append (journal_head j.began) (flat_map journal_line j.calls) in
     let b = ends-append (codes "ringjournal 1\n") (text j.began) in
     omega (arith, one, calls, a, b)
 
@@ -188,7 +188,7 @@ journal_ended j f =
     let done : IsEnded (done_line c.rings_said) = (d.body, d.whole) in
     let below : IsEnded (flat_map block_text c.rings ++ done_line c.rings_said) = ended_after (flat_map block_text c.rings) (done_line c.rings_said) done in
     let all : IsEnded (text c) = ended_after (first_line c.version) (flat_map block_text c.rings ++ done_line c.rings_said) below in
-    calls_end c.version (length c.rings) (head_text c) j.calls (ended_after (codes "ringjournal 1\n") (text c) all) f.calls
+    calls_end c.version (length c.rings) (journal_head c) j.calls (ended_after (codes "ringjournal 1\n") (text c) all) f.calls
 
 -- an ended text has a last byte, which is an LF
 pub ended_last : (xs : List ℕ) → IsEnded xs → (0 < length xs) × (get_or xs (length xs - 1) 0 ≡ 10)

@@ -9,7 +9,7 @@ use Rattle.std.proofs.lemmas.Slice.Eq.{bytes_eq-Decides}
 use Rattle.disks.specs.Held.{Held, file_bytes, bytes_of, IsReplaced, IsRemoved, Creates, Discards, Replaces}
 use Rattle.saved_history.specs.declared.saved.Saved.{Saved}
 use Rattle.saved_history.specs.Content.{Content, content}
-use Rattle.journal.specs.Spelling.{head_text}
+use Rattle.journal.specs.Spelling.{journal_head}
 use Rattle.journal.specs.Recovery.{IsRecovered}
 use Rattle.ring_service.specs.Standings.{Standing}
 use Rattle.ring_service.specs.Saved.{content_of}
@@ -56,14 +56,14 @@ kept_if_ok (Err e) b P same f = tt
 
 -- the rings that begin, and their journal
 pub made_answer : {A E : Type 0} (r : Result A E) (rings : A → List Standing) (before there ended after : Option Held) (name : List ℕ) (made : Bool) (given : Option Saved) → Creates before there name made → OnOk r (after ≡ ended) →
-    IfOk r (λ a. (x : Saved) × IsNoted there name given x × AreResumed (rings a) x.rings.items × Replaces there ended name (Some (head_text (content_of (rings a))))) →
-    IfOk r (λ a. (x : Saved) × IsNoted before name given x × AreResumed (rings a) x.rings.items × Replaces before after name (Some (head_text (content_of (rings a)))))
+    IfOk r (λ a. (x : Saved) × IsNoted there name given x × AreResumed (rings a) x.rings.items × Replaces there ended name (Some (journal_head (content_of (rings a))))) →
+    IfOk r (λ a. (x : Saved) × IsNoted before name given x × AreResumed (rings a) x.rings.items × Replaces before after name (Some (journal_head (content_of (rings a)))))
 made_answer (Err e) rings before there ended after name made given c same h = tt
 made_answer (Ok a) rings before there ended after name made given c same h = (
   h.0,
   noted_before before there name made given h.0 c h.1,
   h.2,
-  subst (λ (x : Option Held). Replaces before x name (Some (head_text (content_of (rings a))))) (sym same) (replaced_before before there ended name made _ c h.3),
+  subst (λ (x : Option Held). Replaces before x name (Some (journal_head (content_of (rings a))))) (sym same) (replaced_before before there ended name made _ c h.3),
 )
 
 -- ---- a file that was made and removed

@@ -4,7 +4,7 @@ use Rattle.std.specs.Prelude.{◌≡◌, ℕ, ◌⊎◌, List, Option, None, Som
 use Rattle.disks.specs.Held.{Held, LeadsToFolder, Replaces}
 use Rattle.disks.specs.Lasting.{HasFront}
 use Rattle.saved_history.specs.declared.saved.Saved.{Saved}
-use Rattle.journal.specs.Spelling.{head_text}
+use Rattle.journal.specs.Spelling.{journal_head}
 use Rattle.ring_service.specs.declared.permits.Permits.{Permits}
 use Rattle.ring_service.specs.Permits.{terms_of}
 use Rattle.ring_service.specs.Recovered.{AnsweredCallsAreRecovered}
@@ -78,8 +78,8 @@ FileLasts permits name saved before was is old new left =
     × (begun : Option Held)
     × IsNoted before name saved from
     × AreResumed start from.rings.items
-    × Replaces before begun name (Some (head_text (content_of start)))
-    × JournalLasts permits name start begun (head_text (content_of start)) was is old new left)
+    × Replaces before begun name (Some (journal_head (content_of start)))
+    × JournalLasts permits name start begun (journal_head (content_of start)) was is old new left)
 
 -- ---- either
 

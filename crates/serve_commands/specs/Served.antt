@@ -6,7 +6,7 @@ use Rattle.saved_history.specs.declared.saved.Saved.{Saved}
 use Rattle.saved_history.specs.declared.saved.SavedRing.{SavedRing}
 use Rattle.saved_history.specs.Content.{content}
 use Rattle.ring_check.specs.declared.answers.Summary.{Summary}
-use Rattle.journal.specs.Spelling.{head_text}
+use Rattle.journal.specs.Spelling.{journal_head}
 use Rattle.journal.specs.Recovery.{IsRecovered, IsRightRecovery}
 use Rattle.ring_service.specs.Standings.{Standing}
 use Rattle.ring_service.specs.Saved.{content_of}
@@ -106,7 +106,7 @@ pub record IsServedNoted (permits : Permits) (name : List ℕ) (start end : List
   pub ended : Option Held
   pub first : Option (List ℕ)
   pub last : Option (List ℕ)
-  pub put : Replaces before begun name (Some (head_text (content_of start)))
+  pub put : Replaces before begun name (Some (journal_head (content_of start)))
   pub opened : Grows begun name first
   pub served : ServesAll (terms_of (Some name) permits) start end begun ended was is
       (record { journal = first; out = old }) (record { journal = last; out = new })
@@ -247,10 +247,10 @@ pub record IsNotedPart (permits : Permits) (name : List ℕ) (start : List Stand
     (before after : Option Held) (was is old new : Option (List ℕ)) : Type 0 where
   pub begun : Option Held
   pub first : Option (List ℕ)
-  pub put : Replaces before begun name (Some (head_text (content_of start)))
+  pub put : Replaces before begun name (Some (journal_head (content_of start)))
   pub opened : Grows begun name first
   pub part : IsServedPart (terms_of (Some name) permits) start begun after first was is old new
-  pub kept : IfSome before (λ _. IsHeld after name (head_text (content_of start)))
+  pub kept : IfSome before (λ _. IsHeld after name (journal_head (content_of start)))
 
 -- Rings that began without a journal were not served to the end.
 abbrev pub IsPlainPart : Permits → List Standing → Option Held → Option Held → Option (List ℕ)
@@ -267,7 +267,7 @@ abbrev pub IsBrokenOff : Permits → List ℕ → List Standing → Option Held 
 IsBrokenOff permits name start before after was is old new e =
     (IsUnserved was is old new
     × IsUnopenedJournal name e
-    × Replaces before after name (Some (head_text (content_of start))))
+    × Replaces before after name (Some (journal_head (content_of start))))
     ⊎ (IsServingFault (Some name) e × IsNotedPart permits name start before after was is old new)
 
 -- With this history no line is read, and no file has changed, but that an empty journal may be

@@ -20,7 +20,7 @@ use Rattle.ring_service.specs.declared.chain_segments.ChainRules.{ChainRules}
 use Rattle.ring_service.specs.Texts.{segment_text}
 use Rattle.ring_service.specs.ChainServices.{ServiceView, service_of, IsServed, segmenting, folder_of, file_of}
 use Rattle.ring_service.specs.ChainRecovered.{AnsweredCallsAreRecovered}
-use Rattle.line_service.specs.Segments.{Moment, HasBegun, IsLeftUnbegun}
+use Rattle.line_service.specs.Segments.{Moment, HasBegun, IsFileUnbegun}
 use Rattle.line_service.specs.Service.{Part, ServesSegments, ServesSomeSegments}
 use Rattle.tool_parts.specs.declared.requests.ServeWords.{ServeWords}
 use Rattle.serve_commands.specs.declared.serve_folder.Start.{Start}
@@ -216,7 +216,7 @@ abbrev pub IsRunRefused : ChainRules → Place → Option Held → Option Held �
     → Option (List ℕ) → Option (List ℕ) → Option (List ℕ) → ToolError → Type 0
 IsRunRefused s start before after was is old new e =
     (IsUnserved was is old new
-    × IsLeftUnbegun (folder_of s) start.number
+    × IsFileUnbegun (folder_of s) start.number
     (segment_text start.number start.behind start.rings) before after
     × IsUnkeptFolder (folder_of s) e)
     ⊎ (IsServingFault (Some (folder_of s)) e × IsRunPart s start before after was is old new)

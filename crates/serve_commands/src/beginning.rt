@@ -4,7 +4,7 @@ ghost use Rattle.std.specs.Prelude.{◌≡◌, ◌⊎◌, ◌≤◌, ◌<◌, �
 ghost use Rattle.text_lines.specs.Writing.{Writes};
 ghost use Rattle.disks.specs.Held.{Replaces, Discards};
 ghost use Rattle.saved_history.specs.declared.saved.Saved.{Saved};
-ghost use Rattle.journal.specs.Spelling.{head_text};
+ghost use Rattle.journal.specs.Spelling.{journal_head};
 ghost use Rattle.ring_service.specs.Saved.{content_of};
 ghost use Rattle.ring_service.specs.Starting.{AreResumed};
 ghost use Rattle.tool_parts.specs.Handed.{IsSaveRefusal};
@@ -27,7 +27,7 @@ fn put_head<W: Write>(out: &mut W, served: &Served) -> Result<(), WriteFault>
     requires some { 1 ≤ length served.now }
     requires most { length served.now < 2 ^ 32 }
     ensures { Writes (W.contents out.old) (W.contents out.new) result
-        (head_text (content_of served.now)) }
+        (journal_head (content_of served.now)) }
 {
     match put_first_line(out) {
         Ok(()) => write_rings(out, served),
@@ -43,12 +43,12 @@ struct Beginning<'a> {
 
 impl Contents for Beginning<'_> {
     ghost use Rattle.std.specs.Prelude.{◌≤◌, ◌<◌, ◌^◌, length};
-    ghost use Rattle.journal.specs.Spelling.{head_text};
+    ghost use Rattle.journal.specs.Spelling.{journal_head};
     ghost use Rattle.ring_service.specs.Saved.{content_of};
 
     ghost ready = { λ s. (1 ≤ length s.served.now) × (length s.served.now < 2 ^ 32) };
 
-    ghost bytes = { λ s. head_text (content_of s.served.now) };
+    ghost bytes = { λ s. journal_head (content_of s.served.now) };
 
     fn write_to<W: Write>(&self, out: &mut W) -> Result<(), ContentsFault> {
         match put_head(out, self.served) {
@@ -67,7 +67,7 @@ fn save_beginning<'a, D: Disk>(
 ) -> Result<(), ToolError<'a>>
     requires rings { CanBegin (length served.now) }
     ensures ok { OnOk result (Replaces (D.holds disk.old) (D.holds disk.new) name.now
-        (Some (head_text (content_of served.now)))) }
+        (Some (journal_head (content_of served.now)))) }
     ensures kept { OnErr result (D.holds disk.new ≡ D.holds disk.old) }
     ensures err { IfErr result (λ e. IsSaveRefusal name.now e) }
 {
@@ -90,7 +90,7 @@ fn begin_locked<'a, D: Disk>(
         × IsNoted (D.holds disk.old) name.now saved from
         × AreResumed begun.1 from.rings.items
         × Replaces (D.holds disk.old) (D.holds disk.new) name.now
-        (Some (head_text (content_of begun.1)))) }
+        (Some (journal_head (content_of begun.1)))) }
     ensures kept { OnErr result (D.holds disk.new ≡ D.holds disk.old) }
     ensures err { IfErr result (λ e. IsUnbegun (D.holds disk.old) name.now saved e) }
 {
@@ -142,7 +142,7 @@ pub(crate) fn begin_journal<'a, D: Disk>(
         × IsNoted (D.holds disk.old) name.now saved from
         × AreResumed begun.1 from.rings.items
         × Replaces (D.holds disk.old) (D.holds disk.new) name.now
-        (Some (head_text (content_of begun.1)))) }
+        (Some (journal_head (content_of begun.1)))) }
     ensures kept { OnErr result (IsUntouched (D.holds disk.old) (D.holds disk.new) name.now) }
     ensures err { IfErr result (λ e. IsMadeJournalRefusal (D.holds disk.old) name.now saved e) }
 {

@@ -47,8 +47,8 @@ pub none_takes : (k : Kind) (before : List ℕ) → Takes k before none_at
 none_takes k before [] b rest e = absurd cc
 none_takes k before (x ∷ bs) b rest e = absurd cc
 
-pub behind_takes : (k : Kind) (word : List ℕ) (at : Reader (Option k.C)) → Takes k word at → Takes k [] (after_at word at)
-behind_takes k word at t bytes b rest e =
+pub after_takes : (k : Kind) (word : List ℕ) (at : Reader (Option k.C)) → Takes k word at → Takes k [] (after_at word at)
+after_takes k word at t bytes b rest e =
     let w = word_takes word at bytes (b, rest) e in
     let r = t w.0 b rest w.2 in (r.0, r.1, r.2, w.1 ∙ r.3)
 

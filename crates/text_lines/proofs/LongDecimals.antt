@@ -7,7 +7,7 @@ use Rattle.text_lines.specs.declared.fault.Fault.TheVariants.{Short, Bad}
 use Rattle.text_lines.specs.declared.fault.Stop.{Stop}
 use Rattle.text_lines.specs.declared.fault.Stop.TheVariants as stops
 use Rattle.text_lines.specs.Reading.{◌>>=◌, Fails, is_digit, as_at, stop_of}
-use Rattle.text_lines.specs.LongNumbers.{digits_at, decimal_at, in_64_bits, order_at, place_at, places_at}
+use Rattle.text_lines.specs.LongNumbers.{long_digits_at, decimal_at, in_64_bits, order_at, place_at, places_at}
 
 -- ---- numbers of 64 bits
 
@@ -26,29 +26,29 @@ abbrev goes_on : ℕ → ℕ → Bool
 goes_on n b = nat_lt 0 n && is_digit b
 
 module _ (stop : ℕ) (n : ℕ) (bs : List ℕ) (i : ℕ) where
-  pub digits_end : i < length bs → get_or bs i 0 ≡ stop → digits_at stop n (drop i bs) ≡ Ok (n, drop (i + 1) bs)
-  unfolding digits_at
+  pub digits_end : i < length bs → get_or bs i 0 ≡ stop → long_digits_at stop n (drop i bs) ≡ Ok (n, drop (i + 1) bs)
+  unfolding long_digits_at
   digits_end l e = rw (drop_more bs i 0 l, eq-eqb _ _ e) refl
 
-  pub digits_more : i < length bs → get_or bs i 0 ≢ stop → goes_on n (get_or bs i 0) ≡ true → digits_at stop n (drop i bs) ≡ digits_at stop (n * 10 + (get_or bs i 0 - 48)) (drop (i + 1) bs)
-  unfolding digits_at
+  pub digits_more : i < length bs → get_or bs i 0 ≢ stop → goes_on n (get_or bs i 0) ≡ true → long_digits_at stop n (drop i bs) ≡ long_digits_at stop (n * 10 + (get_or bs i 0 - 48)) (drop (i + 1) bs)
+  unfolding long_digits_at
   digits_more l e g = rw (drop_more bs i 0 l, ne_eqb _ _ e, g) refl
 
-  pub digits_other : i < length bs → get_or bs i 0 ≢ stop → goes_on n (get_or bs i 0) ≡ false → digits_at stop n (drop i bs) ≡ Err (Bad (length bs - i))
-  unfolding digits_at
+  pub digits_other : i < length bs → get_or bs i 0 ≢ stop → goes_on n (get_or bs i 0) ≡ false → long_digits_at stop n (drop i bs) ≡ Err (Bad (length bs - i))
+  unfolding long_digits_at
   digits_other l e g =
       let k : suc (length (drop (i + 1) bs)) ≡ length bs - i = omega (arith, length-drop (i + 1) bs) in
       rw (drop_more bs i 0 l, ne_eqb _ _ e, g, k) refl
 
-  pub digits_short : length bs ≤ i → digits_at stop n (drop i bs) ≡ Err Short
-  unfolding digits_at
+  pub digits_short : length bs ≤ i → long_digits_at stop n (drop i bs) ≡ Err Short
+  unfolding long_digits_at
   digits_short l = rw (drop_all i bs l) refl
 
 -- a number that is read so far, and its value in 64 bits
 pub record IsReadTo (stop first : ℕ) (bs : List ℕ) (number : Option ℕ) (i : ℕ) : Type 0 where
   pub all : ℕ
   pub kept : number ≡ in_64_bits all
-  pub rest : digits_at stop all (drop i bs) ≡ digits_at stop first bs
+  pub rest : long_digits_at stop all (drop i bs) ≡ long_digits_at stop first bs
 
 -- ---- the number that is read, as an order and as a place
 

@@ -9,7 +9,7 @@ use Rattle.text_lines.specs.declared.fault.Fault.TheVariants.{Bad}
 use Rattle.text_lines.specs.Reading.{is_digit}
 use Rattle.text_lines.proofs.Basics.{chosen, ok_is, same_eqb}
 use Rattle.text_lines.proofs.Decimals.{IsDigit, digit_is, is_digit_at}
-use Rattle.text_lines.specs.LongNumbers.{number_text, digits_at, decimal_at}
+use Rattle.text_lines.specs.LongNumbers.{number_text, long_digits_at, decimal_at}
 
 -- ---- digits
 
@@ -82,14 +82,14 @@ and_no true y e = e
 and_no false y e = refl
 
 module _ (stop : ℕ) (apart : stop < 48) where
-  digits_takes : (bytes : List ℕ) (v n : ℕ) (rest : List ℕ) → digits_at stop v bytes ≡ Ok (n, rest) → number_text v ++ bytes ≡ (number_text n ++ stop ∷ []) ++ rest
-  unfolding digits_at
+  digits_takes : (bytes : List ℕ) (v n : ℕ) (rest : List ℕ) → long_digits_at stop v bytes ≡ Ok (n, rest) → number_text v ++ bytes ≡ (number_text n ++ stop ∷ []) ++ rest
+  unfolding long_digits_at
   digits_takes [] v n rest e = absurd cc
   digits_takes (b ∷ bs) v n rest e =
-      elim (chosen (eqb b stop) (Ok (v, bs)) (cond (goes_on v b) (digits_at stop (v * 10 + (b - 48)) bs) (Err (Bad (suc (length bs))))) (Ok (n, rest)) e) [
+      elim (chosen (eqb b stop) (Ok (v, bs)) (cond (goes_on v b) (long_digits_at stop (v * 10 + (b - 48)) bs) (Err (Bad (suc (length bs))))) (Ok (n, rest)) e) [
         | inl h ↦ subst (λ (z : ℕ × List ℕ). number_text v ++ b ∷ bs ≡ (number_text z.0 ++ stop ∷ []) ++ z.1) (ok_is (v, bs) (n, rest) h.1) (rw (eqb-true b stop h.0) (sym (append_assoc (number_text v) (stop ∷ []) bs)))
         | inr h ↦
-            elim (chosen (goes_on v b) (digits_at stop (v * 10 + (b - 48)) bs) (Err (Bad (suc (length bs)))) (Ok (n, rest)) h.1) [
+            elim (chosen (goes_on v b) (long_digits_at stop (v * 10 + (b - 48)) bs) (Err (Bad (suc (length bs)))) (Ok (n, rest)) h.1) [
               | inl k ↦ let g = goes_is v b k.0 in
                   sym (rw (more_digits v b g.0 g.1) (append_assoc (number_text v) (b ∷ []) bs)) ∙ digits_takes bs (v * 10 + (b - 48)) n rest k.1
               | inr k ↦ absurd cc
@@ -100,14 +100,14 @@ module _ (stop : ℕ) (apart : stop < 48) where
   unfolding decimal_at
   decimal_takes [] n rest e = absurd cc
   decimal_takes (b ∷ bs) n rest e =
-      elim (chosen (is_digit b) (digits_at stop (b - 48) bs) (Err (Bad (suc (length bs)))) (Ok (n, rest)) e) [
+      elim (chosen (is_digit b) (long_digits_at stop (b - 48) bs) (Err (Bad (suc (length bs)))) (Ok (n, rest)) e) [
         | inl h ↦ sym (ap (λ (u : List ℕ). u ++ bs) (one_digit b (digit_is b h.0))) ∙ digits_takes bs (b - 48) n rest h.1
         | inr h ↦ absurd cc
       ]
 
   -- reading the digits of n comes to n
   Comes : ℕ → List ℕ → Type 0
-  Comes n ds = (rest : List ℕ) → decimal_at stop (ds ++ rest) ≡ digits_at stop n rest
+  Comes n ds = (rest : List ℕ) → decimal_at stop (ds ++ rest) ≡ long_digits_at stop n rest
 
   comes_one : (n : ℕ) → n < 10 → Comes n ((48 + n) ∷ [])
   unfolding decimal_at Comes
@@ -117,7 +117,7 @@ module _ (stop : ℕ) (apart : stop < 48) where
       rw (is_digit_at (48 + n) d, back) refl
 
   comes_more : (n : ℕ) (ds : List ℕ) → 10 ≤ n → Comes (n / 10) ds → Comes n (ds ++ (48 + n % 10) ∷ [])
-  unfolding digits_at Comes
+  unfolding long_digits_at Comes
   comes_more n ds ge ih rest =
       let d : IsDigit (48 + n % 10) = record { low = omega arith; high = omega arith } in
       let back : (n / 10) * 10 + (48 + n % 10 - 48) ≡ n = omega arith in
@@ -127,16 +127,16 @@ module _ (stop : ℕ) (apart : stop < 48) where
       ap (decimal_at stop) (append_assoc ds ((48 + n % 10) ∷ []) rest) ∙ ih ((48 + n % 10) ∷ rest) ∙ rw (ne, g, back) refl
 
   -- whatever comes after the digits
-  pub decimal_comes : (n : ℕ) (rest : List ℕ) → decimal_at stop (number_text n ++ rest) ≡ digits_at stop n rest
+  pub decimal_comes : (n : ℕ) (rest : List ℕ) → decimal_at stop (number_text n ++ rest) ≡ long_digits_at stop n rest
   unfolding Comes
   decimal_comes n = by_digits Comes comes_one comes_more n
 
   -- a byte that is not a digit and does not end it
   pub decimal_fails : (n b : ℕ) (rest : List ℕ) → b ≢ stop → is_digit b ≡ false → decimal_at stop ((number_text n ++ b ∷ []) ++ rest) ≡ Err (Bad (suc (length rest)))
-  unfolding digits_at
+  unfolding long_digits_at
   decimal_fails n b rest ne other = ap (decimal_at stop) (append_assoc (number_text n) (b ∷ []) rest) ∙ decimal_comes n (b ∷ rest) ∙ rw (ne_eqb b stop ne, and_no (ltb 0 n) (is_digit b) other) refl
 
   pub decimal_again : (n : ℕ) (rest : List ℕ) → decimal_at stop ((number_text n ++ stop ∷ []) ++ rest) ≡ Ok (n, rest)
-  unfolding digits_at
+  unfolding long_digits_at
   decimal_again n rest =
       ap (decimal_at stop) (append_assoc (number_text n) (stop ∷ []) rest) ∙ decimal_comes n (stop ∷ rest) ∙ rw (same_eqb stop) refl

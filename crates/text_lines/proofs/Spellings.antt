@@ -5,7 +5,7 @@ use Rattle.std.proofs.lemmas.List.{append-nil}
 use Rattle.text_lines.specs.declared.fault.Fault.TheVariants.{Bad}
 use Rattle.text_lines.specs.Reading.{Reader, ◌>>=◌, word_at, after_at, then_at, as_at, stop_of}
 use Rattle.text_lines.proofs.Basics.{bind_ok, chosen, ok_is, same_eqb}
-use Rattle.text_lines.specs.LongNumbers.{number_text, ended, row, in_64_bits, in_32_bits, decimal_at, order_at, place_at, places_at}
+use Rattle.text_lines.specs.LongNumbers.{number_text, number_ended, number_row, in_64_bits, in_32_bits, decimal_at, order_at, place_at, places_at}
 use Rattle.text_lines.proofs.Numerals.{decimal_takes, decimal_again}
 
 -- The reader takes just the spellings of what fits, whatever follows, and says what is heard of it.
@@ -98,22 +98,22 @@ order_hears stop apart = number_hears in_64_bits stop apart
 
 -- ---- a line of them
 
-row_step : (k x : ℕ) (xs : List ℕ) → length xs ≡ k → row (x ∷ xs) ≡ (number_text x ++ stop_of k ∷ []) ++ row xs
-row_step zero x [] e = sym (append-nil (ended x))
+row_step : (k x : ℕ) (xs : List ℕ) → length xs ≡ k → number_row (x ∷ xs) ≡ (number_text x ++ stop_of k ∷ []) ++ number_row xs
+row_step zero x [] e = sym (append-nil (number_ended x))
 row_step zero x (y ∷ ys) e = absurd cc
 row_step (suc k) x [] e = absurd cc
 row_step (suc k) x (y ∷ ys) e = refl
 
-places_next : (k : ℕ) (bytes : List ℕ) (m : ℕ) (u ms v xs : List ℕ) → place_at (stop_of k) bytes ≡ Ok (m, u) → length xs ≡ k → map in_32_bits xs ≡ ms → u ≡ row xs ++ v
-    → (ys : List ℕ) × (length ys ≡ suc k) × (map in_32_bits ys ≡ m ∷ ms) × (bytes ≡ row ys ++ v)
+places_next : (k : ℕ) (bytes : List ℕ) (m : ℕ) (u ms v xs : List ℕ) → place_at (stop_of k) bytes ≡ Ok (m, u) → length xs ≡ k → map in_32_bits xs ≡ ms → u ≡ number_row xs ++ v
+    → (ys : List ℕ) × (length ys ≡ suc k) × (map in_32_bits ys ≡ m ∷ ms) × (bytes ≡ number_row ys ++ v)
 places_next k bytes m u ms v xs e many heard behind =
     let n = (place_hears (stop_of k) (stop_small k)).takes bytes m u e in
     let one : List ℕ = number_text n.0 ++ stop_of k ∷ [] in
-    let whole : bytes ≡ one ++ (row xs ++ v) = n.3 ∙ ap (λ (w : List ℕ). one ++ w) behind in
-    let line : row (n.0 ∷ xs) ++ v ≡ one ++ (row xs ++ v) = ap (λ (w : List ℕ). w ++ v) (row_step k n.0 xs many) ∙ append_assoc one (row xs) v in
+    let whole : bytes ≡ one ++ (number_row xs ++ v) = n.3 ∙ ap (λ (w : List ℕ). one ++ w) behind in
+    let line : number_row (n.0 ∷ xs) ++ v ≡ one ++ (number_row xs ++ v) = ap (λ (w : List ℕ). w ++ v) (row_step k n.0 xs many) ∙ append_assoc one (number_row xs) v in
     (n.0 ∷ xs, ap suc many, (λ i. n.2 i ∷ heard i), whole ∙ sym line)
 
-pub places_take : (k : ℕ) (bytes ms rest : List ℕ) → places_at k bytes ≡ Ok (ms, rest) → (xs : List ℕ) × (length xs ≡ k) × (map in_32_bits xs ≡ ms) × (bytes ≡ row xs ++ rest)
+pub places_take : (k : ℕ) (bytes ms rest : List ℕ) → places_at k bytes ≡ Ok (ms, rest) → (xs : List ℕ) × (length xs ≡ k) × (map in_32_bits xs ≡ ms) × (bytes ≡ number_row xs ++ rest)
 unfolding places_at
 places_take zero bytes ms rest e =
     let same : ◌≡◌ {A = List ℕ × List ℕ} ([], bytes) (ms, rest) = ok_is ([], bytes) (ms, rest) e in
@@ -122,14 +122,14 @@ places_take (suc k) bytes ms rest e =
     let x = bind_ok (place_at (stop_of k) bytes) (λ x. places_at k x.1 >>= λ y. Ok (x.0 ∷ y.0, y.1)) (ms, rest) e in
     let y = bind_ok (places_at k x.0.1) (λ y. Ok (x.0.0 ∷ y.0, y.1)) (ms, rest) x.2 in
     let ns = places_take k x.0.1 y.0.0 y.0.1 y.1 in
-    subst (λ (z : List ℕ × List ℕ). (xs : List ℕ) × (length xs ≡ suc k) × (map in_32_bits xs ≡ z.0) × (bytes ≡ row xs ++ z.1)) (ok_is (x.0.0 ∷ y.0.0, y.0.1) (ms, rest) y.2)
+    subst (λ (z : List ℕ × List ℕ). (xs : List ℕ) × (length xs ≡ suc k) × (map in_32_bits xs ≡ z.0) × (bytes ≡ number_row xs ++ z.1)) (ok_is (x.0.0 ∷ y.0.0, y.0.1) (ms, rest) y.2)
     (places_next k bytes x.0.0 x.0.1 y.0.0 y.0.1 ns.0 x.1 ns.1 ns.2 ns.3)
 
-pub places_again : (xs rest : List ℕ) → places_at (length xs) (row xs ++ rest) ≡ Ok (map in_32_bits xs, rest)
+pub places_again : (xs rest : List ℕ) → places_at (length xs) (number_row xs ++ rest) ≡ Ok (map in_32_bits xs, rest)
 unfolding places_at
 places_again [] rest = refl
 places_again (x ∷ xs) rest =
     let stop : ℕ = stop_of (length xs) in
-    let one = (place_hears (stop_of (length xs)) (stop_small (length xs))).again x (row xs ++ rest) tt in
-    ap (places_at (suc (length xs))) (ap (λ (u : List ℕ). u ++ rest) (row_step (length xs) x xs refl) ∙ append_assoc (number_text x ++ stop_of (length xs) ∷ []) (row xs) rest)
+    let one = (place_hears (stop_of (length xs)) (stop_small (length xs))).again x (number_row xs ++ rest) tt in
+    ap (places_at (suc (length xs))) (ap (λ (u : List ℕ). u ++ rest) (row_step (length xs) x xs refl) ∙ append_assoc (number_text x ++ stop_of (length xs) ∷ []) (number_row xs) rest)
     ∙ rw (one, places_again xs rest) refl

@@ -12,18 +12,18 @@ unfoldable pub number_text : ℕ → List ℕ
 number_text n = if n == 0 then 48 ∷ [] else map (λ d. 48 + d) (digits_of 10 n)
 
 -- a number and a space
-abbrev pub spaced : ℕ → List ℕ
-spaced n = number_text n ++ 32 ∷ []
+abbrev pub number_spaced : ℕ → List ℕ
+number_spaced n = number_text n ++ 32 ∷ []
 
 -- a number and the LF that ends the line
-abbrev pub ended : ℕ → List ℕ
-ended n = number_text n ++ 10 ∷ []
+abbrev pub number_ended : ℕ → List ℕ
+number_ended n = number_text n ++ 10 ∷ []
 
 -- numbers on one line: a space between two of them, an LF after the last
-abbrev pub row : List ℕ → List ℕ
-row [] = []
-row (x ∷ []) = ended x
-row (x ∷ y ∷ xs) = spaced x ++ row (y ∷ xs)
+abbrev pub number_row : List ℕ → List ℕ
+number_row [] = []
+number_row (x ∷ []) = number_ended x
+number_row (x ∷ y ∷ xs) = number_spaced x ++ number_row (y ∷ xs)
 
 -- ---- what is heard of it
 
@@ -40,20 +40,20 @@ in_32_bits n = min n 4294967295
 
 -- the digits of a number after those that say n, up to the byte that ends it; none follows a
 -- leading 0
-unfoldable pub digits_at : ℕ → ℕ → Reader ℕ
-digits_at stop n [] = Err Short
-digits_at stop n (b ∷ bs) =
+unfoldable pub long_digits_at : ℕ → ℕ → Reader ℕ
+long_digits_at stop n [] = Err Short
+long_digits_at stop n (b ∷ bs) =
     if b == stop
     then Ok (n, bs)
     else (if nat_lt 0 n && is_digit b
-    then digits_at stop (n * 10 + (b - 48)) bs
+    then long_digits_at stop (n * 10 + (b - 48)) bs
     else Err (Bad (suc (length bs))))
 
 -- a decimal without signs or leading zeros, and the byte that ends it
 unfoldable pub decimal_at : ℕ → Reader ℕ
 decimal_at stop [] = Err Short
 decimal_at stop (b ∷ bs) =
-    if is_digit b then digits_at stop (b - 48) bs else Err (Bad (suc (length bs)))
+    if is_digit b then long_digits_at stop (b - 48) bs else Err (Bad (suc (length bs)))
 
 -- an order: a decimal of 64 bits, or none if it is greater
 unfoldable pub order_at : ℕ → Reader (Option ℕ)

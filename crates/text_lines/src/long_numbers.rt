@@ -3,7 +3,7 @@
 ghost use Rattle.std.specs.Prelude.{◌≡◌, ◌≤◌, ◌<◌, ◌+◌, ◌-◌, ◌*◌, ◌&&◌, ℕ, true, false, nat_lt, IfSome, IsNone};
 ghost use Rattle.text_lines.specs.Reading.{Gives, as_at, is_digit, stop_of};
 ghost use Rattle.text_lines.specs.Exact.{Returns};
-ghost use Rattle.text_lines.specs.LongNumbers.{digits_at, in_64_bits, in_32_bits, order_at, place_at, places_at};
+ghost use Rattle.text_lines.specs.LongNumbers.{long_digits_at, in_64_bits, in_32_bits, order_at, place_at, places_at};
 
 use crate::fault::{Fault, Stop};
 use std::alloc::Global;
@@ -37,7 +37,7 @@ fn with_byte(number: Option<u64>, b: u8) -> Option<Option<u64>>
 /// Reads the rest of a number that begins with `first`.
 fn digits(first: u64, stop: u8, bytes: &[u8]) -> Result<(Option<u64>, &[u8]), Fault>
     ensures { Returns (λ x. (x.0, x.1.now)) result
-        (as_at in_64_bits (digits_at stop first) bytes.now) }
+        (as_at in_64_bits (long_digits_at stop first) bytes.now) }
 {
     let mut number = Some(first);
     for (i, b) in bytes.iter().enumerate() {

@@ -5,7 +5,7 @@ ghost use Rattle.held_locks.specs.Locks.{Acquire, Try, Release, Cancel};
 ghost use Rattle.held_locks.specs.declared.answers.Answers.{Answers};
 ghost use Rattle.c_calls.specs.declared.lock_answers.Grant.{Grant};
 ghost use Rattle.c_calls.specs.Codes.{closed};
-ghost use Rattle.c_calls.specs.Desks.{IsAsked, IsDoneAsk, IsDeskLeft, IsNextGrant, IsLeaveReport, IsCutReport};
+ghost use Rattle.c_calls.specs.Desks.{IsAsked, IsDoneAsk, IsDeskLeft, IsNextGrant, IsLeaveReport, IsDeskCutReport};
 ghost use Rattle.c_calls.specs.LockReports.{asked_code, asked_hold, IsGrantReport};
 
 use crate::lock_handle::{LockHandle, opened, take_out};
@@ -147,7 +147,7 @@ pub extern "C" fn wozgirt_locks_cut(alloc: Global, locks: &mut LockHandle) -> u3
     ensures closed { locks.old.full ≡ false → (result ≡ closed) × (locks.new ≡ locks.old) }
     ensures full { locks.new.full ≡ locks.old.full }
     ensures reported { locks.old.full ≡ true
-        → IsCutReport locks.old.value locks.new.value result }
+        → IsDeskCutReport locks.old.value locks.new.value result }
 {
     let Some(desk) = opened(locks) else {
         return CLOSED;

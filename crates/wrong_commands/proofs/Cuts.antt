@@ -11,7 +11,7 @@ use Rattle.line_service.specs.SegmentNames.{segment_file}
 use Rattle.ring_model.specs.Surveys.{granted_count}
 use Rattle.ring_model.specs.declared.bases.Base.{Base}
 use Rattle.segment_files.specs.Spelling.{digest_of, number_line, base_line, DigestFits}
-use Rattle.journal.specs.Spelling.{head_text as journal_text}
+use Rattle.journal.specs.Spelling.{journal_head}
 use Rattle.line_service.specs.Answering.{IsLine, Answers, joined_lines}
 use Rattle.line_service.specs.Stands.{Stand, by_stand}
 use Rattle.line_service.specs.declared.segmented.EndFault.{EndFault}
@@ -295,12 +295,12 @@ none_called r s more called h = called h.0.history
 abbrev front_of : ℕ → List Standing → List ℕ
 front_of number rings = number_line number (length (bases_of rings)) ++ codes "behind "
 
-parts_of : (number : ℕ) (behind : List ℕ) (rings : List Standing) → segment_text number behind rings ≡ front_of number rings ++ (behind ++ (10 ∷ (flat_map base_line (bases_of rings) ++ journal_text (content_of rings))))
+parts_of : (number : ℕ) (behind : List ℕ) (rings : List Standing) → segment_text number behind rings ≡ front_of number rings ++ (behind ++ (10 ∷ (flat_map base_line (bases_of rings) ++ journal_head (content_of rings))))
 parts_of number behind rings =
     let n = number_line number (length (bases_of rings)) in
     let w : List ℕ = codes "behind " in
     let bases = flat_map base_line (bases_of rings) in
-    let journal = journal_text (content_of rings) in
+    let journal = journal_head (content_of rings) in
     append_assoc n ((w ++ (behind ++ 10 ∷ [])) ++ bases) journal
     ∙ (ap (λ (x : List ℕ). n ++ x) (ap (λ (x : List ℕ). x ++ journal) (append_assoc w (behind ++ 10 ∷ []) bases) ∙ append_assoc w ((behind ++ 10 ∷ []) ++ bases) journal)
     ∙ (ap (λ (x : List ℕ). n ++ (w ++ x)) (ap (λ (x : List ℕ). x ++ journal) (append_assoc behind (10 ∷ []) bases) ∙ append_assoc behind (10 ∷ bases) journal)
@@ -320,5 +320,5 @@ pub one_digest : {rings : List Standing} {bytes : List ℕ} {b : Moment ServiceV
 one_digest {rings} {bytes} {b} behind c is =
     let now : List Standing = b.service.rings in
     let same : segment_text b.number behind now ≡ segment_text b.number c.behind now = some_same _ _ (sym is ∙ c.journal) in
-    one_behind (front_of b.number now) behind c.behind (10 ∷ (flat_map base_line (bases_of now) ++ journal_text (content_of now))) (sym (parts_of b.number behind now) ∙ (same ∙ parts_of b.number c.behind now))
+    one_behind (front_of b.number now) behind c.behind (10 ∷ (flat_map base_line (bases_of now) ++ journal_head (content_of now))) (sym (parts_of b.number behind now) ∙ (same ∙ parts_of b.number c.behind now))
     ∙ c.digest

@@ -8,7 +8,7 @@ use Rattle.std.specs.Option.{is_some, unwrap_or}
 use Rattle.disks.specs.Held.{Held, bytes_of, is_folder, LeadsToFolder, Grows, Replaces}
 use Rattle.saved_history.specs.declared.saved.Saved.{Saved}
 use Rattle.saved_history.specs.Content.{Content}
-use Rattle.journal.specs.Spelling.{head_text}
+use Rattle.journal.specs.Spelling.{journal_head}
 use Rattle.ring_service.specs.declared.permits.Permits.{Permits}
 use Rattle.ring_service.specs.Standings.{Standing}
 use Rattle.ring_service.specs.Saved.{content_of}
@@ -21,7 +21,7 @@ use Rattle.tool_parts.proofs.Folders.{held_no_folder}
 use Rattle.wrong_commands.proofs.Places.{replaced_known, answers_known, one_name}
 
 -- the text of a journal has a byte
-begun_holds : (began : Content) (more bytes : List ℕ) → bytes ≡ head_text began ++ more → bytes ≡ [] → ⊥
+begun_holds : (began : Content) (more bytes : List ℕ) → bytes ≡ journal_head began ++ more → bytes ≡ [] → ⊥
 begun_holds began more bytes is none =
     let first : 0 ≡ 114 = ap (λ (x : List ℕ). get_or x 0 0) (sym none ∙ is) in
     omega (arith, first)
@@ -33,8 +33,8 @@ module _ (name : List ℕ) (was is : Held) (b : ℕ) (bs : List ℕ) (some : byt
       let e : [] ≡ b ∷ bs = one_name [] (b ∷ bs) (sym none ∙ same ∙ some) in
       cc
 
-  not_begun : (began : Content) (more : List ℕ) → bytes_of is name ≡ Some (head_text began ++ more) → ⊥
-  not_begun began more held = begun_holds began more [] (one_name [] (head_text began ++ more) (sym none ∙ held)) refl
+  not_begun : (began : Content) (more : List ℕ) → bytes_of is name ≡ Some (journal_head began ++ more) → ⊥
+  not_begun began more held = begun_holds began more [] (one_name [] (journal_head began ++ more) (sym none ∙ held)) refl
 
   of_untouched : IsUntouched (Some was) (Some is) name → ⊥
   of_untouched (inl h) = not_same (h.files name)
@@ -49,14 +49,14 @@ module _ (name : List ℕ) (was is : Held) (b : ℕ) (bs : List ℕ) (some : byt
   of_value permits saved input rest out after e (inr h) = of_broken permits h.2 input rest out after e h.4
 
   -- what the journal's writer has in the end
-  grown : (files : Option Held) (began : Content) (first : Option (List ℕ)) → Replaces (Some was) files name (Some (head_text began)) → Grows files name first → first ≡ Some (head_text began)
+  grown : (files : Option Held) (began : Content) (first : Option (List ℕ)) → Replaces (Some was) files name (Some (journal_head began)) → Grows files name first → first ≡ Some (journal_head began)
   grown None began first put opened = absurd put
   grown (Some begun) began first put opened = opened.2 ∙ sym opened.1 ∙ put.here name refl
 
-  appended : (first last : Option (List ℕ)) (began : Content) (noted : List ℕ) → first ≡ Some (head_text began) → Appends first last noted → last ≡ Some (head_text began ++ noted)
+  appended : (first last : Option (List ℕ)) (began : Content) (noted : List ℕ) → first ≡ Some (journal_head began) → Appends first last noted → last ≡ Some (journal_head began ++ noted)
   appended first last began noted is a = at last (subst (λ (x : Option (List ℕ)). Appends x last noted) is a)
     where
-      at : (last : Option (List ℕ)) → Appends (Some (head_text began)) last noted → last ≡ Some (head_text began ++ noted)
+      at : (last : Option (List ℕ)) → Appends (Some (journal_head began)) last noted → last ≡ Some (journal_head began ++ noted)
       at None a = absurd a
       at (Some bytes) a = ap (λ (x : List ℕ). Some x) a
 
@@ -66,7 +66,7 @@ module _ (name : List ℕ) (was is : Held) (b : ℕ) (bs : List ℕ) (some : byt
       let ended = answers_known _ start end h.begun h.ended h.served.told.answered.lines h.served.told.said h.served.told.noted begun h.served.told.answered.answers in
       let first = grown h.begun (content_of start) h.first h.put h.opened in
       let last = appended h.first h.last (content_of start) h.served.told.noted first h.served.told.wrote_notes in
-      let settled = subst (λ (x : Option Held). Replaces x (Some is) name (Some (head_text (content_of start) ++ h.served.told.noted))) ended.1 (subst (λ (x : Option (List ℕ)). Replaces h.ended (Some is) name x) last h.settled) in
+      let settled = subst (λ (x : Option Held). Replaces x (Some is) name (Some (journal_head (content_of start) ++ h.served.told.noted))) ended.1 (subst (λ (x : Option (List ℕ)). Replaces h.ended (Some is) name x) last h.settled) in
       not_begun (content_of start) h.served.told.noted (settled.here name refl)
 
   of_folder : (folder : List ℕ) → folder ≡ name → LeadsToFolder (Some was) folder → ⊥

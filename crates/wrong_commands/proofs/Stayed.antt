@@ -17,16 +17,16 @@ split : true ≡ false → ⊥
 split e = cc
 
 -- after a cancel a client that was in the line is not in it any more
-pub stands_on : (vs : List LockView) (v : LockView) (c i : ℕ) (r : Answers) → slice_get vs i ≡ Some v → stands c v.line ≡ true → IsDone vs vs c i Cancel r → ⊥
+pub stands_on : (vs : List LockView) (v : LockView) (c i : ℕ) (r : Answers) → slice_get vs i ≡ Some v → stands c v.queue ≡ true → IsDone vs vs c i Cancel r → ⊥
 stands_on vs v c i r at there d =
     let ls : List Lock = locks_of vs in
     let l : Lock = lock_of v in
     let get : slice_get ls i ≡ Some l = slice_get-map lock_of vs i ∙ ap (λ (x : Option LockView). option_map lock_of x) at in
-    let out : Lock = record l { line = without c l.line } in
+    let out : Lock = record l { queue = without c l.queue } in
     let cancelled : Turn = dropped l c ((c, answer.Cancelled) ∷ []) in
     let refused_so : Turn = told l c (answer.Refused refusal.Waiter) in
     let went : (turn ls l c Cancel).lock ≡ out = ap (λ (t : Turn). t.lock) (ap (λ (b : Bool). if b then cancelled else refused_so) there) in
     let all : ls ≡ slice_set ls i (turn ls l c Cancel).lock = d.locks ∙ ap (λ (x : Option Lock). (step_at ls c i Cancel x).locks) get in
     let now : slice_get ls i ≡ Some (turn ls l c Cancel).lock = ap (λ (x : List Lock). slice_get x i) all ∙ get_set_same ls i (turn ls l c Cancel).lock l get in
     let same : l ≡ (turn ls l c Cancel).lock = some_same l (turn ls l c Cancel).lock (sym get ∙ now) in
-    split (sym there ∙ (ap (λ (x : Lock). stands c x.line) (same ∙ went) ∙ stands_without c l.line))
+    split (sym there ∙ (ap (λ (x : Lock). stands c x.queue) (same ∙ went) ∙ stands_without c l.queue))

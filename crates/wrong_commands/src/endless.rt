@@ -3,7 +3,7 @@
 ghost use Rattle.std.specs.Prelude.{◌≡◌, ◌<◌, ◌≤◌, length, IfSome};
 ghost use Rattle.ring_model.specs.declared.events.Op.TheVariants as op;
 ghost use Rattle.endless_ring.specs.declared.rings.NextError.TheVariants as error;
-ghost use Rattle.endless_ring.specs.Endless.{IsCalled, IsTried, IsSurveyed, IsNext};
+ghost use Rattle.endless_ring.specs.Endless.{IsCalled, IsTried, IsSurveyed, IsNextRing};
 ghost use Rattle.ring_service.specs.Segments.{AreNext, IsFull};
 
 use endless_ring::{EndlessRing, NextError};
@@ -77,7 +77,7 @@ pub fn survey_that_no_log_has(ring: &mut EndlessRing, seat: u32) -> Survey
 /// The next segment has no events: here the one that ends is said to be next.
 pub fn next_that_has_the_old_events(ring: EndlessRing) -> EndlessRing
     requires { 1 ≤ length ring.ring.book.history }
-    ensures wrong { IsNext ring result → ⊥ }
+    ensures wrong { IsNextRing ring result → ⊥ }
 {
     ring
 }
@@ -90,7 +90,7 @@ pub fn next_that_begins_with_a_call(
     machine: u32,
     order: u64,
 ) -> Option<EndlessRing>
-    ensures wrong { IfSome result (λ next. IsNext ring.now next → ⊥) }
+    ensures wrong { IfSome result (λ next. IsNextRing ring.now next → ⊥) }
 {
     let Ok(mut next) = ring.next(alloc) else {
         return None;
@@ -104,7 +104,7 @@ pub fn next_that_begins_with_a_call(
 /// The base counts the grants of the segments before: here it forgets them, and fencing tokens come back.
 pub fn next_that_forgets_the_grants(alloc: Global, ring: &EndlessRing) -> Option<EndlessRing>
     requires { 1 ≤ ring.now.base.grants }
-    ensures wrong { IfSome result (λ next. IsNext ring.now next → ⊥) }
+    ensures wrong { IfSome result (λ next. IsNextRing ring.now next → ⊥) }
 {
     let base = Base {
         events: ring.base().events,

@@ -47,7 +47,7 @@ pub fn forgets_a_waiter(locks: &mut Locks, client: u64, lock: u32, token: u64) -
 
 /// The head of the line is granted: here another client is, such as the one after it. It gives up if nobody waits, or this client
 /// is the head.
-pub fn skips_the_head_of_the_line(
+pub fn skips_the_head_of_the_queue(
     locks: &mut Locks,
     client: u64,
     lock: u32,
@@ -101,7 +101,7 @@ pub fn leaves_out_a_lock(locks: &mut Locks, client: u64, left: &mut Vec<Left>) -
 pub fn cancels_nobody(locks: &Locks, client: u64, lock: u32) -> Answers
     requires there { (v : LockView)
         × (slice_get locks.now lock ≡ Some v)
-        × (stands client v.line ≡ true) }
+        × (stands client v.queue ≡ true) }
     ensures wrong { IsDone locks.now locks.now client lock Cancel result → ⊥ }
 {
     Answers {

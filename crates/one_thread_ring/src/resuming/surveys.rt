@@ -3,7 +3,7 @@ ghost use Rattle.std.specs.Prelude.{◌≡◌, ◌<◌, ◌≤◌, map, All, IfO
 ghost use Rattle.ring_model.specs.Limits.{seat_limit};
 ghost use Rattle.ring_check.specs.Meaning.{survey_of, AreInOrder, AreOnward};
 ghost use Rattle.one_thread_ring.specs.Texts.{surveys_kept};
-ghost use Rattle.one_thread_ring.specs.Resuming.{AreSeated, IsToldFirst, IsWantOfMemory};
+ghost use Rattle.one_thread_ring.specs.Resuming.{AreSeated, IsToldFirst, IsOutOfMemory};
 
 use super::ResumeError;
 use crate::clients::Client;
@@ -40,7 +40,7 @@ pub(crate) fn surveys_of(alloc: Global, lines: &[SavedSurvey]) -> Result<Vec<Sur
 fn client_of(alloc: Global, number: u32, lines: &[SavedSurvey]) -> Result<Client, ResumeError>
     requires { number < seat_limit }
     ensures told { IfOk result (λ c. IsToldFirst number lines.now c) }
-    ensures onward { AreOnward number 0 lines.now → IfErr result (λ e. IsWantOfMemory e) }
+    ensures onward { AreOnward number 0 lines.now → IfErr result (λ e. IsOutOfMemory e) }
 {
     let mut client = Client::new(alloc, number);
     let mut low = 0;
@@ -78,7 +78,7 @@ pub(crate) fn clients_of(
     ensures seated { IfOk result (λ v. AreSeated seats v.items) }
     ensures told { IfOk result (λ v. surveys_kept v.items ≡ lines.now) }
     ensures legal { AreInOrder lines.now → All (λ s. s.seat < seats) lines.now
-        → IfErr result (λ e. IsWantOfMemory e) }
+        → IfErr result (λ e. IsOutOfMemory e) }
 {
     let Ok(mut clients) = Vec::with_capacity(alloc, seats as usize) else {
         return Err(ResumeError::OutOfMemory);

@@ -1,6 +1,6 @@
 use Rattle.std.proofs.Common.{◌≡◌, [], refl}
 use Rattle.held_locks.specs.Locks.{Release}
-use Rattle.c_calls.proofs.Counted.{done_long, none_left, some_left, room_behind}
+use Rattle.c_calls.proofs.Counted.{done_long, none_left, some_left, room_after}
 use Rattle.c_calls.proofs.desks.release_in.Goals as goal
 
 pub returns-then-not-is_empty : goal.returns-then-not-is_empty
@@ -12,7 +12,7 @@ returns-then-not-is_empty c = record {
 
 pub put-requires : goal.put-requires
 put-requires c =
-    room_behind _ _ _ c.args.grants.now.items c.args.grants.now.ok.0
+    room_after _ _ _ c.args.grants.now.items c.args.grants.now.ok.0
     (none_left _ c.args.grants.now.items c.is_empty.result c.args.grants.now.ok.0 c.is_empty.ensures c.if-not-is_empty.false) c.requires
 
 pub returns : goal.returns

@@ -10,7 +10,7 @@ use Rattle.held_locks.proofs.asks.cancel.Goals as goal
 
 pub returns : goal.returns
 returns c =
-    let s : stands c.args.client c.args.lock.now.line.items ≡ true = sym c.requires.waiting ∙ c.if-not-waiting.false in
+    let s : stands c.args.client c.args.lock.now.queue.items ≡ true = sym c.requires.waiting ∙ c.if-not-waiting.false in
     subst (λ (t : Turn). IsTurnedIn c.args.number (view_of c.args.lock.now) (view_of c.drop_waiter.new.lock) c.args.waits.now c.drop_waiter.new.waits c.args.client t c.told.result) (cancel_out (view_of c.args.lock.now) c.args.client s)
     (dropped_in c.args.number (view_of c.args.lock.now) (view_of c.drop_waiter.new.lock) c.args.waits.now c.drop_waiter.new.waits c.args.client ((c.args.client, answer.Cancelled) ∷ []) c.told.result c.requires.kept s
-    c.drop_waiter.ensures.ring c.drop_waiter.ensures.holder c.drop_waiter.ensures.line c.drop_waiter.ensures.waits (ap (λ (x : Answers). answers_of c.args.client x) c.told.ensures) (ap (λ (x : Answers). x.ended) c.told.ensures))
+    c.drop_waiter.ensures.ring c.drop_waiter.ensures.holder c.drop_waiter.ensures.queue c.drop_waiter.ensures.waits (ap (λ (x : Answers). answers_of c.args.client x) c.told.ensures) (ap (λ (x : Answers). x.ended) c.told.ensures))

@@ -8,13 +8,13 @@ use Rattle.one_thread_ring.specs.Refusals.{bounds_of}
 use Rattle.held_locks.specs.Promises.{number_of}
 use Rattle.held_locks.specs.Kept.{state_of}
 use Rattle.held_locks.proofs.Rings.{grant_number}
-use Rattle.held_locks.proofs.Calls.{called_event, kept_is_ring, first_below, want_is, admitted}
+use Rattle.held_locks.proofs.Calls.{called_event, kept_is_ring, first_below, lack_is, admitted}
 use Rattle.held_locks.proofs.marks.pass_first.Goals as goal
 
-seat_in : (c : goal.After-want) → c.args.seat < length c.args.ring.now.ring.clients
+seat_in : (c : goal.After-lack) → c.args.seat < length c.args.ring.now.ring.clients
 seat_in c = let n = c.requires.kept.seats in let s = c.requires.seat in omega arith
 
-machine_in : (c : goal.After-want) → c.args.first < length c.args.ring.now.ring.book.now.ring.values
+machine_in : (c : goal.After-lack) → c.args.first < length c.args.ring.now.ring.book.now.ring.values
 machine_in c =
     let f = first_below c.args.ring.now c.requires.kept in
     let e : c.args.first ≡ first_privileged c.args.ring.now.ring.book.now.ring.values = c.requires.first in
@@ -29,7 +29,7 @@ returns-in-Ok-clause-number c =
 
 pub returns-in-Err-clause-why : goal.returns-in-Err-clause-why
 returns-in-Err-clause-why c =
-    want_is c.args.ring.now (bounds_of c.args.ring.now.ring) c.args.seat c.args.first c.in-Err.error c.want.result refl (seat_in c) (machine_in c) c.in-Err.ensures.refused c.want.ensures.full c.want.ensures.memory
+    lack_is c.args.ring.now (bounds_of c.args.ring.now.ring) c.args.seat c.args.first c.in-Err.error c.lack.result refl (seat_in c) (machine_in c) c.in-Err.ensures.refused c.lack.ensures.full c.lack.ensures.memory
 
 pub returns-in-Err-clause-succeeds : goal.returns-in-Err-clause-succeeds
 returns-in-Err-clause-succeeds c = λ room.

@@ -1,4 +1,4 @@
-use Rattle.journal.proofs.Fronts.{no_number, no_ring, no_call_behind, ring_then_call}
+use Rattle.journal.proofs.Fronts.{no_number, no_ring, no_call_after, ring_then_call}
 use Rattle.journal.proofs.read.line.Goals as goal
 
 pub returns-then-ring-rings : goal.returns-then-ring-rings
@@ -10,7 +10,7 @@ returns-in-Ok-Some c =
     ring_then_call c.args.version c.args.rings c.args.bytes.now c.in-Ok.ring c.in-Ok.after.now c.in-Ok-Some.call c.in-Ok-Some.rest.now c.in-Ok.ensures c.if-ring-rings.false f.0 f.1
 
 pub returns-in-Ok-None : goal.returns-in-Ok-None
-returns-in-Ok-None c = no_call_behind c.args.version c.args.rings c.args.bytes.now c.in-Ok.ring c.in-Ok.after.now c.in-Ok.ensures (rw c.in-Ok-None.field-0-is at c.in-Ok-None.ensures)
+returns-in-Ok-None c = no_call_after c.args.version c.args.rings c.args.bytes.now c.in-Ok.ring c.in-Ok.after.now c.in-Ok.ensures (rw c.in-Ok-None.field-0-is at c.in-Ok-None.ensures)
 
 pub returns-in-Err-Fault : goal.returns-in-Err-Fault
 returns-in-Err-Fault c = no_number c.args.version c.args.rings c.args.bytes.now c.in-Err-Fault.field-0-0 (rw c.in-Err-Fault.field-0-is at c.in-Err-Fault.ensures)

@@ -1,5 +1,5 @@
 use Rattle.std.proofs.Common.{◌≤◌, [], ◌++◌, length, ◌∙◌, sym, refl, arith, length-append}
-use Rattle.line_service.specs.Loop.{Written, held_by}
+use Rattle.line_service.specs.Loop.{Written, written_by}
 use Rattle.line_service.specs.Stands.{by_stand, stand}
 use Rattle.line_service.proofs.Telling.{consumes_nil, consumes_then, consumes_kept}
 use Rattle.line_service.proofs.Parting.{going_begins, going_block, going_stops, going_ends, going_filled, going_part}
@@ -7,8 +7,8 @@ use Rattle.line_service.proofs.parts.serve_part.Goals as goal
 
 pub rounds-init : goal.rounds-init
 rounds-init g c =
-    let before : Written = record { journal = held_by g.J.Grow.contents c.args.journal.now; out = g.W.Write.contents c.args.out.now } in
-    let lasting : Written = record { journal = held_by g.J.Grow.lasting c.args.journal.now; out = g.W.Write.contents c.args.out.now } in (
+    let before : Written = record { journal = written_by g.J.Grow.contents c.args.journal.now; out = g.W.Write.contents c.args.out.now } in
+    let lasting : Written = record { journal = written_by g.J.Grow.lasting c.args.journal.now; out = g.W.Write.contents c.args.out.now } in (
       [],
       consumes_nil (g.I.Read.remaining c.args.input.now),
       omega arith,
@@ -26,35 +26,35 @@ pub returns-in-Err-clause-err : goal.returns-in-Err-clause-err
 returns-in-Err-clause-err g c = λ begun h.
     let inv = c.rounds.invariant in
     let going = inv.7 begun h in
-    let before : Written = record { journal = held_by g.J.Grow.contents c.args.journal.now; out = g.W.Write.contents c.args.out.now } in
+    let before : Written = record { journal = written_by g.J.Grow.contents c.args.journal.now; out = g.W.Write.contents c.args.out.now } in
     (inv.0, inv.1, going_stops going (c.in-Err.ensures.serves (stand c.args.service.now (g.D.Disk.holds c.args.disk.now)) before (begun ++ going.taken) going.rests))
 
 pub returns-in-Err-clause-lasts : goal.returns-in-Err-clause-lasts
 returns-in-Err-clause-lasts g c = λ begun h.
     let inv = c.rounds.invariant in
     let going = inv.8 begun h in
-    let before : Written = record { journal = held_by g.J.Grow.lasting c.args.journal.now; out = g.W.Write.contents c.args.out.now } in
+    let before : Written = record { journal = written_by g.J.Grow.lasting c.args.journal.now; out = g.W.Write.contents c.args.out.now } in
     (inv.0, inv.1, going_stops going (c.in-Err.ensures.lasts (stand c.args.service.now (g.D.Disk.holds c.args.disk.now)) before (begun ++ going.taken) going.rests))
 
 pub returns-then-over-clause-ok : goal.returns-then-over-clause-ok
 returns-then-over-clause-ok g c = λ begun h.
     let inv = c.rounds.invariant in
     let going = inv.7 begun h in
-    let before : Written = record { journal = held_by g.J.Grow.contents c.args.journal.now; out = g.W.Write.contents c.args.out.now } in
+    let before : Written = record { journal = written_by g.J.Grow.contents c.args.journal.now; out = g.W.Write.contents c.args.out.now } in
     going_part inv.1 tt (going_block c.in-Ok.over going (c.in-Ok.ensures.serves (stand c.args.service.now (g.D.Disk.holds c.args.disk.now)) before (begun ++ going.taken) going.rests))
 
 pub returns-then-over-clause-lasts : goal.returns-then-over-clause-lasts
 returns-then-over-clause-lasts g c = λ begun h.
     let inv = c.rounds.invariant in
     let going = inv.8 begun h in
-    let before : Written = record { journal = held_by g.J.Grow.lasting c.args.journal.now; out = g.W.Write.contents c.args.out.now } in
+    let before : Written = record { journal = written_by g.J.Grow.lasting c.args.journal.now; out = g.W.Write.contents c.args.out.now } in
     going_part inv.1 tt (going_block c.in-Ok.over going (c.in-Ok.ensures.lasts (stand c.args.service.now (g.D.Disk.holds c.args.disk.now)) before (begun ++ going.taken) going.rests))
 
 pub returns-in-Err-fill-clause-err : goal.returns-in-Err-fill-clause-err
 returns-in-Err-fill-clause-err g c = λ begun h.
     let inv = c.rounds.invariant in
     let going = inv.7 begun h in
-    let before : Written = record { journal = held_by g.J.Grow.contents c.args.journal.now; out = g.W.Write.contents c.args.out.now } in
+    let before : Written = record { journal = written_by g.J.Grow.contents c.args.journal.now; out = g.W.Write.contents c.args.out.now } in
     let more = going_block c.in-Ok.over going (c.in-Ok.ensures.serves (stand c.args.service.now (g.D.Disk.holds c.args.disk.now)) before (begun ++ going.taken) going.rests) in
     (inv.0, consumes_kept (g.I.Read.remaining c.args.input.now) (g.I.Read.remaining c.rounds.input) (g.I.Read.remaining c.fill.new.input) inv.0 inv.1 c.in-Err-fill.ensures.err.1, going_ends more)
 
@@ -62,7 +62,7 @@ pub returns-in-Err-fill-clause-lasts : goal.returns-in-Err-fill-clause-lasts
 returns-in-Err-fill-clause-lasts g c = λ begun h.
     let inv = c.rounds.invariant in
     let going = inv.8 begun h in
-    let before : Written = record { journal = held_by g.J.Grow.lasting c.args.journal.now; out = g.W.Write.contents c.args.out.now } in
+    let before : Written = record { journal = written_by g.J.Grow.lasting c.args.journal.now; out = g.W.Write.contents c.args.out.now } in
     let more = going_block c.in-Ok.over going (c.in-Ok.ensures.lasts (stand c.args.service.now (g.D.Disk.holds c.args.disk.now)) before (begun ++ going.taken) going.rests) in
     (inv.0, consumes_kept (g.I.Read.remaining c.args.input.now) (g.I.Read.remaining c.rounds.input) (g.I.Read.remaining c.fill.new.input) inv.0 inv.1 c.in-Err-fill.ensures.err.1, going_ends more)
 
@@ -70,7 +70,7 @@ pub returns-then-count-eq0-clause-ok : goal.returns-then-count-eq0-clause-ok
 returns-then-count-eq0-clause-ok g c = λ begun h.
     let inv = c.rounds.invariant in
     let going = inv.7 begun h in
-    let before : Written = record { journal = held_by g.J.Grow.contents c.args.journal.now; out = g.W.Write.contents c.args.out.now } in
+    let before : Written = record { journal = written_by g.J.Grow.contents c.args.journal.now; out = g.W.Write.contents c.args.out.now } in
     let taken = c.in-Ok.ensures.serves (stand c.args.service.now (g.D.Disk.holds c.args.disk.now)) before (begun ++ going.taken) going.rests in
     let more = going_filled c.fill.new.self (taken.2 c.if-over.false) (going_block c.in-Ok.over going taken) in
     going_part (consumes_then (g.I.Read.remaining c.args.input.now) (g.I.Read.remaining c.rounds.input) (g.I.Read.remaining c.fill.new.input) inv.0 c.fill.new.self inv.1 c.in-Ok-fill.ensures.ok.0) tt more
@@ -79,7 +79,7 @@ pub returns-then-count-eq0-clause-lasts : goal.returns-then-count-eq0-clause-las
 returns-then-count-eq0-clause-lasts g c = λ begun h.
     let inv = c.rounds.invariant in
     let going = inv.8 begun h in
-    let before : Written = record { journal = held_by g.J.Grow.lasting c.args.journal.now; out = g.W.Write.contents c.args.out.now } in
+    let before : Written = record { journal = written_by g.J.Grow.lasting c.args.journal.now; out = g.W.Write.contents c.args.out.now } in
     let taken = c.in-Ok.ensures.lasts (stand c.args.service.now (g.D.Disk.holds c.args.disk.now)) before (begun ++ going.taken) going.rests in
     let more = going_filled c.fill.new.self (taken.2 c.if-over.false) (going_block c.in-Ok.over going taken) in
     going_part (consumes_then (g.I.Read.remaining c.args.input.now) (g.I.Read.remaining c.rounds.input) (g.I.Read.remaining c.fill.new.input) inv.0 c.fill.new.self inv.1 c.in-Ok-fill.ensures.ok.0) tt more
@@ -88,7 +88,7 @@ pub returns-then-once-clause-ok : goal.returns-then-once-clause-ok
 returns-then-once-clause-ok g c = λ begun h.
     let inv = c.rounds.invariant in
     let going = inv.7 begun h in
-    let before : Written = record { journal = held_by g.J.Grow.contents c.args.journal.now; out = g.W.Write.contents c.args.out.now } in
+    let before : Written = record { journal = written_by g.J.Grow.contents c.args.journal.now; out = g.W.Write.contents c.args.out.now } in
     let taken = c.in-Ok.ensures.serves (stand c.args.service.now (g.D.Disk.holds c.args.disk.now)) before (begun ++ going.taken) going.rests in
     let more = going_filled c.fill.new.self (taken.2 c.if-over.false) (going_block c.in-Ok.over going taken) in
     let some : 1 ≤ length (inv.0 ++ c.fill.new.self) = omega (arith, length-append inv.0 c.fill.new.self, c.in-Ok-fill.ensures.ok.1, c.if-count-eq0.false) in
@@ -98,7 +98,7 @@ pub returns-then-once-clause-lasts : goal.returns-then-once-clause-lasts
 returns-then-once-clause-lasts g c = λ begun h.
     let inv = c.rounds.invariant in
     let going = inv.8 begun h in
-    let before : Written = record { journal = held_by g.J.Grow.lasting c.args.journal.now; out = g.W.Write.contents c.args.out.now } in
+    let before : Written = record { journal = written_by g.J.Grow.lasting c.args.journal.now; out = g.W.Write.contents c.args.out.now } in
     let taken = c.in-Ok.ensures.lasts (stand c.args.service.now (g.D.Disk.holds c.args.disk.now)) before (begun ++ going.taken) going.rests in
     let more = going_filled c.fill.new.self (taken.2 c.if-over.false) (going_block c.in-Ok.over going taken) in
     let some : 1 ≤ length (inv.0 ++ c.fill.new.self) = omega (arith, length-append inv.0 c.fill.new.self, c.in-Ok-fill.ensures.ok.1, c.if-count-eq0.false) in
@@ -107,8 +107,8 @@ returns-then-once-clause-lasts g c = λ begun h.
 pub rounds-preserved : goal.rounds-preserved
 rounds-preserved g c =
     let inv = c.rounds.invariant in
-    let before : Written = record { journal = held_by g.J.Grow.contents c.args.journal.now; out = g.W.Write.contents c.args.out.now } in
-    let lasting : Written = record { journal = held_by g.J.Grow.lasting c.args.journal.now; out = g.W.Write.contents c.args.out.now } in
+    let before : Written = record { journal = written_by g.J.Grow.contents c.args.journal.now; out = g.W.Write.contents c.args.out.now } in
+    let lasting : Written = record { journal = written_by g.J.Grow.lasting c.args.journal.now; out = g.W.Write.contents c.args.out.now } in
     let low = inv.2 in
     let size = c.in-Ok-fill.ensures.ok.1 in (
       inv.0 ++ c.fill.new.self,

@@ -4,7 +4,7 @@ use Rattle.disks.specs.Held.{Held}
 use Rattle.disks.specs.Lasting.{BeginsWith, Changes}
 use Rattle.line_service.specs.declared.faults.LoopFault.{LoopFault}
 use Rattle.line_service.specs.declared.faults.LoopFault.TheVariants as fault
-use Rattle.line_service.specs.Loop.{Stops, held_by, IsFaultOf as IsPartFault}
+use Rattle.line_service.specs.Loop.{Stops, written_by, IsPartFault}
 use Rattle.line_service.specs.Stands.{by_stand, stand}
 use Rattle.line_service.specs.declared.segmented.EndFault.{EndFault}
 use Rattle.line_service.specs.declared.segmented.EndFault.TheVariants as end
@@ -23,7 +23,7 @@ returns-in-Err-clause-spared g c = λ begun h.
     let after = g.W.Write.contents c.serve_part-served.new.out in
     let bytes = begun ++ (c.args.unread.now ++ p.0) in
     let old = stand c.args.service.now (g.D.Disk.holds c.args.disk.now) in
-    let told = subst (λ (j : Option _). Stops (by_stand g.S.AnswersLines.is_answered) old (record { journal = before; out = out }) (record { journal = held_by (λ d. g.D.Grown.Grow.lasting d.inner) j; out = after }) bytes (stand c.serve_part-served.new.service (g.D.Disk.holds c.serve_part-served.new.disk))) c.in-Some.is p.2 in
+    let told = subst (λ (j : Option _). Stops (by_stand g.S.AnswersLines.is_answered) old (record { journal = before; out = out }) (record { journal = written_by (λ d. g.D.Grown.Grow.lasting d.inner) j; out = after }) bytes (stand c.serve_part-served.new.service (g.D.Disk.holds c.serve_part-served.new.disk))) c.in-Some.is p.2 in
     let stops = subst (λ (f : Option Held). Stops (by_stand g.S.AnswersLines.is_answered) old (record { journal = before; out = out }) (record { journal = journal; out = after }) bytes (stand c.serve_part-served.new.service f)) (sym c.abandon.ensures.kept) told in
     (journal, (p.0, p.1, stops), front_has (g.D.Disk.leaves c.serve_part-served.new.disk) (g.D.Disk.leaves c.abandon.new.self) (string_bytes c.args.ready.segment.name) journal c.abandon.ensures.left)
 

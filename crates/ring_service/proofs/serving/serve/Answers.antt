@@ -1,5 +1,5 @@
 use Rattle.std.proofs.Common.{◌≡◌, ℕ, List, [], Option, None, sym, ap, ◌∙◌}
-use Rattle.line_service.specs.Loop.{Written, held_by as written_by}
+use Rattle.line_service.specs.Loop.{Written, written_by}
 use Rattle.line_service.proofs.Parting.{first_begun}
 use Rattle.ring_service.specs.Permits.{Terms, terms_of, terms_in, terms_by}
 use Rattle.ring_service.specs.Services.{ServiceView, service_of}

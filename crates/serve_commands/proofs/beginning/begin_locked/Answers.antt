@@ -1,6 +1,6 @@
 use Rattle.std.proofs.Common.{Option, Some, subst, inl, inr}
 use Rattle.disks.specs.Held.{Held, Replaces}
-use Rattle.journal.specs.Spelling.{head_text}
+use Rattle.journal.specs.Spelling.{journal_head}
 use Rattle.ring_service.specs.Saved.{content_of}
 use Rattle.serve_commands.specs.Served.{IsNoted, IsJournalRefusal}
 use Rattle.serve_commands.proofs.JournalStarts.{resumed_begins}
@@ -25,5 +25,5 @@ returns-in-Ok-save_beginning-clause-ok g c = (
   c.in-Ok-value_to_resume.saved,
   subst (λ (x : Option Held). IsNoted x c.args.name.now c.args.saved c.in-Ok-value_to_resume.saved) c.open_journal.ensures.kept c.in-Ok-value_to_resume.ensures.ok,
   c.in-Ok-resume_rings.ensures.ok,
-  subst (λ (x : Option Held). Replaces x (g.D.Disk.holds c.save_beginning.new.disk) c.args.name.now (Some (head_text (content_of c.in-Ok-resume_rings.served)))) c.open_journal.ensures.kept c.in-Ok-save_beginning.ensures.ok,
+  subst (λ (x : Option Held). Replaces x (g.D.Disk.holds c.save_beginning.new.disk) c.args.name.now (Some (journal_head (content_of c.in-Ok-resume_rings.served)))) c.open_journal.ensures.kept c.in-Ok-save_beginning.ensures.ok,
 )

@@ -1,7 +1,7 @@
 use Rattle.std.proofs.Common.{◌∙◌, refl, ap, subst}
 use Rattle.ring_model.specs.declared.events.Survey.{Survey}
 use Rattle.ring_model.specs.Tallies.{base_with}
-use Rattle.endless_ring.specs.Endless.{EndlessView, IsNext}
+use Rattle.endless_ring.specs.Endless.{EndlessView, IsNextRing}
 use Rattle.endless_ring.proofs.Segments.{tally_of, end_small, no_next, has_next, next_base_is, next_is}
 use Rattle.endless_ring.proofs.rings.EndlessRing.next.Goals as goal
 
@@ -10,7 +10,7 @@ next-requires-clause-grants c = (end_small c.self.inside.ring c.tally.result c.s
 
 pub returns-clause-ok : goal.returns-clause-ok
 returns-clause-ok c =
-    subst (λ (x : EndlessView). IsNext x (record { base = c.in-Some.base; ring = c.in-Ok.ring })) c.self.view_is
+    subst (λ (x : EndlessView). IsNextRing x (record { base = c.in-Some.base; ring = c.in-Ok.ring })) c.self.view_is
     (next_is c.self.inside.base c.self.inside.ring c.in-Some.base c.in-Ok.ring
     (c.in-Some.ensures.next
     ∙ ap (λ (v : Survey). base_with c.self.inside.base c.tally.result v) c.glance.ensures

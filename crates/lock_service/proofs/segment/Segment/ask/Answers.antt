@@ -5,7 +5,7 @@ use Rattle.lock_service.specs.Noting.{events_at}
 use Rattle.lock_service.specs.Due.{has_short}
 use Rattle.lock_service.specs.Counting.{SegmentView, IsCounted, count_about, end_count}
 use Rattle.lock_service.proofs.Short.{asked_long, short_after, watched_after}
-use Rattle.lock_service.proofs.Lacks.{wanted_same}
+use Rattle.lock_service.proofs.Lacks.{lacking_same}
 use Rattle.lock_service.proofs.Unchanged.{unchanged}
 use Rattle.lock_service.proofs.segment.Segment.ask.Goals as goal
 
@@ -41,12 +41,12 @@ returns-clause-counted c =
     let now : SegmentView = record { locks = new; left = c.self.inside.left.items; remaining = c.after_events-self-inside.result; short = c.was_or_is-self-inside.result } in
     subst (λ (s : SegmentView). IsCounted s now (count_about c.args.lock s.locks new c.ask_lock-answers.result.ended)) c.self.view_is (counted_inside c)
 
-pub returns-clause-want : goal.returns-clause-want
-returns-clause-want c = λ e.
+pub returns-clause-lack : goal.returns-clause-lack
+returns-clause-lack c = λ e.
     let old = c.self.inside.locks in
     let new = c.ask_lock-answers.new.locks in
     let r = c.ask_lock-answers.result in
-    let s = wanted_same old new c.args.client c.args.lock (asked c.args.ask) r c.ask_lock-answers.ensures e in
+    let s = lacking_same old new c.args.client c.args.lock (asked c.args.ask) r c.ask_lock-answers.ensures e in
     let now : SegmentView = record { locks = new; left = c.self.inside.left.items; remaining = c.after_events-self-inside.result; short = c.was_or_is-self-inside.result } in
     subst (λ (s : SegmentView). now ≡ s) c.self.view_is
     (unchanged old new c.self.inside.left.items c.self.inside.remaining c.after_events-self-inside.result c.self.inside.short c.was_or_is-self-inside.result c.args.lock r.ended c.self.invariant.1 s.0 s.1 (counted_inside c))
