@@ -46,7 +46,11 @@ fn next_lock(lock: &LockParts, alloc: Global) -> Result<LockParts, Refusal>
         return Err(Refusal::Memory);
     };
     let holder = lock.holder;
-    Ok(LockParts { ring, queue, holder })
+    Ok(LockParts {
+        ring,
+        queue,
+        holder,
+    })
 }
 
 /// The locks in their next segments.

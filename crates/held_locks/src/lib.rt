@@ -8,11 +8,11 @@ mod cuts;
 mod handing;
 pub mod laws;
 mod leaving;
-mod queue;
 mod locks;
 mod marks;
 mod opened;
 mod parts;
+mod queue;
 mod waits;
 
 pub use answers::{Answer, Answers, HoldEnd, Holder, Left, Refusal, Stats, Waiter};

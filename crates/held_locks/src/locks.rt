@@ -262,7 +262,11 @@ fn add_to(
         return Err(Refusal::Memory);
     };
     let queue = VecDeque::new(alloc);
-    locks.push_reserved(LockParts { ring, queue, holder });
+    locks.push_reserved(LockParts {
+        ring,
+        queue,
+        holder,
+    });
     Ok(())
 }
 

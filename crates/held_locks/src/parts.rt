@@ -12,7 +12,7 @@ ghost use Rattle.held_locks.specs.Parts.{view_of, IsTurned, IsLacking, IsTurnedI
 
 use crate::answers::{Answer, Answers, HoldEnd, Holder, Refusal, Waiter};
 use crate::waits::Waits;
-use crate::{queue, marks};
+use crate::{marks, queue};
 use endless_ring::EndlessRing;
 use std::collections::VecDeque;
 

@@ -11,7 +11,7 @@ ghost use Rattle.lock_service.specs.Counting.{IsStart};
 ghost use Rattle.lock_service.specs.Segmented.{limit_of, is_to_end};
 ghost use Rattle.lock_service.specs.Serving.{IsToldOf, IsToldOfLeave, IsAnsweredIf, denial_of, IsInputAnswered, AnswersInput, IsKept, IsAdded, Leaves, put, is_past, stage_after};
 
-use crate::asking::{OneAsk, is_off, is_lack, one_ask};
+use crate::asking::{OneAsk, is_lack, is_off, one_ask};
 use crate::noting::{events_at, note_if, note_left_if, tell, tell_left};
 use crate::segment::Segment;
 use crate::texts::put_beginning;
