@@ -1,10 +1,10 @@
-//! The histories of a chain of files as one: each ring's events and surveys, counted from the first event of all.
+//! What a chain of files says: the histories of its files as one, each ring's events and surveys
+//! counted from the first event of all; and the holds of locks, read from the saved history of
+//! their rings.
 //!
-//! `specs/Joining.antt` says what is joined as a plain function of the files, `specs/JoinLaws.antt` that it is one legal history.
-//!
-//! The holds of locks, read from the saved history of their rings.
-//!
-//! `specs/Signs.antt` says what an event or a survey records of holds, `specs/Holds.antt` which holds a history records.
+//! `specs/Joining.antt` says what is joined as a plain function of the files, `specs/JoinLaws.antt`
+//! that it is one legal history; `specs/Signs.antt` what an event or a survey records of holds,
+//! `specs/Holds.antt` which holds a history records.
 #![tactic(auto)]
 
 mod chains;

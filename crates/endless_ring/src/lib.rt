@@ -1,7 +1,6 @@
-//! A ring over a till whose history has no end: a segment in memory, and its base.
-//!
-//! A ring over a till without end, with the file of a chain that its segment is, and with a journal: for a caller who
-//! keeps the files itself. Nothing here opens a file: texts are handed out.
+//! A ring over a till whose history has no end: a segment in memory, and its base; and the same
+//! with the file of a chain that the segment is, and with a journal, for a caller who keeps the
+//! files itself. Nothing here opens a file: texts are handed out.
 #![tactic(auto)]
 
 pub mod file_laws;

@@ -1,11 +1,10 @@
-//! Journals: what a running arbiter writes down of each call before it answers, and the recovery of that text when it
-//! was cut off anywhere.
+//! Journals: what a running arbiter writes down of each call before it answers, and the recovery of
+//! that text when it was cut off anywhere; and what can be saved of a journal that has a bad line:
+//! the history before it.
 //!
-//! A journal begins with the saved text of the rings as they were, and has a line for each call since.
-//! `specs/Spelling.antt` spells it, `specs/Told.antt` says which history it records, and `specs/Recovery.antt` what is
-//! recovered and what is refused.
-//!
-//! What can be saved of a journal that has a bad line: the history before it.
+//! A journal begins with the saved text of the rings as they were, and has a line for each call
+//! since. `specs/Spelling.antt` spells it, `specs/ContentAfter.antt` says which history it records,
+//! and `specs/Recovery.antt` what is recovered and what is refused.
 #![tactic(auto)]
 
 mod calls;

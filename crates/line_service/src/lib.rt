@@ -1,11 +1,9 @@
-//! The loop that answers the lines of a reader, one after the other: it is generic over what answers a line.
+//! The loop that answers the lines of a reader, one after the other, generic over what answers a
+//! line; the same loop with a journal in a chain of segment files; and the segments of a folder:
+//! the names of their files, and which of them are there.
 //!
-//! The answers to the lines of a block, and their notes for a journal, are kept until the block has been read. Then the journal
-//! gets the notes; only after that do the answers leave.
-//!
-//! A loop that answers the lines of a reader with a journal in a chain of segment files: it is generic over what answers a line.
-//!
-//! The segments of a folder: the names of their files, and which of them are there.
+//! The answers to the lines of a block, and their notes for a journal, are kept until the block has
+//! been read. Then the journal gets the notes; only after that do the answers leave.
 #![tactic(auto)]
 
 mod answering;

@@ -1,8 +1,7 @@
 //! The locks of a folder: their names and sizes, and where their rings are.
 //!
-//! Lists of locks, as texts: the names of the locks, and the sizes of their rings.
-//!
-//! The clients that get the holds which are open at a start: lines of them, and the hand-over.
+//! Lists of locks are texts with these names and sizes; so are the lines of the clients that get
+//! the holds which are open at a start, to whom these are handed.
 #![tactic(auto)]
 
 mod checks;

@@ -1,6 +1,5 @@
-//! Locks that answer the lines of clients, segment by segment.
-//!
-//! The laws of locks whose lines are answered with a journal.
+//! Locks that answer the lines of clients, segment by segment; and the laws of such locks with a
+//! journal.
 #![tactic(auto)]
 
 mod asking;

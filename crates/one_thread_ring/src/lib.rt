@@ -1,10 +1,9 @@
-//! A ring on one thread with its clients' logs, called by numbers: for callers that no type keeps right, such as a
-//! program in another language or a line of text. Each number is checked, and the saved text of the ring is legal at
-//! every moment.
+//! A ring on one thread with its clients' logs, called by numbers: for callers that no type keeps
+//! right, such as a program in another language or a line of text. Each number is checked, and the
+//! saved text of the ring is legal at every moment.
 //!
-//! How a ring is written: its block in a saved text, and its calls as lines of a journal. And why such a block is right.
-//!
-//! `specs/SavedOf.antt` says which block it is.
+//! How a ring is written is here too: its block in a saved text (`specs/SavedOf.antt`), and its
+//! calls as lines of a journal; and why such a block is right.
 #![tactic(auto)]
 
 mod blocks;

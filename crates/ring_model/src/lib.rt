@@ -1,8 +1,6 @@
-//! The definitions that every crate cites, of rings, moves, histories, surveys and logs, and the laws of
-//! settlement over them.
-//!
-//! A history without end, as a chain of segments: the numbers of a segment counted with what came before it, and the
-//! laws of such chains.
+//! The definitions that every crate cites, of rings, moves, histories, surveys and logs, and the
+//! laws of settlement over them; and a history without end, as a chain of segments: the numbers of
+//! a segment counted with what came before it, and the laws of such chains.
 #![tactic(auto)]
 
 mod bases;

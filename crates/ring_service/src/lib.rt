@@ -1,6 +1,5 @@
-//! Rings that are driven line by line: each line is a command, and is answered with one line.
-//!
-//! Rings that are driven line by line, with a journal in a chain of segment files.
+//! Rings that are driven line by line: each line is a command, and is answered with one line. The
+//! journal is a file, or a chain of segment files.
 #![tactic(auto)]
 
 mod answers;

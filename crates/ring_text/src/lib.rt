@@ -1,8 +1,8 @@
-//! The writers of a farm's outcome: its saved text, and the report on it. And the laws that such a text is legal.
+//! The writers of a farm's outcome: its saved text (`specs/SavedOf.antt`), and the report on it
+//! (`specs/Report.antt`). And the laws that such a text is legal.
 //!
-//! `specs/SavedOf.antt` says which saved text it is, and `specs/Report.antt` spells the report.
-//!
-//! The report on a saved history: what the report of a farm says of each ring, what each seat did, and the sums.
+//! The report on a saved history is here too: what the report of a farm says of each ring, what
+//! each seat did, and the sums.
 #![tactic(auto)]
 
 mod counts;

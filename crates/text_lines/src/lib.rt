@@ -8,7 +8,8 @@
 //!
 //! A writer takes pieces of a text, one after the other, until all are written or the first fault.
 //!
-//! Parts of the lines by which a service is driven: decimals of any size, and answers of words and numbers.
+//! There are parts too of the lines by which a service is driven: decimals of any size, and answers
+//! of words and numbers.
 #![tactic(auto)]
 
 mod answer;

@@ -1,8 +1,8 @@
-//! Has the tickets of a roll drawn twice, each time by a ring of three machines, and prints what the clients were given:
-//! first at a desk where faults are injected, and then in turns. What it prints is the same whatever the threads' schedule
-//! was; the longest wait for a turn, which is not, goes to standard error.
-//!
-//! A roll of tickets that a ring guards, and a desk at which three clients draw from it while faults are injected.
+//! A roll of tickets that a ring guards, and a desk at which three clients draw from it while
+//! faults are injected. The program has the tickets of a roll drawn twice, each time by a ring of
+//! three machines, and prints what the clients were given: first at such a desk, and then in turns.
+//! What it prints is the same whatever the threads' schedule was; the longest wait for a turn,
+//! which is not, goes to standard error.
 #![tactic(auto)]
 
 mod clients;

@@ -1,11 +1,10 @@
-//! What the commands of the program share: the refusals and their lines, lists, files by the words that name them, folders of
-//! segments and their lock, where a text and its line go, and how a run ends.
+//! What the commands of the program share: the requests, the refusals and their lines, lists, files
+//! by the words that name them, folders of segments and their lock, where a text and its line go,
+//! and how a run ends.
 //!
-//! They take any disk, reader and writer, and say the content of files before and after, by their names. The command line itself
-//! is the matter of `command_line`: nothing here knows of it, so that these parts are proved, and tried on wrong bodies, without it.
-//!
-//! The requests that the program takes. The command line makes these values and the commands are done by them, and neither
-//! knows the other.
+//! They take any disk, reader and writer, and say the content of files before and after, by their
+//! names. The command line itself is the matter of `command_line`, which makes the requests:
+//! nothing here knows of it, so that these parts are proved, and tried on wrong bodies, without it.
 #![tactic(auto)]
 
 pub mod chain;

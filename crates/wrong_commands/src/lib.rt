@@ -1,10 +1,9 @@
-//! Wrong bodies of what replaces a file or lists a folder, of what writes a farm's texts, of what a journal recovers, of which
-//! files are a chain, of which segments a folder has, of how rings without an end are called, of how lines are answered and
-//! served, of where a journal is kept, and of the commands: each calls a real function with something wrong, or spoils its answer, and its contract says
-//! that the result does not meet the clause that the real one promises.
-//!
-//! Wrong bodies of locks: each calls a real function and spoils its answer, and its contract says that the result does not meet the
-//! clause that the real one promises.
+//! Wrong bodies of what replaces a file or lists a folder, of what writes a farm's texts, of what a
+//! journal recovers, of which files are a chain, of which segments a folder has, of how rings
+//! without an end are called, of how lines are answered and served, of where a journal is kept, of
+//! the commands, and of locks: each calls a real function with something wrong, or spoils its
+//! answer, and its contract says that the result does not meet the clause that the real one
+//! promises.
 #![tactic(auto)]
 
 pub mod asks;
