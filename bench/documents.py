@@ -226,10 +226,14 @@ class Trial:
                         self.differs(page, 1, f"the limit `{name}`, {int(value):,}, is not told")
 
     def look_crates_up(self, page):
+        """Each crate has a row of a table, and is on a figure."""
+        figures = "\n".join(it.text() for it in page.blocks)
         with open(f"{self.top}/crates.txt", encoding="utf-8") as file:
             for crate in re.findall(r"^(\w+)", file.read(), re.M):
                 if not any(f"`{crate}`" in line for line in page.lines):
                     self.differs(page, 1, f"the crate `{crate}` is not told")
+                if not re.search(rf"\b{crate}\b", figures):
+                    self.differs(page, 1, f"the crate `{crate}` is on no figure")
 
     def is_known(self, page, name):
         word = name.split(" ")[0]
