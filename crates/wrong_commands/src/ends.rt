@@ -97,7 +97,7 @@ pub fn leaves_out_a_lock(locks: &mut Locks, client: u64, left: &mut Vec<Left>) -
     left.pop()
 }
 
-/// A client that cancels leaves the line: here it is answered so, and stays there.
+/// A client that cancels leaves the queue: here it is answered so, and stays there.
 pub fn cancels_nobody(locks: &Locks, client: u64, lock: u32) -> Answers
     requires there { (v : LockView)
         × (slice_get locks.now lock ≡ Some v)
