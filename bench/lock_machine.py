@@ -240,7 +240,7 @@ class Locks:
             self.grant(lock, client, order)
 
     def end(self, lock, seat):
-        """The hold ends, and the head of the line is granted."""
+        """The hold ends, and the head of the queue is granted."""
         it = self.locks[lock]
         self.note(lock, it.ring.survey(seat))
         it.holder = None
