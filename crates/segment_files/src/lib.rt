@@ -3,9 +3,8 @@
 //! A file has a head, which says what came before, and after it a journal with a segment of each ring.
 //! `specs/Spelling.antt` spells the head, `specs/Files.antt` says when files are a chain.
 //!
-//! The last file of a chain, as a loss of power may leave it: with an end that no program wrote.
-//!
-//! `specs/Torn.antt` says which end is torn and which one is damaged, `specs/TornSigns.antt` which line can follow.
+//! The last file may have an end that no program wrote, after a loss of power: `specs/Torn.antt` says which end is torn
+//! and which one is damaged, `specs/TornSigns.antt` which line can follow.
 #![tactic(auto)]
 
 mod chain;
