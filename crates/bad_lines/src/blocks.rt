@@ -12,10 +12,9 @@ ghost use Rattle.bad_lines.specs.BadLines.{Known, bad, bad_of, bad_among, known}
 ghost use Rattle.bad_lines.specs.Wrongs.{first_over, end_wrong};
 
 use crate::events::add_events;
-use crate::limits::{are_parameters, machine_limit_of, value_limit_of};
 use crate::surveys::add_surveys;
 use crate::wrongs::{Bad, BadLine, Wrong, tell};
-use ring_check::{Kind, left_after};
+use ring_check::{Kind, are_parameters, left_after, machine_limit_of, value_limit_of};
 use ring_state::{Params, RingState};
 use saved_history::{SavedEvent, SavedRing};
 use std::alloc::{AllocError, Global};

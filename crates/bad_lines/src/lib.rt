@@ -6,9 +6,7 @@
 
 mod blocks;
 mod events;
-mod groups;
 mod laws;
-mod limits;
 mod lines;
 mod put;
 mod replay;

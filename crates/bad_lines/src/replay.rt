@@ -13,9 +13,8 @@ ghost use Rattle.bad_lines.specs.BadLines.{bad_of};
 ghost use Rattle.bad_lines.specs.Replays.{state_of};
 ghost use Rattle.bad_lines.specs.Wrongs.{range_wrong, group_wrong, event_wrong};
 
-use crate::groups::{goes_on, may_come};
 use crate::wrongs::{Bad, Wrong};
-use ring_check::Kind;
+use ring_check::{Kind, goes_on, may_come};
 use ring_model::limits::SEAT_LIMIT;
 use ring_model::{Reply, Survey};
 use ring_settle::survey_here;

@@ -110,7 +110,7 @@ fn precedes(event: &SavedEvent, seat: u32, order: u64, left: u32) -> bool
 }
 
 /// Whether a member continues the group of the last member of a run.
-fn goes_on(run: &[SavedEvent], seat: u32, order: u64, left: u32) -> bool
+pub fn goes_on(run: &[SavedEvent], seat: u32, order: u64, left: u32) -> bool
     ensures { result ≡ goes_on (map event_of run.now) seat order left }
 {
     run.is_empty() || precedes(&run[run.len() - 1], seat, order, left)
@@ -119,7 +119,7 @@ fn goes_on(run: &[SavedEvent], seat: u32, order: u64, left: u32) -> bool
 /// Whether an event may come after the members of an open block of a ring of n machines: where none is open each by
 /// itself, and a member of a group that leaves one out; else the block's next member, and as its last one the one that completes
 /// the order. That order costs a look at each member, so once a block.
-pub(crate) fn may_come(n: usize, run: &[SavedEvent], event: &SavedEvent) -> bool
+pub fn may_come(n: usize, run: &[SavedEvent], event: &SavedEvent) -> bool
     ensures { result ≡ may_come n (map event_of run.now) (event_of event.now) }
 {
     match *event {

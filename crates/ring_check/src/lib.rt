@@ -20,11 +20,12 @@ mod surveys;
 pub use answers::{CheckError, Kind, Summary};
 pub use check::check_saved;
 pub use gauge::Gauge;
-pub use group_lines::left_after;
+pub use group_lines::{goes_on, left_after, may_come};
 pub use laws::{
     answers_are_apart, legal_as_defined, lines_are_few, members_as_defined, upgrade_is_legal,
 };
 pub use limits::{
-    FIRST_VERSION_MACHINE_LIMIT, FIRST_VERSION_VALUE_LIMIT, first_version_limits_as_defined,
+    FIRST_VERSION_MACHINE_LIMIT, FIRST_VERSION_VALUE_LIMIT, are_parameters,
+    first_version_limits_as_defined, machine_limit_of, value_limit_of,
 };
 pub use sums::{Tally, count_events};

@@ -2,6 +2,7 @@
 
 ghost use Rattle.std.specs.Prelude.{◌≡◌};
 ghost use Rattle.ring_check.specs.Limits.{first_version_machine_limit, first_version_value_limit, machine_limit_of, value_limit_of};
+ghost use Rattle.ring_check.specs.Table.{are_parameters};
 
 use ring_model::limits::{MACHINE_LIMIT, VALUE_LIMIT};
 use saved_history::FIRST_VERSION;
@@ -19,7 +20,7 @@ pub fn first_version_limits_as_defined()
 {}
 
 /// The most machines of a ring in a text of this version.
-pub(crate) fn machine_limit_of(version: u32) -> u32
+pub fn machine_limit_of(version: u32) -> u32
     ensures { result ≡ machine_limit_of version }
 {
     if version == FIRST_VERSION {
@@ -30,7 +31,7 @@ pub(crate) fn machine_limit_of(version: u32) -> u32
 }
 
 /// The most values.
-pub(crate) fn value_limit_of(version: u32) -> u32
+pub fn value_limit_of(version: u32) -> u32
     ensures { result ≡ value_limit_of version }
 {
     if version == FIRST_VERSION {
@@ -38,4 +39,11 @@ pub(crate) fn value_limit_of(version: u32) -> u32
     } else {
         VALUE_LIMIT
     }
+}
+
+/// Whether a ring in a text of this version may have n machines and K values.
+pub fn are_parameters(version: u32, n: u32, k: u32) -> bool
+    ensures { result ≡ are_parameters version n k }
+{
+    2 <= n && n <= machine_limit_of(version) && n <= k && k <= value_limit_of(version)
 }

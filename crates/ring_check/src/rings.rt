@@ -4,23 +4,16 @@ ghost use Rattle.std.specs.Prelude.{◌≡◌, ◌+◌, ◌<◌, ◌^◌, length
 ghost use Rattle.std.specs.List.{flat_map, list_all};
 ghost use Rattle.saved_history.specs.Content.{block_of};
 ghost use Rattle.ring_check.specs.Lines.{block_lines};
-ghost use Rattle.ring_check.specs.Table.{Before, nothing, event_of, are_parameters, end_fault};
+ghost use Rattle.ring_check.specs.Table.{Before, nothing, event_of, end_fault};
 ghost use Rattle.ring_check.specs.Scan.{first_fault, Finds};
 
 use crate::answers::{CheckError, Kind};
 use crate::events::check_events;
 use crate::group_lines::left_after;
-use crate::limits::{machine_limit_of, value_limit_of};
+use crate::limits::are_parameters;
 use crate::surveys::check_surveys;
 use saved_history::SavedRing;
 use std::alloc::Global;
-
-/// Whether a ring in a text of this version may have n machines and K values.
-fn are_parameters(version: u32, n: u32, k: u32) -> bool
-    ensures { result ≡ are_parameters version n k }
-{
-    2 <= n && n <= machine_limit_of(version) && n <= k && k <= value_limit_of(version)
-}
 
 /// Whether each value is below the limit.
 fn all_below(values: &[u32], limit: u32) -> bool
