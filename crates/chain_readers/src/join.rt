@@ -10,7 +10,6 @@ ghost use Rattle.chain_readers.specs.Joins.{Joined, IsJoinedWith, IsJoinRefusal,
 
 use crate::join_errors::JoinError;
 use crate::joined_lines::{are_few_lines, overfull};
-use crate::orders::all_in_order;
 use crate::rings::add_file;
 use ring_check::{Summary, check_saved};
 use saved_history::{LATEST_VERSION, Saved, SavedRing};

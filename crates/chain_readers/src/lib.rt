@@ -18,7 +18,6 @@ mod join_errors;
 mod join_laws;
 mod joined_lines;
 mod labels;
-mod orders;
 mod reader;
 mod rings;
 mod shifts;

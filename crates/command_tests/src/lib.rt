@@ -21,6 +21,8 @@ mod loops;
 #[cfg(test)]
 mod names;
 #[cfg(test)]
+mod orders;
+#[cfg(test)]
 mod power;
 #[cfg(test)]
 mod reading;

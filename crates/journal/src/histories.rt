@@ -132,8 +132,12 @@ fn in_order(alloc: Global, ring: SavedRing) -> Result<SavedRing, AllocError>
     })
 }
 
-/// The rings so.
-fn all_in_order(alloc: Global, rings: Vec<SavedRing>) -> Result<Vec<SavedRing>, AllocError>
+/// The rings with their surveys so.
+///
+/// # Errors
+///
+/// [`AllocError`] if there is no memory for them.
+pub fn all_in_order(alloc: Global, rings: Vec<SavedRing>) -> Result<Vec<SavedRing>, AllocError>
     ensures { IfOk result
         (λ found. map block_of found.items ≡ map in_order (map block_of rings.items)) }
 {
