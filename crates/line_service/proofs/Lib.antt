@@ -13,3 +13,4 @@ pub mod Naming
 pub mod NameParts
 pub mod Ranges
 pub mod Entries
+mod EntryNames

@@ -31,7 +31,7 @@ pub use faults::{Ending, LoopFault};
 pub use folder_errors::{EntryName, FolderError};
 pub use parts::serve_part;
 pub use pending::Pending;
-pub use segment_names::{list_name, segment_file};
+pub use segment_names::{has_list, list_name, segment_file};
 pub use segment_numbers::{SegmentNumbers, numbers_among, numbers_in};
 pub use segmented::{EndFault, Segmented};
 pub use segments::{OpenSegment, SegmentRules};

@@ -1,12 +1,14 @@
 //! The names of the files in a folder of segments.
 
 ghost use Rattle.std.specs.Prelude.{◌≡◌, ◌≢◌, ◌-◌, ◌+◌, ◌≤◌, ◌<◌, ◌++◌, ◌↔◌, ℕ, List, length, drop, take, replicate, codes, IfOk, OnOk, IsTrue, MatchOption, string_bytes, slice_index};
+ghost use Rattle.disks.specs.Folders.{is_among, names_of};
 ghost use Rattle.text_lines.specs.Reading.{is_digit};
 ghost use Rattle.line_service.specs.NameReading.{IsPadded};
 ghost use Rattle.line_service.specs.SegmentNames.{segment_file, list_name, IsSegmentName, IsPartName, IsOtherName};
 ghost use Rattle.line_service.specs.SegmentNumbers.{shown};
 
 use crate::folder_errors::EntryName;
+use disks::FolderEntry;
 use itoa::Buffer;
 use std::alloc::{AllocError, Global};
 use text_lines::{Stop, number64};
@@ -111,6 +113,18 @@ pub fn list_name() -> EntryName
     bytes[3] = b'k';
     bytes[4] = b's';
     EntryName { bytes, length: 5 }
+}
+
+/// Whether the file of locks is among these entries of a folder.
+pub fn has_list(entries: &[FolderEntry]) -> bool
+    ensures { result ≡ is_among (names_of entries.now) list_name }
+{
+    for entry in entries {
+        if entry.name.as_str() == "locks" {
+            return true;
+        }
+    }
+    false
 }
 
 /// Whether a file of this name may be beside the segments.

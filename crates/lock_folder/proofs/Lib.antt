@@ -1,4 +1,3 @@
-mod Entries
 mod Begun
 mod Refused
 mod Numbers

@@ -8,12 +8,12 @@ ghost use Rattle.lock_folder.specs.Lists.{listed, file_text};
 ghost use Rattle.lock_folder.specs.Folders.{AreStarted, AreUnstarted, AreStartedIn, IsStartRefusal, IsHandingFault, IsOfFile, StandsHanded, locks_file, place_of};
 
 use crate::faults::StartFault;
-use crate::lists::{check_continues, has_list, list_bytes, list_in, list_named, save_list};
+use crate::lists::{check_continues, list_bytes, list_in, list_named, save_list};
 use crate::locks::ListedLock;
 use crate::places::{Start, place_handed};
 use disks::Disk;
 use held_locks::Handover;
-use line_service::{FolderError, SegmentNumbers, numbers_among};
+use line_service::{FolderError, SegmentNumbers, has_list, numbers_among};
 use std::alloc::Global;
 
 /// The locks of a list that is named, after its file is replaced.

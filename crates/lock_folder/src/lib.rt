@@ -25,7 +25,6 @@ pub use folder::start_locks;
 pub use handing::hand_all;
 pub use holder_reading::{HoldersError, read_holders};
 pub use list_reading::{read_list_file, read_list_word};
-pub use lists::has_list;
 pub use locks::{ListError, ListedLock};
 pub use places::Start;
 pub use writing::put_list;

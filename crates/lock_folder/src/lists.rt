@@ -1,9 +1,7 @@
 //! The list of the locks of a folder.
 
 ghost use Rattle.std.specs.Prelude.{◌≡◌, ◌⊎◌, map, string_bytes, OnOk, OnErr, IfOk, IfErr, Some};
-ghost use Rattle.disks.specs.Folders.{is_among, names_of};
 ghost use Rattle.disks.specs.Held.{Replaces};
-ghost use Rattle.line_service.specs.SegmentNames.{list_name};
 ghost use Rattle.lock_folder.specs.Lists.{listed, file_text, IsLockFile, IsLockList};
 ghost use Rattle.lock_folder.specs.Folders.{IsHeld, locks_file, IsTextFault, IsWordRefusal, IsDifference, Continues};
 
@@ -12,21 +10,9 @@ use crate::faults::StartFault;
 use crate::list_reading::{read_list_file, read_list_word};
 use crate::locks::{ListError, ListedLock};
 use crate::writing::put_list;
-use disks::{Contents, ContentsFault, Disk, FolderEntry, ReplaceFault, replace};
+use disks::{Contents, ContentsFault, Disk, ReplaceFault, replace};
 use std::alloc::{AllocError, Global};
 use std::io::{Read, Write};
-
-/// Whether the file of locks is among these entries of a folder.
-pub fn has_list(entries: &[FolderEntry]) -> bool
-    ensures { result ≡ is_among (names_of entries.now) list_name }
-{
-    for entry in entries {
-        if entry.name.as_str() == "locks" {
-            return true;
-        }
-    }
-    false
-}
 
 /// The name of the file of locks in a folder.
 fn list_file(alloc: Global, folder: &str) -> Result<String, AllocError>
