@@ -1,13 +1,12 @@
--- What the history of a lock's ring records of holds (this project's own). Seat 0 passes for the
--- client that is granted the lock; a survey by seat 1 ends a hold that was released, one by seat 2 a
--- hold whose client left; seat 3 says at the beginning of a segment which hold is open. Other seats
--- make faults and repairs.
+-- What the history of a lock's ring records of holds (this project's own): grants, the ends of
+-- holds, and at the beginning of a segment the hold that is open, each by its seat.
 use Rattle.std.specs.Prelude.{ℕ, ◌+◌, ◌==◌, ◌&&◌, ◌||◌, if◌then◌else◌, Bool, List, [], ◌∷◌, ◌++◌, map}
 use Rattle.std.specs.List.{filter}
 use Rattle.saved_history.specs.declared.saved.SavedEvent.{SavedEvent}
 use Rattle.saved_history.specs.declared.saved.SavedEvent.TheVariants as saved
 use Rattle.saved_history.specs.declared.saved.SavedSurvey.{SavedSurvey}
 use Rattle.saved_history.specs.Content.{Block}
+use Rattle.ring_model.specs.LockSeats.{grant_seat, release_seat, leave_seat, carried_seat}
 use Rattle.ring_model.specs.declared.bases.Base.{Base}
 use Rattle.segment_files.specs.Sums.{capped}
 use Rattle.chain_readers.specs.declared.signs.Sign.{Sign}
@@ -15,23 +14,24 @@ use Rattle.chain_readers.specs.declared.signs.Sign.TheVariants.{Granted, Carried
 
 -- an event that is neither a grant nor carries a hold
 abbrev pub other : ℕ → Sign
-other seat = if (seat == 0) || (seat == 3) then Wrong else Other
+other seat = if (seat == grant_seat) || (seat == carried_seat) then Wrong else Other
 
 -- An event. Numbers are counted over all segments: a grant's number is the token of its hold, its
 -- order the client's label.
 abbrev pub sign_of : Base → SavedEvent → Sign
 sign_of b (saved.Granted seat machine order number result) =
-    if seat == 0 then Granted (capped (b.grants + number)) order else other seat
-sign_of b (saved.Refused seat machine order) = if seat == 3 then Carried order else other seat
+    if seat == grant_seat then Granted (capped (b.grants + number)) order else other seat
+sign_of b (saved.Refused seat machine order) =
+    if seat == carried_seat then Carried order else other seat
 sign_of b (saved.Member seat machine order left number result) = other seat
 sign_of b (saved.Corrupted seat machine value old) = other seat
 
 -- the ends at a place of a segment, each by whether the client left
 abbrev pub is_end_at : ℕ → SavedSurvey → Bool
-is_end_at at s = (s.position == at) && ((s.seat == 1) || (s.seat == 2))
+is_end_at at s = (s.position == at) && ((s.seat == release_seat) || (s.seat == leave_seat))
 
 abbrev pub ends_at : ℕ → List SavedSurvey → List Bool
-ends_at at ss = map (λ (s : SavedSurvey). s.seat == 2) (filter (is_end_at at) ss)
+ends_at at ss = map (λ (s : SavedSurvey). s.seat == leave_seat) (filter (is_end_at at) ss)
 
 -- how many events come before a place of a segment, over all segments
 abbrev pub place : Base → ℕ → ℕ

@@ -4,6 +4,7 @@ ghost use Rattle.std.specs.Prelude.{◌≡◌, ◌+◌, ◌++◌, List, [], ◌�
 ghost use Rattle.saved_history.specs.declared.saved.SavedSurvey.{SavedSurvey};
 ghost use Rattle.chain_readers.specs.Ends.{AreTallies};
 
+use ring_model::lock_seats::{LEAVE_SEAT, RELEASE_SEAT};
 use saved_history::{SavedRing, SavedSurvey};
 use std::alloc::{AllocError, Global};
 
@@ -22,7 +23,7 @@ fn put(table: &mut Vec<Ends>, survey: &SavedSurvey)
     ensures put { (ss : List SavedSurvey) → AreTallies table.old.items ss
         → AreTallies table.new.items (ss ++ survey.now ∷ []) }
 {
-    if survey.seat != 1 && survey.seat != 2 {
+    if survey.seat != RELEASE_SEAT && survey.seat != LEAVE_SEAT {
         return;
     }
     if survey.position >= table.len() as u64 {
@@ -30,7 +31,7 @@ fn put(table: &mut Vec<Ends>, survey: &SavedSurvey)
     }
     let at = survey.position as usize;
     table[at] = match table[at] {
-        Ends::Nothing => Ends::One(survey.seat == 2),
+        Ends::Nothing => Ends::One(survey.seat == LEAVE_SEAT),
         Ends::One(_) | Ends::Several => Ends::Several,
     };
 }

@@ -4,20 +4,21 @@ ghost use Rattle.std.specs.Prelude.{◌≡◌};
 ghost use Rattle.chain_readers.specs.Signs.{other, sign_of, place};
 
 use ring_model::Base;
+use ring_model::lock_seats::{CARRIED_SEAT, GRANT_SEAT};
 use saved_history::SavedEvent;
 
 /// What is at a place of a ring's history, as far as it records holds.
 #[derive(Clone, Copy)]
 pub enum Sign {
-    /// A pass by seat 0 that was granted: a hold with this token begins.
+    /// A grant: a hold with this token begins.
     Granted { token: u64, label: u64 },
-    /// A pass by seat 3 that was refused: the hold with this token continues.
+    /// A hold that is open where a segment begins: the one with this token continues.
     Carried { token: u64 },
-    /// A survey by seat 1, or by seat 2 if the client left: the hold ends.
+    /// The end of a hold, and whether its client left.
     Ended { left: bool },
     /// An event of another seat, as a fault and its repair.
     Other,
-    /// Another event of seat 0 or 3, which no lock's history has.
+    /// Another event of the seats of grants and of what is carried, which no lock's history has.
     Wrong,
 }
 
@@ -25,7 +26,7 @@ pub enum Sign {
 fn other(seat: u32) -> Sign
     ensures { result ≡ other seat }
 {
-    if seat == 0 || seat == 3 {
+    if seat == GRANT_SEAT || seat == CARRIED_SEAT {
         Sign::Wrong
     } else {
         Sign::Other
@@ -43,7 +44,7 @@ pub(crate) fn sign_of(base: &Base, event: SavedEvent) -> Sign
             number,
             ..
         } => {
-            if seat == 0 {
+            if seat == GRANT_SEAT {
                 return Sign::Granted {
                     token: base.grants.saturating_add(number),
                     label: order,
@@ -52,7 +53,7 @@ pub(crate) fn sign_of(base: &Base, event: SavedEvent) -> Sign
             other(seat)
         }
         SavedEvent::Refused { seat, order, .. } => {
-            if seat == 3 {
+            if seat == CARRIED_SEAT {
                 return Sign::Carried { token: order };
             }
             other(seat)

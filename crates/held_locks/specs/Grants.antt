@@ -1,6 +1,7 @@
 -- What is done to the ring of a lock: grants, the ends of holds, faults with their repair (this
 -- project's own).
 use Rattle.std.specs.Prelude.{ℕ, zero, suc, ◌+◌, ◌-◌, ◌==◌, if◌then◌else◌, Option, List, [], ◌∷◌, ◌++◌, length, Some, None}
+use Rattle.ring_model.specs.LockSeats.{grant_seat, carried_seat, fault_seat, repair_seat}
 use Rattle.ring_model.specs.Ring.{first_privileged, is_settled}
 use Rattle.ring_model.specs.History.{State, next, reply}
 use Rattle.ring_model.specs.Resources.{till}
@@ -19,7 +20,7 @@ called a seat o = record { seat = seat; op = o; reply = reply till a o }
 abbrev pub first_pass : State ℕ → ℕ → Op
 first_pass a order = op.Pass (first_privileged a.ring.values) order
 
--- a grant: a pass on seat 0 with the client's order, whose number is the token
+-- a grant: a pass with the client's order, whose number is the token
 abbrev pub granted : State ℕ → List Waiter → Waiter → Turn
 granted a queue w = record {
   lock = record {
@@ -27,7 +28,7 @@ granted a queue w = record {
     queue = queue;
     holder = Some (record { client = w.client; token = a.grants + 1 });
   };
-  marks = Call (called a 0 (first_pass a w.order)) ∷ [];
+  marks = Call (called a grant_seat (first_pass a w.order)) ∷ [];
   answers = (w.client, answer.Granted (a.grants + 1)) ∷ [];
 }
 
@@ -48,28 +49,29 @@ ended a queue seat answers = record {
   answers = answers ++ (advanced a queue).answers;
 }
 
--- The first event of a segment that begins while a hold is open carries the hold: a pass by seat 3
--- of a machine that is not privileged, which changes nothing. Its order is the hold's token.
+-- The first event of a segment that begins while a hold is open carries the hold: a pass of a
+-- machine that is not privileged, which changes nothing. Its order is the hold's token.
 abbrev pub other_machine : State ℕ → ℕ
 other_machine a = if first_privileged a.ring.values == 0 then 1 else 0
 
 abbrev pub carried : State ℕ → Option ℕ → List Event
 carried a None = []
-carried a (Some token) = called a 3 (op.Pass (other_machine a) token) ∷ []
+carried a (Some token) = called a carried_seat (op.Pass (other_machine a) token) ∷ []
 
 -- the most passes that settle a ring of n machines, where the first privileged one passes each time
 abbrev pub most_passes : ℕ → ℕ
 most_passes n = n - 1
 
--- passes by seat 9 until the ring is settled, at most this many
+-- passes of a repair until the ring is settled, at most this many
 abbrev pub repairs : ℕ → State ℕ → List Event
 repairs zero a = []
 repairs (suc most) a =
     if is_settled a.ring.values then []
-    else (called a 9 (first_pass a 0) ∷ repairs most (next till a (first_pass a 0)))
+    else
+    (called a repair_seat (first_pass a 0) ∷ repairs most (next till a (first_pass a 0)))
 
--- a fault by seat 8, and its repair
+-- a fault, and its repair
 abbrev pub fault : State ℕ → ℕ → ℕ → List Event
 fault a i v =
-    called a 8 (op.Corrupt i v)
+    called a fault_seat (op.Corrupt i v)
     ∷ repairs (most_passes (length a.ring.values)) (next till a (op.Corrupt i v))

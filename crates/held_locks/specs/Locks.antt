@@ -1,6 +1,7 @@
 -- The machine of locks as one function (this project's own). A lock is a ring, settled after each
 -- input; the first privileged machine passes for the client that is granted it.
 use Rattle.std.specs.Prelude.{ℕ, nat_le, if◌then◌else◌, List, [], ◌∷◌, ◌++◌, map, length, slice_get, slice_index, slice_set, Option, Some, None, is_some, option_map}
+use Rattle.ring_model.specs.LockSeats.{release_seat, leave_seat}
 use Rattle.ring_model.specs.History.{after}
 use Rattle.ring_model.specs.Resources.{till}
 use Rattle.held_locks.specs.declared.answers.Waiter.{Waiter}
@@ -75,13 +76,13 @@ turn ls l c (Acquire order) =
 turn ls l c (Try order) = tried l (record { client = c; order = order }) (try_refusal l c)
 turn ls l c (Release token) =
     if is_held_with c token l.holder
-    then ended l.ring l.queue 1 ((c, answer.Released) ∷ [])
+    then ended l.ring l.queue release_seat ((c, answer.Released) ∷ [])
     else told l c (answer.Refused refusal.Holder)
 turn ls l c Cancel =
     if stands c l.queue then dropped l c ((c, answer.Cancelled) ∷ [])
     else told l c (answer.Refused refusal.Waiter)
 turn ls l c Leave =
-    if is_held_by c l.holder then ended l.ring (without c l.queue) 2 [] else dropped l c []
+    if is_held_by c l.holder then ended l.ring (without c l.queue) leave_seat [] else dropped l c []
 turn ls l c (Corrupt i v) =
     if nat_le (length l.ring.ring.values) i then told l c (answer.Refused refusal.Machine)
     else if nat_le l.ring.ring.k v then told l c (answer.Refused refusal.Value)

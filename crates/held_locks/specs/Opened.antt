@@ -1,6 +1,7 @@
 -- The hold that is open in the history of a ring's segment (this project's own).
 use Rattle.std.specs.Prelude.{◌≡◌, ℕ, ◌+◌, ◌<◌, ◌≤◌, ◌⊎◌, List, [], ◌∷◌, ◌++◌, map, drop, length, slice_get, slice_index_or, nat_le, if◌then◌else◌, Option, Some, None, option_map}
 use Rattle.ring_model.specs.Limits.{event_limit}
+use Rattle.ring_model.specs.LockSeats.{release_seat, leave_seat}
 use Rattle.ring_model.specs.History.{State, after}
 use Rattle.ring_model.specs.Resources.{till}
 use Rattle.ring_model.specs.declared.events.Event.{Event}
@@ -33,12 +34,13 @@ log_of e seat =
     let c : LogView = slice_index_or e.ring.clients seat (record { number = seat; log = [] }) in
     c.log
 
--- the place before which all holds have ended: that of the last survey by seat 1 or 2
+-- the place before which all holds have ended: that of the last survey of an end
 abbrev pub later : ℕ → ℕ → ℕ
 later a b = if nat_le a b then b else a
 
 abbrev pub ended_before : EndlessView → ℕ
-ended_before e = later (last_survey 0 (log_of e 1)) (last_survey 0 (log_of e 2))
+ended_before e =
+    later (last_survey 0 (log_of e release_seat)) (last_survey 0 (log_of e leave_seat))
 
 -- the hold that is open: its token
 abbrev pub open_in : EndlessView → Option ℕ

@@ -1,5 +1,6 @@
 -- What the machine of locks promises, over every list of inputs (this project's own).
 use Rattle.std.specs.Prelude.{◌≡◌, ◌≢◌, ℕ, zero, suc, ◌+◌, ◌<◌, ◌≤◌, Bool, true, false, ◌&&◌, ◌||◌, ◌==◌, if◌then◌else◌, List, [], ◌∷◌, ◌++◌, map, length, slice_get, filter_map, Option, Some, None, is_some, option_map, ◌⊎◌}
+use Rattle.ring_model.specs.LockSeats.{grant_seat, release_seat, leave_seat, carried_seat}
 use Rattle.ring_model.specs.Ring.{IsRing, is_settled}
 use Rattle.held_locks.specs.Grants.{most_passes, carried}
 use Rattle.ring_model.specs.History.{State, after, IsLegal}
@@ -269,7 +270,7 @@ most_events ls _ = 1
 abbrev pub OneEventEach : Type 0
 OneEventEach = (ls : List Lock) (i : Input) → length (events_of (step ls i).marks) ≤ most_events ls i
 
--- only the history: the number of a grant on seat 0, of which a survey is the end
+-- only the history: the number of a grant, of which a survey is the end
 abbrev pub number_of : Reply → Option ℕ
 number_of (reply.Granted number result) = Some number
 number_of _ = None
@@ -278,25 +279,26 @@ abbrev pub order_of : Op → Option ℕ
 order_of (op.Pass machine order) = Some order
 order_of _ = None
 
--- the hold that is open after an event: a grant on seat 0, or one that is carried on seat 3
+-- the hold that is open after an event: a grant, or one that is carried
 abbrev pub open_behind : Option ℕ → Event → Option ℕ
 open_behind token e =
-    if e.seat == 0 then number_of e.reply else if e.seat == 3 then order_of e.op else token
+    if e.seat == grant_seat then number_of e.reply
+    else if e.seat == carried_seat then order_of e.op else token
 
 abbrev pub open_after : Option ℕ → List Mark → Option ℕ
 open_after token [] = token
 open_after token (Call e ∷ ms) = open_after (open_behind token e) ms
 open_after token (Survey seat ∷ ms) = open_after None ms
 
--- grants on seat 0, or what is carried on seat 3, and surveys of the seats 1 and 2 alternate
+-- grants, or what is carried, and surveys of ends alternate
 abbrev pub Alternate : Option ℕ → List Mark → Type 0
 Alternate token [] = Unit {0}
 Alternate token (Call e ∷ ms) =
-    (e.seat ≡ 0 → (token ≡ None) × (is_some (number_of e.reply) ≡ true))
-    × (e.seat ≡ 3 → token ≡ None)
+    (e.seat ≡ grant_seat → (token ≡ None) × (is_some (number_of e.reply) ≡ true))
+    × (e.seat ≡ carried_seat → token ≡ None)
     × Alternate (open_behind token e) ms
 Alternate token (Survey seat ∷ ms) =
-    (is_some token ≡ true) × ((seat ≡ 1) ⊎ (seat ≡ 2)) × Alternate None ms
+    (is_some token ≡ true) × ((seat ≡ release_seat) ⊎ (seat ≡ leave_seat)) × Alternate None ms
 
 abbrev pub token_of : Option Holder → Option ℕ
 token_of h = option_map (λ (x : Holder). x.token) h

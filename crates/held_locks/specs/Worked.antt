@@ -1,5 +1,6 @@
 -- A dialogue worked by hand: one lock over three machines with three values (this project's own).
 use Rattle.std.specs.Prelude.{◌≡◌, ℕ, List, [], ◌∷◌, None}
+use Rattle.ring_model.specs.LockSeats.{grant_seat, release_seat, leave_seat, fault_seat, repair_seat}
 use Rattle.ring_model.specs.Ring.{ring_with}
 use Rattle.ring_model.specs.declared.events.Op.TheVariants.{Pass, Corrupt}
 use Rattle.ring_model.specs.declared.events.Reply.TheVariants.{Granted, Corrupted}
@@ -55,11 +56,11 @@ worked_pass seat machine order number amount = locks.Call (record {
 abbrev pub WorkedMarks : Type 0
 WorkedMarks =
     marks_of 0 (worked_lock ∷ []) worked_inputs
-    ≡ worked_pass 0 0 77 1 77
-    ∷ locks.Call (record { seat = 8; op = Corrupt 2 2; reply = Corrupted 0 })
-    ∷ worked_pass 9 1 0 2 77
-    ∷ locks.Survey 1
-    ∷ worked_pass 0 2 78 3 155
-    ∷ locks.Survey 2
-    ∷ worked_pass 0 0 79 4 234
+    ≡ worked_pass grant_seat 0 77 1 77
+    ∷ locks.Call (record { seat = fault_seat; op = Corrupt 2 2; reply = Corrupted 0 })
+    ∷ worked_pass repair_seat 1 0 2 77
+    ∷ locks.Survey release_seat
+    ∷ worked_pass grant_seat 2 78 3 155
+    ∷ locks.Survey leave_seat
+    ∷ worked_pass grant_seat 0 79 4 234
     ∷ []

@@ -12,6 +12,7 @@ ghost use Rattle.held_locks.specs.Parts.{view_of, IsTurnedIn, IsLackingIn};
 use crate::answers::{Answer, Answers, Holder, Refusal, Stats, Waiter};
 use crate::parts::{LockParts, drop_waiter, end_hold, fault, grant, refused, told, wait};
 use crate::waits::Waits;
+use ring_model::lock_seats::{LEAVE_SEAT, RELEASE_SEAT};
 
 /// Whether the client is this holder.
 #[inline(always)]
@@ -97,7 +98,14 @@ pub(crate) fn release(
     if !is_held_with(client, token, lock.holder) {
         return refused(Refusal::Holder);
     }
-    end_hold(lock, waits, number, client, 1, Some(Answer::Released))
+    end_hold(
+        lock,
+        waits,
+        number,
+        client,
+        RELEASE_SEAT,
+        Some(Answer::Released),
+    )
 }
 
 /// A client waits no more.
@@ -137,7 +145,7 @@ pub(crate) fn leave(
     ensures own { result.own ≡ None }
 {
     if is_held_by(client, lock.holder) {
-        return end_hold(lock, waits, number, client, 2, None);
+        return end_hold(lock, waits, number, client, LEAVE_SEAT, None);
     }
     if waiting {
         drop_waiter(lock, waits, client);

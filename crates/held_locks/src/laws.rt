@@ -49,7 +49,7 @@ pub fn one_event_each()
     ensures { OneEventEach }
 {}
 
-/// The history of a lock is legal and leads to its ring; its grants on seat 0 and its surveys by the seats 1 and 2 alternate,
+/// The history of a lock is legal and leads to its ring; its grants and its surveys of ends alternate,
 /// and the last of them says which client holds. So a restart makes of the history the lock that was, with an open hold as
 /// client 0's.
 pub fn history_shows_holds()

@@ -370,7 +370,7 @@ impl Locks {
     }
 
     /// The locks as they continue in the next segments of their rings: nothing of them changes. The history of such a segment has no
-    /// event except the one that carries a hold that is open: a pass by seat 3 of a machine that is not privileged, whose order is the
+    /// event except the one that carries a hold that is open: a pass of a machine that is not privileged, whose order is the
     /// hold's token. It has room for a grant to each client that waits. These locks stay as they are.
     ///
     /// # Errors

@@ -1,6 +1,7 @@
 //! What is done to the ring of a lock: passes, surveys that end holds, faults with their repair.
 
 ghost use Rattle.std.specs.Prelude.{◌≡◌, true, ℕ, ◌+◌, ◌<◌, ◌≤◌, ◌⊎◌, ◌^◌, length, [], ◌∷◌, map, slice_index, Some, IsOk, IfOk, IfErr, OnOk, OnErr};
+ghost use Rattle.ring_model.specs.LockSeats.{grant_seat};
 ghost use Rattle.ring_model.specs.Ring.{first_privileged, is_settled};
 ghost use Rattle.ring_model.specs.Replay.{machine_of};
 ghost use Rattle.ring_model.specs.Bases.{IsBase, base_after};
@@ -15,6 +16,7 @@ use crate::answers::{HoldEnd, Holder, Refusal};
 use endless_ring::{EndlessRing, NextError};
 use one_thread_ring::CallError;
 use ring_model::limits::EVENT_LIMIT;
+use ring_model::lock_seats::{CARRIED_SEAT, FAULT_SEAT, GRANT_SEAT, REPAIR_SEAT};
 use ring_model::{Op, Reply, Survey};
 use std::alloc::Global;
 
@@ -193,7 +195,7 @@ pub(crate) fn next(ring: &EndlessRing, alloc: Global) -> Result<EndlessRing, Ref
     }
 }
 
-/// Carries the hold that is open, if one is, into a segment that begins: a pass by seat 3 of a machine that is not privileged,
+/// Carries the hold that is open, if one is, into a segment that begins: a pass of a machine that is not privileged,
 /// whose order is the hold's token. There is room for it.
 pub(crate) fn carry(ring: &mut EndlessRing, held: Option<Holder>)
     requires kept { IsKeptRing ring.old }
@@ -207,7 +209,7 @@ pub(crate) fn carry(ring: &mut EndlessRing, held: Option<Holder>)
         return;
     };
     let other = if first(ring) == 0 { 1 } else { 0 };
-    match ring.pass(3, other, holder.token) {
+    match ring.pass(CARRIED_SEAT, other, holder.token) {
         Ok(_) => {}
         Err(_) => unreachable!(),
     }
@@ -251,7 +253,7 @@ fn is_settled(ring: &EndlessRing) -> bool
     ring.glance().privileged == 1
 }
 
-/// Passes the first privileged machine by seat 9 until the ring is settled, at most so often. There is room for that.
+/// Passes the first privileged machine, as a repair, until the ring is settled, at most so often. There is room for that.
 fn repair(ring: &mut EndlessRing, most: u32)
     requires kept { IsKeptRing ring.old }
     requires room { most ≤ ring.old.ring.book.room }
@@ -264,7 +266,7 @@ fn repair(ring: &mut EndlessRing, most: u32)
         if is_settled(ring) {
             return;
         }
-        match pass(ring, 9, 0) {
+        match pass(ring, REPAIR_SEAT, 0) {
             Ok(_) => {}
             Err(_) => unreachable!(),
         }
@@ -281,7 +283,7 @@ fn most_repairs(ring: &EndlessRing) -> u32
     ring.segment().machines() - 1
 }
 
-/// Passes the first privileged machine by seat 9 until the ring is settled.
+/// Passes the first privileged machine, as a repair, until the ring is settled.
 ///
 /// # Errors
 ///
@@ -305,7 +307,7 @@ pub(crate) fn settle(ring: &mut EndlessRing) -> Result<(), Refusal>
     Ok(())
 }
 
-/// A fault by seat 8, which writes a value into a machine, and its repair, with room left for an event for each client that
+/// A fault, which writes a value into a machine, and its repair, with room left for an event for each client that
 /// waits. Answers the value that was there.
 ///
 /// # Errors
@@ -336,7 +338,7 @@ pub(crate) fn fault(
         Ok(()) => {}
         Err(why) => return Err(why),
     }
-    match ring.corrupt(8, machine, value) {
+    match ring.corrupt(FAULT_SEAT, machine, value) {
         Ok(receipt) => {
             repair(ring, most);
             Ok(old_of(receipt.event.reply))

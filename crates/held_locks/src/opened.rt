@@ -12,6 +12,7 @@ ghost use Rattle.held_locks.specs.Opened.{last_survey, later, open_in};
 
 use endless_ring::EndlessRing;
 use one_thread_ring::Client;
+use ring_model::lock_seats::{CARRIED_SEAT, GRANT_SEAT, LEAVE_SEAT, RELEASE_SEAT};
 use ring_model::{Base, Event, Op, Reply};
 
 /// The place of the last survey that a client was given; 0 if there is none.
@@ -52,10 +53,10 @@ fn open_behind(base: &Base, held: Option<u64>, event: Event) -> Option<u64>
     requires within { IsInSegment event.reply }
     ensures { result ≡ open_behind held (shifted_event base.now event) }
 {
-    if event.seat == 0 {
+    if event.seat == GRANT_SEAT {
         return number_of(base.shift_reply(event.reply));
     }
-    if event.seat == 3 {
+    if event.seat == CARRIED_SEAT {
         return order_of(event.op);
     }
     held
@@ -96,8 +97,8 @@ pub(crate) fn open_hold(ring: &EndlessRing) -> Option<u64>
     let clients = ring.segment().clients();
     let history = ring.segment().history();
     let from = later(
-        last_survey(&clients[1]),
-        last_survey(&clients[2]),
+        last_survey(&clients[RELEASE_SEAT as usize]),
+        last_survey(&clients[LEAVE_SEAT as usize]),
         history.len(),
     );
     open_after(ring.base(), &history[from..])

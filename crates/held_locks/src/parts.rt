@@ -14,6 +14,7 @@ use crate::answers::{Answer, Answers, HoldEnd, Holder, Refusal, Waiter};
 use crate::waits::Waits;
 use crate::{marks, queue};
 use endless_ring::EndlessRing;
+use ring_model::lock_seats::GRANT_SEAT;
 use std::collections::VecDeque;
 
 /// A lock: its ring, who waits for it, and who holds it.
@@ -59,7 +60,7 @@ pub(crate) fn grant(lock: &mut LockParts, waiter: Waiter) -> Answers
         Err(why) => return refused(why),
     }
     let first = marks::privileged(&lock.ring);
-    match marks::pass_first(&mut lock.ring, 0, first, waiter.order) {
+    match marks::pass_first(&mut lock.ring, GRANT_SEAT, first, waiter.order) {
         Ok(token) => {
             lock.holder = Some(Holder {
                 client: waiter.client,
@@ -152,7 +153,7 @@ fn pass_hold(
         result }
     ensures own { result.own ≡ own }
 {
-    match marks::pass_first(&mut lock.ring, 0, over.survey.first, waiter.order) {
+    match marks::pass_first(&mut lock.ring, GRANT_SEAT, over.survey.first, waiter.order) {
         Ok(token) => {
             let holder = Holder {
                 client: waiter.client,

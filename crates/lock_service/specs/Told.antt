@@ -1,6 +1,7 @@
 -- What clients were answered about locks, in the rings that a journal records (this project's own).
 use Rattle.std.specs.Prelude.{◌≡◌, ℕ, List, [], ◌∷◌, ◌++◌, slice_get, Some, ◌⊎◌}
 use Rattle.std.specs.List.{AllByRecursion, flat_map}
+use Rattle.ring_model.specs.LockSeats.{grant_seat, release_seat}
 use Rattle.ring_model.specs.declared.events.Event.{Event}
 use Rattle.ring_model.specs.Bases.{shifted_reply}
 use Rattle.ring_service.specs.Standings.{Standing, survey_now, with_survey}
@@ -32,12 +33,12 @@ AreOf rs vs =
 
 -- ---- what the answers to a line report
 
--- A grant, from the ring before to the ring after it: the next event is a pass on seat 0, and its
--- number, with those before the segment, is the token.
+-- A grant, from the ring before to the ring after it: the next event is a pass on the seat of
+-- grants, and its number, with those before the segment, is the token.
 pub record IsGrantIn (was is : Standing) (token : ℕ) : Type 0 where
   pub pass : Event
   pub next : is.history ≡ was.history ++ pass ∷ []
-  pub seat : pass.seat ≡ 0
+  pub seat : pass.seat ≡ grant_seat
   pub number : number_of (shifted_reply was.base pass.reply) ≡ Some token
 
 -- the same among all rings, of this lock
@@ -48,13 +49,13 @@ pub record HasGrant (was is : List Standing) (lock token : ℕ) : Type 0 where
   pub here : slice_get is lock ≡ Some new
   pub grant : IsGrantIn old new token
 
--- a release of a lock: a survey of the ring's end comes next in the log of seat 1
+-- a release of a lock: a survey of the ring's end comes next in the log of the seat of releases
 pub record HasRelease (was is : List Standing) (lock : ℕ) : Type 0 where
   pub old : Standing
   pub new : Standing
   pub there : slice_get was lock ≡ Some old
   pub here : slice_get is lock ≡ Some new
-  pub release : HasGrown (with_survey old 1 (survey_now old)) new
+  pub release : HasGrown (with_survey old release_seat (survey_now old)) new
 
 -- what an answer reports is in the rings; others than these two report no hold
 abbrev pub IsToldIn : List Standing → List Standing → ℕ → Answer → Type 0

@@ -9,6 +9,7 @@ mod events;
 pub mod group_laws;
 pub mod legal_histories;
 pub mod limits;
+pub mod lock_seats;
 pub mod meanings;
 pub mod plain;
 pub mod repair_laws;
