@@ -20,7 +20,7 @@ use std::marker::Model;
 fn start(alloc: Global, base: &Base, ring: &SavedRing) -> HoldReader
     ensures { known result ≡ started (record { base = base.now; block = block_of ring.now }) }
 {
-    let _ring = ring;
+    let _ = ring; // says: which ring's start it is
     if base.events == 0 {
         HoldReader::first(alloc)
     } else {

@@ -326,7 +326,7 @@ impl Locks {
     pub fn are_kept(&self)
         ensures { (entries : List (ℕ × ℕ)) × AreKept self.now entries }
     {
-        self.locks.len();
+        self.locks.len(); // says: they are kept
     }
 
     /// How many locks there are.

@@ -46,7 +46,7 @@ impl AnswersLines for LockService {
     {
         let input = read_input(line);
         let told = answer(self, input, pending);
-        are_kept(self);
+        are_kept(self); // says: they are, at each moment
         told
     }
 

@@ -281,7 +281,7 @@ pub(crate) fn answer(
 pub(crate) fn are_kept(service: &LockService)
     ensures { IsKept service.now }
 {
-    service.locks().are_kept();
+    service.locks().are_kept(); // says: they are
 }
 
 impl LockService {

@@ -116,7 +116,7 @@ impl AnswersLines for ChainService<'_> {
             &mut self.shut,
             pending,
         );
-        are_right(&self.served);
+        are_right(&self.served); // says: the rings are right, at each moment
         told
     }
 

@@ -331,7 +331,7 @@ fn journal_of<'n, J: Drop>(name: Option<&'n str>, writer: Option<J>) -> Option<J
 pub fn are_right(served: &Served)
     ensures { AllByRecursion IsRight served.now }
 {
-    served.rings();
+    served.rings(); // says: each is right
 }
 
 /// Serves the lines of a reader to its end: each line is answered by one line on the writer. The bytes after the last LF are
@@ -383,7 +383,7 @@ pub fn serve<D: Disk, I: Read, J: Grow + Drop, W: Write>(
         (record { journal = held_by J.lasting journal.old; out = W.contents out.old })
         (record { journal = held_by J.lasting journal.new; out = W.contents out.new }) }
 {
-    are_right(served);
+    are_right(served); // says: the rings are right, at each moment
     let name = file_of(journal);
     let rules = rules_in(name, permits, None);
     let mut writer = writer_of(mem::replace(journal, None));

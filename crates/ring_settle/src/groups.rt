@@ -13,7 +13,7 @@ pub fn move_group(state: &mut RingState, machines: &[u32])
     ensures group { GroupMove state.old machines.now state.new }
     ensures descent { rest state.new ≤ rest state.old - length machines.now }
 {
-    let _ring = state.params();
+    state.params(); // says: it is a ring
     let least = least_left_out(machines);
     for turn in 0..machines.len() {
         // Nobody moves before its right neighbour, so each takes its left neighbour's old value.

@@ -14,7 +14,7 @@ pub fn follow(state: &mut RingState, choices: &[u32]) -> u64
     ensures granted { result ≡ length (granted_passes state.old choices.now) }
     ensures descent { rest state.new ≤ rest state.old - result }
 {
-    let _ring = state.params();
+    state.params(); // says: it is a ring
     let mut granted = 0;
     for machine in choices {
         if state.is_privileged(*machine) {

@@ -207,7 +207,7 @@ fn all_given<N: Name>(seats: &[Seat<N>])
     ensures { All (λ s. s.number < N.seats) seats.now }
 {
     for seat in seats {
-        seat.number();
+        seat.number(); // says: it is below the number of seats
     }
 }
 

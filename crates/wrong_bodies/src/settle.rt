@@ -71,7 +71,7 @@ pub fn moves_a_group_without_one(
     requires out { has fewer.now machine ≡ false }
     ensures wrong { GroupMove state.old machines.now state.new → ⊥ }
 {
-    let _ring = state.params();
+    state.params(); // says: it is a ring
     ring_settle::move_group(state, fewer);
 }
 

@@ -127,7 +127,7 @@ pub fn moves_no_machine(state: &mut RingState, i: u32)
     requires privileged { is_privileged state.old.values i ≡ true }
     ensures wrong { state.new ≡ moved state.old i → ⊥ }
 {
-    let _ring = state.params();
+    state.params(); // says: it is a ring
 }
 
 /// The number of privileged machines is returned: here another.

@@ -39,4 +39,4 @@ returns-clause-state c =
 pub returns-clause-descent : goal.returns-clause-descent
 returns-clause-descent c =
     let inv = c.loop-machine.invariant in
-    follow_done c.args.state.now c.args.choices.now c.loop-machine.state c.loop-machine.granted c.loop-machine.machine-index inv c.loop-machine-test.false c.params-ring.ensures.ring.ring c.requires
+    follow_done c.args.state.now c.args.choices.now c.loop-machine.state c.loop-machine.granted c.loop-machine.machine-index inv c.loop-machine-test.false c.params.ensures.ring.ring c.requires
