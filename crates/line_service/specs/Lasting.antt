@@ -1,5 +1,5 @@
 -- What a loss of power, or an end of the process, leaves of a run's segments (this project's own).
-use Rattle.std.specs.Prelude.{◌≡◌, ℕ, ◌+◌, ◌<◌, ◌⊎◌, List, [], ◌∷◌, Option, None, Some, IfSome}
+use Rattle.std.specs.Prelude.{◌≡◌, ℕ, ◌+◌, ◌<◌, ◌⊎◌, List, [], ◌∷◌, Option, None, Some, IfSome, Result, MatchResult}
 use Rattle.disks.specs.Held.{Held, IsOneFile, bytes_of}
 use Rattle.disks.specs.Lasting.{HasFront}
 use Rattle.line_service.specs.SegmentNames.{segment_file}
@@ -84,3 +84,9 @@ abbrev pub LeavesEarlier : List ℕ → ℕ → Option Held → Option Held → 
 LeavesEarlier folder number None is = is ≡ None
 LeavesEarlier folder number (Some was) None = ⊥
 LeavesEarlier folder number (Some was) (Some is) = KeepsEarlier folder number was is
+
+-- So it is of each content that may be left after a result; or, where there is none, of this one.
+abbrev pub ForLeft : {R E : Type 0} → Result R E → (R → Option Held → Type 0) → Option Held
+    → (Option Held → Type 0) → Type 0
+ForLeft result MayLeave gone So =
+    MatchResult result (λ r. (left : Option Held) → MayLeave r left → So left) (λ _. So gone)

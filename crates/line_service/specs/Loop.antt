@@ -19,6 +19,14 @@ abbrev pub written_by : {J : Type 0} → (J → Option (List ℕ)) → Option J 
 written_by contents None = None
 written_by contents (Some journal) = contents journal
 
+-- what both hold, each by its contents
+abbrev pub written_to : {J W : Type 0} → (J → Option (List ℕ)) → (W → Option (List ℕ)) → Option J
+    → W → Written
+written_to contents outs journal out = record {
+  journal = written_by contents journal;
+  out = outs out;
+}
+
 -- what a journal holds is known, and all of it lasts
 abbrev pub AllLasts : Option (List ℕ) → Option (List ℕ) → Type 0
 AllLasts None lasting = ⊥

@@ -1,5 +1,5 @@
 -- The notes of delivered lines in the file of the last segment (this project's own).
-use Rattle.std.specs.Prelude.{◌≡◌, ℕ, List, [], ◌∷◌, ◌++◌, Option, IfSome}
+use Rattle.std.specs.Prelude.{◌≡◌, ℕ, List, [], ◌∷◌, ◌++◌, Option, IfSome, Result, MatchResult}
 use Rattle.std.specs.List.{AllByRecursion}
 use Rattle.std.specs.Io.KnownBytes.{Appends, Consumes}
 use Rattle.text_lines.specs.Writing.{Wrote}
@@ -51,3 +51,10 @@ pub record ToldLinesAreNoted {S : Type 0} (A : AnsweringWith S) (G : Segmenting 
   pub wrote : Wrote out after (all_said parts) left
   pub wrote_notes : Appends mid.journal journal more
   pub keeps : KeepsLast parts more journal
+
+-- So it is of what the file of the segment holds that a result has; or, where it has none, of
+-- something.
+abbrev pub ForJournal : {R E : Type 0} → Result R E → (R → Option (List ℕ))
+    → (Option (List ℕ) → Type 0) → Type 0
+ForJournal result holds So =
+    MatchResult result (λ r. So (holds r)) (λ _. (journal : Option (List ℕ)) × So journal)

@@ -4,6 +4,8 @@ use Rattle.disks.specs.Held.{Held, Replaces}
 use Rattle.line_service.specs.SegmentNames.{segment_file}
 use Rattle.sha2.specs.Hashers.{Holds256}
 use Rattle.segment_files.specs.Spelling.{digest_of}
+use Rattle.line_service.specs.Digested.{hashed}
+use Rattle.line_service.specs.Loop.{Written, AllLasts}
 use Rattle.line_service.specs.Stands.{Stand, stand}
 use Rattle.line_service.specs.declared.segmented.EndFault.{EndFault}
 use Rattle.line_service.specs.declared.segmented.EndFault.TheVariants as end
@@ -25,6 +27,30 @@ moment_of service files number journal = record {
   files = files;
   number = number;
   journal = journal;
+}
+
+-- what the file of a segment holds by its writer, if that is known
+abbrev pub segment_holds : {V : Type 0} → (V → Option (List ℕ)) → OpenSegment V → Option (List ℕ)
+segment_holds contents segment = hashed (contents segment.writer.inner) segment.writer.hasher
+
+-- that is known, and all of it lasts
+abbrev pub AllLastsIn : {V : Type 0} → (V → Option (List ℕ)) → (V → Option (List ℕ))
+    → OpenSegment V → Type 0
+AllLastsIn contents lasting segment =
+    AllLasts (segment_holds contents segment) (lasting segment.writer.inner)
+
+-- the moment in this segment
+abbrev pub moment_at : {S V : Type 0} → (V → Option (List ℕ)) → S → Option Held → OpenSegment V
+    → Moment S
+moment_at contents service files segment =
+    moment_of service files segment.number (segment_holds contents segment)
+
+-- what the file of a segment and an output hold
+abbrev pub written_in : {V W : Type 0} → (V → Option (List ℕ)) → (W → Option (List ℕ))
+    → OpenSegment V → W → Written
+written_in contents outs segment out = record {
+  journal = segment_holds contents segment;
+  out = outs out;
 }
 
 -- the service then, with the files

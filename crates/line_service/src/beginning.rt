@@ -2,8 +2,7 @@
 
 ghost use Rattle.std.specs.Prelude.{◌≡◌, ◌<◌, ◌⊎◌, true, IfOk, IfErr, OnErr};
 ghost use Rattle.segment_files.specs.Spelling.{DigestFits};
-ghost use Rattle.line_service.specs.Digested.{hashed};
-ghost use Rattle.line_service.specs.Segments.{HasBegun, IsBegun, IsFileCause, IsFileUnbegun, IsNamed, moment_of};
+ghost use Rattle.line_service.specs.Segments.{HasBegun, IsBegun, IsFileCause, IsFileUnbegun, IsNamed, segment_holds, moment_at};
 ghost use Rattle.disks.specs.Lasting.{outlives};
 
 use crate::ending::{Beginning, cause_of, open_segment};
@@ -29,8 +28,7 @@ pub fn begin_file<D: Disk>(
     rules: SegmentRules<'_>,
 ) -> Result<OpenSegment<D::Grown>, EndFault>
     ensures begun { IfOk result (λ segment. IsBegun rules.entry.folder.now number text.now
-        (D.holds disk.old) (D.holds disk.new)
-        (hashed (D.Grown.contents segment.writer.inner) segment.writer.hasher)) }
+        (D.holds disk.old) (D.holds disk.new) (segment_holds D.Grown.contents segment)) }
     ensures number { IfOk result (λ segment. segment.number ≡ number) }
     ensures named { IfOk result (λ segment. IsNamed rules.entry.folder.now segment) }
     ensures err { IfErr result (λ e. IsFileCause e) }
@@ -71,8 +69,7 @@ pub fn begin_segment<S: Segmented, D: Disk>(
     requires digits { DigestFits behind }
     ensures ok { IfOk result (λ segment. HasBegun S.segmenting rules.entry.folder.now service.now
         number behind (D.holds disk.old)
-        (moment_of service.now (D.holds disk.new) segment.number
-        (hashed (D.Grown.contents segment.writer.inner) segment.writer.hasher))) }
+        (moment_at D.Grown.contents service.now (D.holds disk.new) segment)) }
     ensures named { IfOk result (λ segment. IsNamed rules.entry.folder.now segment) }
     ensures err { IfErr result
         (λ e. S.segmenting.HasNoText service.now e ⊎ IsFileCause e) }

@@ -7,7 +7,7 @@ ghost use Rattle.disks.specs.Lasting.{bytes_in, BeginsWith, Leaves, MayLeave, Le
 ghost use Rattle.sha2.specs.Hashers.{Holds256};
 ghost use Rattle.line_service.specs.declared.faults.LoopFault.TheVariants as fault;
 ghost use Rattle.line_service.specs.Digested.{hashed};
-ghost use Rattle.line_service.specs.Segments.{IsPrepared, IsUnprepared, IsFileCause, IsNamed, IsReady, IsLeft, moment_of};
+ghost use Rattle.line_service.specs.Segments.{IsPrepared, IsUnprepared, IsFileCause, IsNamed, IsReady, IsLeft, segment_holds, moment_at};
 ghost use Rattle.line_service.specs.Lasting.{LeavesSegment, LeavesFile, LeavesEarlier};
 
 use crate::digested::Digested;
@@ -46,7 +46,7 @@ fn prepare<S: Segmented, W: Grow>(
     folder: &str,
 ) -> Result<NextSegment<S>, EndFault>
     ensures ok { IfOk result (λ next. IsPrepared S.segmenting service.now segment.now.number
-        (hashed (W.contents segment.now.writer.inner) segment.now.writer.hasher) folder.now next) }
+        (segment_holds W.contents segment.now) folder.now next) }
     ensures open { IfOk result (λ next. S.is_over next.service ≡ false) }
     ensures files { IfOk result
         (λ next. S.changes_files next.service ≡ S.changes_files service.now) }
@@ -140,8 +140,7 @@ pub(crate) fn cause_of(fault: ReplaceFault) -> EndFault
 /// `Journal` if it is not known to be on the disk. No file has changed.
 pub fn close_segment<D: Disk>(disk: &mut D, segment: OpenSegment<D::Grown>) -> Result<(), LoopFault>
     ensures ok { OnOk result (Replaces (D.holds disk.old) (D.holds disk.new)
-        (string_bytes segment.name)
-        (hashed (D.Grown.contents segment.writer.inner) segment.writer.hasher)) }
+        (string_bytes segment.name) (segment_holds D.Grown.contents segment)) }
     ensures err { IfErr result (λ e. e ≡ fault.Journal) }
     ensures kept { OnErr result (D.holds disk.new ≡ D.holds disk.old) }
     ensures lasts { OnOk result (Leaves (D.leaves disk.old) (D.leaves disk.new)
@@ -186,7 +185,7 @@ pub fn open_segment<D: Disk>(
         × (string_bytes segment.name ≡ string_bytes name)) }
     ensures known { IfOk result (λ segment. IfSome (D.holds disk.old) (λ held. (bytes : List ℕ)
         → bytes_of held (string_bytes name) ≡ Some bytes → Holds256 hasher bytes
-        → hashed (D.Grown.contents segment.writer.inner) segment.writer.hasher ≡ Some bytes)) }
+        → segment_holds D.Grown.contents segment ≡ Some bytes)) }
     ensures kept { D.holds disk.new ≡ D.holds disk.old }
     ensures err { IfErr result (λ e. e ≡ fault.Journal) }
     ensures lasts { IfOk result (λ segment. outlives D.keeps_written synced ≡ true
@@ -217,46 +216,37 @@ fn change<S: Segmented, D: Disk>(
     requires named { IsNamed rules.folder.now segment }
     requires due { S.segmenting.is_due service.old ≡ true }
     requires prepared { IsPrepared S.segmenting service.old segment.number
-        (hashed (D.Grown.contents segment.writer.inner) segment.writer.hasher) rules.folder.now
-        next }
+        (segment_holds D.Grown.contents segment) rules.folder.now next }
     requires open { S.is_over next.service ≡ false }
     requires files { S.changes_files next.service ≡ S.changes_files service.old }
     ensures ok { IfOk result (λ ready. IsReady S.segmenting rules.entry.folder.now ready.kept
-        (moment_of service.old (D.holds disk.old) segment.number
-        (hashed (D.Grown.contents segment.writer.inner) segment.writer.hasher))
-        (moment_of service.new (D.holds disk.new) ready.segment.number
-        (hashed (D.Grown.contents ready.segment.writer.inner) ready.segment.writer.hasher))) }
+        (moment_at D.Grown.contents service.old (D.holds disk.old) segment)
+        (moment_at D.Grown.contents service.new (D.holds disk.new) ready.segment)) }
     ensures open { OnOk result (S.is_over service.new ≡ false) }
     ensures files { S.changes_files service.new ≡ S.changes_files service.old }
     ensures named { IfOk result (λ ready. IsNamed rules.entry.folder.now ready.segment) }
     ensures err { IfErr result (λ e. (e ≡ fault.Journal) × (service.new ≡ service.old)) }
     ensures left { OnErr result (IsLeft S.segmenting rules.entry.folder.now
-        (moment_of service.old (D.holds disk.old) segment.number
-        (hashed (D.Grown.contents segment.writer.inner) segment.writer.hasher))
-        (D.holds disk.new)) }
+        (moment_at D.Grown.contents service.old (D.holds disk.old) segment) (D.holds disk.new)) }
     ensures lasts { IfOk result (λ ready. outlives D.keeps_written rules.entry.synced ≡ true
         → D.Grown.lasting segment.writer.inner ≡ D.Grown.contents segment.writer.inner
         → D.Grown.lasting ready.segment.writer.inner
         ≡ D.Grown.contents ready.segment.writer.inner) }
     ensures spared { OnErr result (IsSome (D.holds disk.old) → (bytes : List ℕ)
-        → hashed (D.Grown.contents segment.writer.inner) segment.writer.hasher ≡ Some bytes
-        → D.Grown.lasting segment.writer.inner ≡ Some bytes
-        → LeavesSegment S.segmenting rules.entry.folder.now
-        (moment_of service.old (D.holds disk.old) segment.number
-        (hashed (D.Grown.contents segment.writer.inner) segment.writer.hasher)) bytes
-        (D.leaves disk.new)) }
+        → segment_holds D.Grown.contents segment ≡ Some bytes
+        → D.Grown.lasting segment.writer.inner ≡ Some bytes → LeavesSegment S.segmenting
+        rules.entry.folder.now (moment_at D.Grown.contents service.old (D.holds disk.old) segment)
+        bytes (D.leaves disk.new)) }
     ensures earlier { IsSome (D.holds disk.old) → LeavesEarlier rules.entry.folder.now segment.number
         (D.leaves disk.old) (D.leaves disk.new) }
-    ensures ended { IfOk result (λ ready. IsSome (D.holds disk.old) → (bytes : List ℕ)
-        → hashed (D.Grown.contents segment.writer.inner) segment.writer.hasher ≡ Some bytes
-        → ready.segment.number ≡ segment.number + 1
-        → LeavesFile rules.entry.folder.now segment.number (D.leaves disk.new)
-        (λ has. has ≡ Some bytes)) }
+    ensures ended { IfOk result (λ ready. IsSome (D.holds disk.old)
+        → (bytes : List ℕ) → segment_holds D.Grown.contents segment ≡ Some bytes
+        → ready.segment.number ≡ segment.number + 1 → LeavesFile rules.entry.folder.now
+        segment.number (D.leaves disk.new) (λ has. has ≡ Some bytes)) }
     ensures front { OnErr result (IsSome (D.holds disk.old) → (bytes : List ℕ)
-        → hashed (D.Grown.contents segment.writer.inner) segment.writer.hasher ≡ Some bytes
-        → D.Grown.lasting segment.writer.inner ≡ Some bytes
-        → LeavesFile rules.entry.folder.now segment.number (D.leaves disk.new)
-        (λ has. BeginsWith has (Some bytes))) }
+        → segment_holds D.Grown.contents segment ≡ Some bytes
+        → D.Grown.lasting segment.writer.inner ≡ Some bytes → LeavesFile rules.entry.folder.now
+        segment.number (D.leaves disk.new) (λ has. BeginsWith has (Some bytes))) }
 {
     let OpenSegment {
         number,
@@ -313,41 +303,33 @@ pub(crate) fn make_ready<S: Segmented, D: Disk>(
 ) -> Result<Ready<D::Grown>, LoopFault>
     requires { IsNamed rules.folder.now segment }
     ensures ok { IfOk result (λ ready. IsReady S.segmenting rules.entry.folder.now ready.kept
-        (moment_of service.old (D.holds disk.old) segment.number
-        (hashed (D.Grown.contents segment.writer.inner) segment.writer.hasher))
-        (moment_of service.new (D.holds disk.new) ready.segment.number
-        (hashed (D.Grown.contents ready.segment.writer.inner) ready.segment.writer.hasher))) }
+        (moment_at D.Grown.contents service.old (D.holds disk.old) segment)
+        (moment_at D.Grown.contents service.new (D.holds disk.new) ready.segment)) }
     ensures open { OnOk result (S.is_over service.new ≡ false) }
     ensures files { S.changes_files service.new ≡ S.changes_files service.old }
     ensures named { IfOk result (λ ready. IsNamed rules.entry.folder.now ready.segment) }
     ensures err { IfErr result (λ e. (e ≡ fault.Journal) × (service.new ≡ service.old)) }
     ensures left { OnErr result (IsLeft S.segmenting rules.entry.folder.now
-        (moment_of service.old (D.holds disk.old) segment.number
-        (hashed (D.Grown.contents segment.writer.inner) segment.writer.hasher))
-        (D.holds disk.new)) }
+        (moment_at D.Grown.contents service.old (D.holds disk.old) segment) (D.holds disk.new)) }
     ensures lasts { IfOk result (λ ready. outlives D.keeps_written rules.entry.synced ≡ true
         → D.Grown.lasting segment.writer.inner ≡ D.Grown.contents segment.writer.inner
         → D.Grown.lasting ready.segment.writer.inner
         ≡ D.Grown.contents ready.segment.writer.inner) }
     ensures spared { OnErr result (IsSome (D.holds disk.old) → (bytes : List ℕ)
-        → hashed (D.Grown.contents segment.writer.inner) segment.writer.hasher ≡ Some bytes
-        → D.Grown.lasting segment.writer.inner ≡ Some bytes
-        → LeavesSegment S.segmenting rules.entry.folder.now
-        (moment_of service.old (D.holds disk.old) segment.number
-        (hashed (D.Grown.contents segment.writer.inner) segment.writer.hasher)) bytes
-        (D.leaves disk.new)) }
+        → segment_holds D.Grown.contents segment ≡ Some bytes
+        → D.Grown.lasting segment.writer.inner ≡ Some bytes → LeavesSegment S.segmenting
+        rules.entry.folder.now (moment_at D.Grown.contents service.old (D.holds disk.old) segment)
+        bytes (D.leaves disk.new)) }
     ensures earlier { IsSome (D.holds disk.old) → LeavesEarlier rules.entry.folder.now segment.number
         (D.leaves disk.old) (D.leaves disk.new) }
-    ensures ended { IfOk result (λ ready. IsSome (D.holds disk.old) → (bytes : List ℕ)
-        → hashed (D.Grown.contents segment.writer.inner) segment.writer.hasher ≡ Some bytes
-        → ready.segment.number ≡ segment.number + 1
-        → LeavesFile rules.entry.folder.now segment.number (D.leaves disk.new)
-        (λ has. has ≡ Some bytes)) }
+    ensures ended { IfOk result (λ ready. IsSome (D.holds disk.old)
+        → (bytes : List ℕ) → segment_holds D.Grown.contents segment ≡ Some bytes
+        → ready.segment.number ≡ segment.number + 1 → LeavesFile rules.entry.folder.now
+        segment.number (D.leaves disk.new) (λ has. has ≡ Some bytes)) }
     ensures front { OnErr result (IsSome (D.holds disk.old) → (bytes : List ℕ)
-        → hashed (D.Grown.contents segment.writer.inner) segment.writer.hasher ≡ Some bytes
-        → D.Grown.lasting segment.writer.inner ≡ Some bytes
-        → LeavesFile rules.entry.folder.now segment.number (D.leaves disk.new)
-        (λ has. BeginsWith has (Some bytes))) }
+        → segment_holds D.Grown.contents segment ≡ Some bytes
+        → D.Grown.lasting segment.writer.inner ≡ Some bytes → LeavesFile rules.entry.folder.now
+        segment.number (D.leaves disk.new) (λ has. BeginsWith has (Some bytes))) }
 {
     if !service.is_due() {
         return Ok(Ready {

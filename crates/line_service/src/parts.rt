@@ -3,7 +3,7 @@
 ghost use Rattle.std.specs.Prelude.{◌≡◌, ◌≢◌, ℕ, List, [], ◌++◌, false, OnOk, OnErr, IfOk, IfErr, MatchResult, is_some};
 ghost use Rattle.line_service.specs.declared.faults.LoopFault.TheVariants as fault;
 ghost use Rattle.line_service.specs.Answering.{HasLineBegun};
-ghost use Rattle.line_service.specs.Loop.{Written, Rests, Stops, IsTaken, ServesPart, IsEnding, ServesSomeOf, written_by, AllLasts, IsPartFault};
+ghost use Rattle.line_service.specs.Loop.{Written, Rests, Stops, IsTaken, ServesPart, IsEnding, ServesSomeOf, written_by, AllLasts, IsPartFault, written_to};
 ghost use Rattle.line_service.specs.Stands.{Stand, by_stand, stand};
 
 use crate::answering::AnswersLines;
@@ -35,28 +35,22 @@ fn serve_block<S: AnswersLines, D: Disk, J: Grow, W: Write>(
     ensures over { IfOk result (λ over. over ≡ S.is_over service.new) }
     ensures serves { (old : Stand S) (before : Written) (bytes : List ℕ)
         → Rests (by_stand S.is_answered) old before
-        (record { journal = written_by J.contents journal.old; out = W.contents out.old })
-        bytes (stand service.old (D.holds disk.old)) line.old.items
-        → MatchResult result (λ over. IsTaken over unread.old unread.new
-        (λ taken. Rests (by_stand S.is_answered) old before
-        (record { journal = written_by J.contents journal.new; out = W.contents out.new })
-        (bytes ++ taken) (stand service.new (D.holds disk.new)) line.new.items))
-        (λ _. Stops (by_stand S.is_answered) old before
-        (record { journal = written_by J.contents journal.new; out = W.contents out.new })
-        (bytes ++ unread.old)
-        (stand service.new (D.holds disk.new))) }
+        (written_to J.contents W.contents journal.old out.old) bytes
+        (stand service.old (D.holds disk.old)) line.old.items
+        → MatchResult result (λ over. IsTaken over unread.old unread.new (λ taken. Rests
+        (by_stand S.is_answered) old before (written_to J.contents W.contents journal.new out.new)
+        (bytes ++ taken) (stand service.new (D.holds disk.new)) line.new.items)) (λ _. Stops
+        (by_stand S.is_answered) old before (written_to J.contents W.contents journal.new out.new)
+        (bytes ++ unread.old) (stand service.new (D.holds disk.new))) }
     ensures lasts { (old : Stand S) (before : Written) (bytes : List ℕ)
         → Rests (by_stand S.is_answered) old before
-        (record { journal = written_by J.lasting journal.old; out = W.contents out.old })
-        bytes (stand service.old (D.holds disk.old)) line.old.items
-        → MatchResult result (λ over. IsTaken over unread.old unread.new
-        (λ taken. Rests (by_stand S.is_answered) old before
-        (record { journal = written_by J.lasting journal.new; out = W.contents out.new })
-        (bytes ++ taken) (stand service.new (D.holds disk.new)) line.new.items))
-        (λ _. Stops (by_stand S.is_answered) old before
-        (record { journal = written_by J.lasting journal.new; out = W.contents out.new })
-        (bytes ++ unread.old)
-        (stand service.new (D.holds disk.new))) }
+        (written_to J.lasting W.contents journal.old out.old) bytes
+        (stand service.old (D.holds disk.old)) line.old.items
+        → MatchResult result (λ over. IsTaken over unread.old unread.new (λ taken. Rests
+        (by_stand S.is_answered) old before (written_to J.lasting W.contents journal.new out.new)
+        (bytes ++ taken) (stand service.new (D.holds disk.new)) line.new.items)) (λ _. Stops
+        (by_stand S.is_answered) old before (written_to J.lasting W.contents journal.new out.new)
+        (bytes ++ unread.old) (stand service.new (D.holds disk.new))) }
     ensures whole { OnOk result
         (AllLasts (written_by J.contents journal.old) (written_by J.lasting journal.old)
         → AllLasts (written_by J.contents journal.new) (written_by J.lasting journal.new)) }
@@ -103,33 +97,30 @@ pub fn serve_part<S: AnswersLines, D: Disk, I: Read, J: Grow, W: Write>(
         → ServesPart ending (by_stand S.is_answered) (stand service.old (D.holds disk.old))
         (stand service.new (D.holds disk.new)) begun unread.old unread.new line.new.items
         (I.remaining input.old) (I.remaining input.new)
-        (record { journal = written_by J.contents journal.old; out = W.contents out.old })
-        (record { journal = written_by J.contents journal.new; out = W.contents out.new })) }
+        (written_to J.contents W.contents journal.old out.old)
+        (written_to J.contents W.contents journal.new out.new)) }
     ensures ends { IfOk result (λ ending. IsEnding ending (S.is_over service.new) once unread.new
         (I.remaining input.new)) }
     ensures err { OnErr result ((begun : List ℕ) → HasLineBegun begun line.old.items
         → ServesSomeOf (by_stand S.is_answered) (stand service.old (D.holds disk.old))
-        (stand service.new (D.holds disk.new)) begun unread.old
-        (I.remaining input.old) (I.remaining input.new)
-        (record { journal = written_by J.contents journal.old; out = W.contents out.old })
-        (record { journal = written_by J.contents journal.new; out = W.contents out.new })) }
+        (stand service.new (D.holds disk.new)) begun unread.old (I.remaining input.old)
+        (I.remaining input.new) (written_to J.contents W.contents journal.old out.old)
+        (written_to J.contents W.contents journal.new out.new)) }
     ensures long { IfErr result (λ e.
         IsPartFault e (I.remaining input.old) (I.remaining input.new)) }
     ensures kept { is_some journal.new ≡ is_some journal.old }
 
     // The same of the bytes that last: whenever the power or the process ends, the journal has the notes of each delivered line.
     ensures lasts { (begun : List ℕ) → HasLineBegun begun line.old.items
-        → MatchResult result
-        (λ ending. ServesPart ending (by_stand S.is_answered) (stand service.old (D.holds disk.old))
-        (stand service.new (D.holds disk.new)) begun unread.old unread.new line.new.items
-        (I.remaining input.old) (I.remaining input.new)
-        (record { journal = written_by J.lasting journal.old; out = W.contents out.old })
-        (record { journal = written_by J.lasting journal.new; out = W.contents out.new }))
-        (λ _. ServesSomeOf (by_stand S.is_answered) (stand service.old (D.holds disk.old))
-        (stand service.new (D.holds disk.new)) begun unread.old
-        (I.remaining input.old) (I.remaining input.new)
-        (record { journal = written_by J.lasting journal.old; out = W.contents out.old })
-        (record { journal = written_by J.lasting journal.new; out = W.contents out.new })) }
+        → MatchResult result (λ ending. ServesPart ending (by_stand S.is_answered)
+        (stand service.old (D.holds disk.old)) (stand service.new (D.holds disk.new)) begun
+        unread.old unread.new line.new.items (I.remaining input.old) (I.remaining input.new)
+        (written_to J.lasting W.contents journal.old out.old)
+        (written_to J.lasting W.contents journal.new out.new)) (λ _. ServesSomeOf
+        (by_stand S.is_answered) (stand service.old (D.holds disk.old))
+        (stand service.new (D.holds disk.new)) begun unread.old (I.remaining input.old)
+        (I.remaining input.new) (written_to J.lasting W.contents journal.old out.old)
+        (written_to J.lasting W.contents journal.new out.new)) }
     ensures whole { OnOk result
         (AllLasts (written_by J.contents journal.old) (written_by J.lasting journal.old)
         → AllLasts (written_by J.contents journal.new) (written_by J.lasting journal.new)) }

@@ -4,7 +4,7 @@ ghost use Rattle.std.specs.Prelude.{◌≡◌, ◌≢◌, ℕ, List, [], OnOk, I
 ghost use Rattle.std.specs.Io.KnownBytes.{Appends};
 ghost use Rattle.text_lines.specs.Writing.{Wrote};
 ghost use Rattle.line_service.specs.declared.faults.LoopFault.TheVariants as fault;
-ghost use Rattle.line_service.specs.Loop.{Written, GoesOn, Tells, written_by, AllLasts};
+ghost use Rattle.line_service.specs.Loop.{Written, GoesOn, Tells, written_by, AllLasts, written_to};
 ghost use Rattle.line_service.specs.Stands.{Stand, by_stand};
 
 use crate::answering::AnswersLines;
@@ -80,18 +80,14 @@ pub(crate) fn put_pending<S: AnswersLines, J: Grow, W: Write>(
     ensures left { OnOk result ((pending.new.answers.items ≡ []) × (pending.new.notes.items ≡ [])) }
     ensures told { (old new : Stand S) (before : Written) (bytes line : List ℕ)
         → GoesOn (by_stand S.is_answered) old before
-        (record { journal = written_by J.contents journal.old; out = W.contents out.old })
-        bytes new line pending.old
+        (written_to J.contents W.contents journal.old out.old) bytes new line pending.old
         → Tells result (by_stand S.is_answered) old before
-        (record { journal = written_by J.contents journal.new; out = W.contents out.new })
-        bytes new line }
+        (written_to J.contents W.contents journal.new out.new) bytes new line }
     ensures lasts { (old new : Stand S) (before : Written) (bytes line : List ℕ)
         → GoesOn (by_stand S.is_answered) old before
-        (record { journal = written_by J.lasting journal.old; out = W.contents out.old })
-        bytes new line pending.old
+        (written_to J.lasting W.contents journal.old out.old) bytes new line pending.old
         → Tells result (by_stand S.is_answered) old before
-        (record { journal = written_by J.lasting journal.new; out = W.contents out.new })
-        bytes new line }
+        (written_to J.lasting W.contents journal.new out.new) bytes new line }
     ensures whole { OnOk result
         (AllLasts (written_by J.contents journal.old) (written_by J.lasting journal.old)
         → AllLasts (written_by J.contents journal.new) (written_by J.lasting journal.new)) }

@@ -1,17 +1,15 @@
 //! Lines that are served in segments.
 
-ghost use Rattle.std.specs.Prelude.{◌≡◌, ℕ, List, Option, true, false, IfOk, IfErr, IfSome, IsSome, OnOk, OnErr, MatchResult, is_some, string_bytes, ⊤};
-ghost use Rattle.disks.specs.Held.{Held};
+ghost use Rattle.std.specs.Prelude.{◌≡◌, ℕ, List, Option, true, false, IfOk, IfErr, IfSome, IsSome, OnOk, OnErr, is_some, string_bytes, ⊤};
 ghost use Rattle.disks.specs.Lasting.{Changes, HasFront, LeavesFront, outlives};
 ghost use Rattle.line_service.specs.Answering.{HasLineBegun};
 ghost use Rattle.line_service.specs.Stands.{by_stand, stand};
 ghost use Rattle.line_service.specs.declared.faults.LoopFault.{LoopFault};
-ghost use Rattle.line_service.specs.Loop.{ServesPart, IsEnding, ServesSomeOf, AllLasts, IsPartFault};
-ghost use Rattle.line_service.specs.Digested.{hashed};
-ghost use Rattle.line_service.specs.Segments.{IsNamed, moment_of};
+ghost use Rattle.line_service.specs.Loop.{ServesPart, IsEnding, ServesSomeOf, IsPartFault};
+ghost use Rattle.line_service.specs.Segments.{IsNamed, segment_holds, AllLastsIn, written_in, moment_at};
 ghost use Rattle.line_service.specs.Service.{told_of, ServesSegments, ServesSomeSegments, IsFaultOf};
-ghost use Rattle.line_service.specs.Notes.{ToldLinesAreNoted};
-ghost use Rattle.line_service.specs.Lasting.{ToldLinesLast, EachSegmentLasts};
+ghost use Rattle.line_service.specs.Notes.{ToldLinesAreNoted, ForJournal};
+ghost use Rattle.line_service.specs.Lasting.{ToldLinesLast, EachSegmentLasts, ForLeft};
 
 use crate::answering::AnswersLines;
 use crate::digested::Digested;
@@ -59,36 +57,23 @@ fn serve_in<S: AnswersLines, D: Disk, I: Read, W: Write>(
         → ServesPart end.ending (by_stand S.is_answered) (stand service.old (D.holds disk.old))
         (stand service.new (D.holds disk.new)) begun unread.old unread.new line.new.items
         (I.remaining input.old) (I.remaining input.new)
-        (record {
-          journal = hashed (D.Grown.contents ready.segment.writer.inner) ready.segment.writer.hasher;
-          out = W.contents out.old;
-        })
-        (record {
-          journal = hashed (D.Grown.contents end.segment.writer.inner) end.segment.writer.hasher;
-          out = W.contents out.new;
-        })) }
+        (written_in D.Grown.contents W.contents ready.segment out.old)
+        (written_in D.Grown.contents W.contents end.segment out.new)) }
     ensures ends { IfOk result (λ end. IsEnding end.ending (S.is_over service.new)
         (is_some ready.kept) unread.new (I.remaining input.new)) }
     ensures same { IfOk result (λ end. (end.segment.number ≡ ready.segment.number)
         × (string_bytes end.segment.name ≡ string_bytes ready.segment.name)) }
     ensures err { OnErr result ((begun : List ℕ) → HasLineBegun begun line.old.items
-        → (journal : Option (List ℕ))
-        × ServesSomeOf (by_stand S.is_answered) (stand service.old (D.holds disk.old))
-        (stand service.new (D.holds disk.new)) begun unread.old (I.remaining input.old)
-        (I.remaining input.new)
-        (record {
-          journal = hashed (D.Grown.contents ready.segment.writer.inner) ready.segment.writer.hasher;
-          out = W.contents out.old;
-        })
+        → (journal : Option (List ℕ)) × ServesSomeOf (by_stand S.is_answered)
+        (stand service.old (D.holds disk.old)) (stand service.new (D.holds disk.new)) begun
+        unread.old (I.remaining input.old) (I.remaining input.new)
+        (written_in D.Grown.contents W.contents ready.segment out.old)
         (record { journal = journal; out = W.contents out.new })) }
     ensures long { IfErr result (λ e.
         IsPartFault e (I.remaining input.old) (I.remaining input.new)) }
     ensures told { IfErr result (λ e. (why : LoopFault) × (e ≡ told_of why ready.kept)) }
-    ensures whole { IfOk result (λ end.
-        AllLasts (hashed (D.Grown.contents ready.segment.writer.inner) ready.segment.writer.hasher)
-        (D.Grown.lasting ready.segment.writer.inner)
-        → AllLasts (hashed (D.Grown.contents end.segment.writer.inner) end.segment.writer.hasher)
-        (D.Grown.lasting end.segment.writer.inner)) }
+    ensures whole { IfOk result (λ end. AllLastsIn D.Grown.contents D.Grown.lasting ready.segment
+        → AllLastsIn D.Grown.contents D.Grown.lasting end.segment) }
     ensures spared { OnErr result ((begun : List ℕ) → HasLineBegun begun line.old.items
         → (journal : Option (List ℕ))
         × ServesSomeOf (by_stand S.is_answered) (stand service.old (D.holds disk.old))
@@ -171,78 +156,45 @@ pub fn serve_segments<S: Segmented, D: Disk, I: Read, W: Write>(
     out: &mut W,
 ) -> Result<OpenSegment<D::Grown>, LoopFault>
     requires { IsNamed rules.folder.now first }
-    ensures ok { IfOk result (λ end. ServesSegments S.is_answered S.segmenting rules.entry.folder.now
-        (moment_of service.old (D.holds disk.old) first.number
-        (hashed (D.Grown.contents first.writer.inner) first.writer.hasher))
-        (moment_of service.new (D.holds disk.new) end.number
-        (hashed (D.Grown.contents end.writer.inner) end.writer.hasher))
-        (I.remaining input.old) (I.remaining input.new) (W.contents out.old)
-        (W.contents out.new)) }
-    ensures err { OnErr result (ServesSomeSegments S.is_answered S.segmenting
-        rules.entry.folder.now
-        (moment_of service.old (D.holds disk.old) first.number
-        (hashed (D.Grown.contents first.writer.inner) first.writer.hasher)) service.new
+    ensures ok { IfOk result (λ end. ServesSegments S.is_answered S.segmenting
+        rules.entry.folder.now (moment_at D.Grown.contents service.old (D.holds disk.old) first)
+        (moment_at D.Grown.contents service.new (D.holds disk.new) end) (I.remaining input.old)
+        (I.remaining input.new) (W.contents out.old) (W.contents out.new)) }
+    ensures err { OnErr result (ServesSomeSegments S.is_answered S.segmenting rules.entry.folder.now
+        (moment_at D.Grown.contents service.old (D.holds disk.old) first) service.new
         (D.holds disk.new) (I.remaining input.old) (I.remaining input.new) (W.contents out.old)
         (W.contents out.new)) }
     ensures long { IfErr result (λ e.
         IsFaultOf e (I.remaining input.old) (I.remaining input.new)) }
     ensures named { IfOk result (λ end. IsNamed rules.entry.folder.now end) }
-    ensures noted { MatchResult result
-        (λ end. ToldLinesAreNoted S.is_answered S.segmenting rules.entry.folder.now
-        (moment_of service.old (D.holds disk.old) first.number
-        (hashed (D.Grown.contents first.writer.inner) first.writer.hasher)) service.new
-        (I.remaining input.old) (I.remaining input.new) (W.contents out.old) (W.contents out.new)
-        (hashed (D.Grown.contents end.writer.inner) end.writer.hasher))
-        (λ _. (journal : Option (List ℕ)) × ToldLinesAreNoted S.is_answered S.segmenting
-        rules.entry.folder.now
-        (moment_of service.old (D.holds disk.old) first.number
-        (hashed (D.Grown.contents first.writer.inner) first.writer.hasher)) service.new
+    ensures noted { ForJournal result (λ end. segment_holds D.Grown.contents end)
+        (λ journal. ToldLinesAreNoted S.is_answered S.segmenting rules.entry.folder.now
+        (moment_at D.Grown.contents service.old (D.holds disk.old) first) service.new
         (I.remaining input.old) (I.remaining input.new) (W.contents out.old) (W.contents out.new)
         journal) }
 
     // Where the content of files is known: what was delivered is there whenever the process ends and, with syncs, the power fails.
     ensures lasts { outlives D.keeps_written rules.entry.synced ≡ true → IsSome (D.holds disk.old)
-        → AllLasts (hashed (D.Grown.contents first.writer.inner) first.writer.hasher)
-        (D.Grown.lasting first.writer.inner)
-        → MatchResult result
-        (λ end. (left : Option Held) → IfSome left (λ held. HasFront held (string_bytes end.name)
-        (D.Grown.lasting end.writer.inner))
-        → ToldLinesLast S.is_answered S.segmenting rules.entry.folder.now
-        (moment_of service.old (D.holds disk.old) first.number
-        (hashed (D.Grown.contents first.writer.inner) first.writer.hasher)) service.new
+        → AllLastsIn D.Grown.contents D.Grown.lasting first → ForLeft result (λ end left. IfSome
+        left (λ held. HasFront held (string_bytes end.name) (D.Grown.lasting end.writer.inner)))
+        (D.leaves disk.new) (λ left. ToldLinesLast S.is_answered S.segmenting rules.entry.folder.now
+        (moment_at D.Grown.contents service.old (D.holds disk.old) first) service.new
         (I.remaining input.old) (I.remaining input.new) (W.contents out.old) (W.contents out.new)
-        left)
-        (λ _. ToldLinesLast S.is_answered S.segmenting rules.entry.folder.now
-        (moment_of service.old (D.holds disk.old) first.number
-        (hashed (D.Grown.contents first.writer.inner) first.writer.hasher)) service.new
-        (I.remaining input.old) (I.remaining input.new) (W.contents out.old) (W.contents out.new)
-        (D.leaves disk.new)) }
+        left) }
     ensures whole { IfOk result (λ end. outlives D.keeps_written rules.entry.synced ≡ true
-        → IsSome (D.holds disk.old)
-        → AllLasts (hashed (D.Grown.contents first.writer.inner) first.writer.hasher)
-        (D.Grown.lasting first.writer.inner)
-        → AllLasts (hashed (D.Grown.contents end.writer.inner) end.writer.hasher)
-        (D.Grown.lasting end.writer.inner)) }
+        → IsSome (D.holds disk.old) → AllLastsIn D.Grown.contents D.Grown.lasting first
+        → AllLastsIn D.Grown.contents D.Grown.lasting end) }
 
     // Where answers change no file, the segments before the last are there too, whole.
     ensures earlier { S.changes_files service.old ≡ false
         → outlives D.keeps_written rules.entry.synced ≡ true
-        → IsSome (D.holds disk.old)
-        → AllLasts (hashed (D.Grown.contents first.writer.inner) first.writer.hasher)
-        (D.Grown.lasting first.writer.inner)
-        → MatchResult result
-        (λ end. (left : Option Held) → LeavesFront (D.leaves disk.new) left (string_bytes end.name)
-        (D.Grown.lasting end.writer.inner)
-        → EachSegmentLasts S.is_answered S.segmenting rules.entry.folder.now
-        (moment_of service.old (D.holds disk.old) first.number
-        (hashed (D.Grown.contents first.writer.inner) first.writer.hasher)) service.new
+        → IsSome (D.holds disk.old) → AllLastsIn D.Grown.contents D.Grown.lasting first
+        → ForLeft result (λ end left. LeavesFront (D.leaves disk.new) left (string_bytes end.name)
+        (D.Grown.lasting end.writer.inner)) (D.leaves disk.new) (λ left. EachSegmentLasts
+        S.is_answered S.segmenting rules.entry.folder.now
+        (moment_at D.Grown.contents service.old (D.holds disk.old) first) service.new
         (I.remaining input.old) (I.remaining input.new) (W.contents out.old) (W.contents out.new)
-        left)
-        (λ _. EachSegmentLasts S.is_answered S.segmenting rules.entry.folder.now
-        (moment_of service.old (D.holds disk.old) first.number
-        (hashed (D.Grown.contents first.writer.inner) first.writer.hasher)) service.new
-        (I.remaining input.old) (I.remaining input.new) (W.contents out.old) (W.contents out.new)
-        (D.leaves disk.new)) }
+        left) }
 {
     let mut segment = first;
     let mut line = Vec::new(alloc);

@@ -5,8 +5,7 @@ ghost use Rattle.disks.specs.Held.{Held};
 ghost use Rattle.segment_files.specs.Spelling.{digest_of, DigestFits};
 ghost use Rattle.ring_service.specs.Due.{is_due};
 ghost use Rattle.ring_service.specs.Standings.{standing_of};
-ghost use Rattle.line_service.specs.Digested.{hashed};
-ghost use Rattle.line_service.specs.Segments.{moment_of};
+ghost use Rattle.line_service.specs.Segments.{moment_at, segment_holds};
 ghost use Rattle.line_service.specs.Service.{ServesSegments};
 ghost use Rattle.ring_service.specs.Texts.{segment_text};
 ghost use Rattle.ring_service.specs.ChainServices.{ServiceView, service_of, IsServed, segmenting};
@@ -40,10 +39,9 @@ pub fn answers_in_a_segment_that_is_due<D: Disk, I: Read>(
     requires { is_due (Some rules.limit) served.old ≡ true }
     ensures wrong { IfSome result (λ told. (new : ServiceView) → new.rings ≡ served.new
         → ServesSegments IsServed segmenting rules.entry.files.folder.now
-        (moment_of (service_of rules.entry served.old first.number None) (D.holds disk.old)
-        first.number (hashed (D.Grown.contents first.writer.inner) first.writer.hasher))
-        (moment_of new (D.holds disk.new) told.segment.number
-        (hashed (D.Grown.contents told.segment.writer.inner) told.segment.writer.hasher))
+        (moment_at D.Grown.contents (service_of rules.entry served.old first.number None)
+        (D.holds disk.old) first)
+        (moment_at D.Grown.contents new (D.holds disk.new) told.segment)
         (I.remaining input.old) (I.remaining input.new) (Some []) (Some told.out.items) → ⊥) }
 {
     let OpenSegment {
@@ -98,10 +96,8 @@ fn cut<D: Disk>(
     ensures number { IfSome result (λ end. end.number ≡ first.number + 1) }
     ensures rings { IfSome result (λ _. served.new ≡ next) }
     ensures journal { IfSome result (λ end. (bytes : List ℕ) (held : Held)
-        → hashed (D.Grown.contents first.writer.inner) first.writer.hasher ≡ Some bytes
-        → D.holds disk.old ≡ Some held
-        → hashed (D.Grown.contents end.writer.inner) end.writer.hasher
-        ≡ Some (segment_text end.number behind next)) }
+        → segment_holds D.Grown.contents first ≡ Some bytes → D.holds disk.old ≡ Some held
+        → segment_holds D.Grown.contents end ≡ Some (segment_text end.number behind next)) }
 {
     if rules.limit == 0 {
         return None;
@@ -136,18 +132,16 @@ pub fn names_the_digest_of_the_head_alone<D: Disk>(
     head: &[u8],
 ) -> Option<OpenSegment<D::Grown>>
     requires due { is_due (Some rules.limit) served.old ≡ true }
-    requires apart { (bytes : List ℕ)
-        → hashed (D.Grown.contents first.writer.inner) first.writer.hasher ≡ Some bytes
+    requires apart { (bytes : List ℕ) → segment_holds D.Grown.contents first ≡ Some bytes
         → digest_of head.now ≢ digest_of bytes }
     ensures wrong { IfSome result (λ end. (bytes : List ℕ) (held : Held) (new : ServiceView)
         → new.rings ≡ served.new
-        → hashed (D.Grown.contents first.writer.inner) first.writer.hasher ≡ Some bytes
+        → segment_holds D.Grown.contents first ≡ Some bytes
         → D.holds disk.old ≡ Some held
         → ServesSegments IsServed segmenting rules.entry.files.folder.now
-        (moment_of (service_of rules.entry served.old first.number None) (D.holds disk.old)
-        first.number (hashed (D.Grown.contents first.writer.inner) first.writer.hasher))
-        (moment_of new (D.holds disk.new) end.number
-        (hashed (D.Grown.contents end.writer.inner) end.writer.hasher))
+        (moment_at D.Grown.contents (service_of rules.entry served.old first.number None)
+        (D.holds disk.old) first)
+        (moment_at D.Grown.contents new (D.holds disk.new) end)
         (Some []) (Some []) (Some []) (Some []) → ⊥) }
 {
     let next = match served.next(alloc) {
@@ -174,13 +168,12 @@ pub fn ends_with_a_base_that_forgets_the_grants<D: Disk>(
     requires grants { 1 ≤ ring.now.base.grants }
     ensures wrong { IfSome result (λ end. (bytes : List ℕ) (held : Held) (new : ServiceView)
         → new.rings ≡ served.new
-        → hashed (D.Grown.contents first.writer.inner) first.writer.hasher ≡ Some bytes
+        → segment_holds D.Grown.contents first ≡ Some bytes
         → D.holds disk.old ≡ Some held
         → ServesSegments IsServed segmenting rules.entry.files.folder.now
-        (moment_of (service_of rules.entry served.old first.number None) (D.holds disk.old)
-        first.number (hashed (D.Grown.contents first.writer.inner) first.writer.hasher))
-        (moment_of new (D.holds disk.new) end.number
-        (hashed (D.Grown.contents end.writer.inner) end.writer.hasher))
+        (moment_at D.Grown.contents (service_of rules.entry served.old first.number None)
+        (D.holds disk.old) first)
+        (moment_at D.Grown.contents new (D.holds disk.new) end)
         (Some []) (Some []) (Some []) (Some []) → ⊥) }
 {
     let behind = match first.writer.digest() {
@@ -234,13 +227,12 @@ pub fn begins_one_call_late<D: Disk>(
     requires one { served.old ≡ standing_of ring.now ∷ [] }
     ensures wrong { IfSome result (λ end. (bytes : List ℕ) (held : Held) (new : ServiceView)
         → new.rings ≡ served.new
-        → hashed (D.Grown.contents first.writer.inner) first.writer.hasher ≡ Some bytes
+        → segment_holds D.Grown.contents first ≡ Some bytes
         → D.holds disk.old ≡ Some held
         → ServesSegments IsServed segmenting rules.entry.files.folder.now
-        (moment_of (service_of rules.entry served.old first.number None) (D.holds disk.old)
-        first.number (hashed (D.Grown.contents first.writer.inner) first.writer.hasher))
-        (moment_of new (D.holds disk.new) end.number
-        (hashed (D.Grown.contents end.writer.inner) end.writer.hasher))
+        (moment_at D.Grown.contents (service_of rules.entry served.old first.number None)
+        (D.holds disk.old) first)
+        (moment_at D.Grown.contents new (D.holds disk.new) end)
         (Some []) (Some []) (Some []) (Some []) → ⊥) }
 {
     let behind = match first.writer.digest() {
