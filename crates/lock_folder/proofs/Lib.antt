@@ -1,6 +1,5 @@
 mod Begun
 mod Refused
-mod Numbers
 mod Checked
 mod Named
 mod Texts

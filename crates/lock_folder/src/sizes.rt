@@ -1,31 +1,14 @@
 //! The sizes of rings in a text.
 
-ghost use Rattle.std.specs.Prelude.{◌≡◌, ◌≢◌, ℕ, ◌<◌, ◌^◌, decimal, codes, IsNone, IfSome, Option, Some, None, List, ◌∷◌, MatchOption};
+ghost use Rattle.std.specs.Prelude.{◌≡◌, ◌≢◌, ℕ, ◌<◌, ◌^◌, decimal, codes, Option, Some, None, List, ◌∷◌, MatchOption};
 ghost use Rattle.std.specs.Option.{option_map};
 ghost use Rattle.lock_folder.specs.Lists.{IsSizeText};
 ghost use Rattle.lock_folder.specs.ListSteps.{IsMark, IsCut, IsAfterName};
 
-use itoa::Buffer;
+use text_lines::read_decimal;
 
 /// How many machines the ring of a lock has, and how many values each of them can hold, if a list does not say it.
 const USUAL_SIZE: u32 = 8;
-
-/// The number that a text spells with no sign and no leading zero, below 2 to the power 32.
-fn read_decimal(text: &str) -> Option<u32>
-    ensures some { IfSome result (λ n. decimal n ≡ text.now) }
-    ensures none { IsNone result → (n : ℕ) → n < 2 ^ 32 → decimal n ≢ text.now }
-{
-    let Ok(number) = text.parse::<u32>() else {
-        return None;
-    };
-    // `parse` takes a plus and leading zeros too: only the number's own spelling is well written.
-    let mut buffer = Buffer::new();
-    if buffer.format(number) == text {
-        Some(number)
-    } else {
-        None
-    }
-}
 
 /// The two numbers that texts spell.
 fn read_both(n: &str, k: &str) -> Option<(u32, u32)>

@@ -1,6 +1,5 @@
 -- A list's text, number by number.
-use lib.Pointwise.{pointwise}
-use Rattle.std.proofs.Common.{nat_eq, ◌≡◌, ◌≢◌, ◌∙◌, inl, inr, ℕ, zero, suc, length-append, ◌<◌, ◌^◌, Bool, true, false, List, [], ◌∷◌, ◌++◌, length, get_or, refl, sym, ap, append-nil, append_assoc, arith}
+use Rattle.std.proofs.Common.{◌≡◌, ◌≢◌, ◌∙◌, inl, inr, ℕ, zero, suc, length-append, ◌<◌, ◌^◌, Bool, true, false, List, [], ◌∷◌, ◌++◌, length, get_or, refl, sym, ap, append-nil, append_assoc, arith}
 use Rattle.std.specs.Prelude.{◌==◌, decimal, All}
 use Rattle.std.specs.List.{before_first, after_first, position_or_len}
 use Rattle.std.specs.Str.Parse.{AllDigits}
@@ -175,17 +174,6 @@ bad_piece text rest piece xs whole front inside below none =
 pub bad_last : (text rest xs : List ℕ) → text ≡ fronts xs ++ rest → position_or_len (λ b. b == 44) rest ≡ length rest → All (λ (n : ℕ). n < 2 ^ 32) xs →
     ((n : ℕ) → n < 2 ^ 32 → decimal n ≢ rest) → IsNoList text
 bad_last text rest xs whole end below none = λ ms is. not_listed text rest xs rest [] ms whole refl (all_plain rest end) below none is
-
-nat_itself : (n : ℕ) → nat_eq n n ≡ true
-nat_itself n = grind (arith, nat_tests)
-
--- a list is equal to itself
-pub itself : (xs ys : List ℕ) → xs ≡ ys → pointwise nat_eq xs ys ≡ true
-itself xs ys e = rw e (each ys)
-  where
-    each : (zs : List ℕ) → pointwise nat_eq zs zs ≡ true
-    each [] = refl
-    each (z ∷ zs) = rw (nat_itself z, each zs) refl
 
 -- a number more that is below the limit
 pub all_more : (xs ys : List ℕ) (n : ℕ) → All (λ (x : ℕ). x < 2 ^ 32) xs → n < 2 ^ 32 → ys ≡ xs ++ n ∷ [] → All (λ (x : ℕ). x < 2 ^ 32) ys

@@ -1,29 +1,12 @@
 //! Lists of numbers, as `step` takes them.
 
-ghost use Rattle.std.specs.Prelude.{◌≡◌, ◌≢◌, ℕ, [], ◌∷◌, ◌++◌, ◌<◌, ◌^◌, decimal, IsNone, IfSome, OnOk, IfOk, IfErr};
+ghost use Rattle.std.specs.Prelude.{◌≡◌, ℕ, [], ◌∷◌, ◌++◌, ◌<◌, ◌^◌, decimal, OnOk, IfOk, IfErr};
 ghost use Rattle.tool_parts.specs.Faults.{IsPieceRefusal, IsListRefusal};
 ghost use Rattle.tool_parts.specs.ListWords.{IsListText};
 
 use crate::faults::ToolError;
-use itoa::Buffer;
 use std::alloc::Global;
-
-/// The number that a text spells with no sign and no leading zero, below 2 to the power 32.
-fn read_decimal(text: &str) -> Option<u32>
-    ensures some { IfSome result (λ n. decimal n ≡ text.now) }
-    ensures none { IsNone result → (n : ℕ) → n < 2 ^ 32 → decimal n ≢ text.now }
-{
-    let Ok(number) = text.parse::<u32>() else {
-        return None;
-    };
-    // `parse` takes a plus and leading zeros too: only the number's own spelling is well written.
-    let mut buffer = Buffer::new();
-    if buffer.format(number) == text {
-        Some(number)
-    } else {
-        None
-    }
-}
+use text_lines::read_decimal;
 
 /// Adds the number that a piece of a list spells.
 fn add_number(numbers: &mut Vec<u32>, piece: &str) -> Result<(), ToolError<'static>>

@@ -1,8 +1,20 @@
-use Rattle.std.proofs.Common.{◌≡◌, ◌∙◌, ◌<◌, ◌^◌, true, false, Ok, ap, sym, arith}
+use lib.Pointwise.{pointwise}
+use Rattle.std.proofs.Common.{nat_eq, ◌≡◌, ◌∙◌, ℕ, ◌<◌, ◌^◌, true, false, List, [], ◌∷◌, Ok, ap, sym, refl, arith}
 use Rattle.std.specs.Prelude.{decimal}
+use Rattle.std.proofs.lemmas.Bool.Decides.{nat_tests}
 use Rattle.std.proofs.lemmas.Fmt.{parse-decimal}
-use Rattle.lock_folder.proofs.Numbers.{itself}
-use Rattle.lock_folder.proofs.sizes.read_decimal.Goals as goal
+use Rattle.text_lines.proofs.number_texts.read_decimal.Goals as goal
+
+nat_itself : (n : ℕ) → nat_eq n n ≡ true
+nat_itself n = grind (arith, nat_tests)
+
+-- a list is equal to itself
+itself : (xs ys : List ℕ) → xs ≡ ys → pointwise nat_eq xs ys ≡ true
+itself xs ys e = rw e (each ys)
+  where
+    each : (zs : List ℕ) → pointwise nat_eq zs zs ≡ true
+    each [] = refl
+    each (z ∷ zs) = rw (nat_itself z, each zs) refl
 
 pub returns-in_default-clause-none : goal.returns-in_default-clause-none
 returns-in_default-clause-none c = λ none n low spelled.
