@@ -1,13 +1,12 @@
 //! `recover` of a folder: the history of its last segment, and what came before it.
 
-ghost use Rattle.std.specs.Prelude.{◌≡◌, ◌≢◌, ◌+◌, ◌-◌, ◌<◌, ◌^◌, ◌⊎◌, ◌++◌, ℕ, List, length, Option, true, false, None, OnOk, IfOk, IfErr};
+ghost use Rattle.std.specs.Prelude.{◌≡◌, ◌≢◌, ◌+◌, ◌-◌, ◌⊎◌, ◌++◌, ℕ, List, length, Option, true, false, None, OnOk, IfOk, IfErr};
 ghost use Rattle.text_lines.specs.Writing.{Writes};
 ghost use Rattle.ring_check.specs.Legal.{summary_of};
 ghost use Rattle.saved_history.specs.Content.{content};
 ghost use Rattle.journal.specs.Beginnings.{CanBeSaved};
 ghost use Rattle.segment_files.specs.Spelling.{HeadFits, head_of, head_text};
-ghost use Rattle.segment_files.specs.Chain.{refused_head, refused_journal, line_in};
-ghost use Rattle.segment_files.specs.Remarks.{lines_in, without_remarks, line_among};
+ghost use Rattle.segment_files.specs.Remarks.{without_remarks};
 ghost use Rattle.tool_parts.specs.Chained.{IsFolder};
 ghost use Rattle.tool_parts.specs.Kept.{IsKept, IsUnkept, IsFileKept, file_left, file_place, left_line};
 ghost use Rattle.tool_parts.specs.Reading.{names_stream};
@@ -22,8 +21,8 @@ use journal::RecoverError;
 use ring_check::{Summary, check_saved};
 use saved_history::Saved;
 use segment_files::{
-    ReadError, SegmentError, SegmentHead, WriteFault, has_remark, line_among, put_head, read_head,
-    without_remarks,
+    SegmentError, SegmentHead, WriteFault, has_remark, head_refusal, journal_refusal, put_head,
+    read_head, without_remarks,
 };
 use std::alloc::Global;
 use std::io::Write;
@@ -54,34 +53,6 @@ struct KeptFile<'b> {
     saved: Saved,
     left: LeftOut,
     place: &'b [u8],
-}
-
-/// Why a file is refused, by a refusal of its head.
-fn head_fault(error: ReadError) -> SegmentError
-    ensures { result ≡ refused_head error }
-{
-    match error {
-        ReadError::Syntax(line) => SegmentError::Syntax(line),
-        ReadError::Truncated => SegmentError::Truncated,
-        ReadError::OutOfMemory => SegmentError::OutOfMemory,
-    }
-}
-
-/// Why a file is refused, by a refusal of the journal in the text that comes after `lines` lines.
-fn journal_fault(lines: u64, text: &[u8], error: RecoverError) -> SegmentError
-    requires { line_among (lines_in text.now) (line_in error) + lines < 2 ^ 64 }
-    ensures { result
-        ≡ refused_journal (λ m. line_among (lines_in text.now) m + lines) error }
-{
-    match error {
-        RecoverError::Truncated => SegmentError::Truncated,
-        RecoverError::Syntax(line) => SegmentError::Syntax(line_among(text, line) + lines),
-        RecoverError::Bad { line, kind } => SegmentError::Bad {
-            line: line_among(text, line) + lines,
-            kind,
-        },
-        RecoverError::OutOfMemory => SegmentError::OutOfMemory,
-    }
 }
 
 /// The history that is kept of a text without its remarks, and what is left out of it.
@@ -122,7 +93,7 @@ fn kept_file(alloc: Global, bytes: &[u8], salvage: bool) -> Result<KeptFile<'_>,
 {
     let (head, text) = match read_head(alloc, bytes) {
         Ok(found) => found,
-        Err(error) => return Err(head_fault(error)),
+        Err(error) => return Err(head_refusal(error)),
     };
     let lines = 2 + head.bases.len() as u64;
     match kept_without_remarks(alloc, text, salvage) {
@@ -137,7 +108,7 @@ fn kept_file(alloc: Global, bytes: &[u8], salvage: bool) -> Result<KeptFile<'_>,
                 place,
             })
         }
-        Err(error) => Err(journal_fault(lines, text, error)),
+        Err(error) => Err(journal_refusal(text, lines, error)),
     }
 }
 

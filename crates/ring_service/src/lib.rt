@@ -36,4 +36,5 @@ pub use saving::{save_rings, write_rings};
 pub use served::{LineAnswer, Served, answer_line};
 pub use serving::{Ends, Journal, Rules, answer_by, are_right, rules_in, serve};
 pub use starting::StartError;
+pub use texts::put_beginning;
 pub use turns::{CallAnswer, Trace};

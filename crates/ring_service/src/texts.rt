@@ -16,8 +16,12 @@ use std::alloc::Global;
 use std::io::Write;
 use text_lines::WriteFault;
 
-/// Writes the beginning of a journal of these rings.
-fn put_beginning<W: Write>(out: &mut W, served: &Served) -> Result<(), WriteFault>
+/// Writes the beginning of a journal of these rings: its first line, and their saved text.
+///
+/// # Errors
+///
+/// That of the writer; it then holds a proper prefix of the text after what it held.
+pub fn put_beginning<W: Write>(out: &mut W, served: &Served) -> Result<(), WriteFault>
     requires some { 1 ≤ length served.now }
     requires most { length served.now < 2 ^ 32 }
     ensures { Writes (W.contents out.old) (W.contents out.new) result

@@ -52,7 +52,8 @@ pub fn add(all: &mut Totals, counts: Counts)
     all.surveys += counts.surveys;
 }
 
-fn refused(history: &[Event]) -> usize
+/// How many passes of a history found no privilege.
+pub(crate) fn refused(history: &[Event]) -> usize
     ensures { result ≡ refused_count history.now }
 {
     history

@@ -5,10 +5,9 @@ ghost use Rattle.text_lines.specs.Writing.{Writes};
 ghost use Rattle.ring_model.specs.Ring.{ring_with};
 ghost use Rattle.saved_history.specs.Content.{block_of};
 ghost use Rattle.ring_check.specs.Table.{event_of};
-ghost use Rattle.ring_text.specs.Report.{refused_count};
 ghost use Rattle.ring_text.specs.SavedReport.{block_counts, block_lines};
 
-use crate::counts::Counts;
+use crate::counts::{Counts, refused};
 use crate::farm_report::{put_counts_line, put_end};
 use crate::report_seats::put_seats_line;
 use crate::reports::ReportFault;
@@ -16,8 +15,8 @@ use one_thread_ring::from_saved;
 use ring_book::{Book, Till};
 use ring_check::count_events;
 use ring_logs::RingOutcome;
+use ring_model::Event;
 use ring_model::limits::SEAT_LIMIT;
-use ring_model::{Event, Reply};
 use saved_history::SavedRing;
 use std::alloc::Global;
 use std::io::Write;
@@ -36,16 +35,6 @@ pub(crate) fn replayed(alloc: Global, ring: &SavedRing) -> Result<RingOutcome, R
         Ok(outcome) => Ok(outcome),
         Err(_) => Err(ReportFault::OutOfMemory),
     }
-}
-
-/// How many passes of a history found no privilege.
-fn refused(history: &[Event]) -> usize
-    ensures { result ≡ refused_count history.now }
-{
-    history
-        .iter()
-        .filter(|event| matches!(event.reply, Reply::NotPrivileged))
-        .count()
 }
 
 /// Counts a saved ring's events and surveys.

@@ -34,7 +34,7 @@ pub use last::{LastSegment, read_last};
 pub use laws::{added_are_chained, files_tell_histories, one_file, remarks_are_left_out};
 pub use read::read_head;
 pub use remarks::{has_remark, is_remark, line_among, put_remark, split_line, without_remarks};
-pub use segments::{Segment, read_segment};
+pub use segments::{Segment, head_refusal, journal_refusal, read_segment};
 pub use sums::ChainSums;
 pub use text_lines::{ReadError, WriteFault};
 pub use torn_end::read_end;

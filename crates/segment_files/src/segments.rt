@@ -28,8 +28,8 @@ pub struct Segment {
     pub whole: bool,
 }
 
-/// A refusal of the head.
-fn of_head(error: ReadError) -> SegmentError
+/// Why a file is refused, by a refusal of its head.
+pub fn head_refusal(error: ReadError) -> SegmentError
     ensures { result ≡ refused_head error }
 {
     match error {
@@ -39,8 +39,8 @@ fn of_head(error: ReadError) -> SegmentError
     }
 }
 
-/// A refusal of the journal in these bytes, which come after a head of this many lines.
-fn of_journal(rest: &[u8], lines: u64, error: RecoverError) -> SegmentError
+/// Why a file is refused, by a refusal of the journal in these bytes, which come after a head of this many lines.
+pub fn journal_refusal(rest: &[u8], lines: u64, error: RecoverError) -> SegmentError
     requires { line_among (lines_in rest.now) (line_in error) + lines < 2 ^ 64 }
     ensures { result
         ≡ refused_journal (λ m. line_among (lines_in rest.now) m + lines) error }
@@ -128,13 +128,13 @@ pub fn read_segment(alloc: Global, bytes: &[u8]) -> Result<Segment, SegmentError
 {
     let (head, rest) = match read_head(alloc, bytes) {
         Ok(found) => found,
-        Err(error) => return Err(of_head(error)),
+        Err(error) => return Err(head_refusal(error)),
     };
     match read_rest(alloc, rest) {
         Ok((saved, all)) => {
             let whole = all && is_ended(rest);
             Ok(Segment { head, saved, whole })
         }
-        Err(error) => Err(of_journal(rest, 2 + head.bases.len() as u64, error)),
+        Err(error) => Err(journal_refusal(rest, 2 + head.bases.len() as u64, error)),
     }
 }

@@ -1,7 +1,6 @@
 //! The journal of served rings in a file: it is locked, read, and begun anew where it ends.
 
 ghost use Rattle.std.specs.Prelude.{◌≡◌, ◌⊎◌, ◌≤◌, ◌<◌, ◌^◌, true, Some, IsFalse, OnOk, OnErr, IfOk, IfErr, length};
-ghost use Rattle.text_lines.specs.Writing.{Writes};
 ghost use Rattle.disks.specs.Held.{Replaces, Discards};
 ghost use Rattle.saved_history.specs.declared.saved.Saved.{Saved};
 ghost use Rattle.journal.specs.Spelling.{journal_head};
@@ -12,28 +11,13 @@ ghost use Rattle.serve_commands.specs.Served.{CanBegin, CanBeginWith, IsNoted, I
 
 use crate::resuming::{resume_rings, value_to_resume};
 use disks::{Contents, ContentsFault, Disk, replace};
-use journal::put_first_line;
-use ring_service::{Served, write_rings};
+use ring_service::{Served, put_beginning};
 use saved_history::Saved;
 use std::alloc::Global;
 use std::io::Write;
-use text_lines::WriteFault;
 use tool_parts::faults::ToolError;
 use tool_parts::handing::save_fault;
 use tool_parts::locking::open_journal;
-
-/// Writes the start of a journal of these rings.
-fn put_head<W: Write>(out: &mut W, served: &Served) -> Result<(), WriteFault>
-    requires some { 1 ≤ length served.now }
-    requires most { length served.now < 2 ^ 32 }
-    ensures { Writes (W.contents out.old) (W.contents out.new) result
-        (journal_head (content_of served.now)) }
-{
-    match put_first_line(out) {
-        Ok(()) => write_rings(out, served),
-        Err(fault) => Err(fault),
-    }
-}
 
 /// The beginning of a journal of these rings, which its file is to hold.
 #[derive(Drop)]
@@ -51,7 +35,7 @@ impl Contents for Beginning<'_> {
     ghost bytes = { λ s. journal_head (content_of s.served.now) };
 
     fn write_to<W: Write>(&self, out: &mut W) -> Result<(), ContentsFault> {
-        match put_head(out, self.served) {
+        match put_beginning(out, self.served) {
             Ok(()) => Ok(()),
             Err(_) => Err(ContentsFault::Write),
         }

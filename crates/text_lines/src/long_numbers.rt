@@ -1,11 +1,12 @@
 //! Decimals of any size, so that a call of something that is not there is answered so, however great its number is.
 
 ghost use Rattle.std.specs.Prelude.{◌≡◌, ◌≤◌, ◌<◌, ◌+◌, ◌-◌, ◌*◌, ◌&&◌, ℕ, true, false, nat_lt, IfSome, IsNone};
-ghost use Rattle.text_lines.specs.Reading.{Gives, as_at, is_digit, stop_of};
+ghost use Rattle.text_lines.specs.Reading.{Gives, as_at, is_digit};
 ghost use Rattle.text_lines.specs.Exact.{Returns};
 ghost use Rattle.text_lines.specs.LongNumbers.{long_digits_at, in_64_bits, in_32_bits, order_at, place_at, places_at};
 
 use crate::fault::{Fault, Stop};
+use crate::row::stop_byte;
 use std::alloc::Global;
 
 /// A number with a digit more, where it is none from 2 to the power 64 on.
@@ -95,16 +96,6 @@ pub fn place(bytes: &[u8], stop: u8) -> Result<(u32, &[u8]), Stop>
 {
     let (number, rest) = decimal(bytes, stop)?;
     Ok((in_32_bits(number), rest))
-}
-
-/// Returns the byte that ends a number with n more after it on the line.
-fn stop_byte(left: usize) -> u8
-    ensures { result ≡ stop_of left }
-{
-    match left {
-        0 => b'\n',
-        _ => b' ',
-    }
 }
 
 /// n of them on one line. Room is asked for as they are read.

@@ -14,7 +14,7 @@ use std::alloc::Global;
 use std::io::Write;
 
 /// The byte that ends a number with n after it on the line.
-fn stop_byte(left: usize) -> u8
+pub(crate) fn stop_byte(left: usize) -> u8
     ensures { result ≡ stop_of left }
 {
     match left {

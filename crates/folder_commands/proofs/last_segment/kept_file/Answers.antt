@@ -5,8 +5,8 @@ use Rattle.segment_files.specs.Chain.{head_lines}
 use Rattle.folder_commands.proofs.Keeping.{fault_room, bad_room, room_below, journal_unkept, file_kept}
 use Rattle.folder_commands.proofs.last_segment.kept_file.Goals as goal
 
-pub journal_fault-requires : goal.journal_fault-requires
-journal_fault-requires c =
+pub journal_refusal-requires : goal.journal_refusal-requires
+journal_refusal-requires c =
     let h = c.in-Ok.found.0 in
     let ok = h.bases.ok in
     let n : 2 + c.len.result ≡ head_lines (head_of h) = omega (arith, ok, c.len.ensures) in
@@ -49,4 +49,4 @@ returns-clause-err c =
     let h = c.in-Ok.found.0 in
     let ok = h.bases.ok in
     let n : 2 + c.len.result ≡ head_lines (head_of h) = omega (arith, ok, c.len.ensures) in
-    rw c.journal_fault.ensures (journal_unkept c.args.salvage c.args.bytes.now (head_of h) c.in-Ok.found.1.now c.in-Ok.ensures.0 c.in-Ok.ensures.1 (2 + c.len.result) n c.in-Err-kept_without_remarks.error c.in-Err-kept_without_remarks.ensures.err)
+    rw c.journal_refusal.ensures (journal_unkept c.args.salvage c.args.bytes.now (head_of h) c.in-Ok.found.1.now c.in-Ok.ensures.0 c.in-Ok.ensures.1 (2 + c.len.result) n c.in-Err-kept_without_remarks.error c.in-Err-kept_without_remarks.ensures.err)

@@ -10,8 +10,8 @@ use Rattle.segment_files.proofs.Refusing.{journal_refused, line_room}
 use Rattle.segment_files.proofs.segments.read_segment.Goals as goal
 use Rattle.segment_files.proofs.segments.read_segment.Goals.{then-all, else-all}
 
-pub of_journal-requires : goal.of_journal-requires
-of_journal-requires c =
+pub journal_refusal-requires : goal.journal_refusal-requires
+journal_refusal-requires c =
     let h = c.in-Ok.found.0 in
     let ok = h.bases.ok in
     let n : 2 + c.len.result ≡ head_lines (head_of h) = omega (arith, ok, c.len.ensures) in
@@ -23,7 +23,7 @@ returns-in-Err-read_rest c =
     let h = c.in-Ok.found.0 in
     let ok = h.bases.ok in
     let n : 2 + c.len.result ≡ head_lines (head_of h) = omega (arith, ok, c.len.ensures) in
-    rw c.of_journal.ensures (journal_refused c.args.bytes.now (head_of h) c.in-Ok.found.1.now c.in-Ok.ensures.0 c.in-Ok.ensures.1 (2 + c.len.result) c.in-Err-read_rest.error n c.in-Err-read_rest.ensures)
+    rw c.journal_refusal.ensures (journal_refused c.args.bytes.now (head_of h) c.in-Ok.found.1.now c.in-Ok.ensures.0 c.in-Ok.ensures.1 (2 + c.len.result) c.in-Err-read_rest.error n c.in-Err-read_rest.ensures)
 
 pub returns-after-all : goal.returns-after-all
 returns-after-all c =
