@@ -5,7 +5,6 @@ use Rattle.std.specs.List.{list_all}
 use Rattle.ring_model.specs.Limits.{seat_limit}
 use Rattle.ring_model.specs.declared.events.Event.{Event}
 use Rattle.ring_model.specs.declared.events.Reply.{Reply}
-use Rattle.ring_model.specs.declared.events.Reply.TheVariants.{Granted, NotPrivileged, Corrupted}
 use Rattle.ring_model.specs.History.{State, reply}
 use Rattle.ring_model.specs.Resources.{till}
 use Rattle.ring_check.specs.declared.answers.Kind.{Kind}
@@ -13,14 +12,15 @@ use Rattle.ring_check.specs.declared.answers.Kind.TheVariants.{Parameter, Range,
 use Rattle.ring_check.specs.Lines.{Line, RingLine, StartLine, EventLine, EndLine, SurveyLine, DoneLine, lines}
 use Rattle.ring_check.specs.Members.{run_of, may_come}
 use Rattle.ring_check.specs.Scan.{or_behind, first_fault}
-use Rattle.ring_check.specs.Table.{Before, nothing, event_of, now, after_line, are_parameters, in_range, same_reply, is_replied, event_fault, is_onward, is_surveyed, fault}
-use Rattle.ring_check.proofs.Booleans.{both, joined, same}
+use Rattle.ring_check.specs.Table.{Before, nothing, event_of, now, after_line, are_parameters, in_range, is_replied, event_fault, is_onward, is_surveyed, fault}
+use Rattle.ring_check.proofs.Booleans.{both, joined}
 use Rattle.ring_check.proofs.Scans.{good_none, none_good, bad_found}
 use Rattle.bad_lines.specs.declared.wrongs.BadLine.{BadLine}
 use Rattle.bad_lines.specs.BadLines.{Known, known, bad_of, bad, loses, begins, mended, is_hidden, after_known, told, told_of, bad_among, bad_lines}
 use Rattle.bad_lines.specs.Laws.{NoneIsLegal, BeginsWith, FirstIsFirst}
 use Rattle.bad_lines.specs.Replays.{own}
 use Rattle.bad_lines.specs.Wrongs.{wrong, is_in_place}
+use Rattle.ring_check.proofs.Steps.{same_is}
 
 -- the number and the kind of the first one
 abbrev first_of : List BadLine → Option (ℕ × Kind)
@@ -31,21 +31,6 @@ first_of (x ∷ xs) = Some (x.line, x.bad.kind)
 guard : (x : Bool) (f : Option Kind) (k : Kind) → cond x f (Some k) ≡ None → (x ≡ true) × (f ≡ None)
 guard true f k e = (refl, e)
 guard false f k e = absurd (cc)
-
-same_is : (r q : Reply) → same_reply r q ≡ true → r ≡ q
-same_is (Granted a b) (Granted c d) e =
-    let p = both (eqb a c) (eqb b d) e in
-    let x : a ≡ c = same a c p.0 in
-    let y : b ≡ d = same b d p.1 in
-    rw (x, y) refl
-same_is (Granted a b) NotPrivileged e = absurd (cc)
-same_is (Granted a b) (Corrupted d) e = absurd (cc)
-same_is NotPrivileged (Granted c d) e = absurd (cc)
-same_is NotPrivileged NotPrivileged e = refl
-same_is NotPrivileged (Corrupted d) e = absurd (cc)
-same_is (Corrupted a) (Granted c d) e = absurd (cc)
-same_is (Corrupted a) NotPrivileged e = absurd (cc)
-same_is (Corrupted a) (Corrupted b) e = let x : a ≡ b = same a b e in rw x refl
 
 -- an event without a fault is in range, and has the ring's own reply
 event_fine : (n : ℕ) (run : List Event) (a : State ℕ) (e : Event) → event_fault n run a e ≡ None → (in_range n a.ring.k e ≡ true) × (own a e ≡ e)

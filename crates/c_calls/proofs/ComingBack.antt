@@ -6,19 +6,15 @@ use Rattle.std.proofs.lemmas.Option.{none-some, same_Some, slice_get-map}
 use Rattle.text_lines.proofs.Answering.{spellings_are_apart}
 use Rattle.ring_model.specs.Ring.{ring_with}
 use Rattle.ring_model.specs.Resources.{till}
-use Rattle.ring_model.specs.History.{State, IsLegal, StepOf, next, opening}
+use Rattle.ring_model.specs.History.{State, IsLegal, next, opening}
 use Rattle.ring_model.specs.declared.events.Event.{Event}
-use Rattle.ring_model.specs.declared.events.Op.{Op}
-use Rattle.ring_model.specs.declared.events.Op.TheVariants.{Pass, Member, Corrupt}
-use Rattle.ring_model.specs.declared.events.Reply.{Reply}
-use Rattle.ring_model.specs.declared.events.Reply.TheVariants.{Granted, NotPrivileged, Corrupted}
 use Rattle.saved_history.specs.declared.saved.SavedRing.{SavedRing}
 use Rattle.saved_history.specs.Content.{Block, Content, block_of, content}
 use Rattle.saved_history.specs.Spelling.{text}
 use Rattle.saved_history.specs.Meaning.{IsRightRead}
 use Rattle.saved_history.proofs.TextLaws.{text_reads}
 use Rattle.ring_check.specs.Table.{event_of}
-use Rattle.one_thread_ring.specs.SavedOf.{saved_for, saved_event}
+use Rattle.one_thread_ring.specs.SavedOf.{saved_event}
 use Rattle.ring_logs.specs.LogView.{LogView}
 use Rattle.one_thread_ring.specs.Clients.{log_from}
 use Rattle.one_thread_ring.specs.Rings.{RingView, IsOneThreadRing, IsClient}
@@ -28,18 +24,7 @@ use Rattle.c_calls.specs.Resumed.{IsResumedAs, IsResumedFrom}
 use Rattle.c_calls.specs.Trips.{IsBackAs, SavesComeBack}
 use Rattle.c_calls.proofs.OneLog.{surveys_in, only_log}
 use Rattle.c_calls.proofs.SeatSurveys.{same_surveys}
-
--- the line of an event that is a step describes it
-line_tells : (a b : State ℕ) (seat : ℕ) (o : Op) (r : Reply) → StepOf till a o r b → event_of (saved_for seat o r) ≡ record { seat = seat; op = o; reply = r }
-line_tells a b seat (Pass i order) (Granted number result) h = refl
-line_tells a b seat (Pass i order) NotPrivileged h = refl
-line_tells a b seat (Pass i order) (Corrupted old) h = absurd h
-line_tells a b seat (Member i order left) (Granted number result) h = refl
-line_tells a b seat (Member i order left) NotPrivileged h = absurd h
-line_tells a b seat (Member i order left) (Corrupted old) h = absurd h
-line_tells a b seat (Corrupt i v) (Granted number result) h = absurd h
-line_tells a b seat (Corrupt i v) NotPrivileged h = absurd h
-line_tells a b seat (Corrupt i v) (Corrupted old) h = refl
+use Rattle.one_thread_ring.proofs.WrittenBlocks.{line_tells}
 
 lines_tell : (a : State ℕ) (h : List Event) → IsLegal till a h → map event_of (map saved_event h) ≡ h
 lines_tell a [] l = refl

@@ -5,16 +5,12 @@ use Rattle.std.specs.Fmt.{decimal}
 use Rattle.text_lines.specs.Spelling.{spaced}
 use Rattle.ring_model.specs.Limits.{event_limit}
 use Rattle.ring_model.specs.Ring.{Ring, ring_with}
-use Rattle.ring_model.specs.History.{State, IsLegal, StepOf, next, opening, after}
+use Rattle.ring_model.specs.History.{State, IsLegal, next, opening, after}
 use Rattle.ring_model.specs.Resources.{till}
 use Rattle.ring_model.specs.declared.events.Event.{Event}
-use Rattle.ring_model.specs.declared.events.Op.{Op}
-use Rattle.ring_model.specs.declared.events.Op.TheVariants.{Pass, Member, Corrupt}
-use Rattle.ring_model.specs.declared.events.Reply.{Reply}
-use Rattle.ring_model.specs.declared.events.Reply.TheVariants.{Granted, NotPrivileged, Corrupted}
 use Rattle.ring_check.specs.Table.{event_of}
 use Rattle.ring_check.specs.Legal.{history}
-use Rattle.one_thread_ring.specs.SavedOf.{saved_for, saved_event}
+use Rattle.one_thread_ring.specs.SavedOf.{saved_event}
 use Rattle.journal.specs.Spelling.{Journal, JournalFits, journal_text, journal_line, call_line, journal_head}
 use Rattle.journal.specs.declared.calls.JournalLine.{JournalLine}
 use Rattle.journal.specs.ContentAfter.{content_after}
@@ -32,19 +28,9 @@ use Rattle.one_thread_ring.proofs.Saved.{ring_right}
 use Rattle.endless_ring.proofs.Segments.{few}
 use Rattle.endless_ring.specs.Files.{FilesView, PlaceView, IsFiled, IsFileText, head_at, file_with}
 use Rattle.endless_ring.specs.FileLaws.{FilesAreWhole, FilesFollow}
+use Rattle.one_thread_ring.proofs.WrittenBlocks.{line_tells}
 
 -- ---- lines record their events
-
-line_tells : (a b : State ℕ) (seat : ℕ) (o : Op) (r : Reply) → StepOf till a o r b → event_of (saved_for seat o r) ≡ record { seat = seat; op = o; reply = r }
-line_tells a b seat (Pass i order) (Granted number result) h = refl
-line_tells a b seat (Pass i order) NotPrivileged h = refl
-line_tells a b seat (Pass i order) (Corrupted old) h = absurd h
-line_tells a b seat (Member i order left) (Granted number result) h = refl
-line_tells a b seat (Member i order left) NotPrivileged h = absurd h
-line_tells a b seat (Member i order left) (Corrupted old) h = absurd h
-line_tells a b seat (Corrupt i v) (Granted number result) h = absurd h
-line_tells a b seat (Corrupt i v) NotPrivileged h = absurd h
-line_tells a b seat (Corrupt i v) (Corrupted old) h = refl
 
 pub lines_tell : (a : State ℕ) (h : List Event) → IsLegal till a h → map event_of (map saved_event h) ≡ h
 lines_tell a [] l = refl

@@ -102,7 +102,7 @@ next_is b d c e q f a = record { base = q; start = f.0; history = f.2; clients =
 
 -- ---- a call
 
-grant_small : (a : State ℕ) (o : Op) (r : Reply) (t : State ℕ) (m : ℕ) → StepOf till a o r t → a.grants + 1 ≤ m → m ≤ event_limit → IsInSegment r
+pub grant_small : (a : State ℕ) (o : Op) (r : Reply) (t : State ℕ) (m : ℕ) → StepOf till a o r t → a.grants + 1 ≤ m → m ≤ event_limit → IsInSegment r
 grant_small a (Pass i order) (Granted number result) t m h le most = omega (arith, h.2)
 grant_small a (Pass i order) NotPrivileged t m h le most = tt
 grant_small a (Pass i order) (Corrupted old) t m h le most = absurd h

@@ -1,6 +1,6 @@
 -- A lock continues over the next segment of its ring.
-use Rattle.std.proofs.Common.{◌≡◌, ℕ, zero, suc, ◌+◌, ◌<◌, ◌≤◌, Bool, true, false, List, [], ◌∷◌, ◌++◌, map, length, take, get_or, refl, sym, ◌∙◌, ap, subst, inl, arith, Option, Some, None}
-use Rattle.std.specs.Prelude.{◌==◌, if◌then◌else◌, slice_get, option_map}
+use Rattle.std.proofs.Common.{◌≡◌, ℕ, zero, suc, ◌+◌, ◌<◌, ◌≤◌, List, [], ◌∷◌, ◌++◌, map, length, take, get_or, refl, sym, ◌∙◌, ap, subst, inl, arith, Option, Some, None}
+use Rattle.std.specs.Prelude.{if◌then◌else◌, slice_get, option_map}
 use Rattle.std.proofs.lemmas.List.{take_more, map-append}
 use Rattle.std.proofs.lemmas.Option.{slice_get-map, slice_get_read}
 use Rattle.ring_model.specs.Ring.{Ring}
@@ -60,13 +60,6 @@ next_kept old new k j n = record { endless = j; seats = n.clients.0 ∙ k.seats 
 
 pub carried_one : (old new : EndlessView) (token other : ℕ) (r : Receipt) → other ≡ other_machine (state_of old) → IsCalled old new 3 (op.Pass other token) r → AreMade old (map Call (carried (state_of old) (Some token))) new
 carried_one old new token other r e c = subst (λ (m : ℕ). AreMade old (Call (called (state_of old) 3 (op.Pass m token)) ∷ []) new) e (called_makes old new 3 (op.Pass other token) r c)
-
-pub other_in : (p n : ℕ) → 2 ≤ n → (if p == 0 then 1 else 0) < n
-other_in p n l = go (p == 0)
-  where
-    go : (b : Bool) → (if b then 1 else 0) < n
-    go true = omega (arith, l)
-    go false = omega (arith, l)
 
 -- the next ring, of its parts
 pub next_of : (v : LockView) (empty reserved next : EndlessView) → IsKeptLock v → IsKeptRing empty → IsNextRing v.ring empty → IsSameEndless empty reserved → AreMade reserved (map Call (carried (state_of reserved) (token_of v.holder))) next →

@@ -6,12 +6,8 @@ use Rattle.std.proofs.lemmas.List.{append-nil, drop-map, map-append, take_more, 
 use Rattle.std.proofs.lemmas.Option.{slice_get-get_or}
 use Rattle.std.proofs.lemmas.List.Elements.{All-cons, All-take, All-drop}
 use Rattle.ring_model.specs.Limits.{event_limit}
-use Rattle.ring_model.specs.History.{State, StepOf, next, opening, after, IsLegal}
+use Rattle.ring_model.specs.History.{State, next, opening, after, IsLegal}
 use Rattle.ring_model.specs.Resources.{till}
-use Rattle.ring_model.specs.declared.events.Op.{Op}
-use Rattle.ring_model.specs.declared.events.Op.TheVariants.{Pass, Member, Corrupt}
-use Rattle.ring_model.specs.declared.events.Reply.{Reply}
-use Rattle.ring_model.specs.declared.events.Reply.TheVariants.{Granted, NotPrivileged, Corrupted}
 use Rattle.ring_model.specs.declared.events.Event.{Event}
 use Rattle.ring_model.specs.declared.events.Survey.{Survey as SurveyOf}
 use Rattle.ring_model.specs.declared.events.Entry.{Entry}
@@ -30,6 +26,7 @@ use Rattle.held_locks.specs.Promises.{marks_of, events_of, open_behind, open_aft
 use Rattle.held_locks.specs.Kept.{state_of, IsKeptRing}
 use Rattle.held_locks.specs.Opened.{events_in, last_survey, log_of, later, ended_before, open_in, holder_after, last_end, HoldsAreFound, RestartsAreRight}
 use Rattle.held_locks.proofs.Shown.{open_append, segments_recover}
+use Rattle.endless_ring.proofs.Segments.{grant_small}
 
 -- ---- the last survey of a client
 
@@ -78,17 +75,6 @@ none_is h c ss is none = sym (last_of h c.number 0 0 c.surveys ∙ ap (λ (x : L
     go (x ∷ xs) e = absurd (omega (arith, e))
 
 -- ---- the numbers of a segment
-
-grant_small : (a : State ℕ) (o : Op) (r : Reply) (t : State ℕ) (m : ℕ) → StepOf till a o r t → a.grants + 1 ≤ m → m ≤ event_limit → IsInSegment r
-grant_small a (Pass i order) (Granted number result) t m h le most = omega (arith, h.2)
-grant_small a (Pass i order) NotPrivileged t m h le most = tt
-grant_small a (Pass i order) (Corrupted old) t m h le most = absurd h
-grant_small a (Member i order left) (Granted number result) t m h le most = omega (arith, h.2)
-grant_small a (Member i order left) NotPrivileged t m h le most = absurd h
-grant_small a (Member i order left) (Corrupted old) t m h le most = absurd h
-grant_small a (Corrupt i v) (Granted number result) t m h le most = absurd h
-grant_small a (Corrupt i v) NotPrivileged t m h le most = absurd h
-grant_small a (Corrupt i v) (Corrupted old) t m h le most = tt
 
 small_from : (a : State ℕ) (h : List Event) → IsLegal till a h → a.grants + length h ≤ event_limit → All (λ (e : Event). IsInSegment e.reply) h
 small_from a [] l few = λ k d m. absurd (omega arith)

@@ -59,7 +59,7 @@ grant_good a order h =
 
 -- ---- what is carried
 
-other_below : (p n : ℕ) → 2 ≤ n → (if p == 0 then 1 else 0) < n
+pub other_below : (p n : ℕ) → 2 ≤ n → (if p == 0 then 1 else 0) < n
 other_below p n l = go (p == 0)
   where
     go : (b : Bool) → (if b then 1 else 0) < n

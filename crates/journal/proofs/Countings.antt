@@ -18,7 +18,7 @@ count bs = length (flat_map block_lines bs)
 one_block : (b : Block) (bs : List Block) → count (b ∷ bs) ≡ length (block_lines b) + count bs
 one_block b bs = length-append (block_lines b) (flat_map block_lines bs)
 
-one_call : (b : Block) (call : Call) → length (block_lines (with_call b call)) ≡ length (block_lines b) + 1
+pub one_call : (b : Block) (call : Call) → length (block_lines (with_call b call)) ≡ length (block_lines b) + 1
 one_call b (Event e) =
     let long = block_long b in
     let more = block_long (with_call b (Event e)) in
@@ -50,7 +50,7 @@ calls_few bs (r ∷ rs) =
     let more = calls_few (with_call_at bs r.ring r.call) rs in
     omega arith
 
-ordered : (b : Block) → length (block_lines (in_order b)) ≡ length (block_lines b)
+pub ordered : (b : Block) → length (block_lines (in_order b)) ≡ length (block_lines b)
 ordered b =
     let long = block_long b in
     let same = block_long (in_order b) in

@@ -4,12 +4,8 @@ use Rattle.std.specs.Prelude.{option_map}
 use Rattle.std.specs.List.{All, AllByRecursion, filter}
 use Rattle.std.proofs.lemmas.List.{append-nil, map-append}
 use Rattle.ring_model.specs.Ring.{Ring, is_settled}
-use Rattle.ring_model.specs.History.{State, StepOf, next, after, opening, IsLegal}
+use Rattle.ring_model.specs.History.{State, next, after, opening, IsLegal}
 use Rattle.ring_model.specs.Resources.{till, add_order}
-use Rattle.ring_model.specs.declared.events.Op.{Op}
-use Rattle.ring_model.specs.declared.events.Op.TheVariants.{Pass, Member, Corrupt}
-use Rattle.ring_model.specs.declared.events.Reply.{Reply}
-use Rattle.ring_model.specs.declared.events.Reply.TheVariants.{Granted, NotPrivileged, Corrupted}
 use Rattle.ring_model.specs.declared.events.Event.{Event}
 use Rattle.ring_model.specs.declared.events.Entry.{Entry}
 use Rattle.ring_model.specs.declared.events.Entry.TheVariants as entry
@@ -22,7 +18,7 @@ use Rattle.saved_history.specs.Versions.{latest_version}
 use Rattle.ring_model.specs.Limits.{seat_limit}
 use Rattle.one_thread_ring.specs.Resuming.{CanGoOnWith}
 use Rattle.ring_service.proofs.Legality.{right_block}
-use Rattle.one_thread_ring.specs.SavedOf.{saved_for, saved_event, entry_surveys}
+use Rattle.one_thread_ring.specs.SavedOf.{saved_event, entry_surveys}
 use Rattle.journal.specs.ContentAfter.{is_of}
 use Rattle.journal.specs.Spelling.{journal_head}
 use Rattle.journal.specs.Recovery.{IsRecovered}
@@ -55,20 +51,9 @@ use Rattle.lock_service.proofs.Following.{Follows, some_is, none_is, also_there,
 use Rattle.lock_service.proofs.LockLines.{IsNotedSo}
 use Rattle.lock_service.proofs.Longer.{noted_lines}
 use Rattle.lock_service.proofs.Recovering.{rings_many, ring_at, begun_right, begun_few, followed_begun, kept_bounded, recovered_of}
+use Rattle.one_thread_ring.proofs.WrittenBlocks.{line_tells as event_back}
 
 -- ---- a saved block gives its ring back
-
--- an event that is a step is described by its line
-event_back : (a b : State ℕ) (seat : ℕ) (o : Op) (r : Reply) → StepOf till a o r b → event_of (saved_for seat o r) ≡ record { seat = seat; op = o; reply = r }
-event_back a b seat (Pass i order) (Granted number result) h = refl
-event_back a b seat (Pass i order) NotPrivileged h = refl
-event_back a b seat (Pass i order) (Corrupted old) h = absurd h
-event_back a b seat (Member i order left) (Granted number result) h = refl
-event_back a b seat (Member i order left) NotPrivileged h = absurd h
-event_back a b seat (Member i order left) (Corrupted old) h = absurd h
-event_back a b seat (Corrupt i v) (Granted number result) h = absurd h
-event_back a b seat (Corrupt i v) NotPrivileged h = absurd h
-event_back a b seat (Corrupt i v) (Corrupted old) h = refl
 
 pub events_back : (a : State ℕ) (h : List Event) → IsLegal till a h → map event_of (map saved_event h) ≡ h
 events_back a [] l = refl

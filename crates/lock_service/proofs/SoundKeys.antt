@@ -1,5 +1,5 @@
 -- What a replica keeps can be written as lines, whatever was asked.
-use Rattle.std.proofs.Common.{◌≡◌, ℕ, suc, ◌+◌, ◌<◌, ◌≤◌, ◌^◌, Bool, true, false, cond, eqb, List, [], ◌∷◌, ◌++◌, length, take, Option, Some, None, Result, Ok, Err, inl, inr, ◌⊎◌, refl, ap, sym, subst, ◌∙◌, append_assoc, append-nil, length-append, arith}
+use Rattle.std.proofs.Common.{◌≡◌, ℕ, ◌+◌, ◌<◌, ◌≤◌, ◌^◌, Bool, true, false, cond, eqb, List, [], ◌∷◌, ◌++◌, length, take, Option, Some, None, Result, Ok, Err, inl, inr, ◌⊎◌, refl, ap, sym, subst, ◌∙◌, append_assoc, append-nil, length-append, arith}
 use Rattle.std.specs.Prelude.{codes}
 use Rattle.std.specs.List.{AllByRecursion}
 use Rattle.std.specs.declared.cmp.Ordering.{Ordering}
@@ -8,11 +8,9 @@ use Rattle.std.specs.Ordering.{nat_cmp, match_ordering}
 use Rattle.std.specs.Cmp.{ranked}
 use Rattle.std.specs.BTreeMap.{insert_entry, is_at}
 use Rattle.std.specs.Map.{remove_entry}
-use Rattle.std.proofs.lemmas.Bool.{eqb-true, true≢false}
+use Rattle.std.proofs.lemmas.Bool.{true≢false}
 use Rattle.disks.specs.Held.{Held}
 use Rattle.text_lines.specs.declared.fault.Fault.{Fault}
-use Rattle.text_lines.specs.declared.fault.Fault.TheVariants.{Bad}
-use Rattle.text_lines.proofs.Basics.{chosen, ok_is}
 use Rattle.lock_lines.proofs.Fronts.{some_is}
 use Rattle.text_lines.specs.Spelling.{spaced}
 use Rattle.text_lines.specs.Reading.{word_at}
@@ -33,6 +31,7 @@ use Rattle.lock_service.proofs.KeyLines.{spaced_short, first_digits}
 use Rattle.lock_service.proofs.LineParts.{line_after, line_rest, spaced_ends, digits_end}
 use Rattle.lock_service.proofs.Heard.{IsOfKey, IsReadSo, read_so}
 use Rattle.lock_service.proofs.Digests.{digest_of_fits, no_digest_fits}
+use Rattle.text_lines.proofs.Spellings.{word_is}
 
 pub fresh_is_sound : {S : Type 0} (A : AnsweringWith S) → FreshIsSound A
 fresh_is_sound A r fresh = record {
@@ -131,16 +130,6 @@ answer_kept k n few small (b ∷ bs) is short = record {
 pub own_kept : (k n : ℕ) → k < 2 ^ 64 → n < 2 ^ 64 → (told : Bool) (first : List ℕ) → IsFirst first → length first + 46 ≤ line_limit → IsKept (k, record { number = n; first = cond told first [] })
 own_kept k n few small true first is short = answer_kept k n few small first is short
 own_kept k n few small false first is short = none_kept k n few small
-
-word_is : (word bytes rest : List ℕ) → word_at word bytes ≡ Ok rest → bytes ≡ word ++ rest
-unfolding word_at
-word_is [] bytes rest e = ok_is bytes rest e
-word_is (c ∷ cs) [] rest e = absurd cc
-word_is (c ∷ cs) (b ∷ bs) rest e =
-    elim (chosen (eqb b c) (word_at cs bs) (Err (Bad (suc (length bs)))) (Ok rest) e) [
-      | inl h ↦ λ i. eqb-true b c h.0 i ∷ word_is cs bs rest h.1 i
-      | inr h ↦ absurd cc
-    ]
 
 pub did_is : (rest text : List ℕ) → did_at rest ≡ Some text → rest ≡ codes "did " ++ text
 unfolding did_at

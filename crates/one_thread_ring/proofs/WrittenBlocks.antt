@@ -31,7 +31,7 @@ use Rattle.one_thread_ring.specs.Runs.{IsRightRun}
 use Rattle.ring_check.proofs.Meanings.{to_order}
 
 -- an event that is a step is described by its line
-line_tells : (a b : State ℕ) (seat : ℕ) (o : Op) (r : Reply) → StepOf till a o r b → event_of (saved_for seat o r) ≡ record { seat = seat; op = o; reply = r }
+pub line_tells : (a b : State ℕ) (seat : ℕ) (o : Op) (r : Reply) → StepOf till a o r b → event_of (saved_for seat o r) ≡ record { seat = seat; op = o; reply = r }
 line_tells a b seat (Pass i order) (Granted number result) h = refl
 line_tells a b seat (Pass i order) NotPrivileged h = refl
 line_tells a b seat (Pass i order) (Corrupted old) h = absurd h

@@ -21,7 +21,7 @@ use Rattle.ring_check.specs.Members.{may_come}
 use Rattle.ring_check.specs.Table.{event_of, first_state, same_reply, is_replied, op_in_range, in_range, event_fault}
 use Rattle.ring_check.proofs.Booleans.{both, joined, same, below, eq_true, lt_true}
 
-same_is : (r q : Reply) → same_reply r q ≡ true → r ≡ q
+pub same_is : (r q : Reply) → same_reply r q ≡ true → r ≡ q
 same_is (Granted a b) (Granted c d) e = let p = both (eqb a c) (eqb b d) e in let x : a ≡ c = same a c p.0 in let y : b ≡ d = same b d p.1 in rw (x, y) refl
 same_is (Granted a b) NotPrivileged e = absurd (cc)
 same_is (Granted a b) (Corrupted d) e = absurd (cc)

@@ -5,22 +5,20 @@ use Rattle.std.proofs.Math.ListN.{get_or-map}
 use Rattle.std.proofs.lemmas.List.{append-nil, take_more, take-append-drop, length-map}
 use Rattle.std.proofs.lemmas.List.Concat.{flat_map-append}
 use Rattle.std.proofs.lemmas.List.Sums.{count_by-le-length}
-use Rattle.ring_model.specs.Limits.{seat_limit}
 use Rattle.saved_history.specs.declared.saved.SavedRing.{SavedRing}
 use Rattle.saved_history.specs.Content.{Block, Content, block_of}
 use Rattle.ring_check.specs.Lines.{block_lines, lines}
 use Rattle.ring_check.proofs.Blocks.{block_long}
 use Rattle.ring_check.proofs.BlockLines.{lines_long}
 use Rattle.journal.specs.declared.calls.Call.{Call}
-use Rattle.journal.specs.declared.calls.Call.TheVariants.{Event, Survey}
 use Rattle.journal.specs.declared.calls.JournalLine.{JournalLine}
 use Rattle.journal.specs.Spelling.{JournalLineFits, journal_text}
 use Rattle.journal.specs.ContentAfter.{are_open, whole, with_call, with_call_at, with_calls, in_order, content_after}
 use Rattle.journal.specs.Recovery.{IsRecovered}
-use Rattle.journal.proofs.Seatings.{length-by_seats}
 use Rattle.segment_files.specs.Remarks.{IsEnded}
 use Rattle.segment_files.specs.Files.{IsAllOf}
 use Rattle.segment_files.proofs.LineCounts.{ends, ends_are, ends-append, journal_ends, journal_ended, none_follows}
+use Rattle.journal.proofs.Countings.{ordered, one_call}
 
 abbrev count : List Block → ℕ
 count bs = length (flat_map block_lines bs)
@@ -29,16 +27,6 @@ one_block : (b : Block) (bs : List Block) → count (b ∷ bs) ≡ length (block
 one_block b bs = length-append (block_lines b) (flat_map block_lines bs)
 
 one_call : (b : Block) (call : Call) → length (block_lines (with_call b call)) ≡ length (block_lines b) + 1
-one_call b (Event e) =
-    let long = block_long b in
-    let more = block_long (with_call b (Event e)) in
-    let events = length-append b.events (e ∷ []) in
-    omega arith
-one_call b (Survey s) =
-    let long = block_long b in
-    let more = block_long (with_call b (Survey s)) in
-    let surveys = length-append b.surveys (s ∷ []) in
-    omega arith
 
 call_at : (bs : List Block) (ring : ℕ) (call : Call) → ring < length bs → (count (with_call_at bs ring call) ≡ count bs + 1) × (length (with_call_at bs ring call) ≡ length bs)
 call_at [] ring call lt = absurd (omega (arith, lt))
@@ -63,13 +51,6 @@ calls_many bs (r ∷ rs) f =
     let one = call_at bs r.ring r.call f.0 in
     let o = one.0 in
     let more = calls_many (with_call_at bs r.ring r.call) rs (subst (λ (n : ℕ). AreWithin n rs) (sym one.1) f.1) in
-    omega arith
-
-ordered : (b : Block) → length (block_lines (in_order b)) ≡ length (block_lines b)
-ordered b =
-    let long = block_long b in
-    let same = block_long (in_order b) in
-    let surveys = length-by_seats seat_limit 0 b.surveys in
     omega arith
 
 all_ordered : (bs : List Block) → count (map in_order bs) ≡ count bs

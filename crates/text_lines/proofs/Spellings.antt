@@ -46,7 +46,7 @@ module _ {A B C D : Type 0} {h : A → B} {F : A → Type 0} {s : A → List ℕ
   pub both_hear : Hears (λ (a : A × C). (h a.0, k a.1)) (λ a. F a.0 × G a.1) (λ a. s a.0 ++ t a.1) (then_at at (λ _. also))
   both_hear = record { takes = both_takes; again = both_again }
 
-word_is : (word bytes rest : List ℕ) → word_at word bytes ≡ Ok rest → bytes ≡ word ++ rest
+pub word_is : (word bytes rest : List ℕ) → word_at word bytes ≡ Ok rest → bytes ≡ word ++ rest
 unfolding word_at
 word_is [] bytes rest e = ok_is bytes rest e
 word_is (c ∷ cs) [] rest e = absurd cc

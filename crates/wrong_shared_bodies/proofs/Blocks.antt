@@ -1,13 +1,12 @@
 -- Spoiled answers of a group.
-use Rattle.std.proofs.Common.{◌≡◌, ℕ, zero, suc, ◌+◌, ◌-◌, ◌<◌, ◌≤◌, List, [], ◌∷◌, ◌++◌, length, take, ap, sym, ◌∙◌, subst, arith, length-append}
+use Rattle.std.proofs.Common.{◌≡◌, ℕ, suc, ◌+◌, ◌-◌, ◌<◌, ◌≤◌, List, [], ◌∷◌, ◌++◌, length, take, ap, sym, ◌∙◌, subst, arith, length-append}
 use Rattle.ring_model.specs.History.{Works, State}
-use Rattle.ring_model.specs.Groups.{Rises, AreMembers, IsHistory, move_order, left_of, left_after}
-use Rattle.ring_model.specs.declared.events.Op.{Op}
+use Rattle.ring_model.specs.Groups.{Rises, AreMembers, IsHistory, move_order, left_after}
 use Rattle.ring_model.specs.declared.events.Op.TheVariants.{Member}
 use Rattle.ring_model.specs.declared.events.Event.{Event}
 use Rattle.ring_model.specs.declared.events.Entry.{Entry}
 use Rattle.ring_model.proofs.Orders.{move_order_law}
-use Rattle.ring_model.proofs.Wholes.{members_length, left_rest, whole_left}
+use Rattle.ring_model.proofs.Wholes.{members_length, left_rest, whole_left, members_left as open_front}
 use Rattle.ring_book.specs.declared.books.groups.GroupReceipt.{GroupReceipt}
 use Rattle.ring_shared.specs.Client.{Client, IsUnchanged}
 use Rattle.ring_shared.specs.Groups.{IsGroupLogged}
@@ -67,18 +66,6 @@ log_grown n before after order machines r a same =
     let some : 1 ≤ length a.events = omega (arith, a.block.in_order.some, members_length before.number order (move_order machines) a.events a.block.members) in
     let logged : 1 ≤ length (receipts_from r.first a.events) = receipts_some r.first a.events some in
     omega (arith, ap (λ (x : List Entry). length x) a.logged, length-append before.log (receipts_from r.first a.events), ap (λ (x : List Entry). length x) same.log)
-
--- a prefix of a block that lacks a member leaves some
-open_front : (seat order : ℕ) (ms : List ℕ) (es : List Event) (k : ℕ) → AreMembers seat order ms es → 1 ≤ k → k ≤ length ms → left_after (take k es) + k ≡ length ms
-open_front seat order [] es k m one le = absurd (omega arith)
-open_front seat order (i ∷ ms) [] k m one le = absurd m
-open_front seat order (i ∷ ms) (e ∷ es) zero m one le = absurd (omega arith)
-open_front seat order (i ∷ ms) (e ∷ es) (suc zero) m one le = let q : left_of e.op ≡ length ms = ap (λ (o : Op). left_of o) m.1 in omega arith
-open_front seat order (i ∷ []) (e ∷ es) (suc (suc k)) m one le = absurd (omega arith)
-open_front seat order (i ∷ j ∷ ms) (e ∷ []) (suc (suc k)) m one le = absurd m.2
-open_front seat order (i ∷ j ∷ ms) (e ∷ d ∷ es) (suc (suc k)) m one le =
-    let ih : left_after (take (suc k) (d ∷ es)) + suc k ≡ length (j ∷ ms) = open_front seat order (j ∷ ms) (d ∷ es) (suc k) m.2 (omega arith) (omega arith) in
-    omega arith
 
 -- a prefix of the seen events with just one member after it is not a history
 take_part : (past events : List Event) (k : ℕ) → take (length past + k) (past ++ events) ≡ past ++ take k events
