@@ -105,6 +105,16 @@ abbrev pub IsTaken : Bool → List ℕ → List ℕ → (List ℕ → Type 0) �
 IsTaken over unread left serves =
     (taken : List ℕ) × (unread ≡ taken ++ left) × (over ≡ false → left ≡ []) × serves taken
 
+-- A block was served up to the line after which it is over, or all of it; or of some of it lines
+-- were answered. So it is after whatever was served before.
+abbrev pub ServesBlock : {E S : Type 0} → Result Bool E → Answering S → S → S → List ℕ → List ℕ
+    → List ℕ → List ℕ → Written → Written → Type 0
+ServesBlock {E} {S} result A was is unread left line kept before after =
+    (old : S) (first : Written) (bytes : List ℕ) → Rests A old first before bytes was line
+    → MatchResult result
+    (λ over. IsTaken over unread left (λ taken. Rests A old first after (bytes ++ taken) is kept))
+    (λ _. Stops A old first after (bytes ++ unread) is)
+
 -- a part that ended since the next block was read has read a byte at least
 abbrev pub HasRead : Ending → List ℕ → Type 0
 HasRead ending.Block read = 1 ≤ length read
@@ -136,6 +146,14 @@ ServesSomeOf A old new begun unread input rest before after =
     (read : List ℕ)
     × Consumes input rest read
     × Stops A old before after (begun ++ (unread ++ read)) new
+
+-- the part was served, or of it some lines were answered
+abbrev pub ServesIn : {E S : Type 0} → Result Ending E → Answering S → S → S → List ℕ → List ℕ
+    → List ℕ → List ℕ → Option (List ℕ) → Option (List ℕ) → Written → Written → Type 0
+ServesIn result A old new begun unread left line input rest before after =
+    MatchResult result
+    (λ end. ServesPart end A old new begun unread left line input rest before after)
+    (λ _. ServesSomeOf A old new begun unread input rest before after)
 
 -- `TooLong` is only reported of an input of 2^64 - 1 bytes or more
 abbrev pub IsPartFault : LoopFault → Option (List ℕ) → Option (List ℕ) → Type 0

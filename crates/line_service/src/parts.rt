@@ -3,7 +3,7 @@
 ghost use Rattle.std.specs.Prelude.{◌≡◌, ◌≢◌, ℕ, List, [], ◌++◌, false, OnOk, OnErr, IfOk, IfErr, MatchResult, is_some};
 ghost use Rattle.line_service.specs.declared.faults.LoopFault.TheVariants as fault;
 ghost use Rattle.line_service.specs.Answering.{HasLineBegun};
-ghost use Rattle.line_service.specs.Loop.{Written, Rests, Stops, IsTaken, ServesPart, IsEnding, ServesSomeOf, written_by, AllLasts, IsPartFault, written_to};
+ghost use Rattle.line_service.specs.Loop.{ServesPart, IsEnding, ServesSomeOf, ServesBlock, ServesIn, written_by, AllLasts, IsPartFault, written_to};
 ghost use Rattle.line_service.specs.Stands.{Stand, by_stand, stand};
 
 use crate::answering::AnswersLines;
@@ -33,24 +33,16 @@ fn serve_block<S: AnswersLines, D: Disk, J: Grow, W: Write>(
     ensures kept { is_some journal.new ≡ is_some journal.old }
     ensures left { OnOk result ((pending.new.answers.items ≡ []) × (pending.new.notes.items ≡ [])) }
     ensures over { IfOk result (λ over. over ≡ S.is_over service.new) }
-    ensures serves { (old : Stand S) (before : Written) (bytes : List ℕ)
-        → Rests (by_stand S.is_answered) old before
-        (written_to J.contents W.contents journal.old out.old) bytes
-        (stand service.old (D.holds disk.old)) line.old.items
-        → MatchResult result (λ over. IsTaken over unread.old unread.new (λ taken. Rests
-        (by_stand S.is_answered) old before (written_to J.contents W.contents journal.new out.new)
-        (bytes ++ taken) (stand service.new (D.holds disk.new)) line.new.items)) (λ _. Stops
-        (by_stand S.is_answered) old before (written_to J.contents W.contents journal.new out.new)
-        (bytes ++ unread.old) (stand service.new (D.holds disk.new))) }
-    ensures lasts { (old : Stand S) (before : Written) (bytes : List ℕ)
-        → Rests (by_stand S.is_answered) old before
-        (written_to J.lasting W.contents journal.old out.old) bytes
-        (stand service.old (D.holds disk.old)) line.old.items
-        → MatchResult result (λ over. IsTaken over unread.old unread.new (λ taken. Rests
-        (by_stand S.is_answered) old before (written_to J.lasting W.contents journal.new out.new)
-        (bytes ++ taken) (stand service.new (D.holds disk.new)) line.new.items)) (λ _. Stops
-        (by_stand S.is_answered) old before (written_to J.lasting W.contents journal.new out.new)
-        (bytes ++ unread.old) (stand service.new (D.holds disk.new))) }
+    ensures serves { ServesBlock result (by_stand S.is_answered)
+        (stand service.old (D.holds disk.old)) (stand service.new (D.holds disk.new)) unread.old
+        unread.new line.old.items line.new.items
+        (written_to J.contents W.contents journal.old out.old)
+        (written_to J.contents W.contents journal.new out.new) }
+    ensures lasts { ServesBlock result (by_stand S.is_answered)
+        (stand service.old (D.holds disk.old)) (stand service.new (D.holds disk.new)) unread.old
+        unread.new line.old.items line.new.items
+        (written_to J.lasting W.contents journal.old out.old)
+        (written_to J.lasting W.contents journal.new out.new) }
     ensures whole { OnOk result
         (AllLasts (written_by J.contents journal.old) (written_by J.lasting journal.old)
         → AllLasts (written_by J.contents journal.new) (written_by J.lasting journal.new)) }
@@ -112,15 +104,11 @@ pub fn serve_part<S: AnswersLines, D: Disk, I: Read, J: Grow, W: Write>(
 
     // The same of the bytes that last: whenever the power or the process ends, the journal has the notes of each delivered line.
     ensures lasts { (begun : List ℕ) → HasLineBegun begun line.old.items
-        → MatchResult result (λ ending. ServesPart ending (by_stand S.is_answered)
-        (stand service.old (D.holds disk.old)) (stand service.new (D.holds disk.new)) begun
-        unread.old unread.new line.new.items (I.remaining input.old) (I.remaining input.new)
+        → ServesIn result (by_stand S.is_answered) (stand service.old (D.holds disk.old))
+        (stand service.new (D.holds disk.new)) begun unread.old unread.new line.new.items
+        (I.remaining input.old) (I.remaining input.new)
         (written_to J.lasting W.contents journal.old out.old)
-        (written_to J.lasting W.contents journal.new out.new)) (λ _. ServesSomeOf
-        (by_stand S.is_answered) (stand service.old (D.holds disk.old))
-        (stand service.new (D.holds disk.new)) begun unread.old (I.remaining input.old)
-        (I.remaining input.new) (written_to J.lasting W.contents journal.old out.old)
-        (written_to J.lasting W.contents journal.new out.new)) }
+        (written_to J.lasting W.contents journal.new out.new) }
     ensures whole { OnOk result
         (AllLasts (written_by J.contents journal.old) (written_by J.lasting journal.old)
         → AllLasts (written_by J.contents journal.new) (written_by J.lasting journal.new)) }
