@@ -82,11 +82,11 @@ fn acquire_in(
     grants: &mut Vec<Grant>,
     client: u64,
     lock: u32,
-    order: u64,
+    label: u64,
 ) -> Option<Answers>
     requires { length locks.old < vec_capacity grants.old }
     ensures asked { IsAsked (record { locks = locks.old; grants = grants.old.items })
-        (record { locks = locks.new; grants = grants.new.items }) client lock (Acquire order)
+        (record { locks = locks.new; grants = grants.new.items }) client lock (Acquire label)
         result }
     ensures capacity { vec_capacity grants.new ≡ vec_capacity grants.old }
     ensures many { length locks.new ≡ length locks.old }
@@ -94,7 +94,7 @@ fn acquire_in(
     if !grants.is_empty() {
         return None;
     }
-    let answers = locks.acquire(client, lock, order);
+    let answers = locks.acquire(client, lock, label);
     put(grants, lock, answers.granted);
     Some(answers)
 }
@@ -106,18 +106,18 @@ fn try_in(
     grants: &mut Vec<Grant>,
     client: u64,
     lock: u32,
-    order: u64,
+    label: u64,
 ) -> Option<Answers>
     requires { length locks.old < vec_capacity grants.old }
     ensures asked { IsAsked (record { locks = locks.old; grants = grants.old.items })
-        (record { locks = locks.new; grants = grants.new.items }) client lock (Try order) result }
+        (record { locks = locks.new; grants = grants.new.items }) client lock (Try label) result }
     ensures capacity { vec_capacity grants.new ≡ vec_capacity grants.old }
     ensures many { length locks.new ≡ length locks.old }
 {
     if !grants.is_empty() {
         return None;
     }
-    let answers = locks.try_acquire(client, lock, order);
+    let answers = locks.try_acquire(client, lock, label);
     put(grants, lock, answers.granted);
     Some(answers)
 }
@@ -222,17 +222,17 @@ impl LockDesk {
 
     /// A client acquires a lock, if no grants are left.
     #[inline(always)]
-    pub fn acquire(&mut self, client: u64, lock: u32, order: u64) -> Option<Answers>
-        ensures { IsAsked self.old self.new client lock (Acquire order) result }
+    pub fn acquire(&mut self, client: u64, lock: u32, label: u64) -> Option<Answers>
+        ensures { IsAsked self.old self.new client lock (Acquire label) result }
     {
-        acquire_in(&mut self.locks, &mut self.grants, client, lock, order)
+        acquire_in(&mut self.locks, &mut self.grants, client, lock, label)
     }
 
     /// The same, but it does not wait.
-    pub fn try_acquire(&mut self, client: u64, lock: u32, order: u64) -> Option<Answers>
-        ensures { IsAsked self.old self.new client lock (Try order) result }
+    pub fn try_acquire(&mut self, client: u64, lock: u32, label: u64) -> Option<Answers>
+        ensures { IsAsked self.old self.new client lock (Try label) result }
     {
-        try_in(&mut self.locks, &mut self.grants, client, lock, order)
+        try_in(&mut self.locks, &mut self.grants, client, lock, label)
     }
 
     /// A client releases a lock.

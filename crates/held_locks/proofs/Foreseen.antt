@@ -68,7 +68,7 @@ nears_advanced : (l : Lock) (front : List Waiter) (w : Waiter) (back : List Wait
     Nears l (advanced l.ring (front ++ w ∷ back)).lock front w (told ++ (advanced l.ring (front ++ w ∷ back)).answers) false
 nears_advanced l [] w back told none r = Its (record { client = w.client; token = l.ring.grants + 1 }) (none (granted l.ring back w).answers) refl refl refl
 nears_advanced l (f ∷ front) w back told none r =
-    Serves (record { client = f.client; token = l.ring.grants + 1 }) f front back (none (granted l.ring (front ++ w ∷ back) f).answers) refl (grant_grants l.ring f.order r.ring) refl refl refl
+    Serves (record { client = f.client; token = l.ring.grants + 1 }) f front back (none (granted l.ring (front ++ w ∷ back) f).answers) refl (grant_grants l.ring f.label r.ring) refl refl refl
 
 nears_dropped : (l : Lock) (c : ℕ) (front : List Waiter) (w : Waiter) (back : List Waiter) (answers : List (ℕ × Answer)) → l.queue ≡ front ++ w ∷ back → AreApart front → c ≢ w.client → grants_in answers ≡ [] →
     Nears l (dropped l c answers).lock front w answers (stands c front)

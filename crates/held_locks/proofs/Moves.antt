@@ -18,7 +18,7 @@ is_grant (answer.Granted token) = true
 is_grant _ = false
 
 abbrev pub waiter : ℕ → ℕ → Waiter
-waiter c order = record { client = c; order = order }
+waiter c order = record { client = c; label = order }
 
 abbrev pub is_leave : Ask → Bool
 is_leave Leave = true

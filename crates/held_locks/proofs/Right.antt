@@ -39,7 +39,7 @@ good l r = record { ring = r.ring; settled = r.settled }
 
 right_granted : (a : State ℕ) (queue : List Waiter) (w : Waiter) → IsGood a → AreApart queue → IsRightLock (granted a queue w).lock
 right_granted a queue w g p =
-    let b = grant_good a w.order g in
+    let b = grant_good a w.label g in
     record { ring = b.ring; settled = b.settled; held = λ e. absurd (no_holder (record { client = w.client; token = a.grants + 1 }) e); apart = p }
 
 right_advanced : (a : State ℕ) (queue : List Waiter) → IsGood a → AreApart queue → IsRightLock (advanced a queue).lock

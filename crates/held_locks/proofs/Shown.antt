@@ -56,10 +56,10 @@ unchanged l m e f = record { legal = tt; ring = e; alternate = tt; open_hold = f
 -- a grant while no hold is open
 shown_granted : (a : State ℕ) (queue : List Waiter) (w : Waiter) → IsRing a.ring → IsShown (record { ring = a; queue = queue; holder = None }) (granted a queue w).lock (granted a queue w).marks
 shown_granted a queue w g = record {
-  legal = (grant_step a 0 w.order g, tt);
+  legal = (grant_step a 0 w.label g, tt);
   ring = refl;
-  alternate = ((λ e. (refl, ap (λ (x : Option ℕ). is_some x) (grant_number a w.order g))), (λ e. absurd (omega (arith, e))), tt);
-  open_hold = sym (grant_number a w.order g);
+  alternate = ((λ e. (refl, ap (λ (x : Option ℕ). is_some x) (grant_number a w.label g))), (λ e. absurd (omega (arith, e))), tt);
+  open_hold = sym (grant_number a w.label g);
 }
 
 shown_advanced : (a : State ℕ) (queue : List Waiter) → IsRing a.ring → IsShown (record { ring = a; queue = queue; holder = None }) (advanced a queue).lock (advanced a queue).marks

@@ -26,7 +26,7 @@ pub data Passes (l m : Lock) (faulty : Bool) (answers : List (ℕ × Answer)) : 
 
 passes_advanced : (l : Lock) (queue : List Waiter) (faulty : Bool) (front : List (ℕ × Answer)) → ((more : List (ℕ × Answer)) → grants_in (front ++ more) ≡ grants_in more) → IsRing l.ring.ring → Passes l (advanced l.ring queue).lock faulty (front ++ (advanced l.ring queue).answers)
 passes_advanced l [] faulty front none g = NoPass (none []) refl
-passes_advanced l (w ∷ queue) faulty front none g = OnePass w.client (none (granted l.ring queue w).answers) (grant_grants l.ring w.order g)
+passes_advanced l (w ∷ queue) faulty front none g = OnePass w.client (none (granted l.ring queue w).answers) (grant_grants l.ring w.label g)
 
 passes_move : (ls : List Lock) (at : ℕ) (l : Lock) (c : ℕ) (ask : Ask) (t : Turn) → IsRing l.ring.ring → Move ls l c ask t → Passes l t.lock (breaks at (Asked c at ask)) t.answers
 passes_move ls at l c ask t g (Stays a q leave e) = subst (λ (x : Turn). Passes l x.lock (breaks at (Asked c at ask)) x.answers) (sym e) (NoPass (no_grants c a q) refl)

@@ -68,12 +68,12 @@ taken items rest w others (Some x) e m = same x w rest others (sym m ∙ e)
 
 passed_is : (v : LockView) (ring : EndlessView) (queue : List Waiter) (w : Waiter) (others : List Waiter) (c token : ℕ) (own : Option Answer) (end : HoldEnd) → IsKeptLock (record { ring = ring; queue = queue; holder = Some (record { client = w.client; token = token }) }) →
     v.queue ≡ w ∷ others → queue ≡ others → end.survey ≡ local_survey v.ring.ring →
-    IsMade v.ring ring 0 (first_pass (state_of v.ring) w.order) → token ≡ (state_of v.ring).grants + 1 →
+    IsMade v.ring ring 0 (first_pass (state_of v.ring) w.label) → token ≡ (state_of v.ring).grants + 1 →
     IsTurned v (record { ring = ring; queue = queue; holder = Some (record { client = w.client; token = token }) }) c (ended (state_of v.ring) (w ∷ others) end.seat (own_answer c own))
     (record { own = own; ended = Some end; granted = Some (record { client = w.client; token = token }) })
 passed_is v ring queue w others c token own end k e f s m t = record {
-  lock = lock_is (state_of ring) (next till (state_of v.ring) (first_pass (state_of v.ring) w.order)) queue others (Some (record { client = w.client; token = token })) (Some (record { client = w.client; token = (state_of v.ring).grants + 1 }))
-      (made_state v.ring ring (Call (called (state_of v.ring) 0 (first_pass (state_of v.ring) w.order)) ∷ []) m) f (ap (λ (x : ℕ). Some (record { client = w.client; token = x })) t);
+  lock = lock_is (state_of ring) (next till (state_of v.ring) (first_pass (state_of v.ring) w.label)) queue others (Some (record { client = w.client; token = token })) (Some (record { client = w.client; token = (state_of v.ring).grants + 1 }))
+      (made_state v.ring ring (Call (called (state_of v.ring) 0 (first_pass (state_of v.ring) w.label)) ∷ []) m) f (ap (λ (x : ℕ). Some (record { client = w.client; token = x })) t);
   marks = m;
   answers = ap (λ (x : ℕ). own_answer c own ++ (w.client, answer.Granted x) ∷ []) t;
   ended = ap (λ (x : SurveyOf). Some (record { seat = end.seat; survey = x })) s;
@@ -82,7 +82,7 @@ passed_is v ring queue w others c token own end k e f s m t = record {
 
 pub passed_turned : (number : ℕ) (v : LockView) (ring : EndlessView) (queue : List Waiter) (w : Waiter) (others : List Waiter) (c token : ℕ) (own : Option Answer) (end : HoldEnd) (es fs : List (ℕ × ℕ)) → IsKeptRing ring → length v.queue ≤ ring.ring.book.room + 1 →
     v.queue ≡ w ∷ others → queue ≡ others → end.survey ≡ local_survey v.ring.ring →
-    IsMade v.ring ring 0 (first_pass (state_of v.ring) w.order) → token ≡ (state_of v.ring).grants + 1 → IsEntryOf w.client None es fs →
+    IsMade v.ring ring 0 (first_pass (state_of v.ring) w.label) → token ≡ (state_of v.ring).grants + 1 → IsEntryOf w.client None es fs →
     IsTurnedIn number v (record { ring = ring; queue = queue; holder = Some (record { client = w.client; token = token }) }) es fs c (ended (state_of v.ring) v.queue end.seat (own_answer c own))
     (record { own = own; ended = Some end; granted = Some (record { client = w.client; token = token }) })
 passed_turned number v ring queue w others c token own end es fs k room e f s m t i =

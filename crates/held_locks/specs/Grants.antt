@@ -20,15 +20,15 @@ called a seat o = record { seat = seat; op = o; reply = reply till a o }
 abbrev pub first_pass : State ℕ → ℕ → Op
 first_pass a order = op.Pass (first_privileged a.ring.values) order
 
--- a grant: a pass with the client's order, whose number is the token
+-- a grant: a pass with the client's label as its order, whose number is the token
 abbrev pub granted : State ℕ → List Waiter → Waiter → Turn
 granted a queue w = record {
   lock = record {
-    ring = next till a (first_pass a w.order);
+    ring = next till a (first_pass a w.label);
     queue = queue;
     holder = Some (record { client = w.client; token = a.grants + 1 });
   };
-  marks = Call (called a grant_seat (first_pass a w.order)) ∷ [];
+  marks = Call (called a grant_seat (first_pass a w.label)) ∷ [];
   answers = (w.client, answer.Granted (a.grants + 1)) ∷ [];
 }
 

@@ -71,9 +71,9 @@ faulted l c i v = record {
 
 -- the answer to each ask
 abbrev pub turn : List Lock → Lock → ℕ → Ask → Turn
-turn ls l c (Acquire order) =
-    acquired l (record { client = c; order = order }) (acquire_refusal ls l c)
-turn ls l c (Try order) = tried l (record { client = c; order = order }) (try_refusal l c)
+turn ls l c (Acquire label) =
+    acquired l (record { client = c; label = label }) (acquire_refusal ls l c)
+turn ls l c (Try label) = tried l (record { client = c; label = label }) (try_refusal l c)
 turn ls l c (Release token) =
     if is_held_with c token l.holder
     then ended l.ring l.queue release_seat ((c, answer.Released) ∷ [])

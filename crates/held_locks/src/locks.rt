@@ -146,17 +146,17 @@ fn acquire_among(
     waits: &mut Waits,
     client: u64,
     lock: u32,
-    order: u64,
+    label: u64,
 ) -> Answers
     requires { AreKept (views_of locks.old.items) waits.old }
     ensures { IsAnswer (views_of locks.old.items) (views_of locks.new.items) client lock
-        (Acquire order) result × AreKept (views_of locks.new.items) waits.new }
+        (Acquire label) result × AreKept (views_of locks.new.items) waits.new }
 {
     if lock as usize >= locks.len() {
         return refused(Refusal::Lock);
     }
     let why = acquire_refusal(locks, waits, client, lock as usize);
-    let waiter = Waiter { client, order };
+    let waiter = Waiter { client, label };
     asks::acquire(&mut locks[lock as usize], waits, lock, waiter, why)
 }
 
@@ -165,17 +165,17 @@ fn try_among(
     waits: &mut Waits,
     client: u64,
     lock: u32,
-    order: u64,
+    label: u64,
 ) -> Answers
     requires { AreKept (views_of locks.old.items) waits.old }
     ensures { IsAnswer (views_of locks.old.items) (views_of locks.new.items) client lock
-        (Try order) result × AreKept (views_of locks.new.items) waits.new }
+        (Try label) result × AreKept (views_of locks.new.items) waits.new }
 {
     if lock as usize >= locks.len() {
         return refused(Refusal::Lock);
     }
     let why = try_refusal(locks, waits, client, lock);
-    let waiter = Waiter { client, order };
+    let waiter = Waiter { client, label };
     asks::try_acquire(&mut locks[lock as usize], waiter, why)
 }
 
@@ -390,24 +390,24 @@ impl Locks {
         Ok(Locks { locks, waits })
     }
 
-    /// Acquires a lock for a client, with an order that the client chooses: it is granted at once if nobody holds the lock, or
+    /// Acquires a lock for a client, with a label that the client chooses: it is granted at once if nobody holds the lock, or
     /// else the client waits, and is granted once, later, unless it cancels or leaves.
     ///
     /// Refused, the first that applies: `Lock`, `Holds`, `Waits`, `Circle`; `Full` or `Memory`. Nothing has changed then.
     #[inline(always)]
-    pub fn acquire(&mut self, client: u64, lock: u32, order: u64) -> Answers
-        ensures { IsAnswer self.old self.new client lock (Acquire order) result }
+    pub fn acquire(&mut self, client: u64, lock: u32, label: u64) -> Answers
+        ensures { IsAnswer self.old self.new client lock (Acquire label) result }
     {
-        acquire_among(&mut self.locks, &mut self.waits, client, lock, order)
+        acquire_among(&mut self.locks, &mut self.waits, client, lock, label)
     }
 
     /// The same, but a client does not wait: if somebody holds the lock, the answer is `Busy`.
     ///
     /// Refused, the first that applies: `Lock`, `Holds`, `Waits` for this lock; `Full`, `Memory`. Nothing has changed then.
-    pub fn try_acquire(&mut self, client: u64, lock: u32, order: u64) -> Answers
-        ensures { IsAnswer self.old self.new client lock (Try order) result }
+    pub fn try_acquire(&mut self, client: u64, lock: u32, label: u64) -> Answers
+        ensures { IsAnswer self.old self.new client lock (Try label) result }
     {
-        try_among(&mut self.locks, &mut self.waits, client, lock, order)
+        try_among(&mut self.locks, &mut self.waits, client, lock, label)
     }
 
     /// Ends the hold of a client with this token, and grants the head of the queue.

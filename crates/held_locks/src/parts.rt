@@ -60,7 +60,7 @@ pub(crate) fn grant(lock: &mut LockParts, waiter: Waiter) -> Answers
         Err(why) => return refused(why),
     }
     let first = marks::privileged(&lock.ring);
-    match marks::pass_first(&mut lock.ring, GRANT_SEAT, first, waiter.order) {
+    match marks::pass_first(&mut lock.ring, GRANT_SEAT, first, waiter.label) {
         Ok(token) => {
             lock.holder = Some(Holder {
                 client: waiter.client,
@@ -153,7 +153,7 @@ fn pass_hold(
         result }
     ensures own { result.own ≡ own }
 {
-    match marks::pass_first(&mut lock.ring, GRANT_SEAT, over.survey.first, waiter.order) {
+    match marks::pass_first(&mut lock.ring, GRANT_SEAT, over.survey.first, waiter.label) {
         Ok(token) => {
             let holder = Holder {
                 client: waiter.client,

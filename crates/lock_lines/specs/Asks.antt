@@ -4,7 +4,7 @@ use Rattle.text_lines.specs.LongNumbers.{number_spaced, number_ended, in_64_bits
 use Rattle.lock_lines.specs.declared.inputs.Ask.{Ask as Read}
 use Rattle.lock_lines.specs.declared.inputs.Ask.TheVariants as reads
 
--- what a client asks, with its numbers, which are of any size: those of a lock and an order, twice;
+-- what a client asks, with its numbers, which are of any size: those of a lock and a label, twice;
 -- of a lock and a token; of a lock; none; of a lock, a machine and a value; of a lock
 pub data Ask : Type 0 where
   acquire : ℕ → ℕ → Ask
@@ -17,8 +17,8 @@ pub data Ask : Type 0 where
 
 -- how it is spelled, up to the end of the line
 abbrev pub ask_text : Ask → List ℕ
-ask_text (acquire lock order) = codes "acquire " ++ (number_spaced lock ++ number_ended order)
-ask_text (try lock order) = codes "try " ++ (number_spaced lock ++ number_ended order)
+ask_text (acquire lock label) = codes "acquire " ++ (number_spaced lock ++ number_ended label)
+ask_text (try lock label) = codes "try " ++ (number_spaced lock ++ number_ended label)
 ask_text (release lock token) = codes "release " ++ (number_spaced lock ++ number_ended token)
 ask_text (cancel lock) = codes "cancel " ++ number_ended lock
 ask_text leave = codes "leave\n"
@@ -41,8 +41,8 @@ of_three make None b c = None
 
 -- the ask, if each of its numbers has 64 bits
 abbrev pub heard : Ask → Option Ask
-heard (acquire lock order) = of_two acquire (in_64_bits lock) (in_64_bits order)
-heard (try lock order) = of_two try (in_64_bits lock) (in_64_bits order)
+heard (acquire lock label) = of_two acquire (in_64_bits lock) (in_64_bits label)
+heard (try lock label) = of_two try (in_64_bits lock) (in_64_bits label)
 heard (release lock token) = of_two release (in_64_bits lock) (in_64_bits token)
 heard (cancel lock) = of_one cancel (in_64_bits lock)
 heard leave = Some leave
@@ -52,8 +52,8 @@ heard (stats lock) = of_one stats (in_64_bits lock)
 
 -- an ask that was read
 abbrev pub seen : Read → Ask
-seen (reads.Acquire lock order) = acquire lock order
-seen (reads.Try lock order) = try lock order
+seen (reads.Acquire lock label) = acquire lock label
+seen (reads.Try lock label) = try lock label
 seen (reads.Release lock token) = release lock token
 seen (reads.Cancel lock) = cancel lock
 seen reads.Leave = leave

@@ -22,13 +22,13 @@ abbrev pub last : Reader (Option ℕ)
 last = order_at 10
 
 abbrev pub acquire_of : Option ℕ × Option ℕ → Option Ask
-acquire_of (lock, order) = of_two acquire lock order
+acquire_of (lock, label) = of_two acquire lock label
 
 unfoldable pub acquire_at : Reader (Option Ask)
 acquire_at = as_at acquire_of (after_at (codes "acquire ") (number then last))
 
 abbrev pub try_of : Option ℕ × Option ℕ → Option Ask
-try_of (lock, order) = of_two try lock order
+try_of (lock, label) = of_two try lock label
 
 unfoldable pub try_at : Reader (Option Ask)
 try_at = as_at try_of (after_at (codes "try ") (number then last))

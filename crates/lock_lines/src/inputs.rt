@@ -3,10 +3,10 @@
 /// What a client asks, by its numbers.
 #[derive(Clone, Copy, Debug, PartialEq, Eq)]
 pub enum Ask {
-    /// To hold a lock, with an order that the client chooses, or else to wait for it.
-    Acquire { lock: u64, order: u64 },
+    /// To hold a lock, with a label that the client chooses, or else to wait for it.
+    Acquire { lock: u64, label: u64 },
     /// To hold a lock, and not to wait for it.
-    Try { lock: u64, order: u64 },
+    Try { lock: u64, label: u64 },
     /// To hold a lock no more, of which this is the token.
     Release { lock: u64, token: u64 },
     /// To wait for a lock no more.

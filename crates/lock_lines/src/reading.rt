@@ -21,11 +21,11 @@ fn acquire(bytes: &[u8]) -> Result<(Option<Ask>, &[u8]), Fault>
 {
     let rest = fixed_word(bytes, b"acquire ")?;
     let (lock, rest) = number(rest, b' ')?;
-    let (order, rest) = number(rest, b'\n')?;
-    let (Some(lock), Some(order)) = (lock, order) else {
+    let (label, rest) = number(rest, b'\n')?;
+    let (Some(lock), Some(label)) = (lock, label) else {
         return Ok((None, rest));
     };
-    Ok((Some(Ask::Acquire { lock, order }), rest))
+    Ok((Some(Ask::Acquire { lock, label }), rest))
 }
 
 #[tactic(auto, unfolding(crate::specs::Readers::try_at))]
@@ -34,11 +34,11 @@ fn try_acquire(bytes: &[u8]) -> Result<(Option<Ask>, &[u8]), Fault>
 {
     let rest = fixed_word(bytes, b"try ")?;
     let (lock, rest) = number(rest, b' ')?;
-    let (order, rest) = number(rest, b'\n')?;
-    let (Some(lock), Some(order)) = (lock, order) else {
+    let (label, rest) = number(rest, b'\n')?;
+    let (Some(lock), Some(label)) = (lock, label) else {
         return Ok((None, rest));
     };
-    Ok((Some(Ask::Try { lock, order }), rest))
+    Ok((Some(Ask::Try { lock, label }), rest))
 }
 
 #[tactic(auto, unfolding(crate::specs::Readers::release_at))]

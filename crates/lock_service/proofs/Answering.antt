@@ -76,8 +76,8 @@ module _ (ls : List Lock) (l : Lock) (c : ℕ) where
   tells_broken i v false false = Quiet (refl, tt)
 
   pub tells_of : (ask : Ask) → Tells l.ring c (turn ls l c ask)
-  tells_of (Acquire order) = tells_acquired (record { client = c; order = order }) (acquire_refusal ls l c)
-  tells_of (Try order) = tells_tried (record { client = c; order = order }) (try_refusal l c)
+  tells_of (Acquire order) = tells_acquired (record { client = c; label = order }) (acquire_refusal ls l c)
+  tells_of (Try order) = tells_tried (record { client = c; label = order }) (try_refusal l c)
   tells_of (Release token) = tells_released (is_held_with c token l.holder)
   tells_of Cancel = tells_cancelled (stands c l.queue)
   tells_of Leave = tells_left (is_held_by c l.holder)
@@ -126,13 +126,13 @@ granted_in was is a order es g h s = one_event was is (called a 0 (first_pass a 
 
 advanced_in : (was is : Standing) (a : State ℕ) (line : List Waiter) (es : List Event) → IsRing a.ring → is.history ≡ was.history ++ es → shifted was.base es ≡ events_of (advanced a line).marks → AreShownIn was is (advanced a line).answers
 advanced_in was is a [] es g h s = tt
-advanced_in was is a (w ∷ line) es g h s = (granted_in was is a w.order es g h s, tt)
+advanced_in was is a (w ∷ line) es g h s = (granted_in was is a w.label es g h s, tt)
 
 pub turn_in : (was is : Standing) (a : State ℕ) (c : ℕ) (t : Turn) (es : List Event) → Tells a c t → IsRing a.ring → is.history ≡ was.history ++ es → shifted was.base es ≡ events_of t.marks →
     ((seat : ℕ) (more : List Mark) → t.marks ≡ Survey seat ∷ more → HasGrown (with_survey was seat (survey_now was)) is) → AreShownIn was is t.answers
 turn_in was is a c t es (Quiet q) g h s ends = all_quiet was is t.answers q
 turn_in was is a c t es (Grants line w e) g h s ends =
-    subst (λ (x : Turn). AreShownIn was is x.answers) (sym e) (granted_in was is a w.order es g h (s ∙ ap (λ (x : Turn). events_of x.marks) e), tt)
+    subst (λ (x : Turn). AreShownIn was is x.answers) (sym e) (granted_in was is a w.label es g h (s ∙ ap (λ (x : Turn). events_of x.marks) e), tt)
 turn_in was is a c t es (Releases line e) g h s ends =
     subst (λ (x : Turn). AreShownIn was is x.answers) (sym e) (
       ends 1 (advanced a line).marks (ap (λ (x : Turn). x.marks) e),

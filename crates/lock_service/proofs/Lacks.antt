@@ -37,17 +37,17 @@ left_not a (w ∷ line) = refl
 turn_not : (ls : List Lock) (l : Lock) (c : ℕ) (ask : Ask) → begins_lack (turn ls l c ask).answers ≡ false
 turn_not ls l c (Acquire order) = go (is_held_by c l.holder) (is_some (waits_for ls c)) (comes_to (length ls) ls c (client_of l.holder))
   where
-    go : (x y z : Bool) → begins_lack (acquired l (record { client = c; order = order }) (if x then Some refusal.Holds else if y then Some refusal.Waits else if z then Some refusal.Circle else None)).answers ≡ false
+    go : (x y z : Bool) → begins_lack (acquired l (record { client = c; label = order }) (if x then Some refusal.Holds else if y then Some refusal.Waits else if z then Some refusal.Circle else None)).answers ≡ false
     go true y z = refl
     go false true z = refl
     go false false true = refl
-    go false false false = joined_not l (record { client = c; order = order }) l.holder
+    go false false false = joined_not l (record { client = c; label = order }) l.holder
 turn_not ls l c (Try order) = go (is_held_by c l.holder) (stands c l.queue)
   where
-    go : (x y : Bool) → begins_lack (tried l (record { client = c; order = order }) (if x then Some refusal.Holds else if y then Some refusal.Waits else None)).answers ≡ false
+    go : (x y : Bool) → begins_lack (tried l (record { client = c; label = order }) (if x then Some refusal.Holds else if y then Some refusal.Waits else None)).answers ≡ false
     go true y = refl
     go false true = refl
-    go false false = tried_not l (record { client = c; order = order }) l.holder
+    go false false = tried_not l (record { client = c; label = order }) l.holder
 turn_not ls l c (Release token) = go (is_held_with c token l.holder)
   where
     go : (x : Bool) → begins_lack (if x then ended l.ring l.queue 1 ((c, answer.Released) ∷ []) else told l c (answer.Refused refusal.Holder)).answers ≡ false

@@ -54,11 +54,11 @@ IsSmallAsk (Acquire order) = order < 2 ^ 64
 IsSmallAsk (Try order) = order < 2 ^ 64
 IsSmallAsk _ = Unit {0}
 
-small_append : (xs : List Waiter) (w : Waiter) → AreSmall xs → w.order < 2 ^ 64 → AreSmall (xs ++ w ∷ [])
+small_append : (xs : List Waiter) (w : Waiter) → AreSmall xs → w.label < 2 ^ 64 → AreSmall (xs ++ w ∷ [])
 small_append [] w s l = (l, tt)
 small_append (x ∷ xs) w s l = (s.0, small_append xs w s.1 l)
 
-small_kept : (keep : Bool) (w : Waiter) (line : List Waiter) → w.order < 2 ^ 64 → AreSmall line → AreSmall (cond keep (w ∷ line) line)
+small_kept : (keep : Bool) (w : Waiter) (line : List Waiter) → w.label < 2 ^ 64 → AreSmall line → AreSmall (cond keep (w ∷ line) line)
 small_kept true w line l s = (l, s)
 small_kept false w line l s = s
 
@@ -98,7 +98,7 @@ end_seat l c ask seat h line answers (Left a b e f) = (inr b, λ s. subst AreSma
 pub marks_of_move : (ls : List Lock) (l : Lock) (c : ℕ) (ask : Ask) (t : Turn) → Move ls l c ask t → IsSmallAsk ask → AreSmall l.queue → AreMarksOf t
 marks_of_move ls l c ask t (Stays a q leave e) small s = subst AreMarksOf (sym e) (record { marks = Calls tt; small = s })
 marks_of_move ls l c ask t (Waits order h a held other free back e) small s =
-    subst AreMarksOf (sym e) (record { marks = Calls tt; small = small_append l.queue (record { client = c; order = order }) s (subst IsSmallAsk a small) })
+    subst AreMarksOf (sym e) (record { marks = Calls tt; small = small_append l.queue (record { client = c; label = order }) s (subst IsSmallAsk a small) })
 marks_of_move ls l c ask t (Gets order asking a e) small s =
     subst AreMarksOf (sym e) (record { marks = Calls (omega arith, asking_small ask order asking small, tt); small = s })
 marks_of_move ls l c ask t (Ends h seat line answers held own is e) small s =

@@ -134,7 +134,7 @@ module _ (ls ms : List Lock) (right : AreRight ls) (also : AreRight ms) (part : 
       absurd (not_empty m.queue w back none)
 
   -- and waits again, after those who wait
-  pub waits_again : turn ms m w.client (Acquire w.order)
+  pub waits_again : turn ms m w.client (Acquire w.label)
       ≡ record { lock = record m { queue = m.queue ++ w ∷ [] }; marks = []; answers = (w.client, answer.Waiting (length m.queue)) ∷ [] }
   waits_again =
       let h = some_holder l.holder refl in

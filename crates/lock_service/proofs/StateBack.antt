@@ -64,11 +64,11 @@ wait_plain : (k : ℕ) (w : Waiter) → k < lock_limit → IsOfBits w → heard 
 wait_plain k w lt bits =
     let line = wait_line k w in
     let b = begins_more (number_text w.client) 32 (numeral_begins w.client) in
-    let back = codes "acquire " ++ (spaced k ++ ended w.order) in
+    let back = codes "acquire " ++ (spaced k ++ ended w.label) in
     let is : line ≡ b.digit ∷ (b.rest ++ back) = ap (λ (u : List ℕ). (u ++ 32 ∷ []) ++ back) (same_text w.client bits.0) ∙ ap (λ (u : List ℕ). u ++ back) b.is in
     let place : place_at line ≡ None = ap place_at is ∙ no_place b.digit (b.rest ++ back) b.low in
     let digest : digest_at line ≡ None = ap digest_at is ∙ no_digest b.digit (b.rest ++ back) b.low in
-    let tag : tagged_at line ≡ None = no_number w.client (spaced k ++ ended w.order) bits.0 in
+    let tag : tagged_at line ≡ None = no_number w.client (spaced k ++ ended w.label) bits.0 in
     sym (is_plain line (sym place) (sym digest) ∙ is_untagged line (short k w lt bits) (sym tag))
 
 abbrev ArePlain : List (List ℕ) → Type 0

@@ -112,13 +112,13 @@ abbrev waiting_step : Lock → Waiter → List Lock → ℕ → Step
 waiting_step m w ms k = record { locks = slice_set ms k (with_one m w); marks = []; answers = (w.client, answer.Waiting (length m.queue)) ∷ [] }
 
 joins : (ls ms : List Lock) (k : ℕ) (front back : List Waiter) (w : Waiter) (l m : Lock) → AreRight ls → AreRight ms → Partly ls k front ms → slice_get ls k ≡ Some l → slice_get ms k ≡ Some m → l.queue ≡ front ++ w ∷ back →
-    step ms (Asked w.client k (Acquire w.order)) ≡ waiting_step m w ms k
+    step ms (Asked w.client k (Acquire w.label)) ≡ waiting_step m w ms k
 joins ls ms k front back w l m good fair p at there line =
     let x = p.each k m there in
     let is : x.0 ≡ l = some_is x.0 l (sym x.1 ∙ at) in
     let held : m.holder ≡ l.holder = x.2.held ∙ ap (λ (z : Lock). z.holder) is in
     let whole : l.queue ≡ m.queue ++ w ∷ back = line ∙ ap (λ (u : List Waiter). u ++ w ∷ back) (sym (x.2.here refl)) in
-    step_is ms k w.client (Acquire w.order) m there
+    step_is ms k w.client (Acquire w.label) m there
     ∙ ap (λ (t : Turn). record { locks = slice_set ms k t.lock; marks = t.marks; answers = t.answers })
     (waits_again ls ms good fair (part_of ls ms k front (w ∷ back) l at line p) k l m at there w back whole held)
 
@@ -153,12 +153,12 @@ module _ (vs : List LockView) (state : HaveState vs) where
     pub files : is ≡ was
 
   module _ (k : ℕ) (v : LockView) (at : slice_get (locks_of vs) k ≡ Some (lock_of v)) (lt : k < lock_limit) where
-    told_of : (w : Waiter) (old new : LockService) (was is : Option Held) (said noted : List ℕ) → IsOfBits w → IsServed old was (wait_line k w) said noted new is → IsToldOf old.terms.strict old.terms.noting w.client k (Acquire w.order) old.segment said noted new.segment
+    told_of : (w : Waiter) (old new : LockService) (was is : Option Held) (said noted : List ℕ) → IsOfBits w → IsServed old was (wait_line k w) said noted new is → IsToldOf old.terms.strict old.terms.noting w.client k (Acquire w.label) old.segment said noted new.segment
     told_of w old new was is said noted bits s =
         let a = s.answered in
-        let read : a.0 ≡ input.Asked w.client (reads.Acquire k w.order) = one_reading (wait_line k w) a.0 (input.Asked w.client (reads.Acquire k w.order)) a.1 (reads_wait k w lt bits) in
-        let told : IsInputAnswered old.terms (input.Asked w.client (reads.Acquire k w.order)) old.segment said noted new.segment = subst (λ (i : Input). IsInputAnswered old.terms i old.segment said noted new.segment) read a.2 in
-        subst (λ (j : ℕ). IsToldOf old.terms.strict old.terms.noting w.client j (Acquire w.order) old.segment said noted new.segment) (same_lock k lt) told
+        let read : a.0 ≡ input.Asked w.client (reads.Acquire k w.label) = one_reading (wait_line k w) a.0 (input.Asked w.client (reads.Acquire k w.label)) a.1 (reads_wait k w lt bits) in
+        let told : IsInputAnswered old.terms (input.Asked w.client (reads.Acquire k w.label)) old.segment said noted new.segment = subst (λ (i : Input). IsInputAnswered old.terms i old.segment said noted new.segment) read a.2 in
+        subst (λ (j : ℕ). IsToldOf old.terms.strict old.terms.noting w.client j (Acquire w.label) old.segment said noted new.segment) (same_lock k lt) told
 
     waits_on : (front back : List Waiter) (w : Waiter) (old new : LockService) (was is : Option Held) (said noted : List ℕ) → IsOfBits w → v.queue ≡ front ++ w ∷ back → old.terms.strict ≡ true → AreRight (locks_of old.segment.locks) → Partly (locks_of vs) k front (locks_of old.segment.locks) →
         IsServed old was (wait_line k w) said noted new is → IsWaiting k front w was said noted new is
@@ -166,21 +166,21 @@ module _ (vs : List LockView) (state : HaveState vs) where
         let a = old.segment.locks in
         let b = new.segment.locks in
         let t = told_of w old new was is said noted bits s in
-        let done : IsDone a b w.client k (Acquire w.order) t.answers = asked_done a b w.client k (Acquire w.order) t.answers t.done (subst (λ (x : Bool). (x && is_lack t.answers.own) ≡ false) strict t.given) in
+        let done : IsDone a b w.client k (Acquire w.label) t.answers = asked_done a b w.client k (Acquire w.label) t.answers t.done (subst (λ (x : Bool). (x && is_lack t.answers.own) ≡ false) strict t.given) in
         let there = also_there (locks_of vs) (locks_of a) k (lock_of v) (sym p.many) at in
         let m = there.0 in
-        let e : step (locks_of a) (Asked w.client k (Acquire w.order)) ≡ waiting_step m w (locks_of a) k = joins (locks_of vs) (locks_of a) k front back w (lock_of v) m state.right fair p at there.1 line in
+        let e : step (locks_of a) (Asked w.client k (Acquire w.label)) ≡ waiting_step m w (locks_of a) k = joins (locks_of vs) (locks_of a) k front back w (lock_of v) m state.right fair p at there.1 line in
         let front_is : m.queue ≡ front = (p.each k m there.1).2.here refl in
-        let no_marks : (step (locks_of a) (Asked w.client k (Acquire w.order))).marks ≡ [] = ap (λ (x : Step). x.marks) e in
+        let no_marks : (step (locks_of a) (Asked w.client k (Acquire w.label))).marks ≡ [] = ap (λ (x : Step). x.marks) e in
         let many : length (locks_of a) ≡ length a = length-map a lock_of in
         let x = also_there (locks_of a) a k m many there.1 in
-        let same_many : length b ≡ length a = as_many a b (step (locks_of a) (Asked w.client k (Acquire w.order))).locks done.locks (step_many (locks_of a) w.client k (Acquire w.order)) in
+        let same_many : length b ≡ length a = as_many a b (step (locks_of a) (Asked w.client k (Acquire w.label))).locks done.locks (step_many (locks_of a) w.client k (Acquire w.label)) in
         let y = also_there a b k x.0 (sym same_many) x.1 in
         let same : IsSameEndless x.0.ring y.0.ring = subst (λ (ms : List Mark). AreMade x.0.ring ms y.0.ring) no_marks (done.marks x.0 y.0 x.1 y.1) in
         let none : t.answers.ended ≡ None = done.ended ∙ ap (λ (ms : List Mark). ended_at (slice_get a k) ms) no_marks ∙ no_end (slice_get a k) in
         record {
           partly = subst (λ (ms : List Lock). Partly (locks_of vs) k (front ++ w ∷ []) ms) (sym (done.locks ∙ ap (λ (x : Step). x.locks) e)) (one_more (locks_of vs) (locks_of a) k front w m there.1 p);
-          fair = subst (λ (ms : List Lock). AreRight ms) (sym done.locks) (right_step (locks_of a) (Asked w.client k (Acquire w.order)) fair);
+          fair = subst (λ (ms : List Lock). AreRight ms) (sym done.locks) (right_step (locks_of a) (Asked w.client k (Acquire w.label)) fair);
           strict = ap (λ (x : Terms). x.strict) s.terms ∙ strict;
           says = t.says ∙ ap (λ (x : List (ℕ × Answer)). lines_about k x) (done.answers ∙ ap (λ (x : Step). x.answers) e)
               ∙ append-nil (answer_line w.client k (answer.Waiting (length m.queue))) ∙ ap (λ (u : List Waiter). answer_line w.client k (answer.Waiting (length u))) front_is;

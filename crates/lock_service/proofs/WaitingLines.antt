@@ -33,33 +33,33 @@ ended_short n lt =
 
 module _ (k : ℕ) (w : Waiter) (lt : k < lock_limit) (bits : IsOfBits w) where
   -- it is spelled as an input
-  spelled : wait_line k w ≡ input_line w.client (acquire k w.order)
+  spelled : wait_line k w ≡ input_line w.client (acquire k w.label)
   spelled =
       let client : spaced w.client ≡ numbers.spaced w.client = ap (λ (u : List ℕ). u ++ 32 ∷ []) (same_text w.client bits.0) in
       let lock : spaced k ≡ numbers.spaced k = ap (λ (u : List ℕ). u ++ 32 ∷ []) (same_text k (small_lock k lt)) in
-      let order : ended w.order ≡ numbers.ended w.order = ap (λ (u : List ℕ). u ++ 10 ∷ []) (same_text w.order bits.1) in
-      ap (λ (u : List ℕ). u ++ (codes "acquire " ++ (spaced k ++ ended w.order))) client
-      ∙ ap (λ (u : List ℕ). numbers.spaced w.client ++ (codes "acquire " ++ (u ++ ended w.order))) lock
+      let order : ended w.label ≡ numbers.ended w.label = ap (λ (u : List ℕ). u ++ 10 ∷ []) (same_text w.label bits.1) in
+      ap (λ (u : List ℕ). u ++ (codes "acquire " ++ (spaced k ++ ended w.label))) client
+      ∙ ap (λ (u : List ℕ). numbers.spaced w.client ++ (codes "acquire " ++ (u ++ ended w.label))) lock
       ∙ ap (λ (u : List ℕ). numbers.spaced w.client ++ (codes "acquire " ++ (numbers.spaced k ++ u))) order
 
   pub short : length (wait_line k w) ≤ line_limit
   short =
-      let a = length-append (spaced w.client) (codes "acquire " ++ (spaced k ++ ended w.order)) in
-      let b = length-append (codes "acquire ") (spaced k ++ ended w.order) in
-      let c = length-append (spaced k) (ended w.order) in
+      let a = length-append (spaced w.client) (codes "acquire " ++ (spaced k ++ ended w.label)) in
+      let b = length-append (codes "acquire ") (spaced k ++ ended w.label) in
+      let c = length-append (spaced k) (ended w.label) in
       let x = spaced_short w.client bits.0 in
       let y = spaced_short k (small_lock k lt) in
-      let z = ended_short w.order bits.1 in
+      let z = ended_short w.label bits.1 in
       omega (arith, a, b, c, x, y, z)
 
-  heard_all : heard (acquire k w.order) ≡ Some (acquire k w.order)
+  heard_all : heard (acquire k w.label) ≡ Some (acquire k w.label)
   heard_all =
-      ap (λ (x : Option ℕ). of_two acquire x (in_64_bits w.order)) (in_some k (small_lock k lt))
-      ∙ ap (λ (x : Option ℕ). of_one (acquire k) x) (in_some w.order bits.1)
+      ap (λ (x : Option ℕ). of_two acquire x (in_64_bits w.label)) (in_some k (small_lock k lt))
+      ∙ ap (λ (x : Option ℕ). of_one (acquire k) x) (in_some w.label bits.1)
 
-  pub reads_wait : IsReadAs (wait_line k w) (input.Asked w.client (reads.Acquire k w.order))
+  pub reads_wait : IsReadAs (wait_line k w) (input.Asked w.client (reads.Acquire k w.label))
   reads_wait = (
-    record { bits = bits.0; front = (codes "acquire " ++ (numbers.spaced k ++ numbers.ended w.order), inl (front_all (wait_line k w) short ∙ spelled)) },
+    record { bits = bits.0; front = (codes "acquire " ++ (numbers.spaced k ++ numbers.ended w.label), inl (front_all (wait_line k w) short ∙ spelled)) },
     record { is = spelled; short = short },
     heard_all,
   )

@@ -15,8 +15,8 @@ use Rattle.lock_service.specs.declared.asking.OneAsk.TheVariants as one
 -- known: the greatest of these for all that are greater, and none of them has it; nothing where all
 -- locks are left
 abbrev pub one_ask : lines.Ask → Option (ℕ × Ask)
-one_ask (lines.acquire lock order) = Some (in_32_bits lock, Acquire order)
-one_ask (lines.try lock order) = Some (in_32_bits lock, Try order)
+one_ask (lines.acquire lock label) = Some (in_32_bits lock, Acquire label)
+one_ask (lines.try lock label) = Some (in_32_bits lock, Try label)
 one_ask (lines.release lock token) = Some (in_32_bits lock, Release token)
 one_ask (lines.cancel lock) = Some (in_32_bits lock, Cancel)
 one_ask lines.leave = None
@@ -32,15 +32,15 @@ is_off faults _ = false
 -- how the lock answers: by its step; an ask that may make events can be refused for lack of room or
 -- memory
 abbrev pub IsAnswerTo : List LockView → List LockView → ℕ → ℕ → Ask → Answers → Type 0
-IsAnswerTo old new c i (Acquire order) r = IsAnswer old new c i (Acquire order) r
-IsAnswerTo old new c i (Try order) r = IsAnswer old new c i (Try order) r
+IsAnswerTo old new c i (Acquire label) r = IsAnswer old new c i (Acquire label) r
+IsAnswerTo old new c i (Try label) r = IsAnswer old new c i (Try label) r
 IsAnswerTo old new c i (Corrupt machine value) r = IsAnswer old new c i (Corrupt machine value) r
 IsAnswerTo old new c i ask r = IsDone old new c i ask r
 
 -- an ask of one lock, as the code has it
 abbrev pub asked : OneAsk → Ask
-asked (one.Acquire order) = Acquire order
-asked (one.Try order) = Try order
+asked (one.Acquire label) = Acquire label
+asked (one.Try label) = Try label
 asked (one.Release token) = Release token
 asked one.Cancel = Cancel
 asked (one.Corrupt machine value) = Corrupt machine value

@@ -22,7 +22,7 @@ begun_text vs = journal_head (content_of vs)
 
 -- those who wait asked with orders of 64 bits
 abbrev pub AreSmall : List Waiter → Type 0
-AreSmall line = AllByRecursion (λ (w : Waiter). w.order < 2 ^ 64) line
+AreSmall line = AllByRecursion (λ (w : Waiter). w.label < 2 ^ 64) line
 
 -- the hold that is open in the history of the lock's ring is the lock's
 pub record IsBegun (v : LockView) : Type 0 where

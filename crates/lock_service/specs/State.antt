@@ -17,7 +17,7 @@ hold_lines lock (Some h) = hold_line lock h ∷ []
 
 -- the line with which a client that waits asked for the lock; and those of its whole line
 abbrev pub wait_line : ℕ → Waiter → List ℕ
-wait_line lock w = spaced w.client ++ (codes "acquire " ++ (spaced lock ++ ended w.order))
+wait_line lock w = spaced w.client ++ (codes "acquire " ++ (spaced lock ++ ended w.label))
 
 abbrev pub wait_lines : ℕ → List Waiter → List (List ℕ)
 wait_lines lock line = map (wait_line lock) line

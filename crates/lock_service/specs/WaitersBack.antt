@@ -23,9 +23,9 @@ holders_of vs = map (λ (v : LockView). v.holder) vs
 abbrev pub waiters_of : List LockView → List (List Waiter)
 waiters_of vs = map (λ (v : LockView). v.queue) vs
 
--- a client and an order have 64 bits
+-- a client and a label have 64 bits
 abbrev pub IsOfBits : Waiter → Type 0
-IsOfBits w = (w.client < 2 ^ 64) × (w.order < 2 ^ 64)
+IsOfBits w = (w.client < 2 ^ 64) × (w.label < 2 ^ 64)
 
 -- locks whose state is answered are right, and not too many
 pub record HaveState (vs : List LockView) : Type 0 where

@@ -12,8 +12,8 @@ use lock_lines::Ask;
 /// What is asked of one lock.
 #[derive(Clone, Copy)]
 pub(crate) enum OneAsk {
-    Acquire { order: u64 },
-    Try { order: u64 },
+    Acquire { label: u64 },
+    Try { label: u64 },
     Release { token: u64 },
     Cancel,
     Corrupt { machine: u32, value: u32 },
@@ -46,8 +46,8 @@ pub(crate) fn one_ask(ask: Ask) -> Option<(u32, OneAsk)>
     ensures { option_map (λ x. (x.0, asked x.1)) result ≡ one_ask (seen ask) }
 {
     match ask {
-        Ask::Acquire { lock, order } => Some((narrow(lock), OneAsk::Acquire { order })),
-        Ask::Try { lock, order } => Some((narrow(lock), OneAsk::Try { order })),
+        Ask::Acquire { lock, label } => Some((narrow(lock), OneAsk::Acquire { label })),
+        Ask::Try { lock, label } => Some((narrow(lock), OneAsk::Try { label })),
         Ask::Release { lock, token } => Some((narrow(lock), OneAsk::Release { token })),
         Ask::Cancel { lock } => Some((narrow(lock), OneAsk::Cancel)),
         Ask::Leave => None,
@@ -79,8 +79,8 @@ pub(crate) fn ask_lock(locks: &mut Locks, client: u64, lock: u32, ask: OneAsk) -
     ensures { IsAnswerTo locks.old locks.new client lock (asked ask) result }
 {
     match ask {
-        OneAsk::Acquire { order } => locks.acquire(client, lock, order),
-        OneAsk::Try { order } => locks.try_acquire(client, lock, order),
+        OneAsk::Acquire { label } => locks.acquire(client, lock, label),
+        OneAsk::Try { label } => locks.try_acquire(client, lock, label),
         OneAsk::Release { token } => locks.release(client, lock, token),
         OneAsk::Cancel => locks.cancel(client, lock),
         OneAsk::Corrupt { machine, value } => locks.corrupt(client, lock, machine, value),

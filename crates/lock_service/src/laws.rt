@@ -82,7 +82,7 @@ pub fn keys_come_back<S: AnswersLines>()
 {}
 
 /// Locks with the holds of others, for which nobody waits, that are given the lines of those who wait for the others, lock by
-/// lock and in their order, have the same clients waiting with the same orders, and the same holds. Each of them gets the answer
+/// lock and in their order, have the same clients waiting with the same labels, and the same holds. Each of them gets the answer
 /// that it waits. What is asked of the others for it, numbers of 64 bits above all, stays so, whatever is asked of them.
 pub fn waiters_come_back()
     ensures stays { HavingStateStays }

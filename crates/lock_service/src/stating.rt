@@ -66,7 +66,7 @@ fn put_waiter(lock: u32, waiter: Waiter, text: &mut Vec<u8>) -> Result<(), Alloc
 {
     let mut line = Line::new();
     line.byte(b'\n');
-    line.number(waiter.order);
+    line.number(waiter.label);
     line.byte(b' ');
     line.number(lock as u64);
     put_word(&mut line, b"acquire ");

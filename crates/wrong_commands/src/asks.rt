@@ -11,13 +11,13 @@ pub fn grants_while_somebody_holds(
     locks: &mut Locks,
     client: u64,
     lock: u32,
-    order: u64,
+    label: u64,
     token: u64,
 ) -> Option<Answers>
     ensures wrong { IfSome result
-        (λ r. IsAnswer locks.old locks.new client lock (Acquire order) r → ⊥) }
+        (λ r. IsAnswer locks.old locks.new client lock (Acquire label) r → ⊥) }
 {
-    let answers = locks.acquire(client, lock, order);
+    let answers = locks.acquire(client, lock, label);
     match answers.own {
         Some(Answer::Waiting(_)) => Some(Answers {
             own: Some(Answer::Granted(token)),
@@ -34,13 +34,13 @@ pub fn grants_with_another_token(
     locks: &mut Locks,
     client: u64,
     lock: u32,
-    order: u64,
+    label: u64,
     token: u64,
 ) -> Option<Answers>
     ensures wrong { IfSome result
-        (λ r. IsAnswer locks.old locks.new client lock (Acquire order) r → ⊥) }
+        (λ r. IsAnswer locks.old locks.new client lock (Acquire label) r → ⊥) }
 {
-    let answers = locks.acquire(client, lock, order);
+    let answers = locks.acquire(client, lock, label);
     match answers.own {
         Some(Answer::Granted(right)) if right != token => Some(Answers {
             own: Some(Answer::Granted(token)),
@@ -56,13 +56,13 @@ pub fn lets_a_circle_in(
     locks: &mut Locks,
     client: u64,
     lock: u32,
-    order: u64,
+    label: u64,
     before: u64,
 ) -> Option<Answers>
     ensures wrong { IfSome result
-        (λ r. IsAnswer locks.old locks.new client lock (Acquire order) r → ⊥) }
+        (λ r. IsAnswer locks.old locks.new client lock (Acquire label) r → ⊥) }
 {
-    let answers = locks.acquire(client, lock, order);
+    let answers = locks.acquire(client, lock, label);
     match answers.own {
         Some(Answer::Refused(Refusal::Circle)) => Some(Answers {
             own: Some(Answer::Waiting(before)),

@@ -21,5 +21,5 @@ returns c =
     record {
       asked = (none, c.acquire-answers.ensures, rw none at c.put.ensures.put);
       capacity = c.put.ensures.capacity;
-      many = answer_long c.args.locks.now c.acquire-answers.new.self c.args.client c.args.lock (Acquire c.args.order) c.acquire-answers.result c.acquire-answers.ensures;
+      many = answer_long c.args.locks.now c.acquire-answers.new.self c.args.client c.args.lock (Acquire c.args.label) c.acquire-answers.result c.acquire-answers.ensures;
     }

@@ -21,5 +21,5 @@ returns c =
     record {
       asked = (none, c.try_acquire-answers.ensures, rw none at c.put.ensures.put);
       capacity = c.put.ensures.capacity;
-      many = answer_long c.args.locks.now c.try_acquire-answers.new.self c.args.client c.args.lock (Try c.args.order) c.try_acquire-answers.result c.try_acquire-answers.ensures;
+      many = answer_long c.args.locks.now c.try_acquire-answers.new.self c.args.client c.args.lock (Try c.args.label) c.try_acquire-answers.result c.try_acquire-answers.ensures;
     }

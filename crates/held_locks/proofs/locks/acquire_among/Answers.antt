@@ -26,6 +26,6 @@ returns c =
     let at = part_at c.args.locks.now.items c.args.lock c.index_mut.result.now below c.index_mut.ensures.value in
     let there : slice_get c.deref.result.now c.args.lock ≡ Some c.index_mut.result.now = ap (λ (x : List LockParts). slice_get x c.args.lock) c.deref.ensures.value ∙ at in
     let why = c.acquire_refusal-why.ensures.is c.index_mut.result.now there ∙ ap (λ (x : List LockParts). acquire_refusal (locks_of (views_of x)) (lock_of (view_of c.index_mut.result.now)) c.args.client) c.deref.ensures.value in
-    lifted_parts c.args.locks.now.items (slice_set c.args.locks.now.items c.args.lock c.acquire.new.lock) c.args.waits.now c.acquire.new.waits c.args.client c.args.lock (Acquire c.args.order) c.index_mut.result.now c.acquire.new.lock
-    (acquired (lock_of (view_of c.index_mut.result.now)) (record { client = c.args.client; order = c.args.order }) c.acquire_refusal-why.result) (length c.index_mut.result.now.queue.items + 1) c.acquire.result c.requires at refl
-    (ap (λ (x : Option Refusal). acquired (lock_of (view_of c.index_mut.result.now)) (record { client = c.args.client; order = c.args.order }) x) why) refl c.acquire.ensures
+    lifted_parts c.args.locks.now.items (slice_set c.args.locks.now.items c.args.lock c.acquire.new.lock) c.args.waits.now c.acquire.new.waits c.args.client c.args.lock (Acquire c.args.label) c.index_mut.result.now c.acquire.new.lock
+    (acquired (lock_of (view_of c.index_mut.result.now)) (record { client = c.args.client; label = c.args.label }) c.acquire_refusal-why.result) (length c.index_mut.result.now.queue.items + 1) c.acquire.result c.requires at refl
+    (ap (λ (x : Option Refusal). acquired (lock_of (view_of c.index_mut.result.now)) (record { client = c.args.client; label = c.args.label }) x) why) refl c.acquire.ensures

@@ -26,6 +26,6 @@ returns c =
     let at = part_at c.args.locks.now.items c.args.lock c.index_mut.result.now below c.index_mut.ensures.value in
     let there : slice_get c.deref.result.now c.args.lock ≡ Some c.index_mut.result.now = ap (λ (x : List LockParts). slice_get x c.args.lock) c.deref.ensures.value ∙ at in
     let why = c.try_refusal-why.ensures c.index_mut.result.now there in
-    lifted_parts c.args.locks.now.items (slice_set c.args.locks.now.items c.args.lock c.try_acquire.new.lock) c.args.waits.now c.args.waits.now c.args.client c.args.lock (Try c.args.order) c.index_mut.result.now c.try_acquire.new.lock
-    (tried (lock_of (view_of c.index_mut.result.now)) (record { client = c.args.client; order = c.args.order }) c.try_refusal-why.result) (length c.index_mut.result.now.queue.items + 1) c.try_acquire.result c.requires at refl
-    (ap (λ (x : Option Refusal). tried (lock_of (view_of c.index_mut.result.now)) (record { client = c.args.client; order = c.args.order }) x) why) refl (c.try_acquire.ensures c.args.lock c.args.waits.now)
+    lifted_parts c.args.locks.now.items (slice_set c.args.locks.now.items c.args.lock c.try_acquire.new.lock) c.args.waits.now c.args.waits.now c.args.client c.args.lock (Try c.args.label) c.index_mut.result.now c.try_acquire.new.lock
+    (tried (lock_of (view_of c.index_mut.result.now)) (record { client = c.args.client; label = c.args.label }) c.try_refusal-why.result) (length c.index_mut.result.now.queue.items + 1) c.try_acquire.result c.requires at refl
+    (ap (λ (x : Option Refusal). tried (lock_of (view_of c.index_mut.result.now)) (record { client = c.args.client; label = c.args.label }) x) why) refl (c.try_acquire.ensures c.args.lock c.args.waits.now)
