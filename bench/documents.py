@@ -2,8 +2,8 @@
 
 Without a program it only reads, in a few seconds, for ./test. Of each page, man pages too: no word or form of `page_words.py` is
 in it; each link leads to a file, and to a heading of it; each clause that it names is one of the crates (`page_clauses.py`). The first
-page has at most 150 lines of 120 characters, and cells of 200. Nor is such a word in help texts, in what the server logs and answers, or
-in comments (`source_words.py`). The last line is `N passed, M failed`, one for each page and each kind of source.
+page has at most 150 lines of 120 characters, and cells of 200. Nor is such a word in help texts, in what the server logs and answers, in
+comments, or in the names of the proved crates (`source_words.py`). The last line is `N passed, M failed`, one for each page and each kind of source.
 
 With a program, of each page (README, CHANGELOG, docs/, each crate's README; of the others only links and names):
 

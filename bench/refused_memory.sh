@@ -113,10 +113,10 @@ for crate in $crates; do
         try_crate "$crate" "^(book|settle)::|memory"
         try_mark "$crate" book::calls_with_room_and_surveys_take_no_memory
         try_mark "$crate" settle::following_takes_no_memory
-        try_mark "$crate" shared::want_of_memory_changes_nothing
+        try_mark "$crate" shared::lack_of_memory_changes_nothing
         ;;
     farm_tests)
-        try_crate "$crate" want_of_memory
+        try_crate "$crate" lack_of_memory
         try_largest "$crate" texts::reading::room_is_asked_for_as_values_are_read 4096
         try_mark "$crate" texts::outcomes::writing_and_reporting_take_no_memory
         ;;

@@ -1,5 +1,5 @@
 """The prose of the sources: comments, help texts, what the server logs and answers. For bench/documents.py, which looks in it for the
-words and forms of `page_words.py`, as in a page.
+words and forms of `page_words.py`, as in a page. And the names in the proved crates: none has a word of `NAMED`.
 
 `python3 bench/source_words.py TOP` prints what it finds of each kind, with the text around it, and how many of each."""
 
@@ -33,6 +33,46 @@ KINDS = (
     ("comments of the proved crates", ("crates/*/src/**/*.rt",), "comments"),
     ("comments of definitions and proofs", ("crates/*/specs/**/*.antt", "crates/*/proofs/**/*.antt"), "comments"),
 )
+
+
+#: words of ARCHITECTURE's table that no name of the proved crates has, as they have no other meaning there, with what to say
+NAMED = {word: better for words, better in (
+    ("node", "machine"), ("enabled active", "privileged"), ("payload", "order"), ("stable legitimate", "settled"), ("distance", "rest"),
+    ("age", "calm"), ("account", "till"), ("user slot", "seat"), ("correct", "legal, right"), ("offset", "base, shift"),
+    ("ledger", "book"), ("owner", "holder"), ("lease", "hold"), ("scenario", "plan"), ("dump", "saved history"), ("failure", "refusal"),
+    ("announce", "report"), ("mutant", "twin, edit"),
+) for word in words.split()}
+#: the same of several words
+NAMED_FORMS = re.compile(r"want_of_\w+"), "lack"
+NAMES = "names in the proved crates", ("crates/*/src/**/*.rt", "crates/*/specs/**/*.antt", "crates/*/proofs/**/*.antt")
+
+
+def names_of(text):
+    """The names in a source of the proved crates, each with its line: not what is in comments and between quotes."""
+    for number, line in enumerate(text.split("\n"), 1):
+        for name in re.findall(r"[A-Za-z_]\w*", re.sub(r"//.*|--.*|\"(?:[^\"\\]|\\.)*\"", "", line)):
+            yield number, name
+
+
+def wrong_name(name):
+    """The word in a name that no name has, and what to say; or None."""
+    for word in re.findall(r"[A-Z]?[a-z]+|[A-Z]+(?![a-z])", name):
+        if word.lower() in NAMED:
+            return word, NAMED[word.lower()]
+    found = NAMED_FORMS[0].search(name)
+    return (found[0], NAMED_FORMS[1]) if found else None
+
+
+def wrong_names(top):
+    """What `wrong_sources` has of a kind, of the names."""
+    for path in files_of(top, NAMES[1]):
+        if "/out/" in path:
+            continue
+        with open(f"{top}/{path}", encoding="utf-8") as file:
+            for number, name in names_of(file.read()):
+                found = wrong_name(name)
+                if found:
+                    yield path, number, name, found[1], [(number, name)]
 
 
 def numbered(text, start, lines):
@@ -156,6 +196,7 @@ def wrong_sources(top, excuses):
                 for unit in units_of(block):
                     said += [(path, *it, unit) for it in page_words.wrong_in(path, unit, excuses)]
         yield name, said
+    yield NAMES[0], list(wrong_names(top))
 
 
 def main(top):

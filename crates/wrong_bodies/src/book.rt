@@ -259,7 +259,7 @@ pub fn is_full_one_event_early<R: Resource + Drop>(
 }
 
 /// A full history is reported as full: this one as out of memory.
-pub fn tells_a_full_history_as_want_of_memory<R: Resource + Drop>(
+pub fn tells_a_full_history_as_lack_of_memory<R: Resource + Drop>(
     book: &mut Book<R>,
     seat: u32,
     machine: u32,

@@ -51,7 +51,7 @@ pub fn no_seat_for_the_last_seat<R: Resource + Drop>(
 }
 
 /// A full history is reported as such: it is reported as memory that ran out.
-pub fn full_history_told_as_want_of_memory<R: Resource + Drop>(
+pub fn full_history_told_as_lack_of_memory<R: Resource + Drop>(
     ring: &mut OneThreadRing<R>,
     seat: u32,
     machine: u32,

@@ -60,7 +60,7 @@ fn a_script_is_followed_at_each_run(rt: HostRuntime) {
 
 // Passes too where any one request for memory is refused, as `bench/refused_memory.sh` has it.
 #[test]
-fn want_of_memory_is_told_as_such(rt: HostRuntime) {
+fn lack_of_memory_is_told_as_such(rt: HostRuntime) {
     let alloc = rt.alloc();
     let settings = match read_settings(alloc, SCRIPTED.as_bytes()) {
         Ok(settings) => settings,

@@ -69,7 +69,7 @@ fn each_ring_has_its_own_refusal(rt: HostRuntime) {
 // Says more where any one request for memory is refused, as `bench/refused_memory.sh` has it: then one of two threads may
 // not have been started, and that is reported instead of the refusal that the other's seat met.
 #[test]
-fn want_of_memory_for_a_thread_is_told_before_a_seats_refusal(rt: HostRuntime) {
+fn lack_of_memory_for_a_thread_is_told_before_a_seats_refusal(rt: HostRuntime) {
     let alloc = rt.alloc();
     let settings = match read_settings(alloc, CROSSING.as_bytes()) {
         Ok(settings) => settings,

@@ -137,7 +137,7 @@ fn an_action_is_drawn_of_pcg32(rt: HostRuntime) -> Result<(), Fail> {
 
 // Passes too where any one request for memory is refused, as `bench/refused_memory.sh` has it.
 #[test]
-fn want_of_memory_for_a_drawn_plan_is_told(rt: HostRuntime) -> Result<(), Fail> {
+fn lack_of_memory_for_a_drawn_plan_is_told(rt: HostRuntime) -> Result<(), Fail> {
     let alloc = rt.alloc();
     let words = [5, 7, 4, 9];
     let rings = [Params::new(3, 3)?];

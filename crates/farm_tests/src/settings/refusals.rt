@@ -87,7 +87,7 @@ fn refusals_are_told_in_words(rt: HostRuntime) -> Result<(), Fail> {
 
 /// Where a request for memory is refused, by `rt try --test --fail-alloc`, nothing but out of memory is reported.
 #[test]
-fn want_of_memory_is_told_as_such(rt: HostRuntime) {
+fn lack_of_memory_is_told_as_such(rt: HostRuntime) {
     let alloc = rt.alloc();
     let settings = match read_settings(alloc, SCRIPTED.as_bytes()) {
         Ok(settings) => settings,

@@ -170,7 +170,7 @@ fn holds(rt: &impl Abort, saved: &Saved, version: u32, blocks: &[Block]) {
 
 // Passes too where any one request for memory is refused, as `bench/refused_memory.sh` has it.
 #[test]
-fn want_of_memory_for_a_value_is_told(rt: HostRuntime) {
+fn lack_of_memory_for_a_value_is_told(rt: HostRuntime) {
     let texts: [(&[u8], u32, &[Block]); 6] = [
         (PASSES, 1, &OF_PASSES),
         (LATER_PASSES, 2, &OF_PASSES),
