@@ -3,7 +3,7 @@
 ghost use Rattle.std.specs.Prelude.{◌≡◌, ◌≢◌, ◌<◌, ◌^◌, ℕ, List, [], length, map, None, IfOk, IfErr, Err};
 ghost use Rattle.saved_history.specs.Content.{content, block_of};
 ghost use Rattle.ring_check.specs.Legal.{IsLegalText, summary_of};
-ghost use Rattle.journal.specs.Beginnings.{CanBeSaved};
+ghost use Rattle.journal.specs.Prefixes.{CanBeSaved};
 ghost use Rattle.segment_files.specs.Chain.{sums_at};
 ghost use Rattle.chain_readers.specs.Joining.{content_of};
 ghost use Rattle.chain_readers.specs.Joins.{Joined, IsJoinedWith, IsJoinRefusal, IsCount};

@@ -10,7 +10,7 @@ use Rattle.saved_history.specs.Content.{Content}
 use Rattle.ring_check.specs.Lines.{lines}
 use Rattle.journal.specs.declared.errors.RecoverError.{RecoverError}
 use Rattle.journal.specs.declared.errors.RecoverError.TheVariants.{Truncated, Syntax, Bad, OutOfMemory}
-use Rattle.journal.specs.Beginnings.{CanBeSaved}
+use Rattle.journal.specs.Prefixes.{CanBeSaved}
 use Rattle.journal.specs.Recovery.{IsRecovered, IsRightRecovery}
 use Rattle.journal.proofs.Savings.{can_be_saved}
 use Rattle.journal.specs.Salvaging.{IsSalvaged, IsLost, IsRightSalvage}

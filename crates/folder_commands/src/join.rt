@@ -6,7 +6,7 @@ ghost use Rattle.line_service.specs.SegmentNumbers.{IsRightNumbers};
 ghost use Rattle.line_service.specs.declared.segment_numbers.SegmentNumbers.{SegmentNumbers};
 ghost use Rattle.saved_history.specs.Content.{content};
 ghost use Rattle.ring_check.specs.Legal.{IsLegalText, summary_of};
-ghost use Rattle.journal.specs.Beginnings.{CanBeSaved};
+ghost use Rattle.journal.specs.Prefixes.{CanBeSaved};
 ghost use Rattle.segment_files.specs.Files.{File};
 ghost use Rattle.chain_readers.specs.Joining.{joined};
 ghost use Rattle.chain_readers.specs.Joins.{IsJoinedWith};

@@ -4,7 +4,7 @@ ghost use Rattle.std.specs.Prelude.{◌≡◌, ◌≢◌, ◌+◌, ◌-◌, ◌�
 ghost use Rattle.text_lines.specs.Writing.{Writes};
 ghost use Rattle.ring_check.specs.Legal.{summary_of};
 ghost use Rattle.saved_history.specs.Content.{content};
-ghost use Rattle.journal.specs.Beginnings.{CanBeSaved};
+ghost use Rattle.journal.specs.Prefixes.{CanBeSaved};
 ghost use Rattle.segment_files.specs.Spelling.{HeadFits, head_of, head_text};
 ghost use Rattle.segment_files.specs.Remarks.{without_remarks};
 ghost use Rattle.tool_parts.specs.Chained.{IsFolder};

@@ -3,7 +3,7 @@
 ghost use Rattle.std.specs.Prelude.{◌≡◌, ◌≢◌, ◌⊎◌, ◌-◌, ℕ, length, true, false, Some, OnOk, IfOk, IfErr};
 ghost use Rattle.ring_check.specs.Legal.{summary_of};
 ghost use Rattle.saved_history.specs.Content.{content};
-ghost use Rattle.journal.specs.Beginnings.{CanBeSaved};
+ghost use Rattle.journal.specs.Prefixes.{CanBeSaved};
 ghost use Rattle.tool_parts.specs.Kept.{IsKept, IsUnkept};
 ghost use Rattle.tool_parts.specs.Named.{IsApart, IsApartRefusal};
 ghost use Rattle.tool_parts.specs.Handed.{file_of};

@@ -29,7 +29,7 @@ use Rattle.journal.specs.Spelling.{Journal, journal_head, journal_text, call_lin
 use Rattle.journal.specs.Reading.{BeginsNone, head_at}
 use Rattle.journal.specs.ContentAfter.{content_after}
 use Rattle.journal.specs.Recovery.{has_line_end, IsJournalThen, IsRecovered, IsNoBeginning, IsNoCall, IsBadBeginning, IsBadCall, IsRightRecovery}
-use Rattle.journal.specs.Beginnings.{IsRightJournal, up_to, IsOwnHistory, IsAnswerOfBeginning}
+use Rattle.journal.specs.Prefixes.{IsRightJournal, up_to, IsOwnHistory, IsAnswerOfBeginning}
 use Rattle.journal.proofs.Fronts.{ring_read}
 use Rattle.journal.proofs.Heads.{head_reads, calls_some}
 use Rattle.journal.proofs.LineEnds.{cut_line}
@@ -245,14 +245,14 @@ module _ (j : Journal) (bytes more : List ℕ) (right : IsRightJournal j) (cut :
       let parts : j.calls ≡ front ++ (drop n b.journal.calls ++ m.back) = m.parts ∙ ap (λ (rs : List JournalLine). rs ++ m.back) (sym (take-append-drop n b.journal.calls)) ∙ append_assoc front (drop n b.journal.calls) m.back in
       not_both (content_after j.began front) b.wrong.said kind (right.legal front (drop n b.journal.calls ++ m.back) parts) (subst (λ (c : Content). IsRightCheck (content_after c front) (Err (check.Bad b.wrong.said kind))) m.same b.wrong.bad)
 
-pub beginnings_recovered : (j : Journal) (bytes more : List ℕ) (answer : Result Saved RecoverError) → IsRightJournal j → bytes ++ more ≡ journal_text j → IsRightRecovery bytes answer → IsAnswerOfBeginning j bytes answer
-beginnings_recovered j bytes more (Ok saved) right cut a = own_history j bytes more right cut (content saved) a
-beginnings_recovered j bytes more (Err Truncated) right cut a = short j bytes more right cut a
-beginnings_recovered j bytes more (Err (Syntax line)) right cut (inl a) = no_beginning j bytes more right cut line a
-beginnings_recovered j bytes more (Err (Syntax line)) right cut (inr a) = no_call j bytes more right cut line a
-beginnings_recovered j bytes more (Err (Bad line kind)) right cut (inl a) = no_bad_beginning j bytes more right cut line kind a
-beginnings_recovered j bytes more (Err (Bad line kind)) right cut (inr a) = no_bad_call j bytes more right cut line kind a
-beginnings_recovered j bytes more (Err OutOfMemory) right cut a = tt
+pub prefixes_recovered : (j : Journal) (bytes more : List ℕ) (answer : Result Saved RecoverError) → IsRightJournal j → bytes ++ more ≡ journal_text j → IsRightRecovery bytes answer → IsAnswerOfBeginning j bytes answer
+prefixes_recovered j bytes more (Ok saved) right cut a = own_history j bytes more right cut (content saved) a
+prefixes_recovered j bytes more (Err Truncated) right cut a = short j bytes more right cut a
+prefixes_recovered j bytes more (Err (Syntax line)) right cut (inl a) = no_beginning j bytes more right cut line a
+prefixes_recovered j bytes more (Err (Syntax line)) right cut (inr a) = no_call j bytes more right cut line a
+prefixes_recovered j bytes more (Err (Bad line kind)) right cut (inl a) = no_bad_beginning j bytes more right cut line kind a
+prefixes_recovered j bytes more (Err (Bad line kind)) right cut (inr a) = no_bad_call j bytes more right cut line kind a
+prefixes_recovered j bytes more (Err OutOfMemory) right cut a = tt
 
 -- ---- one history
 

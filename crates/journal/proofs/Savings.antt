@@ -13,7 +13,7 @@ use Rattle.journal.specs.declared.calls.JournalLine.{JournalLine}
 use Rattle.journal.specs.Spelling.{CallFits, JournalLineFits}
 use Rattle.journal.specs.ContentAfter.{are_open, whole, with_call, with_call_at, with_calls, in_order, content_after}
 use Rattle.journal.specs.Recovery.{IsRecovered}
-use Rattle.journal.specs.Beginnings.{CanBeSaved}
+use Rattle.journal.specs.Prefixes.{CanBeSaved}
 
 -- ---- as many rings
 

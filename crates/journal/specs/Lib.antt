@@ -3,5 +3,5 @@ pub mod Reading
 pub mod ContentAfter
 pub mod Recovery
 pub mod Judging
-pub mod Beginnings
+pub mod Prefixes
 pub mod Salvaging

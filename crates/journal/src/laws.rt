@@ -1,11 +1,11 @@
 //! Laws of the definitions that `recover_journal` is specified by: functions with an empty body, whose contract is the law.
 
-ghost use Rattle.journal.specs.Beginnings.{BeginningsAreRecovered, OneIsRecovered, RecoveredCanBeSaved};
+ghost use Rattle.journal.specs.Prefixes.{PrefixesAreRecovered, OneIsRecovered, RecoveredCanBeSaved};
 
 /// A right journal that was cut anywhere is recovered: every right answer to a prefix of its text is its own history
 /// with every call whose line ends there, or that it ends before the first call, or out of memory.
-pub fn beginnings_are_recovered()
-    ensures { BeginningsAreRecovered }
+pub fn prefixes_are_recovered()
+    ensures { PrefixesAreRecovered }
 {}
 
 /// A recovered history can be saved: [`write_saved`](saved_history::write_saved) takes it, since it has a ring at least, a version

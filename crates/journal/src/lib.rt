@@ -19,7 +19,7 @@ mod write;
 pub use calls::{Call, JournalLine};
 pub use errors::RecoverError;
 pub use histories::all_in_order;
-pub use laws::{beginnings_are_recovered, one_is_recovered, recovered_can_be_saved};
+pub use laws::{one_is_recovered, prefixes_are_recovered, recovered_can_be_saved};
 pub use recover::recover_journal;
 pub use salvage::{Salvaged, salvage_journal};
 pub use write::{put_first_line, put_journal_line};

@@ -18,7 +18,7 @@ use Rattle.line_service.specs.declared.segment_numbers.SegmentNumbers.{SegmentNu
 use Rattle.saved_history.specs.declared.saved.SavedRing.{SavedRing}
 use Rattle.saved_history.specs.Content.{Block, block_of, content}
 use Rattle.journal.specs.Spelling.{Journal, journal_text}
-use Rattle.journal.specs.Beginnings.{IsRightJournal}
+use Rattle.journal.specs.Prefixes.{IsRightJournal}
 use Rattle.journal.specs.Recovery.{IsRecovered}
 use Rattle.ring_model.specs.declared.bases.Base.{Base}
 use Rattle.segment_files.specs.Spelling.{Head, head_of, head_text}

@@ -12,7 +12,7 @@ use Rattle.ring_check.specs.Legal.{IsLegalText}
 use Rattle.journal.specs.declared.calls.JournalLine.{JournalLine}
 use Rattle.journal.specs.Spelling.{Journal, JournalLineFits, journal_line, journal_text, journal_head}
 use Rattle.journal.specs.Recovery.{has_line_end, IsRecovered}
-use Rattle.journal.specs.Beginnings.{IsRightJournal}
+use Rattle.journal.specs.Prefixes.{IsRightJournal}
 use Rattle.segment_files.specs.Remarks.{IsEnded, without_remarks}
 use Rattle.segment_files.specs.RemarkLaws.{AreLines}
 use Rattle.segment_files.proofs.Remarked.{without_append}

@@ -9,7 +9,7 @@ use Rattle.line_service.specs.Segmenting.{Segmenting}
 use Rattle.line_service.specs.Segments.{Moment, moment_of, stand_of, IsPut}
 use Rattle.line_service.specs.Service.{Part, AreParts, all_said}
 use Rattle.journal.specs.Spelling.{Journal, journal_text}
-use Rattle.journal.specs.Beginnings.{IsRightJournal}
+use Rattle.journal.specs.Prefixes.{IsRightJournal}
 use Rattle.journal.specs.Recovery.{has_line_end}
 use Rattle.segment_files.specs.Remarks.{without_remarks}
 use Rattle.segment_files.specs.RemarkLaws.{AreLines}

@@ -7,7 +7,7 @@ use Rattle.saved_history.specs.declared.saved.Saved.{Saved}
 use Rattle.saved_history.specs.Content.{content}
 use Rattle.saved_history.specs.Spelling.{Fits}
 use Rattle.journal.specs.Spelling.{Journal, journal_text}
-use Rattle.journal.specs.Beginnings.{IsRightJournal}
+use Rattle.journal.specs.Prefixes.{IsRightJournal}
 use Rattle.journal.specs.Recovery.{IsRecovered}
 use Rattle.segment_files.specs.Spelling.{Head, head_text, HeadFits}
 use Rattle.segment_files.specs.Remarks.{without_remarks}

@@ -23,7 +23,7 @@ use Rattle.ring_service.specs.Standings.{Standing, survey_now, with_events, with
 use Rattle.ring_service.specs.Turns.{Turn, RingTrace, events, surveyed}
 use Rattle.ring_service.specs.Saved.{IsRight, blocks_from, content_of}
 use Rattle.journal.specs.Spelling.{JournalFits}
-use Rattle.journal.specs.Beginnings.{IsRightJournal}
+use Rattle.journal.specs.Prefixes.{IsRightJournal}
 use Rattle.ring_service.specs.Recording.{calls_of, journal_of, AreTurns}
 use Rattle.ring_service.proofs.Effects.{Closes, Grew, Looked, Changed, EffectAmong, turn_effect, changed_right, right_at}
 use Rattle.ring_service.proofs.RecordedBlocks.{AllTell, all_saved_tell, grown_told, looked_told, right_numbered}

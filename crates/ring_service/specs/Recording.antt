@@ -7,7 +7,7 @@ use Rattle.saved_history.specs.Spelling.{Fits}
 use Rattle.journal.specs.declared.calls.JournalLine.{JournalLine}
 use Rattle.journal.specs.Spelling.{Journal}
 use Rattle.journal.specs.ContentAfter.{content_after}
-use Rattle.journal.specs.Beginnings.{IsRightJournal}
+use Rattle.journal.specs.Prefixes.{IsRightJournal}
 use Rattle.ring_service.specs.Standings.{Standing}
 use Rattle.ring_service.specs.Saved.{IsRight, content_of}
 use Rattle.ring_service.specs.Turns.{RingTrace, events, surveyed, Turn, IsTurnOfLine}

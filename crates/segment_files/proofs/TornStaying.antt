@@ -6,9 +6,9 @@ use Rattle.text_lines.proofs.Basics.{ok_is}
 use Rattle.ring_check.specs.declared.answers.Kind.{Kind}
 use Rattle.journal.specs.Spelling.{Journal, journal_text}
 use Rattle.journal.specs.Recovery.{IsRightRecovery}
-use Rattle.journal.specs.Beginnings.{IsRightJournal}
+use Rattle.journal.specs.Prefixes.{IsRightJournal}
 use Rattle.journal.specs.declared.errors.RecoverError.TheVariants as recovery
-use Rattle.journal.proofs.Cutting.{beginnings_recovered}
+use Rattle.journal.proofs.Cutting.{prefixes_recovered}
 use Rattle.segment_files.specs.declared.last.LastSegment.{LastSegment}
 use Rattle.segment_files.specs.declared.errors.SegmentError.{SegmentError}
 use Rattle.segment_files.specs.declared.errors.SegmentError.TheVariants as segment
@@ -37,12 +37,12 @@ module _ (j : Journal) (right : IsRightJournal j) (g : Head) (fits : HeadFits g)
 
   no_syntax : (h : Head) (rest : List ℕ) (line : ℕ) → HeadFits h → bytes ≡ head_text h ++ rest → IsRightRecovery (without_remarks rest) (Err (recovery.Syntax line)) → ⊥
   no_syntax h rest line f e r =
-      beginnings_recovered j (without_remarks front) more (Err (recovery.Syntax line)) right cut
+      prefixes_recovered j (without_remarks front) more (Err (recovery.Syntax line)) right cut
       (subst (λ (u : List ℕ). IsRightRecovery (without_remarks u) (Err (recovery.Syntax line))) (same_front h rest f e) r)
 
   no_fault : (h : Head) (rest : List ℕ) (line : ℕ) (kind : Kind) → HeadFits h → bytes ≡ head_text h ++ rest → IsRightRecovery (without_remarks rest) (Err (recovery.Bad line kind)) → ⊥
   no_fault h rest line kind f e r =
-      beginnings_recovered j (without_remarks front) more (Err (recovery.Bad line kind)) right cut
+      prefixes_recovered j (without_remarks front) more (Err (recovery.Bad line kind)) right cut
       (subst (λ (u : List ℕ). IsRightRecovery (without_remarks u) (Err (recovery.Bad line kind))) (same_front h rest f e) r)
 
   -- no line of them is refused

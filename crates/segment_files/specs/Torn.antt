@@ -4,7 +4,7 @@ use Rattle.std.specs.List.{list_any}
 use Rattle.text_lines.specs.Texts.{line_of}
 use Rattle.saved_history.specs.Content.{content}
 use Rattle.journal.specs.Spelling.{Journal, journal_text}
-use Rattle.journal.specs.Beginnings.{IsRightJournal}
+use Rattle.journal.specs.Prefixes.{IsRightJournal}
 use Rattle.segment_files.specs.declared.last.LastSegment.{LastSegment}
 use Rattle.segment_files.specs.declared.errors.SegmentError.{SegmentError}
 use Rattle.segment_files.specs.declared.errors.SegmentError.TheVariants as segment

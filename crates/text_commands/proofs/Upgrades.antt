@@ -5,7 +5,7 @@ use Rattle.saved_history.specs.declared.saved.SavedEvent.{SavedEvent}
 use Rattle.saved_history.specs.declared.saved.SavedEvent.TheVariants.{Granted, Refused, Member, Corrupted}
 use Rattle.saved_history.specs.Content.{Block, Content, upgraded}
 use Rattle.saved_history.specs.Spelling.{EventFits, BlockFits, Fits}
-use Rattle.journal.specs.Beginnings.{CanBeSaved}
+use Rattle.journal.specs.Prefixes.{CanBeSaved}
 use Rattle.saved_history.specs.Versions.{IsVersion, HasGroups, first_version, latest_version}
 
 has_groups : HasGroups latest_version

@@ -3,7 +3,7 @@
 ghost use Rattle.std.specs.Prelude.{◌≡◌, ◌≢◌, ◌⊎◌, ℕ, List, true, false, OnOk, IfOk, IfErr};
 ghost use Rattle.ring_check.specs.declared.answers.Summary.{Summary};
 ghost use Rattle.saved_history.specs.Content.{Content, content};
-ghost use Rattle.journal.specs.Beginnings.{CanBeSaved};
+ghost use Rattle.journal.specs.Prefixes.{CanBeSaved};
 ghost use Rattle.tool_parts.specs.Checked.{IsSavedTextRefusal};
 ghost use Rattle.tool_parts.specs.Named.{IsNamed};
 ghost use Rattle.tool_parts.specs.Reading.{names_stream};

@@ -5,7 +5,7 @@ ghost use Rattle.std.specs.Io.KnownBytes.{Appends};
 ghost use Rattle.disks.specs.Held.{Replaces};
 ghost use Rattle.saved_history.specs.Content.{content};
 ghost use Rattle.saved_history.specs.Spelling.{text};
-ghost use Rattle.journal.specs.Beginnings.{CanBeSaved};
+ghost use Rattle.journal.specs.Prefixes.{CanBeSaved};
 ghost use Rattle.tool_parts.specs.CheckText.{legal_line};
 ghost use Rattle.tool_parts.specs.Faults.{IsSaveFault};
 ghost use Rattle.tool_parts.specs.Kept.{left_line};
@@ -32,7 +32,7 @@ struct SavedText<'a> {
 impl Contents for SavedText<'_> {
     ghost use Rattle.saved_history.specs.Content.{content};
     ghost use Rattle.saved_history.specs.Spelling.{text};
-    ghost use Rattle.journal.specs.Beginnings.{CanBeSaved};
+    ghost use Rattle.journal.specs.Prefixes.{CanBeSaved};
 
     ghost ready = { λ s. CanBeSaved (content s.saved.now) };
 

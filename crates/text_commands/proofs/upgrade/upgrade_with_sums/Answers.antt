@@ -1,7 +1,7 @@
 use Rattle.std.proofs.Common.{◌≡◌, ◌∙◌, ap, sym, subst}
 use Rattle.saved_history.specs.Content.{content, upgraded}
 use Rattle.saved_history.specs.Spelling.{Fits}
-use Rattle.journal.specs.Beginnings.{CanBeSaved}
+use Rattle.journal.specs.Prefixes.{CanBeSaved}
 use Rattle.ring_check.specs.Legal.{IsLegalText, summary_of}
 use Rattle.text_commands.proofs.Upgrades.{upgraded_fits, upgraded_saved}
 use Rattle.text_commands.proofs.upgrade.upgrade_with_sums.Goals as goal

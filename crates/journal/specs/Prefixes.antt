@@ -45,8 +45,8 @@ IsAnswerOfBeginning j bytes (Err OutOfMemory) = Unit {0}
 
 -- A right journal that was cut anywhere gives its own history: no other answer to a prefix of
 -- its text is right.
-abbrev pub BeginningsAreRecovered : Type 0
-BeginningsAreRecovered =
+abbrev pub PrefixesAreRecovered : Type 0
+PrefixesAreRecovered =
     (j : Journal) (bytes more : List ℕ) (answer : Result Saved RecoverError) → IsRightJournal j
     → bytes ++ more ≡ journal_text j → IsRightRecovery bytes answer
     → IsAnswerOfBeginning j bytes answer
