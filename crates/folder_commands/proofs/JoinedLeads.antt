@@ -1,7 +1,7 @@
 -- The files of a folder that are joined, one after the other.
 use Rattle.std.proofs.Common.{◌≡◌, ℕ, ◌+◌, ◌<◌, List, [], ◌∷◌, ◌++◌, length, Bool, true, false, eqb, Option, Some, None, refl, sym, ap, subst, ◌∙◌, arith, length-append, eqb-true, eq-eqb}
 use Rattle.std.proofs.lemmas.Bool.{false_from_ne_true}
-use Rattle.disks.specs.Held.{Held}
+use Rattle.disks.specs.Held.{Held, IsHeld}
 use Rattle.line_service.specs.declared.segment_numbers.SegmentNumbers.{SegmentNumbers}
 use Rattle.line_service.specs.SegmentNames.{segment_file}
 use Rattle.saved_history.specs.Content.{Block}
@@ -14,7 +14,6 @@ use Rattle.chain_readers.specs.Joining.{with_file, with_files}
 use Rattle.chain_readers.specs.Joins.{Joined, IsJoinedWith, IsCount}
 use Rattle.chain_readers.proofs.RingCounts.{files_more, joined_have_rings}
 use Rattle.tool_parts.specs.declared.faults.ToolError.{ToolError}
-use Rattle.tool_parts.specs.Named.{IsHeld}
 use Rattle.folder_commands.specs.JoinedFolder.{IsUnjoined, IsJoinRefused}
 use Rattle.folder_commands.specs.JoinSteps.{JoinLeads, JoinEnds}
 use Rattle.tool_parts.proofs.Leads.{led_sums, sums_more, held_more, held_at}

@@ -1,6 +1,6 @@
 -- The answer of `join`: the whole history of a folder of segments.
 use Rattle.std.specs.Prelude.{◌≡◌, ◌≢◌, ℕ, ◌+◌, ◌==◌, List, [], length, Bool, Option, None, Some, Ok, ◌⊎◌}
-use Rattle.disks.specs.Held.{Held}
+use Rattle.disks.specs.Held.{Held, IsHeld}
 use Rattle.disks.specs.declared.disk.FolderEntry.{FolderEntry}
 use Rattle.line_service.specs.SegmentNames.{segment_file}
 use Rattle.line_service.specs.SegmentNumbers.{IsRightNumbers}
@@ -14,7 +14,6 @@ use Rattle.chain_readers.specs.Joins.{Joined, IsOverfull}
 use Rattle.tool_parts.specs.Chained.{AreHeldFrom, IsChainIn, IsFolder, IsAddRefusal, IsNamedWrong, IsNoSegment, AreNamesRefused}
 use Rattle.tool_parts.specs.CheckText.{legal_line}
 use Rattle.tool_parts.specs.Handed.{IsHanded, IsHandRefusal}
-use Rattle.tool_parts.specs.Named.{IsHeld}
 use Rattle.tool_parts.specs.Outside.{IsOutside, IsOutsideRefusal}
 use Rattle.tool_parts.specs.Handed.{file_of}
 use Rattle.tool_parts.specs.Worlds.{World}

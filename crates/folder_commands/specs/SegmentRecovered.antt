@@ -1,7 +1,7 @@
 -- The answer of `recover` to a folder: the history of its last segment.
 use Rattle.std.specs.Prelude.{◌≡◌, ℕ, List, ◌++◌, Bool, true, false, Option, None, Some, Ok, ◌⊎◌}
 use Rattle.std.specs.Io.KnownBytes.{Appends}
-use Rattle.disks.specs.Held.{Held}
+use Rattle.disks.specs.Held.{Held, IsHeld}
 use Rattle.disks.specs.declared.disk.FolderEntry.{FolderEntry}
 use Rattle.line_service.specs.SegmentNames.{segment_file}
 use Rattle.line_service.specs.SegmentNumbers.{IsRightNumbers}
@@ -20,7 +20,6 @@ use Rattle.tool_parts.specs.Chained.{IsFolder, IsUnreadSegment, AreNamesRefused}
 use Rattle.tool_parts.specs.CheckText.{legal_line}
 use Rattle.tool_parts.specs.Handed.{IsHanded, IsHandRefusal}
 use Rattle.tool_parts.specs.Kept.{IsFileKept, file_left, file_place, IsLostFile}
-use Rattle.tool_parts.specs.Named.{IsHeld}
 use Rattle.tool_parts.specs.Outside.{IsOutside, IsOutsideRefusal}
 use Rattle.tool_parts.specs.Handed.{file_of}
 use Rattle.tool_parts.specs.Reading.{names_stream}

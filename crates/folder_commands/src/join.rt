@@ -1,6 +1,7 @@
 //! `join`: the whole history of a folder of segments.
 
 ghost use Rattle.std.specs.Prelude.{◌≡◌, ◌≢◌, ◌⊎◌, ◌≤◌, ℕ, List, Option, true, false, None, Some, Ok, OnOk, IfOk, IfErr};
+ghost use Rattle.disks.specs.Held.{IsHeld};
 ghost use Rattle.line_service.specs.SegmentNames.{segment_file};
 ghost use Rattle.line_service.specs.SegmentNumbers.{IsRightNumbers};
 ghost use Rattle.line_service.specs.declared.segment_numbers.SegmentNumbers.{SegmentNumbers};
@@ -13,7 +14,6 @@ ghost use Rattle.chain_readers.specs.Joins.{IsJoinedWith};
 ghost use Rattle.tool_parts.specs.Chained.{IsChainIn, IsFolder, AreNamesRefused};
 ghost use Rattle.folder_commands.specs.JoinedFolder.{IsLaterBegin, IsUnjoined, IsJoinRefused, AreUnjoined, IsJoinable, IsJoinAnswer, IsJoinRefusal};
 ghost use Rattle.folder_commands.specs.JoinSteps.{JoinLeads, JoinEnds};
-ghost use Rattle.tool_parts.specs.Named.{IsHeld};
 ghost use Rattle.tool_parts.specs.Reading.{names_stream};
 ghost use Rattle.tool_parts.specs.Worlds.{world};
 

@@ -1,7 +1,7 @@
 -- The files of a folder whose holds are read, one after the other.
 use Rattle.std.proofs.Common.{◌≡◌, ℕ, ◌+◌, ◌<◌, List, [], ◌∷◌, ◌++◌, length, true, false, eqb, Option, Some, None, refl, sym, ap, subst, ◌∙◌, arith, length-append, eqb-true, eq-eqb}
 use Rattle.std.proofs.lemmas.Bool.{false_from_ne_true}
-use Rattle.disks.specs.Held.{Held}
+use Rattle.disks.specs.Held.{Held, IsHeld}
 use Rattle.line_service.specs.declared.segment_numbers.SegmentNumbers.{SegmentNumbers}
 use Rattle.line_service.specs.SegmentNames.{segment_file}
 use Rattle.segment_files.specs.declared.sums.ChainSums.{ChainSums}
@@ -13,7 +13,6 @@ use Rattle.segment_files.proofs.Adding.{chained, led_on}
 use Rattle.chain_readers.specs.Chains.{HoldsSoFar, IsHeldWith}
 use Rattle.chain_readers.proofs.Files.{told_on}
 use Rattle.tool_parts.specs.declared.faults.ToolError.{ToolError}
-use Rattle.tool_parts.specs.Named.{IsHeld}
 use Rattle.tool_parts.proofs.Leads.{led_sums, sums_more, held_more, held_at}
 use Rattle.lock_commands.specs.HoldsAnswer.{IsUnheld, IsFileUnheld}
 use Rattle.lock_commands.specs.HoldSteps.{HoldLeads, HoldEnds}

@@ -1,11 +1,11 @@
 -- The file that says who gets the open holds (this project's own).
 use Rattle.std.specs.Prelude.{◌≡◌, ℕ, List, [], Option, None, Some, ◌⊎◌}
 use Rattle.std.specs.Option.{option_map}
-use Rattle.disks.specs.Held.{Held}
+use Rattle.disks.specs.Held.{Held, IsHeld}
 use Rattle.held_locks.specs.declared.handing.Handover.{Handover}
 use Rattle.lock_folder.specs.Holders.{AreHolders, IsBadLine}
 use Rattle.tool_parts.specs.declared.requests.LocksWords.{LocksWords}
-use Rattle.tool_parts.specs.Named.{IsHeld, IsFileRefusal}
+use Rattle.tool_parts.specs.Named.{IsFileRefusal}
 use Rattle.tool_parts.specs.declared.faults.ToolError.{ToolError}
 use Rattle.tool_parts.specs.declared.faults.ToolError.TheVariants as tool
 

@@ -4,7 +4,7 @@ use Rattle.std.specs.List.{flat_map}
 use Rattle.std.specs.Ordering.{nat_cmp}
 use Rattle.std.specs.BTreeMap.{BTreeMap, IsOrdered}
 use Rattle.std.specs.Io.KnownBytes.{Appends}
-use Rattle.disks.specs.Held.{Held}
+use Rattle.disks.specs.Held.{Held, IsHeld}
 use Rattle.disks.specs.declared.disk.FolderEntry.{FolderEntry}
 use Rattle.line_service.specs.SegmentNames.{segment_file}
 use Rattle.line_service.specs.SegmentNumbers.{IsRightNumbers}
@@ -25,7 +25,7 @@ use Rattle.chain_readers.specs.Labels.{all_chosen, AreCounted, label_line}
 use Rattle.tool_parts.specs.declared.requests.HoldsWords.{HoldsWords}
 use Rattle.tool_parts.specs.Chained.{AreHeldFrom, IsChainIn, IsFolder, IsAddRefusal, IsFileRefused, IsNamedWrong, AreNamesRefused}
 use Rattle.tool_parts.specs.Checked.{IsLegalSavedText, IsSavedTextRefusal}
-use Rattle.tool_parts.specs.Named.{IsHeld, IsNamed, IsNamedRefusal}
+use Rattle.tool_parts.specs.Named.{IsNamed, IsNamedRefusal}
 use Rattle.tool_parts.specs.Reading.{names_stream}
 use Rattle.tool_parts.specs.Worlds.{World}
 use Rattle.tool_parts.specs.Written.{AppendsFront}

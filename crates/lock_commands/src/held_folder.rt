@@ -1,10 +1,10 @@
 //! The holds of the locks whose segments a folder has: its files are read one after the other.
 
 ghost use Rattle.std.specs.Prelude.{◌≡◌, ◌≤◌, List, ℕ, map, IfOk, IfErr};
+ghost use Rattle.disks.specs.Held.{IsHeld};
 ghost use Rattle.line_service.specs.SegmentNames.{segment_file};
 ghost use Rattle.chain_readers.specs.Chains.{IsHeldWith};
 ghost use Rattle.tool_parts.specs.Chained.{IsFolder};
-ghost use Rattle.tool_parts.specs.Named.{IsHeld};
 ghost use Rattle.lock_commands.specs.HoldsAnswer.{AreFilesHolds, AreFolderHolds, IsUnheld, IsFileUnheld, AreFilesUnheld, IsFolderUnheld};
 ghost use Rattle.lock_commands.specs.HoldSteps.{HoldLeads, HoldEnds};
 

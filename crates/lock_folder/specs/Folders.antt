@@ -1,7 +1,7 @@
 -- The locks of a folder (this project's own).
-use Rattle.std.specs.Prelude.{◌≡◌, ◌≢◌, ℕ, ◌<◌, List, [], ◌++◌, length, slice_get, Bool, true, false, Option, Some, None, Ok, Err, ◌⊎◌, ⊤}
+use Rattle.std.specs.Prelude.{◌≡◌, ◌≢◌, ℕ, ◌<◌, List, [], ◌++◌, length, slice_get, Bool, true, false, Option, Some, None, Ok, Err, ◌⊎◌}
 use Rattle.std.specs.Str.{IsUtf8}
-use Rattle.disks.specs.Held.{Held, bytes_of, Replaces}
+use Rattle.disks.specs.Held.{Held, Replaces, IsHeld}
 use Rattle.disks.specs.Folders.{Lists, is_among, names_of, path_in}
 use Rattle.disks.specs.declared.disk.FolderEntry.{FolderEntry}
 use Rattle.line_service.specs.SegmentNames.{list_name, segment_file}
@@ -24,11 +24,6 @@ use Rattle.lock_folder.specs.declared.faults.StartFault.{StartFault}
 use Rattle.lock_folder.specs.declared.faults.StartFault.TheVariants as fault
 use Rattle.lock_folder.specs.declared.places.Start.{Start}
 use Rattle.lock_folder.specs.Rings.{AreBegun, AreRingsRefused}
-
--- the file of this name held just these bytes, if the content of files is known
-abbrev pub IsHeld : Option Held → List ℕ → List ℕ → Type 0
-IsHeld None name bytes = ⊤
-IsHeld (Some held) name bytes = bytes_of held name ≡ Some bytes
 
 -- the file of the locks of a folder
 abbrev pub locks_file : List ℕ → List ℕ

@@ -1,11 +1,7 @@
 -- The reader of the line of a hold as a function on lists.
 use Rattle.std.specs.Prelude.{ℕ, ◌^◌, codes}
-use Rattle.text_lines.specs.Reading.{Reader, number_at, after_at, then_at, as_at}
+use Rattle.text_lines.specs.Reading.{Reader, number_at, after_at, ◌then◌, as_at}
 use Rattle.held_locks.specs.declared.handing.Handover.{Handover}
-
-infixr 20 ◌then◌
-abbrev pub ◌then◌ : {A B : Type 0} → Reader A → Reader B → Reader (A × B)
-first then second = then_at first (λ _. second)
 
 abbrev pub lock_at : Reader ℕ
 lock_at = number_at (2 ^ 32) 32

@@ -1,9 +1,9 @@
 //! The list of the locks of a folder.
 
 ghost use Rattle.std.specs.Prelude.{◌≡◌, ◌⊎◌, map, string_bytes, OnOk, OnErr, IfOk, IfErr, Some};
-ghost use Rattle.disks.specs.Held.{Replaces};
+ghost use Rattle.disks.specs.Held.{Replaces, IsHeld};
 ghost use Rattle.lock_folder.specs.Lists.{listed, file_text, IsLockFile, IsLockList};
-ghost use Rattle.lock_folder.specs.Folders.{IsHeld, locks_file, IsTextFault, IsWordRefusal, IsDifference, Continues};
+ghost use Rattle.lock_folder.specs.Folders.{locks_file, IsTextFault, IsWordRefusal, IsDifference, Continues};
 
 use crate::checks::first_difference;
 use crate::faults::StartFault;

@@ -1,13 +1,14 @@
 //! Where the locks of a folder start.
 
 ghost use Rattle.std.specs.Prelude.{◌≡◌, ◌<◌, map, length, All, IfOk, IfErr, Ok};
+ghost use Rattle.disks.specs.Held.{IsHeld};
 ghost use Rattle.line_service.specs.SegmentNames.{segment_file};
 ghost use Rattle.ring_model.specs.Bases.{IsBase};
 ghost use Rattle.segment_files.specs.Spelling.{DigestFits};
 ghost use Rattle.segment_files.specs.Torn.{IsRightEnd};
 ghost use Rattle.lock_folder.specs.Lists.{listed};
 ghost use Rattle.held_locks.specs.Handed.{AreHanded};
-ghost use Rattle.lock_folder.specs.Folders.{IsHeld, IsUnread, IsNoEnd, IsSegmentFault, IsAtFirst, IsAtLast, IsAfter, StandsAt, StandsHanded, place_of, IsFirstFault, IsLastFault, IsPlaceFault, IsUnhanded, IsHandingFault};
+ghost use Rattle.lock_folder.specs.Folders.{IsUnread, IsNoEnd, IsSegmentFault, IsAtFirst, IsAtLast, IsAfter, StandsAt, StandsHanded, place_of, IsFirstFault, IsLastFault, IsPlaceFault, IsUnhanded, IsHandingFault};
 
 use crate::faults::StartFault;
 use crate::handing::hand_all;

@@ -2,17 +2,13 @@
 -- than 64 bits (this project's own).
 use Rattle.std.specs.Prelude.{◌≡◌, ℕ, ◌<◌, ◌^◌, List, [], ◌∷◌, codes, Option, None, Some, Ok, Err}
 use Rattle.text_lines.specs.declared.fault.Fault.{Fault as Stop}
-use Rattle.text_lines.specs.Reading.{Reader, nothing_at, after_at, then_at, as_at, branch, choice_at, whole_at}
+use Rattle.text_lines.specs.Reading.{Reader, nothing_at, after_at, ◌then◌, as_at, branch, choice_at, whole_at}
 use Rattle.text_lines.specs.LongNumbers.{order_at}
 use Rattle.lock_lines.specs.declared.inputs.Input.{Input}
 use Rattle.lock_lines.specs.declared.inputs.Input.TheVariants as input
 use Rattle.lock_lines.specs.declared.inputs.Fault.TheVariants as fault
 use Rattle.lock_lines.specs.Inputs.{IsFront}
 use Rattle.lock_lines.specs.Asks.{Ask, seen, acquire, try, release, cancel, leave, corrupt, stats, of_one, of_two, of_three}
-
-infixr 20 ◌then◌
-abbrev pub ◌then◌ : {A B : Type 0} → Reader A → Reader B → Reader (A × B)
-first then second = then_at first (λ _. second)
 
 -- one number after another, and the last of a line
 abbrev pub number : Reader (Option ℕ)

@@ -4,9 +4,10 @@ use Rattle.std.specs.Prelude.{OnOk, OnErr}
 use Rattle.std.specs.List.{flat_map}
 use Rattle.std.proofs.lemmas.List.{append-nil, take_more}
 use Rattle.line_service.specs.declared.pending.Pending.{Pending}
+use Rattle.line_replica.specs.Replies.{IsAdded}
 use Rattle.lock_service.specs.declared.service.Untold.{Untold}
 use Rattle.lock_service.specs.declared.service.Untold.TheVariants as untold
-use Rattle.lock_service.specs.Serving.{IsAdded, Leaves, put}
+use Rattle.lock_service.specs.Serving.{Leaves, put}
 
 pub on_ok : {T E : Type 0} (r : Result T E) (A B : Type 0) → OnOk r A → (A → B) → OnOk r B
 on_ok (Ok u) A B a f = f a

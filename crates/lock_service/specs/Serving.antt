@@ -16,6 +16,7 @@ use Rattle.lock_lines.specs.Inputs.{IsReadAs}
 use Rattle.lock_lines.specs.Answers.{denial_line}
 use Rattle.disks.specs.Held.{Held}
 use Rattle.line_service.specs.declared.pending.Pending.{Pending}
+use Rattle.line_replica.specs.Replies.{IsAdded}
 use Rattle.lock_service.specs.declared.service.LockService.{LockService}
 use Rattle.lock_service.specs.Asking.{one_ask, is_off, IsAnswerTo, is_lack}
 use Rattle.lock_service.specs.declared.service.Stage.{Stage}
@@ -128,11 +129,6 @@ pub record IsServed (old : LockService) (was : Option Held) (line said noted : L
   pub stage : new.stage ≡ stage_after old.stage (is_past old.terms new.segment)
   pub files : is ≡ was
   pub kept : IsKept new
-
--- what is pending has grown by an answer and its notes
-abbrev pub IsAdded : Pending → Pending → List ℕ → List ℕ → Type 0
-IsAdded old new said noted =
-    (new.answers.items ≡ old.answers.items ++ said) × (new.notes.items ≡ old.notes.items ++ noted)
 
 -- what an answer leaves that is so: it is pending; or there was no memory for it; or, on strict
 -- terms, nothing has changed

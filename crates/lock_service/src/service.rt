@@ -9,7 +9,8 @@ ghost use Rattle.lock_service.specs.Asking.{is_off, asked, is_lack};
 ghost use Rattle.lock_service.specs.Segments.{content_of};
 ghost use Rattle.lock_service.specs.Counting.{IsStart};
 ghost use Rattle.lock_service.specs.Segmented.{limit_of, is_to_end};
-ghost use Rattle.lock_service.specs.Serving.{IsToldOf, IsToldOfLeave, IsAnsweredIf, denial_of, IsInputAnswered, AnswersInput, IsKept, IsAdded, Leaves, put, is_past, stage_after};
+ghost use Rattle.lock_service.specs.Serving.{IsToldOf, IsToldOfLeave, IsAnsweredIf, denial_of, IsInputAnswered, AnswersInput, IsKept, Leaves, put, is_past, stage_after};
+ghost use Rattle.line_replica.specs.Replies.{IsAdded};
 
 use crate::asking::{OneAsk, is_lack, is_off, one_ask};
 use crate::noting::{events_at, note_if, note_left_if, tell, tell_left};

@@ -4,13 +4,9 @@ use Rattle.std.specs.Prelude.{ℕ, ◌+◌, List, [], ◌∷◌, ◌==◌, lengt
 use Rattle.std.specs.Option.{option_map}
 use Rattle.text_lines.specs.declared.fault.Fault.{Fault}
 use Rattle.text_lines.specs.declared.fault.Fault.TheVariants.{Short, Bad}
-use Rattle.text_lines.specs.Reading.{Reader, ◌>>=◌, after_at, then_at, as_at, branch, choice_at}
+use Rattle.text_lines.specs.Reading.{Reader, ◌>>=◌, after_at, ◌then◌, as_at, branch, choice_at}
 use Rattle.text_lines.specs.LongNumbers.{order_at, place_at, places_at}
 use Rattle.ring_service.specs.Commands.{Command, pass, try, group, corrupt, survey, glance, save}
-
-infixr 20 ◌then◌
-abbrev pub ◌then◌ : {A B : Type 0} → Reader A → Reader B → Reader (A × B)
-first then second = then_at first (λ _. second)
 
 -- one number after another, and the last of a line
 abbrev pub place : Reader ℕ

@@ -1,7 +1,7 @@
 -- The readers of the lines, blocks and texts as functions on lists. Those below `text_at` are given
 -- the version, which the text's first line says.
 use Rattle.std.specs.Prelude.{ℕ, ◌^◌, List, [], ◌∷◌, ◌++◌, codes, map, Option, Some, None, nat_lt, if◌then◌else◌}
-use Rattle.text_lines.specs.Reading.{Reader, Either, this, that, number_at, positive_at, row_at, after_at, nothing_at, then_at, as_at, Branch, branch, choice_at, many_at}
+use Rattle.text_lines.specs.Reading.{Reader, Either, this, that, number_at, positive_at, row_at, after_at, nothing_at, then_at, ◌then◌, as_at, Branch, branch, choice_at, many_at}
 use Rattle.saved_history.specs.declared.saved.SavedEvent.{SavedEvent}
 use Rattle.saved_history.specs.declared.saved.SavedEvent.TheVariants.{Granted, Refused, Member, Corrupted}
 use Rattle.saved_history.specs.declared.saved.SavedSurvey.{SavedSurvey}
@@ -28,11 +28,6 @@ large = number_at (2 ^ 64) 32
 
 abbrev pub last_large : Reader ℕ
 last_large = number_at (2 ^ 64) 10
-
--- one after the other
-infixr 20 ◌then◌
-abbrev pub ◌then◌ : {A B : Type 0} → Reader A → Reader B → Reader (A × B)
-first then second = then_at first (λ _. second)
 
 -- ---- events
 

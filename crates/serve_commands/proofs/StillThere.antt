@@ -1,14 +1,13 @@
 -- What the journal's file holds while lines are served: no line replaces it.
 use Rattle.std.proofs.Common.{◌≡◌, ◌∙◌, ℕ, List, [], ◌∷◌, Option, None, Some, refl, sym, subst, inl, inr}
 use Rattle.std.specs.Prelude.{IfSome, ⊤}
-use Rattle.disks.specs.Held.{Held, bytes_of, Replaces}
+use Rattle.disks.specs.Held.{Held, bytes_of, Replaces, IsHeld}
 use Rattle.line_service.specs.Loop.{Written}
 use Rattle.ring_service.specs.declared.answers.Answer.{Answer}
 use Rattle.ring_service.specs.declared.answers.Answer.TheVariants as answer
 use Rattle.ring_service.specs.Permits.{Terms}
 use Rattle.ring_service.specs.Standings.{Standing}
 use Rattle.ring_service.specs.Serving.{IsApartFrom, IsSaved, IsSaveGiven, IsGiven, Answers, Stops, name_in}
-use Rattle.tool_parts.specs.Named.{IsHeld}
 use Rattle.serve_commands.specs.Served.{IsServedPart}
 
 -- the file of this name has the content that it had, where that is known

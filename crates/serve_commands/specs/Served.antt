@@ -1,7 +1,7 @@
 -- The answer of `serve`.
 use Rattle.std.specs.Prelude.{◌≡◌, ℕ, ◌≤◌, ◌<◌, ◌^◌, ◌⊎◌, List, [], length, codes, Bool, true, Option, None, Some, IfSome, Err, ⊤}
 use Rattle.std.specs.Option.{option_map}
-use Rattle.disks.specs.Held.{Held, HaveFolders, bytes_of, LeadsToNoFolder, Creates, Grows, Replaces}
+use Rattle.disks.specs.Held.{Held, HaveFolders, bytes_of, LeadsToNoFolder, Creates, Grows, Replaces, IsHeld}
 use Rattle.saved_history.specs.declared.saved.Saved.{Saved}
 use Rattle.saved_history.specs.declared.saved.SavedRing.{SavedRing}
 use Rattle.saved_history.specs.Content.{content}
@@ -17,7 +17,7 @@ use Rattle.ring_service.specs.Permits.{Terms, terms_of}
 use Rattle.ring_service.specs.Serving.{ServesAll}
 use Rattle.ring_service.specs.Recovered.{AnsweredCallsAreRecovered}
 use Rattle.tool_parts.specs.Checked.{IsLegalSavedText, IsSavedTextRefusal}
-use Rattle.tool_parts.specs.Named.{IsHeld, IsFileRefusal}
+use Rattle.tool_parts.specs.Named.{IsFileRefusal}
 use Rattle.tool_parts.specs.Handed.{IsSaveRefusal}
 use Rattle.tool_parts.specs.Locking.{IsUnopenedJournal}
 use Rattle.tool_parts.specs.Worlds.{IsUnserved}

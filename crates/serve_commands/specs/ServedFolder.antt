@@ -1,7 +1,7 @@
 -- `serve` with a journal that is a folder of segments.
 use Rattle.std.specs.Prelude.{◌≡◌, ◌≢◌, ℕ, ◌⊎◌, max, List, Bool, true, false, Option, None, Some, IfSome, IsSome, Ok, Err, codes}
 use Rattle.std.specs.List.{AllByRecursion}
-use Rattle.disks.specs.Held.{Held, IsOneFile, Creates, Replaces}
+use Rattle.disks.specs.Held.{Held, IsOneFile, Replaces, IsHeld}
 use Rattle.disks.specs.Folders.{Lists, is_among, names_of, path_in}
 use Rattle.disks.specs.declared.disk.FolderEntry.{FolderEntry}
 use Rattle.line_service.specs.SegmentNames.{list_name, segment_file}
@@ -26,7 +26,6 @@ use Rattle.tool_parts.specs.declared.requests.ServeWords.{ServeWords}
 use Rattle.serve_commands.specs.declared.serve_folder.Start.{Start}
 use Rattle.tool_parts.specs.declared.faults.ToolError.{ToolError}
 use Rattle.tool_parts.specs.declared.faults.ToolError.TheVariants as tool
-use Rattle.tool_parts.specs.Named.{IsHeld}
 use Rattle.tool_parts.specs.Chained.{IsUnreadSegment, IsFolderFault}
 use Rattle.serve_commands.specs.Served.{IsFirstRefusal, IsServingFault, permits_of}
 use Rattle.tool_parts.specs.Locking.{IsLocked, StandsLocked, IsLockLeft, IsUnkeptFolder}

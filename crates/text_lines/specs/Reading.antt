@@ -85,6 +85,11 @@ nothing_at bytes = Ok (tt, bytes)
 abbrev pub then_at : {A B : Type 0} → Reader A → (A → Reader B) → Reader (A × B)
 then_at first second bytes = first bytes >>= λ x. second x.0 x.1 >>= λ y. Ok ((x.0, y.0), y.1)
 
+-- one after the other
+infixr 20 ◌then◌
+abbrev pub ◌then◌ : {A B : Type 0} → Reader A → Reader B → Reader (A × B)
+first then second = then_at first (λ _. second)
+
 -- a value under another name
 abbrev pub as_at : {A B : Type 0} → (A → B) → Reader A → Reader B
 as_at f at bytes = at bytes >>= λ x. Ok (f x.0, x.1)

@@ -3,11 +3,10 @@ use Rattle.std.proofs.Common.{◌≡◌, ℕ, List, true, false, Option, None, S
 use Rattle.std.specs.Option.{is_some}
 use Rattle.std.specs.Result.{is_ok}
 use Rattle.std.proofs.lemmas.Bool.{false≢true}
-use Rattle.disks.specs.Held.{Held, Thing, Nothing, Folder, File, file_bytes, is_a_folder, LeadsToFolder, LeadsToNoFolder}
+use Rattle.disks.specs.Held.{Held, Thing, Nothing, Folder, File, file_bytes, is_a_folder, LeadsToFolder, LeadsToNoFolder, IsHeld}
 use Rattle.disks.specs.Folders.{Lists}
 use Rattle.disks.specs.declared.disk.FolderEntry.{FolderEntry}
 use Rattle.tool_parts.specs.Chained.{IsFolder}
-use Rattle.tool_parts.specs.Named.{IsHeld}
 
 -- what has bytes is not a folder
 no_folder : (t : Thing) (bytes : List ℕ) → file_bytes t ≡ Some bytes → is_a_folder t ≡ false

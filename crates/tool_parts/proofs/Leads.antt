@@ -1,7 +1,7 @@
 -- The files of a folder that are added to a chain, one after the other.
 use Rattle.std.proofs.Common.{◌≡◌, ℕ, ◌+◌, ◌<◌, List, [], ◌∷◌, ◌++◌, length, true, false, Option, Some, None, refl, sym, ap, subst, ◌∙◌, arith, length-append, eqb, eqb-true, eq-eqb}
 use Rattle.std.proofs.lemmas.Bool.{false_from_ne_true}
-use Rattle.disks.specs.Held.{Held}
+use Rattle.disks.specs.Held.{Held, IsHeld}
 use Rattle.line_service.specs.declared.segment_numbers.SegmentNumbers.{SegmentNumbers}
 use Rattle.tool_parts.specs.declared.faults.ToolError.{ToolError}
 use Rattle.line_service.specs.SegmentNames.{segment_file}
@@ -11,7 +11,6 @@ use Rattle.segment_files.specs.Files.{File}
 use Rattle.segment_files.specs.Sums.{no_sums, sums_after}
 use Rattle.segment_files.specs.Chain.{State, LeadTo, IsAdded, state_after, sums_at, digest_at}
 use Rattle.segment_files.proofs.Adding.{chained, led_on}
-use Rattle.tool_parts.specs.Named.{IsHeld}
 use Rattle.tool_parts.specs.Chained.{chain_sums, last_digest, AreHeldFrom, IsAddRefusal, IsFileRefused}
 use Rattle.tool_parts.specs.ChainSteps.{Leads, Ends}
 

@@ -1,7 +1,7 @@
 -- The answer of `check` to a folder of segments.
 use Rattle.std.specs.Prelude.{◌≡◌, ℕ, ◌+◌, ◌<◌, ◌==◌, cond, List, [], ◌∷◌, ◌++◌, length, Bool, Option, Some, None, Ok, Err, codes, decimal, ◌⊎◌}
 use Rattle.std.specs.Io.KnownBytes.{Appends}
-use Rattle.disks.specs.Held.{Held, Opens}
+use Rattle.disks.specs.Held.{Held, Opens, IsHeld}
 use Rattle.disks.specs.Folders.{names_of, Lists}
 use Rattle.disks.specs.declared.disk.FolderEntry.{FolderEntry}
 use Rattle.line_service.specs.SegmentNames.{segment_file}
@@ -15,7 +15,6 @@ use Rattle.segment_files.specs.Spelling.{digest_of, no_digest}
 use Rattle.segment_files.specs.Files.{File, AreChained}
 use Rattle.segment_files.specs.Sums.{no_sums, sums_after}
 use Rattle.segment_files.specs.Chain.{State, IsRightRefusal, LeadTo}
-use Rattle.tool_parts.specs.Named.{IsHeld}
 use Rattle.tool_parts.specs.Reading.{most_bytes, IsOver}
 use Rattle.tool_parts.specs.Written.{AppendsFront}
 use Rattle.tool_parts.specs.declared.faults.ToolError.{ToolError}

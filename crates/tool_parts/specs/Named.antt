@@ -1,15 +1,10 @@
 -- The files that a command read and made, by their names.
 use Rattle.std.specs.Prelude.{◌≡◌, ℕ, List, true, false, Option, None, Some, ◌⊎◌, ⊤}
-use Rattle.disks.specs.Held.{Held, IsOneFile, bytes_of, Opens, Replaces}
+use Rattle.disks.specs.Held.{Held, IsOneFile, Opens, Replaces, IsHeld}
 use Rattle.tool_parts.specs.Faults.{IsReadRefusal}
 use Rattle.tool_parts.specs.Reading.{most_bytes, names_stream, IsAllOf}
 use Rattle.tool_parts.specs.declared.faults.ToolError.{ToolError}
 use Rattle.tool_parts.specs.declared.faults.ToolError.TheVariants as tool
-
--- the file of this name held just these bytes, if the content of files is known
-abbrev pub IsHeld : Option Held → List ℕ → List ℕ → Type 0
-IsHeld None name bytes = ⊤
-IsHeld (Some held) name bytes = bytes_of held name ≡ Some bytes
 
 -- The source that a word names gave just these bytes: the dash all that standard input had left,
 -- each other word the file of its name, which held them.

@@ -3,13 +3,12 @@
 ghost use Rattle.std.specs.Prelude.{false, ◌≡◌, ◌≢◌, ◌⊎◌, ◌≤◌, ◌+◌, ◌++◌, ℕ, List, None, Some, Ok, IfOk, IfErr, IfSome, OnOk, codes, decimal};
 ghost use Rattle.std.specs.Io.KnownBytes.{Appends};
 ghost use Rattle.text_lines.specs.Writing.{Writes};
-ghost use Rattle.disks.specs.Held.{Held};
+ghost use Rattle.disks.specs.Held.{Held, IsHeld};
 ghost use Rattle.line_service.specs.SegmentNames.{segment_file};
 ghost use Rattle.line_service.specs.SegmentNumbers.{IsRightNumbers};
 ghost use Rattle.segment_files.specs.Spelling.{no_digest};
 ghost use Rattle.segment_files.specs.Files.{File};
 ghost use Rattle.segment_files.specs.Chain.{State, IsAdded, sums_at, digest_at};
-ghost use Rattle.tool_parts.specs.Named.{IsHeld};
 ghost use Rattle.tool_parts.specs.Chained.{from_text, sums_text, chain_line, sums_of, last_digest, IsChainIn, IsFolder, AreFolderSums, IsChainAnswer, IsUnreadSegment, IsAddRefusal, IsFileRefused, IsNamedWrong, AreNamesRefused, AreSumsRefused, IsFolderRefusal};
 ghost use Rattle.tool_parts.specs.ChainSteps.{Leads, Ends};
 ghost use Rattle.tool_parts.specs.Reading.{names_stream};

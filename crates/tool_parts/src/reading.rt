@@ -2,8 +2,9 @@
 
 ghost use Rattle.std.specs.Prelude.{◌≡◌, ◌≤◌, Some, false, vec_len, IfOk, OnOk, IfErr, IsErrOf};
 ghost use Rattle.std.specs.Io.KnownBytes.{Consumes, IsAtEnd};
+ghost use Rattle.disks.specs.Held.{IsHeld};
 ghost use Rattle.tool_parts.specs.Faults.{IsReadRefusal};
-ghost use Rattle.tool_parts.specs.Named.{IsHeld, IsNamed, IsFileRefusal, IsNamedRefusal, IsApart, IsApartRefusal};
+ghost use Rattle.tool_parts.specs.Named.{IsNamed, IsFileRefusal, IsNamedRefusal, IsApart, IsApartRefusal};
 ghost use Rattle.tool_parts.specs.Reading.{most_bytes, names_stream, IsAllOf, IsWithin, IsOver};
 
 use crate::faults::ToolError;

@@ -3,10 +3,10 @@ use Rattle.std.proofs.Common.{◌≡◌, ◌∙◌, ap, sym, subst, refl, inl, i
 use Rattle.std.specs.Prelude.{ℕ, ◌≢◌, List, [], Option, None, Some, IsSome, IfSome, false, true, ◌⊎◌}
 use Rattle.std.specs.Option.{unwrap_or, is_some}
 use Rattle.std.proofs.lemmas.Bool.{false≢true}
-use Rattle.disks.specs.Held.{Held, bytes_of, Creates, Discards, Grows, Starts, Replaces}
+use Rattle.disks.specs.Held.{Held, bytes_of, Creates, Discards, Grows, Starts, Replaces, IsHeld}
 use Rattle.saved_history.specs.Content.{Content}
 use Rattle.ring_check.specs.declared.answers.Summary.{Summary}
-use Rattle.tool_parts.specs.Named.{IsHeld, IsNamed, IsApart}
+use Rattle.tool_parts.specs.Named.{IsNamed, IsApart}
 use Rattle.tool_parts.specs.Reading.{names_stream}
 use Rattle.text_commands.specs.Upgraded.{IsUpgradeOf}
 

@@ -3,7 +3,7 @@
 ghost use Rattle.std.specs.Prelude.{◌≡◌, ◌≢◌, ℕ, List, ◌<◌, ◌≤◌, ◌^◌, false, Some, IsSome, length, OnOk, IfOk, IfSome, IsErrOf};
 ghost use Rattle.std.specs.Io.KnownBytes.{Appends, Consumes};
 ghost use Rattle.text_lines.specs.Writing.{Writes};
-ghost use Rattle.disks.specs.Held.{Replaces};
+ghost use Rattle.disks.specs.Held.{Replaces, IsHeld};
 ghost use Rattle.ring_settings.specs.Limits.{ring_limit};
 ghost use Rattle.ring_check.specs.declared.answers.Summary.{Summary};
 ghost use Rattle.saved_history.specs.Content.{content};
@@ -14,7 +14,7 @@ ghost use Rattle.ring_text.specs.SavedOf.{saved_of};
 ghost use Rattle.tool_parts.specs.CheckText.{legal_line};
 ghost use Rattle.tool_parts.specs.Checked.{IsLegalSavedText, IsCheckRefusal};
 ghost use Rattle.tool_parts.specs.Faults.{status_of, end_status};
-ghost use Rattle.tool_parts.specs.Named.{IsHeld, IsApart};
+ghost use Rattle.tool_parts.specs.Named.{IsApart};
 ghost use Rattle.run_commands.specs.Ran.{report_text};
 ghost use Rattle.tool_parts.specs.Reading.{most_bytes, names_stream, IsAllOf, IsWithin, IsOver};
 

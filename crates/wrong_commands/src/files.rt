@@ -2,7 +2,7 @@
 
 ghost use Rattle.std.specs.Prelude.{◌≡◌, ◌≢◌, ℕ, List, Option, ◌<◌, ◌≤◌, ◌^◌, false, None, Some, IsSome, length, OnOk};
 ghost use Rattle.std.specs.Io.KnownBytes.{Appends};
-ghost use Rattle.disks.specs.Held.{Replaces};
+ghost use Rattle.disks.specs.Held.{Replaces, IsHeld};
 ghost use Rattle.ring_settings.specs.Limits.{ring_limit};
 ghost use Rattle.ring_check.specs.declared.answers.Summary.{Summary};
 ghost use Rattle.saved_history.specs.Spelling.{text};
@@ -11,7 +11,7 @@ ghost use Rattle.ring_text.specs.SavedOf.{saved_of};
 ghost use Rattle.tool_parts.specs.CheckText.{legal_line};
 ghost use Rattle.tool_parts.specs.Checked.{IsLegalSavedText, IsTextChecked};
 ghost use Rattle.tool_parts.specs.Handed.{IsHanded};
-ghost use Rattle.tool_parts.specs.Named.{IsHeld, IsApart};
+ghost use Rattle.tool_parts.specs.Named.{IsApart};
 ghost use Rattle.text_commands.specs.Pictured.{IsDrawing, IsPictureApart, picture_of};
 ghost use Rattle.run_commands.specs.Ran.{report_text, history_file};
 ghost use Rattle.tool_parts.specs.Reading.{names_stream};

@@ -1,8 +1,7 @@
 //! Files that are replaced, made, opened or removed wrongly.
 
 ghost use Rattle.std.specs.Prelude.{◌≡◌, ◌≢◌, IsSome, IfSome, None, Some, IfOk, OnOk};
-ghost use Rattle.disks.specs.Held.{bytes_of, Creates, Discards, Replaces};
-ghost use Rattle.tool_parts.specs.Named.{IsHeld};
+ghost use Rattle.disks.specs.Held.{bytes_of, Creates, Discards, Replaces, IsHeld};
 
 use disks::{Contents, Disk, ReplaceFault, replace};
 use std::alloc::Global;

@@ -1,9 +1,10 @@
 //! Upgrades and joins, each broken.
 
 ghost use Rattle.std.specs.Prelude.{◌≡◌, ◌≢◌, ◌⊎◌, ℕ, List, [], IsSome, IfSome};
+ghost use Rattle.disks.specs.Held.{IsHeld};
 ghost use Rattle.ring_check.specs.declared.answers.Summary.{Summary};
 ghost use Rattle.saved_history.specs.Content.{Content};
-ghost use Rattle.tool_parts.specs.Named.{IsHeld, IsNamed};
+ghost use Rattle.tool_parts.specs.Named.{IsNamed};
 ghost use Rattle.folder_commands.specs.JoinedFolder.{IsJoinable};
 ghost use Rattle.text_commands.specs.Upgraded.{IsUpgradeOf};
 

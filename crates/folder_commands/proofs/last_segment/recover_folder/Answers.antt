@@ -1,7 +1,7 @@
 use Rattle.std.proofs.Common.{List, ℕ, Some, inl, inr, refl, sym, subst}
+use Rattle.disks.specs.Held.{IsHeld}
 use Rattle.disks.specs.declared.disk.FolderEntry.{FolderEntry}
 use Rattle.line_service.specs.SegmentNames.{segment_file}
-use Rattle.tool_parts.specs.Named.{IsHeld}
 use Rattle.tool_parts.specs.Handed.{file_of}
 use Rattle.tool_parts.specs.Outside.{IsOutside}
 use Rattle.folder_commands.specs.SegmentRecovered.{file_as, IsSegmentFault}

@@ -1,6 +1,6 @@
 use Rattle.std.proofs.Common.{List, ℕ, refl, sym, subst}
+use Rattle.disks.specs.Held.{IsHeld}
 use Rattle.line_service.specs.SegmentNames.{segment_file}
-use Rattle.tool_parts.specs.Named.{IsHeld}
 use Rattle.lock_commands.proofs.held_folder.read_segment.Goals as goal
 
 pub returns-in-Err-Segment-clause-err : goal.returns-in-Err-Segment-clause-err

@@ -1,11 +1,10 @@
 use Rattle.std.proofs.Common.{◌≡◌, ℕ, List, Option, subst}
-use Rattle.disks.specs.Held.{Held}
+use Rattle.disks.specs.Held.{Held, IsHeld}
 use Rattle.saved_history.specs.declared.saved.Saved.{Saved}
 use Rattle.saved_history.specs.Content.{content}
 use Rattle.ring_check.specs.declared.answers.Summary.{Summary}
 use Rattle.ring_check.specs.Legal.{IsLegalText}
 use Rattle.tool_parts.specs.Checked.{IsLegalSavedText}
-use Rattle.tool_parts.specs.Named.{IsHeld}
 use Rattle.serve_commands.specs.Served.{IsHistory}
 use Rattle.serve_commands.proofs.JournalStarts.{text_begins}
 use Rattle.serve_commands.proofs.resuming.history.Goals as goal

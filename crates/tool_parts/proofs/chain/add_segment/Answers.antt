@@ -1,6 +1,6 @@
 use Rattle.std.proofs.Common.{List, ℕ, refl, sym, subst}
+use Rattle.disks.specs.Held.{IsHeld}
 use Rattle.line_service.specs.SegmentNames.{segment_file}
-use Rattle.tool_parts.specs.Named.{IsHeld}
 use Rattle.tool_parts.proofs.chain.add_segment.Goals as goal
 
 pub returns : goal.returns
