@@ -11,12 +11,12 @@ use Rattle.lock_service.specs.Segments.{content_of}
 use Rattle.lock_service.specs.Serving.{IsServed}
 use Rattle.lock_service.specs.Begun.{HaveBegun}
 use Rattle.lock_service.specs.KeysBack.{IsSound}
-use Rattle.lock_service.specs.Runs.{inside, IsPlain}
+use Rattle.lock_service.specs.Runs.{Service, answering, by_segments, inside, IsPlain}
 use Rattle.lock_service.proofs.SoundKeys.{fresh_is_sound}
 use Rattle.lock_service.proofs.Stages.{parts_are_stages}
 use Rattle.lock_service.proofs.PutSegments.{put_segments_are_stages}
 use Rattle.tool_parts.specs.declared.requests.LocksWords.{LocksWords}
-use Rattle.lock_commands.specs.Locks.{folder_of, terms_of, Service, answering, by_segments, BeginsWith, HasStarted}
+use Rattle.lock_commands.specs.Locks.{folder_of, terms_of, BeginsWith, HasStarted}
 use Rattle.lock_commands.specs.Life.{IsLived}
 
 -- the locks begin a segment, if they are kept and have a text

@@ -20,7 +20,8 @@ use Rattle.line_service.specs.Service.{Part, IsPart, AreParts, IsStopped}
 use Rattle.tool_parts.specs.declared.requests.LocksWords.{LocksWords}
 use Rattle.tool_parts.specs.Locking.{IsLocked, StandsLocked}
 use Rattle.tool_parts.proofs.LockedFolders.{Stands, stands_locked, same_locked, put_locked, settled_locked, if_held, ended_stand, kept_stand, added_stand}
-use Rattle.lock_commands.specs.Locks.{folder_of, list_of, Service, answering, by_segments, HasStarted, IsRun, IsRunRefused, AreUnderLock, StaysLocked}
+use Rattle.lock_service.specs.Runs.{Service, answering, by_segments}
+use Rattle.lock_commands.specs.Locks.{folder_of, list_of, HasStarted, IsRun, IsRunRefused, AreUnderLock, StaysLocked}
 use Rattle.tool_parts.specs.declared.faults.ToolError.{ToolError}
 
 -- ---- no line changes a file

@@ -8,8 +8,9 @@ use Rattle.line_service.specs.Lasting.{EachSegmentLasts}
 use Rattle.tool_parts.specs.declared.requests.LocksWords.{LocksWords}
 use Rattle.tool_parts.specs.Locking.{IsLocked}
 use Rattle.tool_parts.specs.Worlds.{World, IsUnserved}
+use Rattle.lock_service.specs.Runs.{Service, answering, by_segments}
 use Rattle.lock_commands.specs.HoldersFile.{holders_word, AreHoldersOf}
-use Rattle.lock_commands.specs.Locks.{folder_of, list_of, Service, answering, by_segments, HasStarted}
+use Rattle.lock_commands.specs.Locks.{folder_of, list_of, HasStarted}
 
 -- From where the locks start: no line was served; or their first segment has begun, and this is
 -- left of the folder, with the notes of all lines that were delivered: in each segment that has

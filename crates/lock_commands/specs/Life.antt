@@ -6,12 +6,12 @@ use Rattle.lock_folder.specs.Folders.{Place, AreStarted}
 use Rattle.line_service.specs.Segments.{Moment, IsPut}
 use Rattle.line_service.specs.Service.{all_said}
 use Rattle.line_service.specs.Notes.{ToldLinesAreNoted}
-use Rattle.lock_service.specs.Runs.{inside, lines_in, IsInStages, moment_after}
+use Rattle.lock_service.specs.Runs.{Service, answering, by_segments, inside, lines_in, IsInStages, moment_after}
 use Rattle.tool_parts.specs.declared.requests.LocksWords.{LocksWords}
 use Rattle.tool_parts.specs.Locking.{IsLocked}
 use Rattle.tool_parts.specs.Worlds.{World, IsUnserved}
 use Rattle.lock_commands.specs.HoldersFile.{holders_word, AreHoldersOf}
-use Rattle.lock_commands.specs.Locks.{folder_of, list_of, Service, answering, by_segments, HasStarted}
+use Rattle.lock_commands.specs.Locks.{folder_of, list_of, HasStarted}
 
 -- A run from where the locks start, wherever it ended: of the lines that were reported, in parts,
 -- the output has a prefix of what was said, and nothing else. If no answer was lost up to the last

@@ -15,22 +15,13 @@ use Rattle.lock_service.specs.declared.service.LockService.{LockService}
 use Rattle.lock_service.specs.declared.service.Stage.TheVariants as stage
 use Rattle.lock_service.specs.declared.service.Terms.{Terms}
 use Rattle.lock_service.specs.Counting.{IsStart}
-use Rattle.lock_service.specs.Segmented.{segmenting}
-use Rattle.lock_service.specs.Serving.{IsServed, is_past, stage_after}
-use Rattle.lock_service.specs.State.{state_lines}
+use Rattle.lock_service.specs.Runs.{Service, answering, by_segments}
+use Rattle.lock_service.specs.Serving.{is_past, stage_after}
 use Rattle.line_service.specs.declared.segmented.EndFault.{EndFault}
-use Rattle.line_service.specs.Stands.{AnsweringWith}
-use Rattle.line_service.specs.Segmenting.{Segmenting}
 use Rattle.line_service.specs.Segments.{Moment, HasBegun, IsFileUnbegun}
 use Rattle.line_service.specs.Service.{Part, ServesSegments, ServesSomeSegments, IsFaultOf}
 use Rattle.line_service.specs.Notes.{ToldLinesAreNoted}
-use Rattle.line_replica.specs.declared.replica.Replica.{Replica}
-use Rattle.line_replica.specs.declared.restorable.Restorable.{Restorable}
-use Rattle.line_replica.specs.Replies.{IsReplied}
 use Rattle.line_replica.specs.Running.{at_place}
-use Rattle.line_replica.specs.Segmented as around
-use Rattle.line_replica.specs.Restoring as behind
-use Rattle.line_replica.specs.State.{lines_of, IsRestorable}
 use Rattle.lock_service.specs.Begun.{HaveBegun}
 use Rattle.tool_parts.specs.declared.requests.LocksWords.{LocksWords}
 use Rattle.tool_parts.specs.declared.faults.ToolError.{ToolError}
@@ -60,17 +51,6 @@ terms_of words = record {
   limit = Some (most_lines words);
   strict = words.strict;
 }
-
--- the service that answers: a replica of the locks' service, whose state is answered where it is
--- asked for; how it answers a line, and how it lives in segments
-abbrev pub Service : Type 0
-Service = Restorable (Replica LockService)
-
-abbrev pub answering : AnsweringWith Service
-answering = IsRestorable (IsReplied IsServed) (lines_of state_lines)
-
-abbrev pub by_segments : Segmenting Service
-by_segments = behind.segmenting (around.segmenting segmenting)
 
 -- the service inside begins with these locks
 pub record BeginsInside (words : LocksWords) (locks : List LockView) (s : LockService) : Type 0

@@ -7,6 +7,7 @@ use Rattle.ring_state.specs.Sizes.{Size, IsSize}
 use Rattle.ring_state.specs.declared.sizes.ParamsError.{ParamsError}
 use Rattle.ring_state.specs.declared.sizes.ParamsError.TheVariants as params
 use Rattle.ring_model.specs.Limits.{machine_limit, value_limit}
+use Rattle.held_locks.specs.Kept.{lock_limit}
 use Rattle.lock_folder.specs.declared.locks.ListedLock.{ListedLock}
 use Rattle.lock_folder.specs.declared.locks.ListError.{ListError}
 use Rattle.lock_folder.specs.declared.locks.ListError.TheVariants as refused
@@ -62,10 +63,6 @@ AreTexts end mark bytes (l ∷ ls) =
     × AreTexts end mark rest ls
 
 -- ---- locks
-
--- how many there may be
-abbrev pub lock_limit : ℕ
-lock_limit = 1000000
 
 abbrev pub size_of : Listed → Size
 size_of l = record { n = l.n; k = l.k }

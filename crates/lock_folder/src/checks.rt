@@ -7,12 +7,10 @@ ghost use Rattle.std.specs.Str.{bytes_eq};
 ghost use Rattle.ring_state.specs.Sizes.{IsSize};
 
 use crate::locks::{ListError, ListedLock};
+use held_locks::LOCK_LIMIT;
 use ring_state::Params;
 use std::alloc::Global;
 use std::collections::HashMap;
-
-/// How many locks a list has at most.
-pub const LOCK_LIMIT: usize = 1_000_000;
 
 /// Checks the sizes.
 fn check_sizes(locks: &[ListedLock<'_>]) -> Result<(), ListError>

@@ -19,7 +19,7 @@ mod rings;
 mod sizes;
 mod writing;
 
-pub use checks::{LOCK_LIMIT, first_difference};
+pub use checks::first_difference;
 pub use faults::StartFault;
 pub use folder::start_locks;
 pub use handing::hand_all;
