@@ -12,11 +12,13 @@ use Rattle.ring_model.specs.Resources.{till}
 use Rattle.ring_model.specs.Surveys.{survey_at}
 use Rattle.ring_model.specs.Groups.{left_after}
 use Rattle.saved_history.specs.declared.saved.SavedSurvey.{SavedSurvey}
+use Rattle.ring_check.specs.declared.answers.Kind.TheVariants as kind
 use Rattle.ring_check.specs.Limits.{machine_limit_of, value_limit_of}
 use Rattle.ring_check.specs.Lines.{Line, RingLine, StartLine, EventLine, EndLine, SurveyLine, DoneLine}
 use Rattle.ring_check.specs.Meaning.{survey_of}
 use Rattle.ring_check.specs.Members.{run_of, goes_on}
 use Rattle.ring_check.specs.Table.{Before, event_of, first_state, now, are_parameters, in_range, is_replied, is_onward}
+use Rattle.bad_lines.specs.declared.wrongs.Bad.{Bad}
 use Rattle.bad_lines.specs.declared.wrongs.Wrong.{Wrong}
 use Rattle.bad_lines.specs.declared.wrongs.Wrong.TheVariants.{Size, Number, Limit, Replied, Unfinished, Disordered, Early, Inside, Surveyed}
 
@@ -82,3 +84,14 @@ wrong b (EventLine e) = event_wrong b.n (run_of b.events) (left_after b.events) 
 wrong b (EndLine said) = end_wrong said b.events
 wrong b (SurveyLine s) = survey_wrong b s
 wrong b (DoneLine said) = Number said b.rings
+
+-- the fault of a survey's place, if the one in its place before it had this seat and position, and
+-- there are this many events
+abbrev pub place_fault : ℕ → ℕ → ℕ → SavedSurvey → Option Bad
+place_fault seat position events s =
+    cond (nat_lt s.seat seat_limit)
+    (cond (is_onward seat position s)
+    (cond (nat_le s.position events) None
+    (Some (record { kind = kind.Survey; wrong = Limit s.position (events + 1) })))
+    (Some (record { kind = kind.Survey; wrong = Early s.seat s.position seat position })))
+    (Some (record { kind = kind.Range; wrong = Limit s.seat seat_limit }))

@@ -1,14 +1,14 @@
 //! The survey lines of a block.
 
-ghost use Rattle.std.specs.Prelude.{◌≡◌, ◌+◌, ◌<◌, ◌≤◌, ◌^◌, ◌&&◌, ◌==◌, ◌++◌, [], ℕ, length, map, take, cond, nat_lt, nat_le, None, Some, IfOk, OnOk};
-ghost use Rattle.ring_model.specs.Limits.{seat_limit};
+ghost use Rattle.std.specs.Prelude.{◌≡◌, ◌+◌, ◌<◌, ◌≤◌, ◌^◌, ◌&&◌, ◌==◌, ◌++◌, [], ℕ, length, map, take, cond, None, Some, IfOk, OnOk};
 ghost use Rattle.ring_check.specs.Lines.{SurveyLine};
 ghost use Rattle.ring_check.specs.Scan.{in_block};
-ghost use Rattle.ring_check.specs.Table.{event_of, first_state, same_survey, is_onward};
+ghost use Rattle.ring_check.specs.Table.{event_of, first_state, same_survey};
 ghost use Rattle.ring_check.specs.Meaning.{survey_of};
 ghost use Rattle.ring_check.specs.declared.answers.Kind.TheVariants as kind;
 ghost use Rattle.bad_lines.specs.BadLines.{bad, bad_among, known, mended};
 ghost use Rattle.bad_lines.specs.Replays.{AreCallable, Stands, IsMark, own_all, marked};
+ghost use Rattle.bad_lines.specs.Wrongs.{place_fault};
 
 use crate::replay::Replay;
 use crate::wrongs::{Bad, BadLine, Wrong, tell};
@@ -70,16 +70,7 @@ fn go_to(
 /// The fault of a survey's place, if the one in its place before it had this seat and position, and there are this many events.
 fn place_fault(seat: u32, position: u64, events: u64, survey: &SavedSurvey) -> Option<Bad>
     requires { events + 1 < 2 ^ 64 }
-    ensures { result
-        ≡ cond (nat_lt survey.now.seat seat_limit)
-        (cond (is_onward seat position survey.now)
-        (cond (nat_le survey.now.position events) None
-        (Some (record { kind = kind.Survey; wrong = Wrong.Limit survey.now.position (events + 1) })))
-        (Some (record {
-          kind = kind.Survey;
-          wrong = Wrong.Early survey.now.seat survey.now.position seat position;
-        })))
-        (Some (record { kind = kind.Range; wrong = Wrong.Limit survey.now.seat seat_limit })) }
+    ensures { result ≡ place_fault seat position events survey.now }
 {
     if survey.seat as usize >= SEAT_LIMIT {
         return Some(Bad {
