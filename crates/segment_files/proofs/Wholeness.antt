@@ -26,8 +26,6 @@ count bs = length (flat_map block_lines bs)
 one_block : (b : Block) (bs : List Block) → count (b ∷ bs) ≡ length (block_lines b) + count bs
 one_block b bs = length-append (block_lines b) (flat_map block_lines bs)
 
-one_call : (b : Block) (call : Call) → length (block_lines (with_call b call)) ≡ length (block_lines b) + 1
-
 call_at : (bs : List Block) (ring : ℕ) (call : Call) → ring < length bs → (count (with_call_at bs ring call) ≡ count bs + 1) × (length (with_call_at bs ring call) ≡ length bs)
 call_at [] ring call lt = absurd (omega (arith, lt))
 call_at (b ∷ bs) zero call lt =
