@@ -11,6 +11,7 @@ ghost use Rattle.chain_readers.specs.Joins.{Joined, IsJoinedWith, IsJoinRefusal,
 use crate::join_errors::JoinError;
 use crate::joined_lines::{are_few_lines, overfull};
 use crate::rings::add_file;
+use journal::all_in_order;
 use ring_check::{Summary, check_saved};
 use saved_history::{LATEST_VERSION, Saved, SavedRing};
 use segment_files::{Chain, ChainSums, SegmentError, one_file, read_segment};
