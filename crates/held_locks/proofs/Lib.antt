@@ -21,3 +21,4 @@ pub mod NextSegments
 pub mod Foreseen
 pub mod HandedOver
 pub mod TheirHolds
+mod Asking

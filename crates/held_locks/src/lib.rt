@@ -16,5 +16,6 @@ mod queue;
 mod waits;
 
 pub use answers::{Answer, Answers, HoldEnd, Holder, Left, Refusal, Stats, Waiter};
+pub use asks::OneAsk;
 pub use handing::Handover;
 pub use locks::{LOCK_LIMIT, Locks};

@@ -5,6 +5,7 @@ ghost use Rattle.held_locks.specs.Queues.{stands, waits_for, client_of, holder_o
 ghost use Rattle.held_locks.specs.Locks.{Acquire, Try, Release, Cancel, Corrupt, Stats, acquire_refusal, try_refusal};
 ghost use Rattle.held_locks.specs.Cuts.{AreNext, HaveNoNext};
 ghost use Rattle.held_locks.specs.Handed.{IsHanded, CannotBeHanded};
+ghost use Rattle.held_locks.specs.Asked.{asked, IsAnswerTo};
 ghost use Rattle.held_locks.specs.Kept.{LockView, lock_of, locks_of, lock_limit, IsKeptRing, IsKeptLock, AreKept, IsDone, IsAnswer, IsLeft};
 ghost use Rattle.held_locks.specs.Opened.{holder_after, IsAdded, IsNotAdded};
 ghost use Rattle.held_locks.specs.Waiting.{lock_in};
@@ -13,6 +14,7 @@ ghost use Rattle.held_locks.specs.declared.answers.Left.{Left};
 ghost use Rattle.held_locks.specs.declared.parts.LockParts.{LockParts};
 
 use crate::answers::{Answers, Holder, Left, Refusal, Waiter};
+use crate::asks::OneAsk;
 use crate::cuts::next_locks;
 use crate::handing::{Handover, hand_among};
 use crate::leaving::leave_all;
@@ -140,91 +142,45 @@ fn try_refusal(locks: &[LockParts], waits: &Waits, client: u64, lock: u32) -> Op
     None
 }
 
+/// Answers what a client asks of one lock.
 #[inline(always)]
-fn acquire_among(
+fn ask_among(
     locks: &mut Vec<LockParts>,
     waits: &mut Waits,
     client: u64,
     lock: u32,
-    label: u64,
+    ask: OneAsk,
 ) -> Answers
     requires { AreKept (views_of locks.old.items) waits.old }
-    ensures { IsAnswer (views_of locks.old.items) (views_of locks.new.items) client lock
-        (Acquire label) result × AreKept (views_of locks.new.items) waits.new }
+    ensures { IsAnswerTo (views_of locks.old.items) (views_of locks.new.items) client lock
+        (asked ask) result × AreKept (views_of locks.new.items) waits.new }
 {
     if lock as usize >= locks.len() {
         return refused(Refusal::Lock);
     }
-    let why = acquire_refusal(locks, waits, client, lock as usize);
-    let waiter = Waiter { client, label };
-    asks::acquire(&mut locks[lock as usize], waits, lock, waiter, why)
-}
-
-fn try_among(
-    locks: &mut Vec<LockParts>,
-    waits: &mut Waits,
-    client: u64,
-    lock: u32,
-    label: u64,
-) -> Answers
-    requires { AreKept (views_of locks.old.items) waits.old }
-    ensures { IsAnswer (views_of locks.old.items) (views_of locks.new.items) client lock
-        (Try label) result × AreKept (views_of locks.new.items) waits.new }
-{
-    if lock as usize >= locks.len() {
-        return refused(Refusal::Lock);
+    match ask {
+        OneAsk::Acquire { label } => {
+            let why = acquire_refusal(locks, waits, client, lock as usize);
+            let waiter = Waiter { client, label };
+            asks::acquire(&mut locks[lock as usize], waits, lock, waiter, why)
+        }
+        OneAsk::Try { label } => {
+            let why = try_refusal(locks, waits, client, lock);
+            let waiter = Waiter { client, label };
+            asks::try_acquire(&mut locks[lock as usize], waiter, why)
+        }
+        OneAsk::Release { token } => {
+            asks::release(&mut locks[lock as usize], waits, lock, client, token)
+        }
+        OneAsk::Cancel => {
+            let waiting = stands_at(locks, waits, client, lock);
+            asks::cancel(&mut locks[lock as usize], waits, lock, client, waiting)
+        }
+        OneAsk::Corrupt { machine, value } => {
+            asks::corrupt(&mut locks[lock as usize], client, machine, value)
+        }
+        OneAsk::Stats => asks::stats(&locks[lock as usize]),
     }
-    let why = try_refusal(locks, waits, client, lock);
-    let waiter = Waiter { client, label };
-    asks::try_acquire(&mut locks[lock as usize], waiter, why)
-}
-
-#[inline(always)]
-fn release_among(
-    locks: &mut Vec<LockParts>,
-    waits: &mut Waits,
-    client: u64,
-    lock: u32,
-    token: u64,
-) -> Answers
-    requires { AreKept (views_of locks.old.items) waits.old }
-    ensures { IsDone (views_of locks.old.items) (views_of locks.new.items) client lock
-        (Release token) result × AreKept (views_of locks.new.items) waits.new }
-{
-    if lock as usize >= locks.len() {
-        return refused(Refusal::Lock);
-    }
-    asks::release(&mut locks[lock as usize], waits, lock, client, token)
-}
-
-fn cancel_among(locks: &mut Vec<LockParts>, waits: &mut Waits, client: u64, lock: u32) -> Answers
-    requires { AreKept (views_of locks.old.items) waits.old }
-    ensures { IsDone (views_of locks.old.items) (views_of locks.new.items) client lock
-        Cancel result × AreKept (views_of locks.new.items) waits.new }
-{
-    if lock as usize >= locks.len() {
-        return refused(Refusal::Lock);
-    }
-    let waiting = stands_at(locks, waits, client, lock);
-    asks::cancel(&mut locks[lock as usize], waits, lock, client, waiting)
-}
-
-fn corrupt_among(
-    locks: &mut Vec<LockParts>,
-    waits: &mut Waits,
-    client: u64,
-    lock: u32,
-    machine: u32,
-    value: u32,
-) -> Answers
-    requires { AreKept (views_of locks.old.items) waits.old }
-    ensures { IsAnswer (views_of locks.old.items) (views_of locks.new.items) client lock
-        (Corrupt machine value) result × AreKept (views_of locks.new.items) waits.new }
-{
-    if lock as usize >= locks.len() {
-        return refused(Refusal::Lock);
-    }
-    asks::corrupt(&mut locks[lock as usize], client, machine, value)
 }
 
 /// What there is to say of a lock.
@@ -390,6 +346,14 @@ impl Locks {
         Ok(Locks { locks, waits })
     }
 
+    /// Answers what a client asks of one lock, as the call of its name does.
+    #[inline(always)]
+    pub fn ask(&mut self, client: u64, lock: u32, ask: OneAsk) -> Answers
+        ensures { IsAnswerTo self.old self.new client lock (asked ask) result }
+    {
+        ask_among(&mut self.locks, &mut self.waits, client, lock, ask)
+    }
+
     /// Acquires a lock for a client, with a label that the client chooses: it is granted at once if nobody holds the lock, or
     /// else the client waits, and is granted once, later, unless it cancels or leaves.
     ///
@@ -398,7 +362,7 @@ impl Locks {
     pub fn acquire(&mut self, client: u64, lock: u32, label: u64) -> Answers
         ensures { IsAnswer self.old self.new client lock (Acquire label) result }
     {
-        acquire_among(&mut self.locks, &mut self.waits, client, lock, label)
+        self.ask(client, lock, OneAsk::Acquire { label })
     }
 
     /// The same, but a client does not wait: if somebody holds the lock, the answer is `Busy`.
@@ -407,7 +371,7 @@ impl Locks {
     pub fn try_acquire(&mut self, client: u64, lock: u32, label: u64) -> Answers
         ensures { IsAnswer self.old self.new client lock (Try label) result }
     {
-        try_among(&mut self.locks, &mut self.waits, client, lock, label)
+        self.ask(client, lock, OneAsk::Try { label })
     }
 
     /// Ends the hold of a client with this token, and grants the head of the queue.
@@ -417,7 +381,7 @@ impl Locks {
     pub fn release(&mut self, client: u64, lock: u32, token: u64) -> Answers
         ensures { IsDone self.old self.new client lock (Release token) result }
     {
-        release_among(&mut self.locks, &mut self.waits, client, lock, token)
+        self.ask(client, lock, OneAsk::Release { token })
     }
 
     /// Takes a client that waits out of the queue.
@@ -426,7 +390,7 @@ impl Locks {
     pub fn cancel(&mut self, client: u64, lock: u32) -> Answers
         ensures { IsDone self.old self.new client lock Cancel result }
     {
-        cancel_among(&mut self.locks, &mut self.waits, client, lock)
+        self.ask(client, lock, OneAsk::Cancel)
     }
 
     /// A client leaves all locks, one after the other: it goes out of the queue, or its hold ends and the head of the queue is
@@ -448,14 +412,7 @@ impl Locks {
     pub fn corrupt(&mut self, client: u64, lock: u32, machine: u32, value: u32) -> Answers
         ensures { IsAnswer self.old self.new client lock (Corrupt machine value) result }
     {
-        corrupt_among(
-            &mut self.locks,
-            &mut self.waits,
-            client,
-            lock,
-            machine,
-            value,
-        )
+        self.ask(client, lock, OneAsk::Corrupt { machine, value })
     }
 
     /// How many machines the ring of a lock has, how many clients wait for it, how many passes of its ring were granted, and who

@@ -1,6 +1,6 @@
 //! Bytes that are taken, line by line.
 
-ghost use Rattle.std.specs.Prelude.{◌≡◌, ◌<◌, ◌≤◌, ◌+◌, ◌-◌, ℕ, List, ◌++◌, length, take, true, false, OnOk, IfOk, MatchResult};
+ghost use Rattle.std.specs.Prelude.{◌≡◌, ◌<◌, ◌≤◌, ◌+◌, ◌-◌, ℕ, List, [], ◌++◌, length, take, true, false, OnOk, IfOk, MatchResult};
 ghost use Rattle.text_lines.specs.Limits.{line_limit};
 ghost use Rattle.line_service.specs.Answering.{IsLine, HasNoEnd, cut};
 ghost use Rattle.line_service.specs.Loop.{Written, GoesOn, Serves, Stops};
@@ -50,7 +50,18 @@ fn split_line(bytes: &[u8]) -> (&[u8], bool, &[u8])
     (bytes, false, &[])
 }
 
-/// Takes a piece of a line more: it is kept, and if it ends the line, that is answered. Says whether it is over.
+/// Whether a piece is a whole line that is not too long, of which nothing was kept before.
+fn is_whole(line: &[u8], piece: &[u8], ends: bool) -> bool
+    ensures { result ≡ true → (ends ≡ true) × (line.now ≡ []) × (length piece.now ≤ line_limit) }
+{
+    match line {
+        [] => ends && piece.len() <= LINE_LIMIT,
+        [_, ..] => false,
+    }
+}
+
+/// Takes a piece of a line more: it is kept, and if it ends the line, that is answered. A whole line is answered where it is, with
+/// no copy. Says whether it is over.
 fn take_piece<S: AnswersLines, D: Disk>(
     service: &mut S,
     disk: &mut D,
@@ -71,6 +82,10 @@ fn take_piece<S: AnswersLines, D: Disk>(
     ensures unchanged { S.changes_files service.old ≡ false
         → (D.leaves disk.new ≡ D.leaves disk.old) × (S.changes_files service.new ≡ false) }
 {
+    if is_whole(line.as_slice(), piece, ends) {
+        service.answer(disk, piece, pending)?;
+        return Ok(service.is_over());
+    }
     keep(line, piece)?;
     if !ends {
         return Ok(false);

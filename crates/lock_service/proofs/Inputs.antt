@@ -26,7 +26,8 @@ use Rattle.lock_lines.specs.declared.inputs.Input.{Input as LineInput}
 use Rattle.lock_lines.specs.declared.inputs.Input.TheVariants as input
 use Rattle.line_service.specs.Answering.{Answers as Answered}
 use Rattle.lock_service.specs.declared.service.Terms.{Terms}
-use Rattle.lock_service.specs.Asking.{one_ask, is_off, IsAnswerTo}
+use Rattle.held_locks.specs.Asked.{IsAnswerTo}
+use Rattle.lock_service.specs.Asking.{one_ask, is_off}
 use Rattle.lock_service.specs.Counting.{SegmentView}
 use Rattle.lock_service.specs.Noting.{lines_about, line_of_left, lines_of_left}
 use Rattle.lock_service.specs.Serving.{IsToldOfLeave, IsTold, IsAnsweredIf, IsInputAnswered, IsLineAnswered, denial_of}

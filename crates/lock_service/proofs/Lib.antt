@@ -8,6 +8,7 @@ pub mod Counts
 pub mod StateLines
 pub mod Fitting
 pub mod Answered
+mod ToldInputs
 pub mod Shadows
 pub mod Chains
 pub mod Marks

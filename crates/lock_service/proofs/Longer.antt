@@ -18,7 +18,8 @@ use Rattle.line_service.specs.Answering.{Answers as Answered}
 use Rattle.line_service.specs.Stands.{Stand, by_stand, stand}
 use Rattle.lock_service.specs.declared.service.LockService.{LockService}
 use Rattle.lock_service.specs.declared.service.Terms.{Terms}
-use Rattle.lock_service.specs.Asking.{one_ask, is_off, IsAnswerTo}
+use Rattle.held_locks.specs.Asked.{IsAnswerTo}
+use Rattle.lock_service.specs.Asking.{one_ask, is_off}
 use Rattle.lock_service.specs.Counting.{SegmentView}
 use Rattle.lock_service.specs.Serving.{IsTold, IsAnsweredIf, IsInputAnswered, IsServed, IsLineAnswered}
 use Rattle.lock_service.specs.Begun.{ServedLinesAreAnswered, AnsweredLinesFollow}

@@ -13,7 +13,7 @@ use Rattle.held_locks.specs.Promises.{locks_after, leaves}
 use Rattle.held_locks.specs.Kept.{LockView, lock_of, locks_of, IsDone, IsLack, IsAnswer, IsLeft}
 use Rattle.ring_model.specs.Limits.{event_limit, machine_limit}
 use Rattle.std.specs.Prelude.{nat_lt, ◌+◌}
-use Rattle.lock_service.specs.Asking.{IsAnswerTo}
+use Rattle.held_locks.specs.Asked.{IsAnswerTo}
 use Rattle.lock_service.specs.Due.{is_short, is_short_at, has_short}
 use Rattle.lock_service.specs.Counting.{IsWatched}
 

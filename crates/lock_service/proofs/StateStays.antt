@@ -24,7 +24,8 @@ use Rattle.lock_lines.specs.Asks as asks
 use Rattle.lock_lines.specs.Asks.{seen, heard, of_two}
 use Rattle.lock_lines.specs.Inputs.{IsReadAs}
 use Rattle.lock_service.specs.declared.service.Terms.{Terms}
-use Rattle.lock_service.specs.Asking.{one_ask, is_off, IsAnswerTo}
+use Rattle.held_locks.specs.Asked.{IsAnswerTo}
+use Rattle.lock_service.specs.Asking.{one_ask, is_off}
 use Rattle.lock_service.specs.Counting.{SegmentView}
 use Rattle.lock_service.specs.Serving.{IsToldOf, IsTold, IsAnsweredIf, IsInputAnswered}
 use Rattle.lock_service.specs.WaitersBack.{IsOfBits, HaveState, HavingStateStays}

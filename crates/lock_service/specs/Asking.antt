@@ -1,15 +1,11 @@
 -- What locks hear of a line's ask (this project's own).
-use Rattle.std.specs.Prelude.{ℕ, Bool, true, false, not, List, Option, None, Some}
+use Rattle.std.specs.Prelude.{ℕ, Bool, true, false, not, Option, None, Some}
 use Rattle.text_lines.specs.LongNumbers.{in_32_bits}
 use Rattle.held_locks.specs.Locks.{Ask, Acquire, Try, Release, Cancel, Corrupt, Stats}
-use Rattle.held_locks.specs.Kept.{LockView, IsDone, IsAnswer}
 use Rattle.held_locks.specs.declared.answers.Answer.{Answer}
 use Rattle.held_locks.specs.declared.answers.Answer.TheVariants as answer
-use Rattle.held_locks.specs.declared.answers.Answers.{Answers}
 use Rattle.held_locks.specs.declared.answers.Refusal.TheVariants as refusal
 use Rattle.lock_lines.specs.Asks as lines
-use Rattle.lock_service.specs.declared.asking.OneAsk.{OneAsk}
-use Rattle.lock_service.specs.declared.asking.OneAsk.TheVariants as one
 
 -- a lock, and what is asked of it, by the numbers of 32 bits by which locks, machines and values are
 -- known: the greatest of these for all that are greater, and none of them has it; nothing where all
@@ -28,23 +24,6 @@ one_ask (lines.stats lock) = Some (in_32_bits lock, Stats)
 abbrev pub is_off : Bool → lines.Ask → Bool
 is_off faults (lines.corrupt lock machine value) = not faults
 is_off faults _ = false
-
--- how the lock answers: by its step; an ask that may make events can be refused for lack of room or
--- memory
-abbrev pub IsAnswerTo : List LockView → List LockView → ℕ → ℕ → Ask → Answers → Type 0
-IsAnswerTo old new c i (Acquire label) r = IsAnswer old new c i (Acquire label) r
-IsAnswerTo old new c i (Try label) r = IsAnswer old new c i (Try label) r
-IsAnswerTo old new c i (Corrupt machine value) r = IsAnswer old new c i (Corrupt machine value) r
-IsAnswerTo old new c i ask r = IsDone old new c i ask r
-
--- an ask of one lock, as the code has it
-abbrev pub asked : OneAsk → Ask
-asked (one.Acquire label) = Acquire label
-asked (one.Try label) = Try label
-asked (one.Release token) = Release token
-asked one.Cancel = Cancel
-asked (one.Corrupt machine value) = Corrupt machine value
-asked one.Stats = Stats
 
 -- whether the asker is refused for lack of room or of memory
 abbrev pub is_lack : Option Answer → Bool

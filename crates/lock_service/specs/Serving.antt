@@ -18,7 +18,8 @@ use Rattle.disks.specs.Held.{Held}
 use Rattle.line_service.specs.declared.pending.Pending.{Pending}
 use Rattle.line_replica.specs.Replies.{IsAdded}
 use Rattle.lock_service.specs.declared.service.LockService.{LockService}
-use Rattle.lock_service.specs.Asking.{one_ask, is_off, IsAnswerTo, is_lack}
+use Rattle.held_locks.specs.Asked.{IsAnswerTo}
+use Rattle.lock_service.specs.Asking.{one_ask, is_off, is_lack}
 use Rattle.lock_service.specs.declared.service.Stage.{Stage}
 use Rattle.lock_service.specs.declared.service.Stage.TheVariants as stage
 use Rattle.lock_service.specs.declared.service.Terms.{Terms}

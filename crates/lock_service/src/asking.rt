@@ -4,21 +4,11 @@ ghost use Rattle.std.specs.Prelude.{◌≡◌};
 ghost use Rattle.std.specs.Option.{option_map};
 ghost use Rattle.text_lines.specs.LongNumbers.{in_32_bits};
 ghost use Rattle.lock_lines.specs.Asks.{seen};
-ghost use Rattle.lock_service.specs.Asking.{one_ask, is_off, asked, IsAnswerTo, is_lack};
+ghost use Rattle.held_locks.specs.Asked.{asked};
+ghost use Rattle.lock_service.specs.Asking.{one_ask, is_off, is_lack};
 
-use held_locks::{Answer, Answers, Locks, Refusal};
+use held_locks::{Answer, OneAsk, Refusal};
 use lock_lines::Ask;
-
-/// What is asked of one lock.
-#[derive(Clone, Copy)]
-pub(crate) enum OneAsk {
-    Acquire { label: u64 },
-    Try { label: u64 },
-    Release { token: u64 },
-    Cancel,
-    Corrupt { machine: u32, value: u32 },
-    Stats,
-}
 
 /// This number, or the greatest one of 32 bits if it is greater.
 fn narrow(number: u64) -> u32
@@ -71,19 +61,5 @@ pub(crate) fn is_lack(own: Option<Answer>) -> bool
     match own {
         Some(Answer::Refused(Refusal::Full | Refusal::Memory)) => true,
         _ => false,
-    }
-}
-
-/// Asks one lock.
-pub(crate) fn ask_lock(locks: &mut Locks, client: u64, lock: u32, ask: OneAsk) -> Answers
-    ensures { IsAnswerTo locks.old locks.new client lock (asked ask) result }
-{
-    match ask {
-        OneAsk::Acquire { label } => locks.acquire(client, lock, label),
-        OneAsk::Try { label } => locks.try_acquire(client, lock, label),
-        OneAsk::Release { token } => locks.release(client, lock, token),
-        OneAsk::Cancel => locks.cancel(client, lock),
-        OneAsk::Corrupt { machine, value } => locks.corrupt(client, lock, machine, value),
-        OneAsk::Stats => locks.stats(lock),
     }
 }

@@ -1,18 +1,19 @@
 //! The locks of a segment, with what its journal has had.
 
-ghost use Rattle.std.specs.Prelude.{◌≡◌, ◌||◌, ◌⊎◌, true, false, IfOk, IfErr};
+ghost use Rattle.std.specs.Prelude.{◌≡◌, ◌||◌, ◌⊎◌, true, false, slice_get, IfOk, IfErr};
 ghost use Rattle.held_locks.specs.declared.answers.Refusal.{Refusal};
 ghost use Rattle.held_locks.specs.Cuts.{AreNext};
 ghost use Rattle.held_locks.specs.Kept.{IsLeft};
-ghost use Rattle.lock_service.specs.Asking.{asked, IsAnswerTo, is_lack};
+ghost use Rattle.held_locks.specs.Asked.{asked, IsAnswerTo};
+ghost use Rattle.lock_service.specs.Asking.{is_lack};
+ghost use Rattle.lock_service.specs.Noting.{events_at};
 ghost use Rattle.lock_service.specs.Due.{is_due, has_short, HaveNoSegment};
 ghost use Rattle.lock_service.specs.Counting.{IsCounted, IsStart, count_about, count_of_all};
 
-use crate::asking::{OneAsk, ask_lock};
 use crate::counting::{after_end, after_events, after_left, after_start};
 use crate::due::{has_short, is_short_at};
 use crate::noting::events_at;
-use held_locks::{Answers, Left, Locks, Refusal};
+use held_locks::{Answers, Left, Locks, OneAsk, Refusal};
 use std::alloc::{AllocError, Global};
 use std::marker::Model;
 
@@ -36,6 +37,13 @@ impl Model for Segment {
     ghost view = { λ s. record { locks = s.locks; left = s.left.items; remaining = s.remaining; short = s.short } };
 
     ghost invariant = { λ s. (length s.locks ≤ vec_capacity s.left) × IsWatched s.locks s.short };
+}
+
+/// What a lock answered, and how many events the segment of its ring had before: what is to be noted of it begins there.
+#[derive(Clone, Copy)]
+pub(crate) struct Done {
+    pub(crate) answers: Answers,
+    pub(crate) place: usize,
 }
 
 /// Whether a lock was short, or is so.
@@ -90,18 +98,20 @@ impl Segment {
     }
 
     /// Asks one lock. Only this lock is looked at, and nothing changes if the asker is refused for lack of room or memory.
-    pub(crate) fn ask(&mut self, client: u64, lock: u32, ask: OneAsk) -> Answers
-        ensures answer { IsAnswerTo self.old.locks self.new.locks client lock (asked ask) result }
+    pub(crate) fn ask(&mut self, client: u64, lock: u32, ask: OneAsk) -> Done
+        ensures answer { IsAnswerTo self.old.locks self.new.locks client lock (asked ask)
+            result.answers }
+        ensures place { result.place ≡ events_at (slice_get self.old.locks lock) }
         ensures counted { IsCounted self.old self.new
-            (count_about lock self.old.locks self.new.locks result.ended) }
-        ensures lack { is_lack result.own ≡ true → self.new ≡ self.old }
+            (count_about lock self.old.locks self.new.locks result.answers.ended) }
+        ensures lack { is_lack result.answers.own ≡ true → self.new ≡ self.old }
     {
         let place = events_at(&self.locks, lock);
-        let answers = ask_lock(&mut self.locks, client, lock, ask);
+        let answers = self.locks.ask(client, lock, ask);
         let remaining = after_end(self.remaining, answers.ended);
         self.remaining = after_events(remaining, &self.locks, lock, place);
         self.short = was_or_is(self.short, is_short_at(&self.locks, lock));
-        answers
+        Done { answers, place }
     }
 
     /// A client leaves all locks. It takes no memory.

@@ -4,21 +4,21 @@ ghost use Rattle.std.specs.Prelude.{◌≡◌, ◌⊎◌, ◌&&◌, List, ℕ, O
 ghost use Rattle.text_lines.specs.Writing.{Writes};
 ghost use Rattle.journal.specs.Spelling.{journal_head};
 ghost use Rattle.held_locks.specs.declared.answers.Refusal.{Refusal};
-ghost use Rattle.lock_lines.specs.Asks.{seen};
-ghost use Rattle.lock_service.specs.Asking.{is_off, asked, is_lack};
+ghost use Rattle.held_locks.specs.Asked.{asked};
+ghost use Rattle.lock_service.specs.Asking.{is_lack};
 ghost use Rattle.lock_service.specs.Segments.{content_of};
 ghost use Rattle.lock_service.specs.Counting.{IsStart};
 ghost use Rattle.lock_service.specs.Segmented.{limit_of, is_to_end};
-ghost use Rattle.lock_service.specs.Serving.{IsToldOf, IsToldOfLeave, IsAnsweredIf, denial_of, IsInputAnswered, AnswersInput, IsKept, Leaves, put, is_past, stage_after};
+ghost use Rattle.lock_service.specs.Serving.{IsToldOf, IsToldOfLeave, denial_of, IsInputAnswered, AnswersInput, IsKept, Leaves, put, is_past, stage_after};
 ghost use Rattle.line_replica.specs.Replies.{IsAdded};
 
-use crate::asking::{OneAsk, is_lack, is_off, one_ask};
-use crate::noting::{events_at, note_if, note_left_if, tell, tell_left};
+use crate::asking::{is_lack, is_off, one_ask};
+use crate::noting::{note_if, note_left_if, tell, tell_left};
 use crate::segment::Segment;
 use crate::texts::put_beginning;
-use held_locks::{Answer, Locks, Refusal};
+use held_locks::{Answer, Locks, OneAsk, Refusal};
 use line_service::{EndFault, Pending};
-use lock_lines::{Ask, Denial, Fault, Input, put_denial};
+use lock_lines::{Denial, Fault, Input, put_denial};
 use std::alloc::{AllocError, Global};
 use std::io::Write;
 use text_lines::WriteFault;
@@ -115,18 +115,17 @@ fn answer_one(
         (λ said noted. IsToldOf terms.strict terms.noting client lock (asked ask) segment.old said
         noted segment.new) (segment.new ≡ segment.old) pending.old pending.new }
 {
-    let place = events_at(segment.locks(), lock);
-    let answers = segment.ask(client, lock, ask);
-    if is_stop(terms.strict, answers.own) {
+    let done = segment.ask(client, lock, ask);
+    if is_stop(terms.strict, done.answers.own) {
         return Err(Untold::Unanswered);
     }
-    match tell(&mut pending.answers, client, lock, answers) {
+    match tell(&mut pending.answers, client, lock, done.answers) {
         Ok(()) => put(note_if(
             terms.noting,
             segment.locks(),
             lock,
-            answers.ended,
-            place,
+            done.answers.ended,
+            done.place,
             &mut pending.notes,
         )),
         Err(_) => Err(Untold::Answered),
@@ -152,27 +151,6 @@ fn leave(
     }
 }
 
-/// Answers what a client asks.
-fn answer_ask(
-    segment: &mut Segment,
-    terms: Terms,
-    client: u64,
-    ask: Ask,
-    pending: &mut Pending,
-) -> Result<(), Untold>
-    ensures { Leaves result
-        (λ said noted. IsAnsweredIf (is_off terms.faults (seen ask)) terms client (seen ask)
-        segment.old said noted segment.new) (segment.new ≡ segment.old) pending.old pending.new }
-{
-    if is_off(terms.faults, ask) {
-        return put(put_denial(&mut pending.answers, client, Denial::Off));
-    }
-    match one_ask(ask) {
-        Some((lock, ask)) => answer_one(segment, terms, client, lock, ask, pending),
-        None => put(leave(segment, terms.noting, client, pending)),
-    }
-}
-
 /// The refusal of a line that has a fault.
 fn denial_of(why: Fault) -> Denial
     ensures { result ≡ denial_of why }
@@ -195,7 +173,15 @@ fn answer_input(
         (segment.new ≡ segment.old) pending.old pending.new }
 {
     match input {
-        Input::Asked { client, ask } => answer_ask(segment, terms, client, ask, pending),
+        Input::Asked { client, ask } => {
+            if is_off(terms.faults, ask) {
+                return put(put_denial(&mut pending.answers, client, Denial::Off));
+            }
+            match one_ask(ask) {
+                Some((lock, ask)) => answer_one(segment, terms, client, lock, ask, pending),
+                None => put(leave(segment, terms.noting, client, pending)),
+            }
+        }
         Input::Refused { client, why } => {
             put(put_denial(&mut pending.answers, client, denial_of(why)))
         }
