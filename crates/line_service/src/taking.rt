@@ -9,6 +9,7 @@ ghost use Rattle.line_service.specs.Stands.{Stand, by_stand, stand};
 use crate::answering::AnswersLines;
 use crate::pending::Pending;
 use disks::Disk;
+use memchr::memchr;
 use std::alloc::AllocError;
 use text_lines::LINE_LIMIT;
 
@@ -41,13 +42,13 @@ fn split_line(bytes: &[u8]) -> (&[u8], bool, &[u8])
     ensures line { result.1 ≡ true → IsLine result.0.now }
     ensures none { result.1 ≡ false → HasNoEnd result.0.now }
 {
-    for (i, byte) in bytes.iter().enumerate() {
-        if *byte == b'\n' {
-            let (line, rest) = bytes.split_at(i + 1);
-            return (line, true, rest);
+    match memchr(b'\n', bytes) {
+        Some(place) => {
+            let (line, rest) = bytes.split_at(place + 1);
+            (line, true, rest)
         }
+        None => (bytes, false, &[]),
     }
-    (bytes, false, &[])
 }
 
 /// Whether a piece is a whole line that is not too long, of which nothing was kept before.
