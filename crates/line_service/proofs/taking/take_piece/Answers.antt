@@ -1,4 +1,4 @@
-use Rattle.std.proofs.Common.{◌∙◌}
+use Rattle.std.proofs.Common.{sym, ◌∙◌}
 use Rattle.std.proofs.lemmas.Result.{err_from_is_err_and}
 use Rattle.line_service.specs.Stands.{by_stand, stand}
 use Rattle.line_service.proofs.Telling.{piece_more, goes_stops, line_pending, fails_line, same_line, stops_more}
