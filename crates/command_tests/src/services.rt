@@ -4,7 +4,7 @@ ghost use Rattle.held_locks.specs.Kept.{IsKeptRing};
 
 use crate::files::memory::no_files;
 use endless_ring::EndlessRing;
-use held_locks::Locks;
+use held_locks::{Answer, Locks, OneAsk, Refusal, Stats};
 use line_service::{AnswersLines, EndFault, Ending, Pending, Segmented, Unread, serve_part};
 use lock_service::{LockService, Terms};
 use one_thread_ring::OneThreadRing;
@@ -192,4 +192,35 @@ fn begins(rt: HostRuntime) {
     let text = text_of(&rt, alloc, &service, 1);
     assert!(rt; text.len() == FIRST.len() + BEGINNING.len());
     assert!(rt; text.starts_with(FIRST.as_bytes()) && text.ends_with(BEGINNING.as_bytes()));
+}
+
+// What one lock answers to each kind of ask: a fault is repaired by one pass.
+#[test]
+fn answers_each_ask(rt: HostRuntime) {
+    let alloc = rt.alloc();
+    let mut locks = Locks::none(alloc);
+    assert!(rt; locks.add(alloc, opened(&rt, alloc)).is_ok());
+    let fault = OneAsk::Corrupt {
+        machine: 1,
+        value: 2,
+    };
+    let stats = Stats {
+        machines: 3,
+        waiters: 0,
+        passes: 2,
+        holder: None,
+    };
+    let asks = [
+        (1, 0, OneAsk::Acquire { label: 7 }, Answer::Granted(1)),
+        (2, 0, OneAsk::Acquire { label: 8 }, Answer::Waiting(0)),
+        (2, 0, OneAsk::Cancel, Answer::Cancelled),
+        (2, 0, OneAsk::Try { label: 8 }, Answer::Busy),
+        (1, 0, OneAsk::Release { token: 1 }, Answer::Released),
+        (2, 0, fault, Answer::Corrupted(0)),
+        (2, 0, OneAsk::Stats, Answer::Stats(stats)),
+        (2, 1, OneAsk::Stats, Answer::Refused(Refusal::Lock)),
+    ];
+    for (client, lock, ask, answer) in asks {
+        assert!(rt; locks.ask(client, lock, ask).own == Some(answer));
+    }
 }
