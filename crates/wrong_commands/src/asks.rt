@@ -98,7 +98,7 @@ pub fn ends_a_hold_by_a_fault(
     }
 }
 
-/// An ask is answered as the call that it names: here a client that waits no more is told that it did not wait. It gives up unless
+/// An ask is answered as the call that it names: here a client that waits no more is answered that it did not wait. It gives up unless
 /// the client waited.
 pub fn denies_that_the_client_waited(locks: &mut Locks, client: u64, lock: u32) -> Option<Answers>
     ensures wrong { IfSome result

@@ -104,7 +104,7 @@ fn a_log_has_each_survey_at_its_place(rt: HostRuntime) {
     assert!(rt; run.logs[1].seat == 1 && run.logs[1].entries.len() == 4);
 }
 
-// A pass that cannot be refused is recorded, and in the log of its seat alone.
+// A pass that cannot be refused is recorded, and only in the log of its seat.
 #[test]
 fn a_grant_is_in_the_log_of_its_seat(rt: HostRuntime) {
     let alloc = rt.alloc();
