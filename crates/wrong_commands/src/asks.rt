@@ -98,8 +98,8 @@ pub fn ends_a_hold_by_a_fault(
     }
 }
 
-/// An ask is answered as the call that it names: here a client that waits no more is answered that it did not wait. It gives up unless
-/// the client waited.
+/// An ask is answered as the call that it names: here a client that waits no more is answered that it did not wait. It gives
+/// up unless the client waited.
 pub fn denies_that_the_client_waited(locks: &mut Locks, client: u64, lock: u32) -> Option<Answers>
     ensures wrong { IfSome result
         (λ r. IsAnswerTo locks.old locks.new client lock (asked one.Cancel) r → ⊥) }

@@ -1,7 +1,15 @@
-use Rattle.std.proofs.Common.{◌≡◌, ◌≤◌, ◌+◌, length, arith}
+use Rattle.std.proofs.Common.{◌≡◌, ◌≤◌, ◌+◌, List, ◌∷◌, length, ap, arith}
+use Rattle.held_locks.specs.declared.answers.Waiter.{Waiter}
 use Rattle.held_locks.specs.Parts.{view_of}
 use Rattle.held_locks.proofs.Turned.{passed_turned, taken}
 use Rattle.held_locks.proofs.parts.pass_hold.Goals as goal
+
+pub pass_first-token-requires-clause-room : goal.pass_first-token-requires-clause-room
+pass_first-token-requires-clause-room c =
+    let head = c.requires.head in
+    let some : length c.args.lock.now.queue.items ≡ length (c.args.waiter ∷ head.0) = ap (λ (x : List Waiter). length x) head.1 in
+    let room = c.requires.kept.room in
+    omega (arith, some, room)
 
 pub returns-clause-turned : goal.returns-clause-turned
 returns-clause-turned c =
