@@ -92,8 +92,7 @@ pub fn grants_under_another_seat<R: Resource + Drop>(
     requires privileged { is_privileged book.old.now.ring.values machine ≡ true }
     requires room { 1 ≤ book.old.room }
     requires apart { other ≢ seat }
-    ensures wrong {
-        IsRecorded R.works book.old book.new seat (Op.Pass machine order) result → ⊥ }
+    ensures wrong { IsRecorded R.works book.old book.new seat (Op.Pass machine order) result → ⊥ }
 {
     book.grant(other, machine, order)
 }

@@ -50,8 +50,7 @@ pub fn grant_for_another_seat<R: Resource + Drop>(
     requires privileged { is_privileged ring.old.book.now.ring.values machine ≡ true }
     requires room { 1 ≤ ring.old.book.room }
     requires apart { other ≢ seat }
-    ensures wrong {
-        IsRecorded R.works ring.old.book ring.new.book seat (op.Pass machine order) result → ⊥ }
+    ensures wrong { IsRecorded R.works ring.old.book ring.new.book seat (op.Pass machine order) result → ⊥ }
 {
     ring.grant(other, machine, order)
 }
