@@ -22,7 +22,8 @@ use crate::resuming::{needed, resume_rings};
 use crate::serve::{permits_of, serving_refusal};
 use disks::{Disk, FolderEntry};
 use line_service::{
-    EndFault, SegmentNumbers, SegmentRules, begin_segment, close_segment, has_list, list_name, serve_segments,
+    EndFault, SegmentNumbers, SegmentRules, begin_segment, close_segment, has_list, list_name,
+    serve_segments,
 };
 use ring_service::{ChainRules, ChainService, Served};
 use saved_history::Saved;
