@@ -10,11 +10,11 @@ use Rattle.text_lines.specs.LongNumbers as numbers
 use Rattle.text_lines.proofs.LongDecimals.{in_some}
 use Rattle.held_locks.specs.declared.answers.Waiter.{Waiter}
 use Rattle.held_locks.specs.Kept.{lock_limit}
-use Rattle.lock_lines.specs.declared.inputs.Ask.TheVariants as reads
-use Rattle.lock_lines.specs.declared.inputs.Input.TheVariants as input
-use Rattle.lock_lines.specs.Asks.{acquire, heard, of_one, of_two}
-use Rattle.lock_lines.specs.Inputs.{input_line, IsReadAs}
-use Rattle.lock_lines.proofs.Fronts.{front_all}
+use Rattle.lock_protocol.specs.declared.inputs.Ask.TheVariants as reads
+use Rattle.lock_protocol.specs.declared.inputs.Input.TheVariants as input
+use Rattle.lock_protocol.specs.Asks.{acquire, heard, of_one, of_two}
+use Rattle.lock_protocol.specs.Inputs.{input_line, IsReadAs}
+use Rattle.lock_protocol.proofs.Fronts.{front_all}
 use Rattle.lock_service.specs.State.{wait_line}
 use Rattle.lock_service.specs.WaitersBack.{IsOfBits}
 use Rattle.lock_service.proofs.KeyLines.{same_text, spaced_short}

@@ -7,7 +7,7 @@ use Rattle.held_locks.specs.declared.answers.Answer.{Answer}
 use Rattle.held_locks.specs.declared.answers.Answer.TheVariants as answer
 use Rattle.held_locks.specs.declared.answers.Answers.{Answers}
 use Rattle.held_locks.specs.declared.answers.Refusal.TheVariants as refusal
-use Rattle.lock_lines.specs.Asks as lines
+use Rattle.lock_protocol.specs.Asks as lines
 use Rattle.lock_service.specs.declared.asking.OneAsk.{OneAsk}
 use Rattle.lock_service.specs.declared.asking.OneAsk.TheVariants as one
 

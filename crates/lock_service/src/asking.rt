@@ -3,11 +3,11 @@
 ghost use Rattle.std.specs.Prelude.{◌≡◌};
 ghost use Rattle.std.specs.Option.{option_map};
 ghost use Rattle.text_lines.specs.LongNumbers.{in_32_bits};
-ghost use Rattle.lock_lines.specs.Asks.{seen};
+ghost use Rattle.lock_protocol.specs.Asks.{seen};
 ghost use Rattle.lock_service.specs.Asking.{one_ask, is_off, asked, IsAnswerTo, is_lack};
 
 use held_locks::{Answer, Answers, Locks, Refusal};
-use lock_lines::Ask;
+use lock_protocol::Ask;
 
 /// What is asked of one lock.
 #[derive(Clone, Copy)]

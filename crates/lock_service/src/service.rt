@@ -4,7 +4,7 @@ ghost use Rattle.std.specs.Prelude.{◌≡◌, ◌⊎◌, ◌&&◌, List, ℕ, O
 ghost use Rattle.text_lines.specs.Writing.{Writes};
 ghost use Rattle.journal.specs.Spelling.{journal_head};
 ghost use Rattle.held_locks.specs.declared.answers.Refusal.{Refusal};
-ghost use Rattle.lock_lines.specs.Asks.{seen};
+ghost use Rattle.lock_protocol.specs.Asks.{seen};
 ghost use Rattle.lock_service.specs.Asking.{is_off, asked, is_lack};
 ghost use Rattle.lock_service.specs.Segments.{content_of};
 ghost use Rattle.lock_service.specs.Counting.{IsStart};
@@ -18,7 +18,7 @@ use crate::segment::Segment;
 use crate::texts::put_beginning;
 use held_locks::{Answer, Locks, Refusal};
 use line_service::{EndFault, Pending};
-use lock_lines::{Ask, Denial, Fault, Input, put_denial};
+use lock_protocol::{Ask, Denial, Fault, Input, put_denial};
 use std::alloc::{AllocError, Global};
 use std::io::Write;
 use text_lines::WriteFault;

@@ -1,8 +1,8 @@
 use Rattle.std.proofs.Common.{◌≡◌, Bool, [], Result, sym, ◌∙◌, subst, refl}
 use Rattle.std.proofs.lemmas.List.{append-nil}
-use Rattle.lock_lines.specs.declared.answers.Denial.TheVariants as denial
-use Rattle.lock_lines.specs.Asks.{seen}
-use Rattle.lock_lines.specs.Answers.{denial_line}
+use Rattle.lock_protocol.specs.declared.answers.Denial.TheVariants as denial
+use Rattle.lock_protocol.specs.Asks.{seen}
+use Rattle.lock_protocol.specs.Answers.{denial_line}
 use Rattle.lock_service.specs.declared.service.Untold.{Untold}
 use Rattle.lock_service.specs.Asking.{is_off}
 use Rattle.lock_service.specs.Serving.{IsAnsweredIf, Leaves}

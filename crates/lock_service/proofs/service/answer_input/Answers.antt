@@ -1,8 +1,8 @@
 use Rattle.std.proofs.Common.{◌≡◌, [], ◌++◌, Result, ap, sym, ◌∙◌, subst, refl}
 use Rattle.std.proofs.lemmas.List.{append-nil}
-use Rattle.lock_lines.specs.declared.answers.Denial.{Denial}
-use Rattle.lock_lines.specs.declared.inputs.Input.{Input}
-use Rattle.lock_lines.specs.Answers.{denial_line}
+use Rattle.lock_protocol.specs.declared.answers.Denial.{Denial}
+use Rattle.lock_protocol.specs.declared.inputs.Input.{Input}
+use Rattle.lock_protocol.specs.Answers.{denial_line}
 use Rattle.lock_service.specs.declared.service.Untold.{Untold}
 use Rattle.lock_service.specs.Serving.{denial_of, IsInputAnswered, Leaves}
 use Rattle.lock_service.proofs.Telling.{on_ok, put_leaves}
