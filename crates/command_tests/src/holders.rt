@@ -1,6 +1,6 @@
 //! Lines of holders with the greatest numbers, which no hold has.
 
-use lock_folder::read_holders;
+use folder_of_locks::read_holders;
 
 #[test]
 fn reads_lines(rt: HostRuntime) {

@@ -1,7 +1,7 @@
 //! Answers that no row of `tests/rows` causes, with their lines.
 
 use held_locks::{Answer, Holder, Refusal, Stats};
-use lock_lines::put_answer;
+use lock_protocol::put_answer;
 use std::alloc::Global;
 use std::process::Abort;
 

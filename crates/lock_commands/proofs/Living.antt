@@ -5,7 +5,7 @@ use Rattle.saved_history.specs.Spelling.{Fits}
 use Rattle.held_locks.specs.Kept.{LockView, AreKept}
 use Rattle.line_service.specs.Notes.{ToldLinesAreNoted}
 use Rattle.line_service.specs.Segments.{Moment, HasBegun}
-use Rattle.lock_folder.specs.Folders.{Place}
+use Rattle.folder_of_locks.specs.Folders.{Place}
 use Rattle.lock_service.specs.declared.service.Terms.{Terms}
 use Rattle.lock_service.specs.Segments.{content_of}
 use Rattle.lock_service.specs.Serving.{IsServed}

@@ -3,8 +3,8 @@ use Rattle.std.proofs.Common.{◌≡◌, ℕ, List, Option, None, Some, sym, sub
 use Rattle.std.specs.Prelude.{IsSome}
 use Rattle.disks.specs.Held.{Held}
 use Rattle.held_locks.specs.declared.handing.Handover.{Handover}
-use Rattle.lock_folder.specs.Lists.{Listed, file_text}
-use Rattle.lock_folder.specs.Folders.{Place, AreStarted, IsListSaved, locks_file}
+use Rattle.folder_of_locks.specs.Lists.{Listed, file_text}
+use Rattle.folder_of_locks.specs.Folders.{Place, AreStarted, IsListSaved, locks_file}
 use Rattle.line_service.proofs.SegmentLasting.{replaced_known}
 
 saved_known : (folder : List ℕ) (word : Option (List ℕ)) (locks : List Listed) (before after : Option Held) → IsListSaved folder word locks before after → IsSome before → IsSome after

@@ -6,8 +6,8 @@ use Rattle.line_service.specs.SegmentNames.{segment_file}
 use Rattle.line_service.specs.Answering.{Answers}
 use Rattle.line_service.specs.Stands.{Stand, stand, by_stand}
 use Rattle.held_locks.specs.declared.handing.Handover.{Handover}
-use Rattle.lock_folder.specs.Lists.{Listed, file_text}
-use Rattle.lock_folder.specs.Folders.{Place, AreStarted, IsListSaved, locks_file}
+use Rattle.folder_of_locks.specs.Lists.{Listed, file_text}
+use Rattle.folder_of_locks.specs.Folders.{Place, AreStarted, IsListSaved, locks_file}
 use Rattle.lock_service.specs.Serving.{IsServed}
 use Rattle.lock_service.specs.State.{state_lines}
 use Rattle.line_replica.specs.Replies.{IsReplied}

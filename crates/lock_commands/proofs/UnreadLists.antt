@@ -13,14 +13,14 @@ use Rattle.line_service.specs.declared.segmented.EndFault.{EndFault}
 use Rattle.line_service.specs.declared.segmented.EndFault.TheVariants as end
 use Rattle.ring_model.specs.declared.bases.Base.{Base}
 use Rattle.saved_history.specs.declared.saved.SavedRing.{SavedRing}
-use Rattle.lock_folder.specs.declared.locks.ListError.{ListError}
-use Rattle.lock_folder.specs.declared.locks.ListError.TheVariants as list
-use Rattle.lock_folder.specs.Lists.{Listed, IsWordFault}
+use Rattle.folder_of_locks.specs.declared.locks.ListError.{ListError}
+use Rattle.folder_of_locks.specs.declared.locks.ListError.TheVariants as list
+use Rattle.folder_of_locks.specs.Lists.{Listed, IsWordFault}
 use Rattle.held_locks.specs.declared.handing.Handover.{Handover}
-use Rattle.lock_folder.specs.declared.faults.StartFault.{StartFault}
-use Rattle.lock_folder.specs.declared.faults.StartFault.TheVariants as start
-use Rattle.lock_folder.specs.Folders.{Place, IsFileRefusal, IsListless, IsPlaceFault, IsHandingFault, IsStartRefusal, AreUnstarted}
-use Rattle.lock_folder.specs.Rings.{IsRingFault, IsFull, AreRingsRefused}
+use Rattle.folder_of_locks.specs.declared.faults.StartFault.{StartFault}
+use Rattle.folder_of_locks.specs.declared.faults.StartFault.TheVariants as start
+use Rattle.folder_of_locks.specs.Folders.{Place, IsFileRefusal, IsListless, IsPlaceFault, IsHandingFault, IsStartRefusal, AreUnstarted}
+use Rattle.folder_of_locks.specs.Rings.{IsRingFault, IsFull, AreRingsRefused}
 use Rattle.tool_parts.specs.declared.requests.LocksWords.{LocksWords}
 use Rattle.tool_parts.specs.Chained.{IsFolderFault}
 use Rattle.tool_parts.specs.Worlds.{World}

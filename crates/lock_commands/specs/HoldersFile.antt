@@ -3,7 +3,7 @@ use Rattle.std.specs.Prelude.{◌≡◌, ℕ, List, [], Option, None, Some, ◌�
 use Rattle.std.specs.Option.{option_map}
 use Rattle.disks.specs.Held.{Held, IsHeld}
 use Rattle.held_locks.specs.declared.handing.Handover.{Handover}
-use Rattle.lock_folder.specs.Holders.{AreHolders, IsBadLine}
+use Rattle.folder_of_locks.specs.Holders.{AreHolders, IsBadLine}
 use Rattle.tool_parts.specs.declared.requests.LocksWords.{LocksWords}
 use Rattle.tool_parts.specs.Named.{IsFileRefusal}
 use Rattle.tool_parts.specs.declared.faults.ToolError.{ToolError}

@@ -2,7 +2,7 @@
 use Rattle.std.specs.Prelude.{ℕ, ◌⊎◌, List, Option}
 use Rattle.disks.specs.Held.{Held}
 use Rattle.held_locks.specs.declared.handing.Handover.{Handover}
-use Rattle.lock_folder.specs.Folders.{Place, AreStarted}
+use Rattle.folder_of_locks.specs.Folders.{Place, AreStarted}
 use Rattle.line_service.specs.Segments.{Moment}
 use Rattle.line_service.specs.Lasting.{EachSegmentLasts}
 use Rattle.tool_parts.specs.declared.requests.LocksWords.{LocksWords}

@@ -2,7 +2,7 @@
 use Rattle.std.specs.Prelude.{◌≡◌, false, ◌⊎◌, List, [], ◌++◌, ℕ, Option}
 use Rattle.disks.specs.Held.{Held}
 use Rattle.held_locks.specs.declared.handing.Handover.{Handover}
-use Rattle.lock_folder.specs.Folders.{Place, AreStarted}
+use Rattle.folder_of_locks.specs.Folders.{Place, AreStarted}
 use Rattle.line_service.specs.Segments.{Moment, IsPut}
 use Rattle.line_service.specs.Service.{all_said}
 use Rattle.line_service.specs.Notes.{ToldLinesAreNoted}

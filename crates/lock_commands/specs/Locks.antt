@@ -9,8 +9,8 @@ use Rattle.line_service.specs.declared.faults.LoopFault.{LoopFault}
 use Rattle.line_service.specs.declared.faults.LoopFault.TheVariants as loop
 use Rattle.held_locks.specs.declared.handing.Handover.{Handover}
 use Rattle.held_locks.specs.Kept.{LockView}
-use Rattle.lock_folder.specs.declared.faults.StartFault.{StartFault}
-use Rattle.lock_folder.specs.Folders.{Place, AreStarted, AreUnstarted}
+use Rattle.folder_of_locks.specs.declared.faults.StartFault.{StartFault}
+use Rattle.folder_of_locks.specs.Folders.{Place, AreStarted, AreUnstarted}
 use Rattle.lock_service.specs.declared.service.LockService.{LockService}
 use Rattle.lock_service.specs.declared.service.Stage.TheVariants as stage
 use Rattle.lock_service.specs.declared.service.Terms.{Terms}

@@ -6,11 +6,11 @@ use Rattle.ring_settings.specs.declared.faults.RingCause.{RingCause}
 use Rattle.ring_settings.specs.declared.faults.RingCause.TheVariants as ring
 use Rattle.line_service.specs.declared.faults.LoopFault.{LoopFault}
 use Rattle.line_service.specs.declared.faults.LoopFault.TheVariants as loop
-use Rattle.lock_folder.specs.declared.locks.ListError.{ListError}
-use Rattle.lock_folder.specs.declared.locks.ListError.TheVariants as list
-use Rattle.lock_folder.specs.Lists.{Listed, IsLockList, IsWordFault}
-use Rattle.lock_folder.specs.declared.faults.StartFault.{StartFault}
-use Rattle.lock_folder.specs.declared.faults.StartFault.TheVariants as start
+use Rattle.folder_of_locks.specs.declared.locks.ListError.{ListError}
+use Rattle.folder_of_locks.specs.declared.locks.ListError.TheVariants as list
+use Rattle.folder_of_locks.specs.Lists.{Listed, IsLockList, IsWordFault}
+use Rattle.folder_of_locks.specs.declared.faults.StartFault.{StartFault}
+use Rattle.folder_of_locks.specs.declared.faults.StartFault.TheVariants as start
 use Rattle.line_service.specs.declared.segmented.EndFault.{EndFault}
 use Rattle.line_service.specs.declared.segmented.EndFault.TheVariants as end
 use Rattle.tool_parts.specs.declared.faults.ToolError.{ToolError}

@@ -3,11 +3,11 @@
 ghost use Rattle.std.specs.Prelude.{◌≡◌, IfOk, IfErr};
 ghost use Rattle.std.specs.Option.{option_map};
 ghost use Rattle.lock_commands.specs.HoldersFile.{name_of, AreHoldersOf, IsNoHolders, HasNoHolders};
-ghost use Rattle.lock_folder.specs.Holders.{AreHolders};
+ghost use Rattle.folder_of_locks.specs.Holders.{AreHolders};
 
 use disks::Disk;
+use folder_of_locks::{HoldersError, read_holders};
 use held_locks::Handover;
-use lock_folder::{HoldersError, read_holders};
 use std::alloc::Global;
 use tool_parts::faults::ToolError;
 use tool_parts::reading::read_file;

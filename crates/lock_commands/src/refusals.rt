@@ -4,8 +4,8 @@ ghost use Rattle.std.specs.Prelude.{◌≡◌};
 ghost use Rattle.tool_parts.specs.Chained.{IsFolderFault};
 ghost use Rattle.lock_commands.specs.Refusals.{cause_of, fault_of_list, IsStartName, IsBeginName, IsLoopName};
 
+use folder_of_locks::{ListError, StartFault};
 use line_service::{EndFault, FolderError, LoopFault};
-use lock_folder::{ListError, StartFault};
 use ring_settings::RingCause;
 use ring_state::ParamsError;
 use tool_parts::faults::ToolError;

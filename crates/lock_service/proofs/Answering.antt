@@ -20,8 +20,8 @@ use Rattle.held_locks.specs.Grants.{advanced}
 use Rattle.held_locks.specs.Locks.{Ask, Acquire, Try, Release, Cancel, Leave, Corrupt, Stats, Mark, Survey, Turn, told, called, first_pass, granted, ended, dropped, faulted, joined, acquired, acquire_refusal, tried, tried_of, try_refusal, turn}
 use Rattle.held_locks.specs.Promises.{number_of, events_of}
 use Rattle.held_locks.proofs.Rings.{grant_number}
-use Rattle.lock_lines.specs.declared.answers.Denial.{Denial}
-use Rattle.lock_lines.specs.Answers.{answer_line, denial_line}
+use Rattle.lock_protocol.specs.declared.answers.Denial.{Denial}
+use Rattle.lock_protocol.specs.Answers.{answer_line, denial_line}
 use Rattle.lock_service.specs.Noting.{lines_about}
 use Rattle.lock_service.specs.Told.{IsGrantIn, IsToldIn, Telling, text_of, IsText}
 

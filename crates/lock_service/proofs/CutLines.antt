@@ -20,13 +20,13 @@ use Rattle.held_locks.proofs.Shown.{locks_append}
 use Rattle.held_locks.proofs.Standing.{get_set_same}
 use Rattle.held_locks.proofs.AllLeft.{there_is}
 use Rattle.text_lines.specs.LongNumbers.{in_32_bits}
-use Rattle.lock_lines.specs.Asks as asks
-use Rattle.lock_lines.specs.Asks.{seen, heard}
-use Rattle.lock_lines.specs.Inputs.{IsReadAs}
-use Rattle.lock_lines.specs.declared.answers.Denial.TheVariants as denial
-use Rattle.lock_lines.specs.declared.inputs.Ask.{Ask as Read}
-use Rattle.lock_lines.specs.declared.inputs.Input.{Input as LineInput}
-use Rattle.lock_lines.specs.declared.inputs.Input.TheVariants as input
+use Rattle.lock_protocol.specs.Asks as asks
+use Rattle.lock_protocol.specs.Asks.{seen, heard}
+use Rattle.lock_protocol.specs.Inputs.{IsReadAs}
+use Rattle.lock_protocol.specs.declared.answers.Denial.TheVariants as denial
+use Rattle.lock_protocol.specs.declared.inputs.Ask.{Ask as Read}
+use Rattle.lock_protocol.specs.declared.inputs.Input.{Input as LineInput}
+use Rattle.lock_protocol.specs.declared.inputs.Input.TheVariants as input
 use Rattle.line_service.specs.Answering.{Answers as Answered}
 use Rattle.lock_service.specs.declared.service.Terms.{Terms}
 use Rattle.lock_service.specs.Asking.{one_ask, is_off}

@@ -6,11 +6,11 @@ use Rattle.held_locks.specs.declared.answers.Answer.{Answer}
 use Rattle.held_locks.specs.declared.answers.HoldEnd.{HoldEnd}
 use Rattle.held_locks.specs.declared.answers.Left.{Left}
 use Rattle.held_locks.specs.Locks.{Ask}
-use Rattle.lock_lines.specs.declared.inputs.Input.{Input}
-use Rattle.lock_lines.specs.declared.inputs.Input.TheVariants as input
-use Rattle.lock_lines.specs.Asks as asks
-use Rattle.lock_lines.specs.Asks.{seen}
-use Rattle.lock_lines.proofs.Whole.{one_reading}
+use Rattle.lock_protocol.specs.declared.inputs.Input.{Input}
+use Rattle.lock_protocol.specs.declared.inputs.Input.TheVariants as input
+use Rattle.lock_protocol.specs.Asks as asks
+use Rattle.lock_protocol.specs.Asks.{seen}
+use Rattle.lock_protocol.proofs.Whole.{one_reading}
 use Rattle.line_service.specs.Stands.{stand}
 use Rattle.lock_service.specs.declared.service.LockService.{LockService}
 use Rattle.lock_service.specs.declared.service.Stage.{Stage}

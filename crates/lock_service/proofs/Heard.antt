@@ -9,7 +9,7 @@ use Rattle.text_lines.specs.Spelling.{spaced}
 use Rattle.text_lines.specs.Reading.{word_at}
 use Rattle.text_lines.specs.Limits.{line_limit}
 use Rattle.text_lines.specs.LongNumbers.{order_at}
-use Rattle.lock_lines.proofs.Fronts.{spaced_some, ended_some}
+use Rattle.lock_protocol.proofs.Fronts.{spaced_some, ended_some}
 use Rattle.segment_files.specs.Spelling.{DigestFits, digest_digits, is_digit}
 use Rattle.line_replica.specs.Reading.{Heard, Tagged, Place, Digest, Plain, heard, of_tagged, of_place, of_digest, with_key, with_number, tagged_at, on_read, may_follow, place_at, last_number, digest_at, with_digest, is_last_digest}
 use Rattle.lock_service.proofs.KeyLines.{same_text}

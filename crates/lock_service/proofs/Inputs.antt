@@ -17,13 +17,13 @@ use Rattle.held_locks.specs.Promises.{locks_after, leaves}
 use Rattle.held_locks.specs.Kept.{LockView, state_of, lock_of, locks_of, own_answer, other_grant, answers_of, IsFull, IsDone, IsLack, IsAnswer, left_by, left_at, left_of, ended_in}
 use Rattle.held_locks.proofs.Shown.{locks_append}
 use Rattle.held_locks.proofs.AllLeft.{there_is}
-use Rattle.lock_lines.specs.Asks.{seen}
-use Rattle.lock_lines.specs.Inputs.{IsReadAs}
-use Rattle.lock_lines.specs.Answers.{answer_line}
-use Rattle.lock_lines.specs.declared.answers.Denial.TheVariants as denial
-use Rattle.lock_lines.specs.declared.inputs.Ask.{Ask as Read}
-use Rattle.lock_lines.specs.declared.inputs.Input.{Input as LineInput}
-use Rattle.lock_lines.specs.declared.inputs.Input.TheVariants as input
+use Rattle.lock_protocol.specs.Asks.{seen}
+use Rattle.lock_protocol.specs.Inputs.{IsReadAs}
+use Rattle.lock_protocol.specs.Answers.{answer_line}
+use Rattle.lock_protocol.specs.declared.answers.Denial.TheVariants as denial
+use Rattle.lock_protocol.specs.declared.inputs.Ask.{Ask as Read}
+use Rattle.lock_protocol.specs.declared.inputs.Input.{Input as LineInput}
+use Rattle.lock_protocol.specs.declared.inputs.Input.TheVariants as input
 use Rattle.line_service.specs.Answering.{Answers as Answered}
 use Rattle.lock_service.specs.declared.service.Terms.{Terms}
 use Rattle.held_locks.specs.Asked.{IsAnswerTo}

@@ -12,7 +12,7 @@ use Rattle.text_lines.proofs.Basics.{same_eqb}
 use Rattle.text_lines.specs.Limits.{line_limit}
 use Rattle.text_lines.specs.LongNumbers.{number_text, decimal_at, order_at}
 use Rattle.text_lines.proofs.Numerals.{decimal_fails}
-use Rattle.lock_lines.proofs.Fronts.{spaced_reads}
+use Rattle.lock_protocol.proofs.Fronts.{spaced_reads}
 use Rattle.segment_files.specs.Spelling.{DigestFits, digest_digits, is_digit}
 use Rattle.line_replica.specs.Keys.{ToldView}
 use Rattle.line_replica.specs.Reading.{Heard, Tagged, Digest, heard, with_key, with_number, tagged_at, did_at, may_follow_by, may_follow, on_read, kept_text, place_at, last_number, digest_at, with_digest, is_last_digest}

@@ -40,9 +40,9 @@ use Rattle.held_locks.specs.Promises.{open_after}
 use Rattle.held_locks.specs.Opened.{open_in, holder_after, ended_before}
 use Rattle.held_locks.specs.Kept.{LockView, IsKeptRing}
 use Rattle.held_locks.specs.Handed.{AreHanded}
-use Rattle.lock_folder.specs.Lists.{Listed}
-use Rattle.lock_folder.specs.Rings.{IsRingOf, AreBegun}
-use Rattle.lock_folder.specs.Folders.{Place, StandsAt}
+use Rattle.folder_of_locks.specs.Lists.{Listed}
+use Rattle.folder_of_locks.specs.Rings.{IsRingOf, AreBegun}
+use Rattle.folder_of_locks.specs.Folders.{Place, StandsAt}
 use Rattle.lock_service.specs.Segments.{rings_of}
 use Rattle.lock_service.specs.Recovered.{AreMadeOf}
 use Rattle.lock_service.specs.Life.{AreFound}

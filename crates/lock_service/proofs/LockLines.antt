@@ -38,14 +38,14 @@ use Rattle.held_locks.proofs.Shown.{locks_append}
 use Rattle.held_locks.proofs.Standing.{get_set_same, get_set_other}
 use Rattle.held_locks.proofs.AllLeft.{there_is}
 use Rattle.ring_service.proofs.RecordedBlocks.{set_there}
-use Rattle.lock_lines.specs.Asks as asks
-use Rattle.lock_lines.specs.Asks.{seen, heard, of_one, of_two}
-use Rattle.lock_lines.specs.Inputs.{IsReadAs}
-use Rattle.lock_lines.specs.Answers.{answer_line, denial_line}
-use Rattle.lock_lines.specs.declared.answers.Denial.{Denial}
-use Rattle.lock_lines.specs.declared.answers.Denial.TheVariants as denial
-use Rattle.lock_lines.specs.declared.inputs.Input.{Input}
-use Rattle.lock_lines.specs.declared.inputs.Input.TheVariants as input
+use Rattle.lock_protocol.specs.Asks as asks
+use Rattle.lock_protocol.specs.Asks.{seen, heard, of_one, of_two}
+use Rattle.lock_protocol.specs.Inputs.{IsReadAs}
+use Rattle.lock_protocol.specs.Answers.{answer_line, denial_line}
+use Rattle.lock_protocol.specs.declared.answers.Denial.{Denial}
+use Rattle.lock_protocol.specs.declared.answers.Denial.TheVariants as denial
+use Rattle.lock_protocol.specs.declared.inputs.Input.{Input}
+use Rattle.lock_protocol.specs.declared.inputs.Input.TheVariants as input
 use Rattle.lock_service.specs.declared.service.Terms.{Terms}
 use Rattle.held_locks.specs.Asked.{IsAnswerTo}
 use Rattle.lock_service.specs.Asking.{one_ask, is_off}

@@ -10,10 +10,10 @@ use Rattle.held_locks.specs.declared.answers.Left.{Left}
 use Rattle.held_locks.specs.Locks.{Ask, Acquire, Try, Release, Cancel, Leave, Corrupt, Stats, Asked, turn, step}
 use Rattle.held_locks.specs.Promises.{locks_after, leaves}
 use Rattle.held_locks.specs.Kept.{LockView, lock_of, locks_of, IsDone, IsAnswer, IsLeft}
-use Rattle.lock_lines.specs.Asks as asks
-use Rattle.lock_lines.specs.Asks.{seen}
-use Rattle.lock_lines.specs.declared.inputs.Input.{Input}
-use Rattle.lock_lines.specs.declared.inputs.Input.TheVariants as input
+use Rattle.lock_protocol.specs.Asks as asks
+use Rattle.lock_protocol.specs.Asks.{seen}
+use Rattle.lock_protocol.specs.declared.inputs.Input.{Input}
+use Rattle.lock_protocol.specs.declared.inputs.Input.TheVariants as input
 use Rattle.line_service.specs.Answering.{Answers as Answered}
 use Rattle.line_service.specs.Stands.{Stand, by_stand, stand}
 use Rattle.lock_service.specs.declared.service.LockService.{LockService}

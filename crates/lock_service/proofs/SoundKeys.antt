@@ -11,7 +11,7 @@ use Rattle.std.specs.Map.{remove_entry}
 use Rattle.std.proofs.lemmas.Bool.{true≢false}
 use Rattle.disks.specs.Held.{Held}
 use Rattle.text_lines.specs.declared.fault.Fault.{Fault}
-use Rattle.lock_lines.proofs.Fronts.{some_is}
+use Rattle.lock_protocol.proofs.Fronts.{some_is}
 use Rattle.text_lines.specs.Spelling.{spaced}
 use Rattle.text_lines.specs.Reading.{word_at}
 use Rattle.text_lines.specs.Limits.{line_limit}

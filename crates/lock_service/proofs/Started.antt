@@ -10,7 +10,7 @@ use Rattle.held_locks.specs.declared.answers.Waiter.{Waiter}
 use Rattle.held_locks.specs.declared.answers.Holder.{Holder}
 use Rattle.held_locks.specs.Kept.{LockView}
 use Rattle.held_locks.specs.Opened.{open_in, holder_after}
-use Rattle.lock_folder.specs.Rings.{IsRingOf, Starts}
+use Rattle.folder_of_locks.specs.Rings.{IsRingOf, Starts}
 use Rattle.lock_service.specs.Segments.{rings_of}
 use Rattle.lock_service.specs.Recovered.{IsMadeOf, AreMadeOf, AreAdded}
 use Rattle.lock_service.specs.Started.{StartedLocksAreFound}

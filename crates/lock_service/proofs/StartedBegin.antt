@@ -8,9 +8,9 @@ use Rattle.held_locks.specs.declared.handing.Handover.{Handover}
 use Rattle.held_locks.specs.Handed.{AreHanded}
 use Rattle.held_locks.specs.Kept.{LockView}
 use Rattle.held_locks.specs.Opened.{open_in, holder_after}
-use Rattle.lock_folder.specs.Lists.{Listed}
-use Rattle.lock_folder.specs.Rings.{AreBegun}
-use Rattle.lock_folder.specs.Folders.{Place, StandsAt}
+use Rattle.folder_of_locks.specs.Lists.{Listed}
+use Rattle.folder_of_locks.specs.Rings.{AreBegun}
+use Rattle.folder_of_locks.specs.Folders.{Place, StandsAt}
 use Rattle.lock_service.specs.Begun.{IsBegun}
 use Rattle.lock_service.specs.Started.{StartedLocksBegin}
 use Rattle.lock_service.proofs.Following.{also_there}

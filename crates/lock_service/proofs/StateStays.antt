@@ -18,11 +18,11 @@ use Rattle.held_locks.specs.Kept.{LockView, lock_of, locks_of, IsAnswer}
 use Rattle.held_locks.proofs.Moves.{waiter, IsEnd, Released, Left, Move, Stays, Waits, Gets, Ends, Drops, Faults, move_of}
 use Rattle.held_locks.proofs.Right.{right_step, right_stays}
 use Rattle.held_locks.proofs.Standing.{get_set}
-use Rattle.lock_lines.specs.declared.inputs.Input.{Input as Read}
-use Rattle.lock_lines.specs.declared.inputs.Input.TheVariants as input
-use Rattle.lock_lines.specs.Asks as asks
-use Rattle.lock_lines.specs.Asks.{seen, heard, of_two}
-use Rattle.lock_lines.specs.Inputs.{IsReadAs}
+use Rattle.lock_protocol.specs.declared.inputs.Input.{Input as Read}
+use Rattle.lock_protocol.specs.declared.inputs.Input.TheVariants as input
+use Rattle.lock_protocol.specs.Asks as asks
+use Rattle.lock_protocol.specs.Asks.{seen, heard, of_two}
+use Rattle.lock_protocol.specs.Inputs.{IsReadAs}
 use Rattle.lock_service.specs.declared.service.Terms.{Terms}
 use Rattle.held_locks.specs.Asked.{IsAnswerTo}
 use Rattle.lock_service.specs.Asking.{one_ask, is_off}

@@ -22,11 +22,11 @@ use Rattle.held_locks.specs.Promises.{AreRight}
 use Rattle.held_locks.specs.Kept.{LockView, lock_of, locks_of, lock_limit, IsDone, AreMade, ended_at}
 use Rattle.held_locks.proofs.Right.{right_step}
 use Rattle.held_locks.proofs.Standing.{get_set, stands_append}
-use Rattle.lock_lines.specs.declared.inputs.Ask.TheVariants as reads
-use Rattle.lock_lines.specs.declared.inputs.Input.{Input}
-use Rattle.lock_lines.specs.declared.inputs.Input.TheVariants as input
-use Rattle.lock_lines.specs.Answers.{answer_line}
-use Rattle.lock_lines.proofs.Whole.{one_reading}
+use Rattle.lock_protocol.specs.declared.inputs.Ask.TheVariants as reads
+use Rattle.lock_protocol.specs.declared.inputs.Input.{Input}
+use Rattle.lock_protocol.specs.declared.inputs.Input.TheVariants as input
+use Rattle.lock_protocol.specs.Answers.{answer_line}
+use Rattle.lock_protocol.proofs.Whole.{one_reading}
 use Rattle.lock_service.specs.declared.service.LockService.{LockService}
 use Rattle.lock_service.specs.declared.service.Terms.{Terms}
 use Rattle.lock_service.specs.Asking.{is_lack}

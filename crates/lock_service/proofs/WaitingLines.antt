@@ -10,11 +10,11 @@ use Rattle.text_lines.specs.LongNumbers as numbers
 use Rattle.text_lines.proofs.LongDecimals.{in_some}
 use Rattle.held_locks.specs.declared.answers.Waiter.{Waiter}
 use Rattle.held_locks.specs.Kept.{lock_limit}
-use Rattle.lock_lines.specs.declared.inputs.Ask.TheVariants as reads
-use Rattle.lock_lines.specs.declared.inputs.Input.TheVariants as input
-use Rattle.lock_lines.specs.Asks.{acquire, heard, of_one, of_two}
-use Rattle.lock_lines.specs.Inputs.{input_line, IsReadAs}
-use Rattle.lock_lines.proofs.Fronts.{front_all}
+use Rattle.lock_protocol.specs.declared.inputs.Ask.TheVariants as reads
+use Rattle.lock_protocol.specs.declared.inputs.Input.TheVariants as input
+use Rattle.lock_protocol.specs.Asks.{acquire, heard, of_one, of_two}
+use Rattle.lock_protocol.specs.Inputs.{input_line, IsReadAs}
+use Rattle.lock_protocol.proofs.Fronts.{front_all}
 use Rattle.lock_service.specs.State.{wait_line}
 use Rattle.lock_service.specs.WaitersBack.{IsOfBits}
 use Rattle.lock_service.proofs.KeyLines.{same_text, spaced_short}
@@ -35,12 +35,12 @@ module _ (k : ℕ) (w : Waiter) (lt : k < lock_limit) (bits : IsOfBits w) where
   -- it is spelled as an input
   spelled : wait_line k w ≡ input_line w.client (acquire k w.label)
   spelled =
-      let client : spaced w.client ≡ numbers.spaced w.client = ap (λ (u : List ℕ). u ++ 32 ∷ []) (same_text w.client bits.0) in
-      let lock : spaced k ≡ numbers.spaced k = ap (λ (u : List ℕ). u ++ 32 ∷ []) (same_text k (small_lock k lt)) in
-      let order : ended w.label ≡ numbers.ended w.label = ap (λ (u : List ℕ). u ++ 10 ∷ []) (same_text w.label bits.1) in
+      let client : spaced w.client ≡ numbers.number_spaced w.client = ap (λ (u : List ℕ). u ++ 32 ∷ []) (same_text w.client bits.0) in
+      let lock : spaced k ≡ numbers.number_spaced k = ap (λ (u : List ℕ). u ++ 32 ∷ []) (same_text k (small_lock k lt)) in
+      let order : ended w.label ≡ numbers.number_ended w.label = ap (λ (u : List ℕ). u ++ 10 ∷ []) (same_text w.label bits.1) in
       ap (λ (u : List ℕ). u ++ (codes "acquire " ++ (spaced k ++ ended w.label))) client
-      ∙ ap (λ (u : List ℕ). numbers.spaced w.client ++ (codes "acquire " ++ (u ++ ended w.label))) lock
-      ∙ ap (λ (u : List ℕ). numbers.spaced w.client ++ (codes "acquire " ++ (numbers.spaced k ++ u))) order
+      ∙ ap (λ (u : List ℕ). numbers.number_spaced w.client ++ (codes "acquire " ++ (u ++ ended w.label))) lock
+      ∙ ap (λ (u : List ℕ). numbers.number_spaced w.client ++ (codes "acquire " ++ (numbers.number_spaced k ++ u))) order
 
   pub short : length (wait_line k w) ≤ line_limit
   short =
@@ -59,7 +59,7 @@ module _ (k : ℕ) (w : Waiter) (lt : k < lock_limit) (bits : IsOfBits w) where
 
   pub reads_wait : IsReadAs (wait_line k w) (input.Asked w.client (reads.Acquire k w.label))
   reads_wait = (
-    record { bits = bits.0; front = (codes "acquire " ++ (numbers.spaced k ++ numbers.ended w.label), inl (front_all (wait_line k w) short ∙ spelled)) },
+    record { bits = bits.0; front = (codes "acquire " ++ (numbers.number_spaced k ++ numbers.number_ended w.label), inl (front_all (wait_line k w) short ∙ spelled)) },
     record { is = spelled; short = short },
     heard_all,
   )

@@ -28,13 +28,13 @@ use Rattle.held_locks.specs.declared.answers.Holder.{Holder}
 use Rattle.held_locks.specs.declared.answers.HoldEnd.{HoldEnd}
 use Rattle.held_locks.specs.Kept.{LockView}
 use Rattle.held_locks.specs.Locks.{Ask}
-use Rattle.lock_lines.specs.declared.answers.Denial.{Denial}
-use Rattle.lock_lines.specs.declared.answers.Denial.TheVariants as denial
-use Rattle.lock_lines.specs.declared.inputs.Input.{Input}
-use Rattle.lock_lines.specs.declared.inputs.Input.TheVariants as input
-use Rattle.lock_lines.specs.Asks as lines
-use Rattle.lock_lines.specs.Asks.{seen}
-use Rattle.lock_lines.specs.Answers.{refusal_text, holder_text, answer_text, answer_line, denial_line}
+use Rattle.lock_protocol.specs.declared.answers.Denial.{Denial}
+use Rattle.lock_protocol.specs.declared.answers.Denial.TheVariants as denial
+use Rattle.lock_protocol.specs.declared.inputs.Input.{Input}
+use Rattle.lock_protocol.specs.declared.inputs.Input.TheVariants as input
+use Rattle.lock_protocol.specs.Asks as lines
+use Rattle.lock_protocol.specs.Asks.{seen}
+use Rattle.lock_protocol.specs.Answers.{refusal_text, holder_text, answer_text, answer_line, denial_line}
 use Rattle.lock_service.specs.declared.service.LockService.{LockService}
 use Rattle.lock_service.specs.declared.service.Terms.{Terms}
 use Rattle.lock_service.specs.Asking.{one_ask, is_off}

@@ -5,7 +5,7 @@ use Rattle.held_locks.specs.Locks.{Ask, Acquire, Try, Release, Cancel, Corrupt, 
 use Rattle.held_locks.specs.declared.answers.Answer.{Answer}
 use Rattle.held_locks.specs.declared.answers.Answer.TheVariants as answer
 use Rattle.held_locks.specs.declared.answers.Refusal.TheVariants as refusal
-use Rattle.lock_lines.specs.Asks as lines
+use Rattle.lock_protocol.specs.Asks as lines
 
 -- a lock, and what is asked of it, by the numbers of 32 bits by which locks, machines and values are
 -- known: the greatest of these for all that are greater, and none of them has it; nothing where all

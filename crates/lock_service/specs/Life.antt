@@ -16,12 +16,12 @@ use Rattle.held_locks.specs.Locks.{Ask, Cancel, Input, Asked, Restart, step}
 use Rattle.held_locks.specs.Promises.{AreRight, locks_after, leaves}
 use Rattle.held_locks.specs.Kept.{LockView, locks_of, AreKept}
 use Rattle.held_locks.specs.Cuts.{AreNext}
-use Rattle.lock_lines.specs.declared.answers.Denial.{Denial}
-use Rattle.lock_lines.specs.declared.inputs.Ask.{Ask as Read}
-use Rattle.lock_lines.specs.declared.inputs.Input.TheVariants as input
-use Rattle.lock_lines.specs.Asks.{seen}
-use Rattle.lock_lines.specs.Inputs.{IsReadAs}
-use Rattle.lock_lines.specs.Answers.{answer_line, denial_line}
+use Rattle.lock_protocol.specs.declared.answers.Denial.{Denial}
+use Rattle.lock_protocol.specs.declared.inputs.Ask.{Ask as Read}
+use Rattle.lock_protocol.specs.declared.inputs.Input.TheVariants as input
+use Rattle.lock_protocol.specs.Asks.{seen}
+use Rattle.lock_protocol.specs.Inputs.{IsReadAs}
+use Rattle.lock_protocol.specs.Answers.{answer_line, denial_line}
 use Rattle.lock_service.specs.Asking.{one_ask}
 use Rattle.lock_service.specs.declared.service.Terms.{Terms}
 use Rattle.lock_service.specs.Counting.{SegmentView}

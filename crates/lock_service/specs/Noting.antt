@@ -7,7 +7,7 @@ use Rattle.held_locks.specs.declared.answers.Answer.{Answer}
 use Rattle.held_locks.specs.declared.answers.HoldEnd.{HoldEnd}
 use Rattle.held_locks.specs.declared.answers.Left.{Left}
 use Rattle.held_locks.specs.Kept.{LockView, other_grant}
-use Rattle.lock_lines.specs.Answers.{answer_line}
+use Rattle.lock_protocol.specs.Answers.{answer_line}
 
 -- the lines of answers about a lock
 abbrev pub lines_about : ℕ → List (ℕ × Answer) → List ℕ

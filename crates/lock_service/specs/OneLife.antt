@@ -8,7 +8,7 @@ use Rattle.held_locks.specs.Queues.{Lock}
 use Rattle.held_locks.specs.Locks.{Input, Restart}
 use Rattle.held_locks.specs.Promises.{AreRight, locks_after}
 use Rattle.held_locks.specs.Kept.{LockView, locks_of}
-use Rattle.lock_folder.specs.Folders.{Place, AreStarted}
+use Rattle.folder_of_locks.specs.Folders.{Place, AreStarted}
 use Rattle.lock_service.specs.Life.{Stage, IsLockLife}
 use Rattle.lock_service.specs.Runs.{Service, by_segments, inside, IsInStages, IsLeftIn, IsTakenAs}
 

@@ -24,7 +24,7 @@ use Rattle.line_replica.specs.State.{lines_of, is_state, IsRestorable}
 use Rattle.held_locks.specs.declared.handing.Handover.{Handover}
 use Rattle.held_locks.specs.Kept.{LockView}
 use Rattle.held_locks.specs.Handed.{AreHanded}
-use Rattle.lock_folder.specs.Folders.{Place, AreStarted}
+use Rattle.folder_of_locks.specs.Folders.{Place, AreStarted}
 use Rattle.lock_service.specs.declared.service.LockService.{LockService}
 use Rattle.lock_service.specs.Counting.{SegmentView}
 use Rattle.lock_service.specs.Segmented.{segmenting}

@@ -4,16 +4,16 @@ use Rattle.held_locks.specs.declared.answers.Answers.{Answers}
 use Rattle.held_locks.specs.declared.answers.Left.{Left}
 use Rattle.held_locks.specs.Locks.{Ask}
 use Rattle.held_locks.specs.Kept.{answers_of, IsLeft, AreKept}
-use Rattle.lock_lines.specs.declared.answers.Denial.{Denial}
-use Rattle.lock_lines.specs.declared.answers.Denial.TheVariants as denial
-use Rattle.lock_lines.specs.declared.inputs.Input.{Input}
-use Rattle.lock_lines.specs.declared.inputs.Input.TheVariants as input
-use Rattle.lock_lines.specs.declared.inputs.Fault.{Fault}
-use Rattle.lock_lines.specs.declared.inputs.Fault.TheVariants as fault
-use Rattle.lock_lines.specs.Asks as lines
-use Rattle.lock_lines.specs.Asks.{seen}
-use Rattle.lock_lines.specs.Inputs.{IsReadAs}
-use Rattle.lock_lines.specs.Answers.{denial_line}
+use Rattle.lock_protocol.specs.declared.answers.Denial.{Denial}
+use Rattle.lock_protocol.specs.declared.answers.Denial.TheVariants as denial
+use Rattle.lock_protocol.specs.declared.inputs.Input.{Input}
+use Rattle.lock_protocol.specs.declared.inputs.Input.TheVariants as input
+use Rattle.lock_protocol.specs.declared.inputs.Fault.{Fault}
+use Rattle.lock_protocol.specs.declared.inputs.Fault.TheVariants as fault
+use Rattle.lock_protocol.specs.Asks as lines
+use Rattle.lock_protocol.specs.Asks.{seen}
+use Rattle.lock_protocol.specs.Inputs.{IsReadAs}
+use Rattle.lock_protocol.specs.Answers.{denial_line}
 use Rattle.disks.specs.Held.{Held}
 use Rattle.line_service.specs.declared.pending.Pending.{Pending}
 use Rattle.line_replica.specs.Replies.{IsAdded}

@@ -19,9 +19,9 @@ use Rattle.ring_service.specs.Recovered.{IsPrefix}
 use Rattle.held_locks.specs.Kept.{LockView, AreKept}
 use Rattle.held_locks.specs.declared.handing.Handover.{Handover}
 use Rattle.held_locks.specs.Handed.{AreHanded}
-use Rattle.lock_folder.specs.Lists.{Listed}
-use Rattle.lock_folder.specs.Rings.{AreBegun}
-use Rattle.lock_folder.specs.Folders.{Place, AreStarted}
+use Rattle.folder_of_locks.specs.Lists.{Listed}
+use Rattle.folder_of_locks.specs.Rings.{AreBegun}
+use Rattle.folder_of_locks.specs.Folders.{Place, AreStarted}
 use Rattle.lock_service.specs.Segments.{rings_of, content_of}
 use Rattle.lock_service.specs.Begun.{HaveBegun}
 use Rattle.lock_service.specs.Life.{AreFound}

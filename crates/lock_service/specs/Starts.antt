@@ -1,7 +1,7 @@
 -- A line that is too long is answered as its start is.
 use Rattle.line_service.specs.Answering.{cut, IsByStart}
 use Rattle.line_service.specs.Stands.{by_stand}
-use Rattle.lock_lines.proofs.Whole.{long_reads}
+use Rattle.lock_protocol.proofs.Whole.{long_reads}
 use Rattle.lock_service.specs.Serving.{IsServed}
 
 pub by_start : IsByStart (by_stand IsServed)

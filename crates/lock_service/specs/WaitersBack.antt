@@ -9,7 +9,7 @@ use Rattle.held_locks.specs.declared.answers.Holder.{Holder}
 use Rattle.held_locks.specs.declared.answers.Waiter.{Waiter}
 use Rattle.held_locks.specs.Promises.{AreRight}
 use Rattle.held_locks.specs.Kept.{LockView, locks_of, lock_limit}
-use Rattle.lock_lines.specs.Answers.{answer_line}
+use Rattle.lock_protocol.specs.Answers.{answer_line}
 use Rattle.lock_service.specs.declared.service.LockService.{LockService}
 use Rattle.lock_service.specs.declared.service.Terms.{Terms}
 use Rattle.lock_service.specs.Counting.{SegmentView}

@@ -3,12 +3,12 @@
 ghost use Rattle.std.specs.Prelude.{◌≡◌};
 ghost use Rattle.std.specs.Option.{option_map};
 ghost use Rattle.text_lines.specs.LongNumbers.{in_32_bits};
-ghost use Rattle.lock_lines.specs.Asks.{seen};
+ghost use Rattle.lock_protocol.specs.Asks.{seen};
 ghost use Rattle.held_locks.specs.Asked.{asked};
 ghost use Rattle.lock_service.specs.Asking.{one_ask, is_off, is_lack};
 
 use held_locks::{Answer, OneAsk, Refusal};
-use lock_lines::Ask;
+use lock_protocol::Ask;
 
 /// This number, or the greatest one of 32 bits if it is greater.
 fn narrow(number: u64) -> u32

@@ -6,7 +6,7 @@ ghost use Rattle.lock_service.specs.Serving.{IsServed};
 use crate::service::{LockService, Stage, answer, are_kept};
 use disks::Disk;
 use line_service::{AnswersLines, Pending};
-use lock_lines::read_input;
+use lock_protocol::read_input;
 use std::alloc::AllocError;
 
 impl AnswersLines for LockService {

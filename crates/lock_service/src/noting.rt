@@ -5,7 +5,7 @@ ghost use Rattle.held_locks.specs.Kept.{own_answer, other_grant, answers_of};
 ghost use Rattle.lock_service.specs.Noting.{lines_about, events_at, events_from, end_line, lines_of_left, notes_of_left};
 
 use held_locks::{Answer, Answers, HoldEnd, Holder, Left, Locks};
-use lock_lines::put_answer;
+use lock_protocol::put_answer;
 use one_thread_ring::{put_events, put_survey};
 use std::alloc::AllocError;
 

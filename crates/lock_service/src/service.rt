@@ -18,7 +18,7 @@ use crate::segment::Segment;
 use crate::texts::put_beginning;
 use held_locks::{Answer, Locks, OneAsk, Refusal};
 use line_service::{EndFault, Pending};
-use lock_lines::{Denial, Fault, Input, put_denial};
+use lock_protocol::{Denial, Fault, Input, put_denial};
 use std::alloc::{AllocError, Global};
 use std::io::Write;
 use text_lines::WriteFault;

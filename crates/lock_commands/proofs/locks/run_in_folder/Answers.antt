@@ -1,5 +1,5 @@
 use Rattle.std.proofs.Common.{inr}
-use Rattle.lock_folder.specs.Folders.{place_of}
+use Rattle.folder_of_locks.specs.Folders.{place_of}
 use Rattle.tool_parts.proofs.LockedFolders.{locked_known}
 use Rattle.lock_commands.specs.Locks.{folder_of, list_of}
 use Rattle.lock_service.proofs.StartedBegin.{started_locks_begin}

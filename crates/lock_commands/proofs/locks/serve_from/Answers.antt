@@ -4,7 +4,7 @@ use Rattle.disks.specs.Held.{Replaces}
 use Rattle.line_service.specs.SegmentNames.{segment_file}
 use Rattle.line_service.specs.Digested.{hashed}
 use Rattle.line_service.proofs.SegmentLasting.{begun_lasts, replaced_known, whole_leaves}
-use Rattle.lock_folder.specs.Folders.{place_of}
+use Rattle.folder_of_locks.specs.Folders.{place_of}
 use Rattle.lock_service.specs.Runs.{by_segments}
 use Rattle.lock_commands.specs.Locks.{folder_of}
 use Rattle.lock_commands.proofs.Living.{has_started, lived}

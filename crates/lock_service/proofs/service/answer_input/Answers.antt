@@ -1,11 +1,11 @@
 use Rattle.std.proofs.Common.{◌≡◌, true, false, [], ◌++◌, Some, None, Result, ap, sym, ◌∙◌, subst, refl}
 use Rattle.std.proofs.lemmas.List.{append-nil}
 use Rattle.held_locks.specs.Asked.{asked}
-use Rattle.lock_lines.specs.declared.answers.Denial.{Denial}
-use Rattle.lock_lines.specs.declared.answers.Denial.TheVariants as denial
-use Rattle.lock_lines.specs.declared.inputs.Input.{Input}
-use Rattle.lock_lines.specs.Asks.{seen}
-use Rattle.lock_lines.specs.Answers.{denial_line}
+use Rattle.lock_protocol.specs.declared.answers.Denial.{Denial}
+use Rattle.lock_protocol.specs.declared.answers.Denial.TheVariants as denial
+use Rattle.lock_protocol.specs.declared.inputs.Input.{Input}
+use Rattle.lock_protocol.specs.Asks.{seen}
+use Rattle.lock_protocol.specs.Answers.{denial_line}
 use Rattle.lock_service.specs.declared.service.Untold.{Untold}
 use Rattle.lock_service.specs.Asking.{is_off}
 use Rattle.lock_service.specs.Serving.{denial_of, IsToldOf, IsInputAnswered, Leaves}

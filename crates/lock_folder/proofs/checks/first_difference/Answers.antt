@@ -1,5 +1,0 @@
-use Rattle.lock_folder.proofs.Checked.{continues}
-use Rattle.lock_folder.proofs.checks.first_difference.Goals as goal
-
-pub returns-clause-same : goal.returns-clause-same
-returns-clause-same c = λ _. continues c.args.old.now c.args.new.now c.loop-place.place c.loop-place-test.false c.loop-place.invariant.0

@@ -1,6 +1,0 @@
-use Rattle.std.proofs.Common.{refl}
-use Rattle.lock_folder.proofs.Refused.{by_word}
-use Rattle.lock_folder.proofs.folder.start_new.Goals as goal
-
-pub returns-in-Err-clause-err : goal.returns-in-Err-clause-err
-returns-in-Err-clause-err g c = by_word _ _ _ _ _ c.in-Some.word.now c.args.holders.now c.in-Err.fault (rw c.in-Some.is refl) c.in-Err.ensures.err

@@ -1,7 +1,0 @@
-use Rattle.std.proofs.Common.{◌≡◌, ◌≤◌, length, map}
-use Rattle.lock_folder.specs.Lists.{listed}
-use Rattle.lock_folder.specs.Rings.{AreEachBegun}
-use Rattle.lock_folder.proofs.rings.locks_of.Given as goal
-
-abbrev pub invariant-loop-place : goal.invariant-loop-place
-invariant-loop-place l = (length l.locks ≡ l.place) × (l.place ≤ length l.list) × AreEachBegun l.bases l.rings (map listed l.list) l.locks

@@ -1,5 +1,0 @@
-use Rattle.std.proofs.Common.{refl}
-use Rattle.lock_lines.proofs.reading.unread.Goals as goal
-
-pub returns-in-None : goal.returns-in-None
-returns-in-None c = c.in-None.ensures.none refl
