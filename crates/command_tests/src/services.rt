@@ -220,7 +220,11 @@ fn answers_each_ask(rt: HostRuntime) {
         (2, 0, OneAsk::Stats, Answer::Stats(stats)),
         (2, 1, OneAsk::Stats, Answer::Refused(Refusal::Lock)),
     ];
+    let mut events = 0;
     for (client, lock, ask, answer) in asks {
-        assert!(rt; locks.ask(client, lock, ask).own == Some(answer));
+        let done = locks.ask(client, lock, ask);
+        assert!(rt; done.answers.own == Some(answer));
+        assert!(rt; lock > 0 || done.before == events);
+        events = done.after;
     }
 }

@@ -21,4 +21,4 @@ pub mod NextSegments
 pub mod Foreseen
 pub mod HandedOver
 pub mod TheirHolds
-mod Asking
+pub mod Asking

@@ -1,5 +1,5 @@
 -- What a client asks of one lock, and how that is answered (this project's own).
-use Rattle.std.specs.Prelude.{ℕ, List}
+use Rattle.std.specs.Prelude.{ℕ, List, length, Option, None, Some}
 use Rattle.held_locks.specs.Locks.{Ask, Acquire, Try, Release, Cancel, Corrupt, Stats}
 use Rattle.held_locks.specs.Kept.{LockView, IsDone, IsAnswer}
 use Rattle.held_locks.specs.declared.answers.Answers.{Answers}
@@ -22,3 +22,8 @@ IsAnswerTo old new c i (Acquire label) r = IsAnswer old new c i (Acquire label) 
 IsAnswerTo old new c i (Try label) r = IsAnswer old new c i (Try label) r
 IsAnswerTo old new c i (Corrupt machine value) r = IsAnswer old new c i (Corrupt machine value) r
 IsAnswerTo old new c i ask r = IsDone old new c i ask r
+
+-- how many events the segment of a lock's ring has
+abbrev pub events_at : Option LockView → ℕ
+events_at None = 0
+events_at (Some v) = length v.ring.ring.book.history

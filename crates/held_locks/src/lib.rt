@@ -15,7 +15,7 @@ mod parts;
 mod queue;
 mod waits;
 
-pub use answers::{Answer, Answers, HoldEnd, Holder, Left, Refusal, Stats, Waiter};
+pub use answers::{Answer, Answers, HoldEnd, Holder, Left, OneAnswer, Refusal, Stats, Waiter};
 pub use asks::OneAsk;
 pub use handing::Handover;
 pub use locks::{LOCK_LIMIT, Locks};

@@ -5,7 +5,7 @@ ghost use Rattle.held_locks.specs.Queues.{stands, waits_for, client_of, holder_o
 ghost use Rattle.held_locks.specs.Locks.{Acquire, Try, Release, Cancel, Corrupt, Stats, acquire_refusal, try_refusal};
 ghost use Rattle.held_locks.specs.Cuts.{AreNext, HaveNoNext};
 ghost use Rattle.held_locks.specs.Handed.{IsHanded, CannotBeHanded};
-ghost use Rattle.held_locks.specs.Asked.{asked, IsAnswerTo};
+ghost use Rattle.held_locks.specs.Asked.{asked, IsAnswerTo, events_at};
 ghost use Rattle.held_locks.specs.Kept.{LockView, lock_of, locks_of, lock_limit, IsKeptRing, IsKeptLock, AreKept, IsDone, IsAnswer, IsLeft};
 ghost use Rattle.held_locks.specs.Opened.{holder_after, IsAdded, IsNotAdded};
 ghost use Rattle.held_locks.specs.Waiting.{lock_in};
@@ -13,7 +13,7 @@ ghost use Rattle.held_locks.specs.Parts.{view_of, views_of};
 ghost use Rattle.held_locks.specs.declared.answers.Left.{Left};
 ghost use Rattle.held_locks.specs.declared.parts.LockParts.{LockParts};
 
-use crate::answers::{Answers, Holder, Left, Refusal, Waiter};
+use crate::answers::{Answer, Answers, Holder, Left, OneAnswer, Refusal, Waiter};
 use crate::asks::OneAsk;
 use crate::cuts::next_locks;
 use crate::handing::{Handover, hand_among};
@@ -142,7 +142,28 @@ fn try_refusal(locks: &[LockParts], waits: &Waits, client: u64, lock: u32) -> Op
     None
 }
 
-/// Answers what a client asks of one lock.
+/// How many events the segment of a lock's ring has.
+#[inline(always)]
+fn events_of(lock: &LockParts) -> usize
+    ensures { result ≡ length lock.now.ring.ring.book.history }
+{
+    lock.ring.segment().history().len()
+}
+
+/// What comes of an ask of a lock that there is not.
+fn no_lock() -> OneAnswer
+    ensures answers { result.answers
+        ≡ record { own = Some (Answer.Refused Refusal.Lock); ended = None; granted = None } }
+    ensures none { (result.before ≡ 0) × (result.after ≡ 0) }
+{
+    OneAnswer {
+        answers: refused(Refusal::Lock),
+        before: 0,
+        after: 0,
+    }
+}
+
+/// Answers what a client asks of one lock that there is.
 #[inline(always)]
 fn ask_among(
     locks: &mut Vec<LockParts>,
@@ -151,13 +172,11 @@ fn ask_among(
     lock: u32,
     ask: OneAsk,
 ) -> Answers
-    requires { AreKept (views_of locks.old.items) waits.old }
+    requires kept { AreKept (views_of locks.old.items) waits.old }
+    requires there { lock < length locks.old.items }
     ensures { IsAnswerTo (views_of locks.old.items) (views_of locks.new.items) client lock
         (asked ask) result × AreKept (views_of locks.new.items) waits.new }
 {
-    if lock as usize >= locks.len() {
-        return refused(Refusal::Lock);
-    }
     match ask {
         OneAsk::Acquire { label } => {
             let why = acquire_refusal(locks, waits, client, lock as usize);
@@ -346,12 +365,25 @@ impl Locks {
         Ok(Locks { locks, waits })
     }
 
-    /// Answers what a client asks of one lock, as the call of its name does.
+    /// Answers what a client asks of one lock, as the call of its name does. It says too how many events the segment of the lock's
+    /// ring had before, and has now.
     #[inline(always)]
-    pub fn ask(&mut self, client: u64, lock: u32, ask: OneAsk) -> Answers
-        ensures { IsAnswerTo self.old self.new client lock (asked ask) result }
+    pub fn ask(&mut self, client: u64, lock: u32, ask: OneAsk) -> OneAnswer
+        ensures answer { IsAnswerTo self.old self.new client lock (asked ask) result.answers }
+        ensures before { result.before ≡ events_at (slice_get self.old lock) }
+        ensures after { result.after ≡ events_at (slice_get self.new lock) }
     {
-        ask_among(&mut self.locks, &mut self.waits, client, lock, ask)
+        if lock as usize >= self.locks.len() {
+            return no_lock();
+        }
+        let before = events_of(&self.locks[lock as usize]);
+        let answers = ask_among(&mut self.locks, &mut self.waits, client, lock, ask);
+        let after = events_of(&self.locks[lock as usize]);
+        OneAnswer {
+            answers,
+            before,
+            after,
+        }
     }
 
     /// Acquires a lock for a client, with a label that the client chooses: it is granted at once if nobody holds the lock, or
@@ -362,7 +394,7 @@ impl Locks {
     pub fn acquire(&mut self, client: u64, lock: u32, label: u64) -> Answers
         ensures { IsAnswer self.old self.new client lock (Acquire label) result }
     {
-        self.ask(client, lock, OneAsk::Acquire { label })
+        self.ask(client, lock, OneAsk::Acquire { label }).answers
     }
 
     /// The same, but a client does not wait: if somebody holds the lock, the answer is `Busy`.
@@ -371,7 +403,7 @@ impl Locks {
     pub fn try_acquire(&mut self, client: u64, lock: u32, label: u64) -> Answers
         ensures { IsAnswer self.old self.new client lock (Try label) result }
     {
-        self.ask(client, lock, OneAsk::Try { label })
+        self.ask(client, lock, OneAsk::Try { label }).answers
     }
 
     /// Ends the hold of a client with this token, and grants the head of the queue.
@@ -381,7 +413,7 @@ impl Locks {
     pub fn release(&mut self, client: u64, lock: u32, token: u64) -> Answers
         ensures { IsDone self.old self.new client lock (Release token) result }
     {
-        self.ask(client, lock, OneAsk::Release { token })
+        self.ask(client, lock, OneAsk::Release { token }).answers
     }
 
     /// Takes a client that waits out of the queue.
@@ -390,7 +422,7 @@ impl Locks {
     pub fn cancel(&mut self, client: u64, lock: u32) -> Answers
         ensures { IsDone self.old self.new client lock Cancel result }
     {
-        self.ask(client, lock, OneAsk::Cancel)
+        self.ask(client, lock, OneAsk::Cancel).answers
     }
 
     /// A client leaves all locks, one after the other: it goes out of the queue, or its hold ends and the head of the queue is
@@ -413,6 +445,7 @@ impl Locks {
         ensures { IsAnswer self.old self.new client lock (Corrupt machine value) result }
     {
         self.ask(client, lock, OneAsk::Corrupt { machine, value })
+            .answers
     }
 
     /// How many machines the ring of a lock has, how many clients wait for it, how many passes of its ring were granted, and who

@@ -31,7 +31,8 @@ use Rattle.line_service.specs.Answering.{Answers as Answered}
 use Rattle.lock_service.specs.declared.service.Terms.{Terms}
 use Rattle.lock_service.specs.Asking.{one_ask, is_off}
 use Rattle.lock_service.specs.Counting.{SegmentView}
-use Rattle.lock_service.specs.Noting.{events_at, events_from, end_line, note_about, note_of_left, notes_of_left, lines_about}
+use Rattle.held_locks.specs.Asked.{events_at}
+use Rattle.lock_service.specs.Noting.{events_from, end_line, note_about, note_of_left, notes_of_left, lines_about}
 use Rattle.lock_service.specs.Serving.{IsTold, IsAnsweredIf, IsInputAnswered, IsLineAnswered, denial_of}
 use Rattle.lock_service.specs.Life.{IsNoAnswer, AreHeard}
 use Rattle.lock_service.proofs.Chains.{chain_right, chain_many}

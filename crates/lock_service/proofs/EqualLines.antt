@@ -20,7 +20,7 @@ use Rattle.lock_service.specs.Noting.{lines_about, note_about, lines_of_left, no
 use Rattle.lock_service.specs.Due.{has_short}
 use Rattle.lock_service.specs.Counting.{SegmentView, IsCounted, count_about, count_of_all}
 use Rattle.lock_service.specs.Serving.{IsSaid, IsToldOf, IsToldOfLeave, IsTold, IsAnsweredIf, IsInputAnswered, IsLineAnswered, IsServed, is_past, stage_after}
-use Rattle.lock_service.proofs.Short.{asked_long}
+use Rattle.held_locks.proofs.Asking.{asked_long}
 use Rattle.lock_service.specs.Equal.{AreEqualLocks, AreEqualSegments, AreEqual, EqualLinesGiveEqualAnswers}
 use Rattle.lock_service.proofs.EqualLocks.{short_equal, note_equal, count_equal, notes_left_equal, count_left_equal, done_alike, asked_done, left_alike}
 

@@ -15,7 +15,7 @@ use Rattle.ring_model.specs.History.{State}
 use Rattle.held_locks.specs.Kept.{LockView, locks_of, own_answer, other_grant, IsDone, IsAnswer}
 use Rattle.held_locks.specs.Asked.{IsAnswerTo}
 use Rattle.lock_service.specs.Asking.{is_lack}
-use Rattle.lock_service.proofs.Short.{as_answer}
+use Rattle.held_locks.proofs.Asking.{as_answer}
 
 -- ---- the machine never answers so
 

@@ -47,11 +47,11 @@ use Rattle.lock_protocol.specs.declared.answers.Denial.TheVariants as denial
 use Rattle.lock_protocol.specs.declared.inputs.Input.{Input}
 use Rattle.lock_protocol.specs.declared.inputs.Input.TheVariants as input
 use Rattle.lock_service.specs.declared.service.Terms.{Terms}
-use Rattle.held_locks.specs.Asked.{IsAnswerTo}
+use Rattle.held_locks.specs.Asked.{IsAnswerTo, events_at}
 use Rattle.lock_service.specs.Asking.{one_ask, is_off}
 use Rattle.lock_service.specs.Counting.{SegmentView}
 use Rattle.lock_service.specs.Serving.{IsSaid, IsToldOf, IsTold, IsAnsweredIf, IsInputAnswered, IsLineAnswered, denial_of}
-use Rattle.lock_service.specs.Noting.{events_at, events_from, end_line, note_about, note_of_left, notes_of_left, lines_about, line_of_left, lines_of_left}
+use Rattle.lock_service.specs.Noting.{events_from, end_line, note_about, note_of_left, notes_of_left, lines_about, line_of_left, lines_of_left}
 use Rattle.lock_service.specs.Told.{IsToldIn, Telling, text_of}
 use Rattle.lock_service.proofs.Chains.{Chain, chain_append, chain_right, chain_many}
 use Rattle.lock_service.proofs.Marks.{IsSmallAsk}

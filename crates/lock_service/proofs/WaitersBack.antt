@@ -30,7 +30,8 @@ use Rattle.lock_protocol.proofs.Whole.{one_reading}
 use Rattle.lock_service.specs.declared.service.LockService.{LockService}
 use Rattle.lock_service.specs.declared.service.Terms.{Terms}
 use Rattle.lock_service.specs.Asking.{is_lack}
-use Rattle.lock_service.specs.Noting.{lines_about, note_about, events_at, events_from}
+use Rattle.held_locks.specs.Asked.{events_at}
+use Rattle.lock_service.specs.Noting.{lines_about, note_about, events_from}
 use Rattle.lock_service.specs.Serving.{IsToldOf, IsInputAnswered, IsServed}
 use Rattle.lock_service.specs.State.{wait_line, wait_lines, waits_from}
 use Rattle.lock_service.specs.WaitersBack.{holders_of, waiters_of, IsOfBits, HaveState, HaveTheHolds, waiting_lines, waiting_from, WaitersComeBack}

@@ -39,7 +39,8 @@ use Rattle.lock_service.specs.declared.service.LockService.{LockService}
 use Rattle.lock_service.specs.declared.service.Terms.{Terms}
 use Rattle.lock_service.specs.Asking.{one_ask, is_off}
 use Rattle.lock_service.specs.Counting.{SegmentView}
-use Rattle.lock_service.specs.Noting.{lines_about, events_at, events_from, end_line, note_about, line_of_left, note_of_left, notes_of_left}
+use Rattle.held_locks.specs.Asked.{events_at}
+use Rattle.lock_service.specs.Noting.{lines_about, events_from, end_line, note_about, line_of_left, note_of_left, notes_of_left}
 use Rattle.lock_service.specs.Serving.{IsTold, IsAnsweredIf, IsInputAnswered, IsServed}
 use Rattle.line_replica.specs.Keys.{first_line}
 use Rattle.lock_service.proofs.LineParts.{line_more}

@@ -5,7 +5,7 @@ use Rattle.ring_service.specs.Due.{lines_of}
 use Rattle.held_locks.specs.declared.answers.HoldEnd.{HoldEnd}
 use Rattle.held_locks.specs.declared.answers.Left.{Left}
 use Rattle.held_locks.specs.Kept.{LockView}
-use Rattle.lock_service.specs.Noting.{events_at}
+use Rattle.held_locks.specs.Asked.{events_at}
 use Rattle.lock_service.specs.Due.{has_short}
 use Rattle.lock_service.specs.Segments.{rings_of}
 

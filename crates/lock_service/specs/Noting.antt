@@ -1,5 +1,5 @@
 -- The lines that clients get of an answer, and what the journal gets of it (this project's own).
-use Rattle.std.specs.Prelude.{ℕ, List, [], ◌∷◌, ◌++◌, length, drop, slice_get, Option, None, Some}
+use Rattle.std.specs.Prelude.{ℕ, List, [], ◌∷◌, ◌++◌, drop, slice_get, Option, None, Some}
 use Rattle.std.specs.List.{flat_map}
 use Rattle.journal.specs.Spelling.{journal_line}
 use Rattle.one_thread_ring.specs.Journals.{event_lines, line_of_survey}
@@ -7,17 +7,13 @@ use Rattle.held_locks.specs.declared.answers.Answer.{Answer}
 use Rattle.held_locks.specs.declared.answers.HoldEnd.{HoldEnd}
 use Rattle.held_locks.specs.declared.answers.Left.{Left}
 use Rattle.held_locks.specs.Kept.{LockView, other_grant}
+use Rattle.held_locks.specs.Asked.{events_at}
 use Rattle.lock_protocol.specs.Answers.{answer_line}
 
 -- the lines of answers about a lock
 abbrev pub lines_about : ℕ → List (ℕ × Answer) → List ℕ
 lines_about lock [] = []
 lines_about lock ((c, a) ∷ more) = answer_line c lock a ++ lines_about lock more
-
--- how many events the segment of a lock's ring has
-abbrev pub events_at : Option LockView → ℕ
-events_at None = 0
-events_at (Some v) = length v.ring.ring.book.history
 
 -- the lines of its events from a place on
 abbrev pub events_from : ℕ → ℕ → Option LockView → List ℕ

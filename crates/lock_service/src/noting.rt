@@ -2,7 +2,8 @@
 
 ghost use Rattle.std.specs.Prelude.{◌≡◌, ◌++◌, [], cond, slice_get, OnOk};
 ghost use Rattle.held_locks.specs.Kept.{own_answer, other_grant, answers_of};
-ghost use Rattle.lock_service.specs.Noting.{lines_about, events_at, events_from, end_line, lines_of_left, notes_of_left};
+ghost use Rattle.held_locks.specs.Asked.{events_at};
+ghost use Rattle.lock_service.specs.Noting.{lines_about, events_from, end_line, lines_of_left, notes_of_left};
 
 use held_locks::{Answer, Answers, HoldEnd, Holder, Left, Locks};
 use lock_protocol::put_answer;

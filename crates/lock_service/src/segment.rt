@@ -4,16 +4,14 @@ ghost use Rattle.std.specs.Prelude.{◌≡◌, ◌||◌, ◌⊎◌, true, false,
 ghost use Rattle.held_locks.specs.declared.answers.Refusal.{Refusal};
 ghost use Rattle.held_locks.specs.Cuts.{AreNext};
 ghost use Rattle.held_locks.specs.Kept.{IsLeft};
-ghost use Rattle.held_locks.specs.Asked.{asked, IsAnswerTo};
+ghost use Rattle.held_locks.specs.Asked.{asked, IsAnswerTo, events_at};
 ghost use Rattle.lock_service.specs.Asking.{is_lack};
-ghost use Rattle.lock_service.specs.Noting.{events_at};
 ghost use Rattle.lock_service.specs.Due.{is_due, has_short, HaveNoSegment};
 ghost use Rattle.lock_service.specs.Counting.{IsCounted, IsStart, count_about, count_of_all};
 
 use crate::counting::{after_end, after_events, after_left, after_start};
 use crate::due::{has_short, is_short_at};
-use crate::noting::events_at;
-use held_locks::{Answers, Left, Locks, OneAsk, Refusal};
+use held_locks::{Left, Locks, OneAnswer, OneAsk, Refusal};
 use std::alloc::{AllocError, Global};
 use std::marker::Model;
 
@@ -37,13 +35,6 @@ impl Model for Segment {
     ghost view = { λ s. record { locks = s.locks; left = s.left.items; remaining = s.remaining; short = s.short } };
 
     ghost invariant = { λ s. (length s.locks ≤ vec_capacity s.left) × IsWatched s.locks s.short };
-}
-
-/// What a lock answered, and how many events the segment of its ring had before: what is to be noted of it begins there.
-#[derive(Clone, Copy)]
-pub(crate) struct Done {
-    pub(crate) answers: Answers,
-    pub(crate) place: usize,
 }
 
 /// Whether a lock was short, or is so.
@@ -98,20 +89,19 @@ impl Segment {
     }
 
     /// Asks one lock. Only this lock is looked at, and nothing changes if the asker is refused for lack of room or memory.
-    pub(crate) fn ask(&mut self, client: u64, lock: u32, ask: OneAsk) -> Done
+    pub(crate) fn ask(&mut self, client: u64, lock: u32, ask: OneAsk) -> OneAnswer
         ensures answer { IsAnswerTo self.old.locks self.new.locks client lock (asked ask)
             result.answers }
-        ensures place { result.place ≡ events_at (slice_get self.old.locks lock) }
+        ensures before { result.before ≡ events_at (slice_get self.old.locks lock) }
         ensures counted { IsCounted self.old self.new
             (count_about lock self.old.locks self.new.locks result.answers.ended) }
         ensures lack { is_lack result.answers.own ≡ true → self.new ≡ self.old }
     {
-        let place = events_at(&self.locks, lock);
-        let answers = self.locks.ask(client, lock, ask);
-        let remaining = after_end(self.remaining, answers.ended);
-        self.remaining = after_events(remaining, &self.locks, lock, place);
+        let done = self.locks.ask(client, lock, ask);
+        let remaining = after_end(self.remaining, done.answers.ended);
+        self.remaining = after_events(remaining, done.before, done.after);
         self.short = was_or_is(self.short, is_short_at(&self.locks, lock));
-        Done { answers, place }
+        done
     }
 
     /// A client leaves all locks. It takes no memory.

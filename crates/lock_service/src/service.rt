@@ -125,7 +125,7 @@ fn answer_one(
             segment.locks(),
             lock,
             done.answers.ended,
-            done.place,
+            done.before,
             &mut pending.notes,
         )),
         Err(_) => Err(Untold::Answered),

@@ -104,7 +104,7 @@ pub fn denies_that_the_client_waited(locks: &mut Locks, client: u64, lock: u32) 
     ensures wrong { IfSome result
         (λ r. IsAnswerTo locks.old locks.new client lock (asked one.Cancel) r → ⊥) }
 {
-    let answers = locks.ask(client, lock, OneAsk::Cancel);
+    let answers = locks.ask(client, lock, OneAsk::Cancel).answers;
     match answers.own {
         Some(Answer::Cancelled) => Some(Answers {
             own: Some(Answer::Refused(Refusal::Waiter)),

@@ -2,8 +2,8 @@ use Rattle.std.proofs.Common.{◌≡◌, ℕ, List, [], ◌++◌, cond, Result, 
 use Rattle.std.specs.Prelude.{slice_get}
 use Rattle.held_locks.specs.Kept.{LockView, answers_of}
 use Rattle.lock_service.specs.declared.service.Untold.{Untold}
-use Rattle.held_locks.specs.Asked.{asked}
-use Rattle.lock_service.specs.Noting.{lines_about, note_about, end_line, events_from, events_at}
+use Rattle.held_locks.specs.Asked.{asked, events_at}
+use Rattle.lock_service.specs.Noting.{lines_about, note_about, end_line, events_from}
 use Rattle.lock_service.specs.Serving.{IsToldOf, Leaves}
 use Rattle.lock_service.proofs.Telling.{on_ok, put_leaves}
 use Rattle.lock_service.proofs.service.answer_one.Goals as goal
@@ -15,8 +15,8 @@ returns-in-Ok c =
     let old = c.args.segment.now.locks in
     let new = c.ask-done.new.self.locks in
     let noting = c.args.terms.noting in
-    let text : cond noting (end_line i r.ended ++ events_from i c.ask-done.result.place (slice_get c.locks.result.now i)) [] ≡ cond noting (note_about i old new r.ended) [] =
-    ap (λ (p : ℕ). cond noting (end_line i r.ended ++ events_from i p (slice_get c.locks.result.now i)) []) c.ask-done.ensures.place
+    let text : cond noting (end_line i r.ended ++ events_from i c.ask-done.result.before (slice_get c.locks.result.now i)) [] ≡ cond noting (note_about i old new r.ended) [] =
+    ap (λ (p : ℕ). cond noting (end_line i r.ended ++ events_from i p (slice_get c.locks.result.now i)) []) c.ask-done.ensures.before
     ∙ ap (λ (vs : List LockView). cond noting (end_line i r.ended ++ events_from i (events_at (slice_get old i)) (slice_get vs i)) []) c.locks.ensures in
     subst (λ (x : Result (Unit {0}) Untold). Leaves x (λ s n. IsToldOf c.args.terms.strict noting c.args.client i (asked c.args.ask) c.args.segment.now s n c.ask-done.new.self) (c.ask-done.new.self ≡ c.args.segment.now) c.args.pending.now (record { answers = c.tell.new.text; notes = c.note_if.new.notes })) (sym c.put.ensures)
     (put_leaves c.note_if.result (λ s n. IsToldOf c.args.terms.strict noting c.args.client i (asked c.args.ask) c.args.segment.now s n c.ask-done.new.self) (c.ask-done.new.self ≡ c.args.segment.now) c.args.pending.now (record { answers = c.tell.new.text; notes = c.note_if.new.notes })
