@@ -1,5 +1,5 @@
-//! Tests of what no row of `tests/rows` shows: readers that fail or give too much, outputs whose flush fails, services round the loops
-//! that lines and segments are served in, faults that no words lead to, and what files hold.
+//! Tests of what no row of `tests/rows` shows: readers that fail or give too much, outputs whose flush fails, services of locks, faults
+//! that no words lead to, and what files hold.
 #![tactic(auto)]
 
 #[cfg(test)]
@@ -17,8 +17,6 @@ mod lines;
 #[cfg(test)]
 mod lists;
 #[cfg(test)]
-mod loops;
-#[cfg(test)]
 mod names;
 #[cfg(test)]
 mod orders;
@@ -28,10 +26,6 @@ mod power;
 mod reading;
 #[cfg(test)]
 mod remarks;
-#[cfg(test)]
-mod replicas;
-#[cfg(test)]
-mod segment_loops;
 #[cfg(test)]
 mod segments;
 #[cfg(test)]

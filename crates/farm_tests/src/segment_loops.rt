@@ -3,7 +3,7 @@
 ghost use Rattle.std.specs.Prelude.{◌≡◌};
 ghost use Rattle.line_service.specs.Segments.{IsNamed};
 
-use crate::files::memory::no_files;
+use crate::loops::no_files;
 use disks::{Disk, FolderEntry, MemoryDisk};
 use line_service::{
     AnswersLines, EndFault, Pending, SegmentRules, Segmented, begin_segment, close_segment,

@@ -2,7 +2,7 @@
 
 ghost use Rattle.std.specs.Prelude.{◌≡◌, false};
 
-use crate::files::memory::no_files;
+use crate::loops::no_files;
 use disks::Disk;
 use line_replica::{HasState, Replica, Restorable};
 use line_service::{AnswersLines, EndFault, Ending, Pending, Segmented, Unread, serve_part};

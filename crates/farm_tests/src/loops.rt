@@ -1,9 +1,16 @@
 //! A service that says the same to each line, and keeps a file while it does, until it has answered enough of them.
 
-use crate::files::memory::no_files;
-use disks::{Disk, Grow};
+use disks::{Disk, Grow, MemoryDisk};
 use line_service::{AnswersLines, Ending, LoopFault, Pending, Unread, serve_part};
 use std::alloc::{AllocError, Global};
+
+/// No files.
+pub fn no_files(alloc: Global) -> MemoryDisk {
+    MemoryDisk {
+        alloc,
+        entries: Vec::new(alloc),
+    }
+}
 
 #[derive(Drop)]
 struct Same {
