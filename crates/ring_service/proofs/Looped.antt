@@ -1,7 +1,6 @@
 -- What the loop says of a service that answers as rings do, said of the rings.
 use Rattle.std.proofs.Common.{◌≡◌, ℕ, false, not, ◌&&◌, List, [], ◌∷◌, ◌++◌, Option, None, refl, sym, ap, subst, ◌∙◌}
 use Rattle.std.specs.Prelude.{is_some}
-use Rattle.std.specs.Io.KnownBytes.{Appends}
 use Rattle.std.proofs.lemmas.Bool.{false≢true}
 use Rattle.std.proofs.lemmas.List.{append-nil}
 use Rattle.disks.specs.Held.{Held}
@@ -16,7 +15,7 @@ use Rattle.ring_service.specs.Permits.{Terms, IsOpen, is_shut}
 use Rattle.ring_service.specs.Due.{is_due}
 use Rattle.ring_service.specs.Standings.{Standing}
 use Rattle.ring_service.specs.Services.{ServiceView, service_of, IsServed}
-use Rattle.ring_service.specs.Serving.{IsAnswered, Answers, AreAnswered, AreTold, Stops, ServesAll, ServesSome}
+use Rattle.ring_service.specs.Serving.{IsAnswered, Answers, Stops, ServesAll, ServesSome}
 
 -- ---- any service of rings, whose terms stay the same
 
@@ -25,19 +24,19 @@ module _ {S : Type 0} (A : AnsweringWith S) (rings : S → List Standing) (terms
   pub answers_of : (old new : Stand S) (lines : List (List ℕ)) (said noted : List ℕ) → lined.Answers (by_stand A) old lines said noted new →
       Answers (terms old.service) (rings old.service) old.files lines said noted (rings new.service) new.files × (terms new.service ≡ terms old.service)
   answers_of old new [] said noted h = (
-    (h.0, h.1, ap (λ (s : Stand S). rings s.service) h.2, ap (λ (s : Stand S). s.files) h.2),
+    (h.0, h.1, ap (λ (s : Stand S). stand (rings s.service) s.files) h.2),
     ap (λ (s : Stand S). terms s.service) h.2,
   )
   answers_of old new (line ∷ lines) said noted h =
       let mid : Stand S = h.0 in
       let one = by old.service old.files line h.1 h.3 mid.service mid.files h.5 in
       let rest = answers_of mid new lines h.2 h.4 h.8 in (
-        (rings mid.service, mid.files, h.1, h.2, h.3, h.4, one.0, h.6, h.7, subst (λ (t : Terms). Answers t (rings mid.service) mid.files lines h.2 h.4 (rings new.service) new.files) one.1 rest.0),
+        (stand (rings mid.service) mid.files, h.1, h.2, h.3, h.4, one.0, h.6, h.7, subst (λ (t : Terms). Answers t (rings mid.service) mid.files lines h.2 h.4 (rings new.service) new.files) one.1 rest.0),
         rest.1 ∙ one.1,
       )
 
   pub are_answered : {old new : Stand S} {bytes rest said noted : List ℕ} → lined.AreAnswered (by_stand A) old bytes rest said noted new →
-      AreAnswered (terms old.service) (rings old.service) old.files bytes rest said noted (rings new.service) new.files × (terms new.service ≡ terms old.service)
+      lined.AreAnswered (by_stand (IsAnswered (terms old.service))) (stand (rings old.service) old.files) bytes rest said noted (stand (rings new.service) new.files) × (terms new.service ≡ terms old.service)
   are_answered {old} {new} {bytes} {rest} {said} {noted} a =
       let all = answers_of old new a.lines said noted a.answers in
       (record { lines = a.lines; split = a.split; each = a.each; answers = all.0 }, all.1)
@@ -47,8 +46,7 @@ module _ {S : Type 0} (A : AnsweringWith S) (rings : S → List Standing) (terms
       let told = are_answered s.told in
       let untold = are_answered s.untold in
       record {
-        mid = rings s.mid.service;
-        between = s.mid.files;
+        mid = stand (rings s.mid.service) s.mid.files;
         behind = s.behind;
         rest = s.rest;
         said = s.said;
@@ -58,7 +56,7 @@ module _ {S : Type 0} (A : AnsweringWith S) (rings : S → List Standing) (terms
         back = s.back;
         left = s.left;
         told = told.0;
-        untold = subst (λ (t : Terms). AreAnswered t (rings s.mid.service) s.mid.files s.behind s.rest s.unsaid (s.front ++ s.back) (rings new.service) new.files) told.1 untold.0;
+        untold = subst (λ (t : Terms). lined.AreAnswered (by_stand (IsAnswered t)) (stand (rings s.mid.service) s.mid.files) s.behind s.rest s.unsaid (s.front ++ s.back) (stand (rings new.service) new.files)) told.1 untold.0;
         wrote = s.wrote;
         wrote_notes = s.wrote_notes;
       }
@@ -81,14 +79,14 @@ all_of end old new was is unread left line input rest before after none at_end p
     let all : p.taken ≡ p.read = sym (append-nil p.taken) ∙ (ap (λ (x : List ℕ). p.taken ++ x) (sym e.0) ∙ (sym p.split ∙ ap (λ (x : List ℕ). x ++ p.read) none)) in
     let t = p.rests.told in
     let answered = (are_answered IsServed (λ (s : ServiceView). s.rings) (λ (s : ServiceView). s.terms) by_rules t.answered).0 in
-    let told : AreTold old.terms old.rings was before after p.taken p.rests.begun new.rings is = record { said = t.said; noted = t.noted; answered = answered; wrote = t.wrote; wrote_notes = t.wrote_notes } in
+    let told : loop.AreTold (by_stand (IsAnswered old.terms)) (stand old.rings was) before after p.taken p.rests.begun (stand new.rings is) = record { said = t.said; noted = t.noted; answered = answered; wrote = t.wrote; wrote_notes = t.wrote_notes } in
     record {
       bytes = p.read;
       begun = p.rests.begun;
       read = p.consumed;
       ended = e.1;
       partial = p.rests.partial;
-      told = subst (λ (x : List ℕ). AreTold old.terms old.rings was before after x p.rests.begun new.rings is) all told;
+      told = subst (λ (x : List ℕ). loop.AreTold (by_stand (IsAnswered old.terms)) (stand old.rings was) before after x p.rests.begun (stand new.rings is)) all told;
     }
 
 -- or some of it
@@ -125,22 +123,3 @@ pub served_by : (v : ServiceView) (old new : List Standing) (terms : Terms) (was
 served_by v old new terms was is line said noted e a =
     let one : IsServed (service_of old terms) was line said noted (service_of new terms) is = record { answered = a; same = refl } in
     subst (λ (x : ServiceView). IsServed x was line said noted (service_of new terms) is) e one
-
--- all that was answered was delivered
-pub told_stops : {terms : Terms} {old new : List Standing} {was is : Option Held} {before after : Written} {bytes rest : List ℕ} → AreTold terms old was before after bytes rest new is → Stops terms old was before after bytes new is
-told_stops {terms} {old} {new} {was} {is} {before} {after} {bytes} {rest} t = record {
-  mid = new;
-  between = is;
-  behind = rest;
-  rest = rest;
-  said = t.said;
-  noted = t.noted;
-  unsaid = [];
-  front = [];
-  back = [];
-  left = [];
-  told = t.answered;
-  untold = record { lines = []; split = refl; each = tt; answers = (refl, refl, refl, refl) };
-  wrote = (t.said, sym (append-nil t.said), t.wrote);
-  wrote_notes = subst (λ (x : List ℕ). Appends before.journal after.journal x) (sym (append-nil t.noted)) t.wrote_notes;
-}

@@ -13,6 +13,7 @@ use Rattle.ring_service.specs.declared.permits.Permits.{Permits}
 use Rattle.ring_service.specs.Permits.{Terms}
 use Rattle.ring_service.specs.Standings.{Standing}
 use Rattle.ring_service.specs.Serving.{IsSaved, IsSaveGiven, IsGiven, IsAnswered, Answers, name_in}
+use Rattle.line_service.specs.Stands.{Stand}
 use Rattle.line_service.specs.declared.segmented.EndFault.{EndFault}
 use Rattle.line_service.specs.Segments.{Moment, IsReady, HasBegun}
 use Rattle.line_service.specs.Service.{Part, IsPart, AreParts}
@@ -58,10 +59,12 @@ given_known journal history saves was is name rings (answer.Block first count) g
 given_known journal history saves was is name rings (answer.Refused why) given k h = same_known was is k h.1
 
 pub answers_known : (terms : Terms) (old new : List Standing) (was is : Option Held) (lines : List (List ℕ)) (said noted : List ℕ) → Known was → Answers terms old was lines said noted new is → Known is
-answers_known terms old new was is [] said noted k h = same_known was is k h.3
+answers_known terms old new was is [] said noted k h = same_known was is k (ap (λ (x : Stand (List Standing)). x.files) h.2)
 answers_known terms old new was is (line ∷ lines) said noted k h =
-    let one = given_known terms.journal terms.history terms.saves was h.1 (name_in line) h.0 h.6.turn.answer h.6.given k h.6.gives in
-    answers_known terms h.0 new h.1 is lines h.3 h.5 one h.9
+    let mid : List Standing = h.0.service in
+    let between : Option Held = h.0.files in
+    let one : IsAnswered terms old was line h.1 h.3 mid between = h.5 in
+    answers_known terms mid new between is lines h.2 h.4 (given_known terms.journal terms.history terms.saves was between (name_in line) mid one.turn.answer one.given k one.gives) h.8
 
 abbrev pub Has : Option (List ℕ) → Type 0
 Has contents = (bytes : List ℕ) × (contents ≡ Some bytes)

@@ -1,11 +1,12 @@
 use Rattle.std.proofs.Common.{◌≡◌, ℕ, List, [], Option, None, sym, ap, ◌∙◌}
 use Rattle.line_service.specs.Loop.{Written, written_by}
 use Rattle.line_service.proofs.Parting.{first_begun}
+use Rattle.line_service.proofs.Telling.{told_stops}
 use Rattle.ring_service.specs.Permits.{Terms, terms_of, terms_in, terms_by}
 use Rattle.ring_service.specs.Services.{ServiceView, service_of}
 use Rattle.ring_service.specs.Serving.{held_by, named_by, ServesAll, ServesSome}
 use Rattle.ring_service.specs.Standings.{Standing}
-use Rattle.ring_service.proofs.Looped.{all_of, some_of, at_end, open_without, no_limit, moved, told_stops}
+use Rattle.ring_service.proofs.Looped.{all_of, some_of, at_end, open_without, no_limit, moved}
 use Rattle.ring_service.proofs.Ended.{some_recovered, held_some}
 use Rattle.ring_service.proofs.serving.serve.Goals as goal
 
