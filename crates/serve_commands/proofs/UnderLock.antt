@@ -16,7 +16,7 @@ use Rattle.line_service.specs.Service.{Part, AreParts}
 use Rattle.line_service.proofs.Changing.{kept_file}
 use Rattle.ring_service.specs.declared.chain_segments.ChainRules.{ChainRules}
 use Rattle.ring_service.specs.Texts.{segment_text}
-use Rattle.ring_service.specs.ChainServices.{ServiceView, terms_of, IsServed, segmenting}
+use Rattle.ring_service.specs.Services.{ServiceView, terms_of, IsServed, segmenting}
 use Rattle.tool_parts.specs.Locking.{IsLocked, StandsLocked}
 use Rattle.tool_parts.proofs.LockedFolders.{Stands, stands_locked, same_locked, put_locked, if_held, ended_stand, kept_stand, added_stand}
 use Rattle.serve_commands.specs.ServedFolder.{Place, IsRun, AreUnderLock}

@@ -12,7 +12,8 @@ use Rattle.ring_service.specs.Saved.{content_of}
 use Rattle.ring_service.specs.Standings.{Standing}
 use Rattle.ring_service.specs.Starting.{AreResumed}
 use Rattle.ring_service.specs.declared.chain_segments.ChainRules.{ChainRules}
-use Rattle.ring_service.specs.ChainServices.{ServiceView, folder_of}
+use Rattle.ring_service.specs.Rules.{folder_of}
+use Rattle.ring_service.specs.Services.{ServiceView}
 use Rattle.ring_service.specs.ChainRecovered.{AnsweredCallsLast, CallsOfEachSegmentLast}
 use Rattle.line_service.specs.Segments.{Moment}
 use Rattle.tool_parts.specs.declared.requests.ServeWords.{ServeWords}

@@ -20,7 +20,8 @@ use Rattle.line_service.specs.Service.{Part, IsPart, AreParts}
 use Rattle.line_service.proofs.Changing.{HoldsSame, kept_file}
 use Rattle.ring_service.specs.declared.chain_segments.ChainRules.{ChainRules}
 use Rattle.ring_service.specs.Texts.{segment_text}
-use Rattle.ring_service.specs.ChainServices.{ServiceView, terms_of, IsServed as IsLineServed, segmenting, file_of}
+use Rattle.ring_service.specs.Rules.{file_of}
+use Rattle.ring_service.specs.Services.{ServiceView, terms_of, IsServed as IsLineServed, segmenting}
 use Rattle.ring_service.proofs.ChainRecovering.{part_answers}
 use Rattle.tool_parts.specs.declared.requests.ServeWords.{ServeWords}
 use Rattle.serve_commands.specs.Served.{journal_of, permits_of, IsNoted, BeginsAt, IsServedNoted, IsServed, IsServedFrom}

@@ -8,14 +8,14 @@ ghost use Rattle.ring_service.specs.Standings.{standing_of};
 ghost use Rattle.line_service.specs.Segments.{moment_at, segment_holds};
 ghost use Rattle.line_service.specs.Service.{ServesSegments};
 ghost use Rattle.ring_service.specs.Texts.{segment_text};
-ghost use Rattle.ring_service.specs.ChainServices.{ServiceView, service_of, IsServed, segmenting};
+ghost use Rattle.ring_service.specs.Services.{ServiceView, service_of, IsServed, segmenting};
 
 use disks::Disk;
 use endless_ring::EndlessRing;
 use line_service::{OpenSegment, begin_segment, close_segment};
 use ring_book::Till;
 use ring_model::Base;
-use ring_service::{ChainRules, ChainService, Journal, Served, serve};
+use ring_service::{ChainRules, Journal, RingService, Served, serve};
 use segment_files::{DIGEST_DIGITS, digest};
 use std::alloc::Global;
 use std::io::Read;
@@ -106,9 +106,7 @@ fn cut<D: Disk>(
         return None;
     }
     let number = first.number + 1;
-    let Ok(service) = ChainService::new(alloc, next, rules, number) else {
-        return None;
-    };
+    let service = RingService::in_segment(alloc, next, rules, number);
     match close_segment(disk, first) {
         Ok(()) => {}
         Err(_) => return None,

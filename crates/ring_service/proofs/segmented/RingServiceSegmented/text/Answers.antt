@@ -1,5 +1,5 @@
 use Rattle.std.specs.Prelude.{OnOk, Result, Ok, Err}
-use Rattle.ring_service.proofs.segmented.ChainServiceSegmented.text.Goals as goal
+use Rattle.ring_service.proofs.segmented.RingServiceSegmented.text.Goals as goal
 
 in_any_case : {T E : Type 0} (r : Result T E) → OnOk r (Unit {0})
 in_any_case (Ok v) = tt
