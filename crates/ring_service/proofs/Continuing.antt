@@ -23,7 +23,7 @@ use Rattle.ring_service.proofs.Making.{state_is}
 
 -- ---- the next ones, ring by ring
 
-pub next_is : (e n : EndlessView) → IsEndless e → endless.IsNext e n → IsNext (standing_of e) (standing_of n)
+pub next_is : (e n : EndlessView) → IsEndless e → endless.IsNextRing e n → IsNext (standing_of e) (standing_of n)
 next_is e n k x = record { base = x.base; start = x.start ∙ ap (λ (s : State ℕ). s.ring) (sym (state_is e k)); history = x.history; clients = x.clients }
 
 next_push : (rs ss : List Standing) (r s : Standing) → AreNext rs ss → IsNext r s → AreNext (rs ++ r ∷ []) (ss ++ s ∷ [])
@@ -52,7 +52,7 @@ room_more rings n e l is a h =
     subst (λ (x : List Standing). AllByRecursion HasRoom x) (sym more) (room_push (map standing_of (take n rings)) (standing_of e) a h)
 
 -- the next one is there, so there was room for it
-pub next_room : (e n : EndlessView) → endless.IsNext e n → IsEndless n → HasRoom (standing_of e)
+pub next_room : (e n : EndlessView) → endless.IsNextRing e n → IsEndless n → HasRoom (standing_of e)
 next_room e n x k = subst IsBase x.base k.base
 
 pub full_at : (rings : List EndlessView) (n : ℕ) (e : EndlessView) → n < length rings → e ≡ get_or rings n e → ¬ HasRoom (standing_of e) → IsFull (map standing_of rings)

@@ -345,7 +345,6 @@ calls_in terms old mid rings was is (line ∷ lines) said noted h g =
       h.1,
       h.2,
       h.3,
-      h.4,
       one,
       h.6,
       call_in old rings one.turn one.given (answered_outcome terms old now was between line h.1 h.3 one) left (given_of terms.journal terms.history terms.saves was between (name_in line) now one.turn.answer one.given one.gives),

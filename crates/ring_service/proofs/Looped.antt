@@ -1,5 +1,5 @@
 -- What the loop says of a service of rings, said of the rings.
-use Rattle.std.proofs.Common.{◌≡◌, ℕ, false, not, ◌&&◌, List, [], ◌∷◌, ◌++◌, Option, None, refl, sym, ap, subst, ◌∙◌}
+use Rattle.std.proofs.Common.{◌≡◌, ℕ, false, not, ◌&&◌, List, [], ◌∷◌, ◌++◌, Option, None, Some, refl, sym, ap, subst, ◌∙◌}
 use Rattle.std.specs.Prelude.{is_some}
 use Rattle.std.specs.Borrow.{Bor}
 use Rattle.std.specs.Option.{option_map}
@@ -118,7 +118,7 @@ terms_in_file (Some name) permits = refl
 
 -- ---- what a reader gave, with a journal in a file
 
-module _ {name : Option (Bor (List ℕ))} {named : Option (List ℕ)} {permits : Permits} {v new : ServiceView} {held rings end : List Standing} (is_named : option_map (λ (n : Bor (List ℕ)). n.now) name ≡ named) (is_v : v ≡ service_by (file_rules name permits) held) (is_held : held ≡ rings)
+module _ (name : Option (Bor (List ℕ))) {named : Option (List ℕ)} (permits : Permits) {v : ServiceView} (new : ServiceView) {held rings end : List Standing} (is_named : option_map (λ (n : Bor (List ℕ)). n.now) name ≡ named) (is_v : v ≡ service_by (file_rules name permits) held) (is_held : held ≡ rings)
     (is_end : end ≡ new.rings) where
   -- the same rings, on the same terms, with the same journal
   moved : (P : Terms → List Standing → List Standing → Option (List ℕ) → Option (List ℕ) → Type 0) (had has j k : Option (List ℕ)) → had ≡ j → k ≡ has → P (terms_of v) v.rings new.rings had has → P (file_terms named permits) rings end j k
@@ -139,9 +139,9 @@ module _ {name : Option (Bor (List ℕ))} {named : Option (List ℕ)} {permits :
       moved (λ (t : Terms) (old now : List Standing) (x y : Option (List ℕ)). ServesAll t old now was is input rest (record { journal = x; out = out }) (record { journal = y; out = told })) had has j k a b
       (all_of last v new was is unread left line input rest before after none over part ends)
 
-  pub served_some : {was is : Option Held} {unread : List ℕ} {input rest out told had has j k : Option (List ℕ)} → had ≡ j → k ≡ has → unread ≡ [] →
+  pub served_some : {was is : Option Held} {unread : List ℕ} (input rest : Option (List ℕ)) {out told had has j k : Option (List ℕ)} → had ≡ j → k ≡ has → unread ≡ [] →
       loop.ServesSomeOf (by_stand IsServed) (stand v was) (stand new is) [] unread input rest (record { journal = had; out = out }) (record { journal = has; out = told }) →
       ServesSome (file_terms named permits) rings end was is input rest (record { journal = j; out = out }) (record { journal = k; out = told })
-  served_some {was} {is} {unread} {input} {rest} {out} {told} {had} {has} {j} {k} a b none s =
+  served_some {was} {is} {unread} input rest {out} {told} {had} {has} {j} {k} a b none s =
       moved (λ (t : Terms) (old now : List Standing) (x y : Option (List ℕ)). ServesSome t old now was is input rest (record { journal = x; out = out }) (record { journal = y; out = told })) had has j k a b
       (some_of v new was is unread input rest (record { journal = had; out = out }) (record { journal = has; out = told }) none s)

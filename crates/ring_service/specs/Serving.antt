@@ -118,7 +118,7 @@ Answers terms old was lines said noted new is =
 
 -- what a journal holds; nothing is known of it where none is kept
 abbrev pub held_by : {J : Type 0} → (J → Option (List ℕ)) → Option (Journal J) → Option (List ℕ)
-held_by contents journal = loop.held_by (λ j. contents j.writer) journal
+held_by contents journal = loop.written_by (λ j. contents j.writer) journal
 
 -- the name of its file, if one is kept
 abbrev pub named_by : {J : Type 0} → Option (Journal J) → Option (List ℕ)
