@@ -1,0 +1,13 @@
+pub mod Found
+pub mod Passing
+pub mod Fitting
+pub mod Rising
+pub mod Keeping
+pub mod Twins
+pub mod Owning
+pub mod Beginning
+pub mod Tabled
+pub mod Asking
+pub mod Taking
+pub mod Begins
+pub mod LeftNames

@@ -1,0 +1,218 @@
+//! Locks that are called by names.
+
+ghost use Rattle.std.specs.Prelude.{◌≡◌, ℕ, ◌<◌, ◌≤◌, true, false, length, map, slice_get, slice_set, Some, None, IfOk, IfErr, string_bytes};
+ghost use Rattle.held_locks.specs.Kept.{locks_of};
+ghost use Rattle.held_locks.specs.declared.answers.Answer.{Answer};
+ghost use Rattle.lock_names.specs.Names.{Bound, kept, stays, found};
+ghost use Rattle.lock_names.specs.Begun.{IsBegun, CannotBegin};
+ghost use Rattle.lock_names.specs.Kept.{seen, IsKeptNamed, ask_of, for_hold, top_limit, IsAsked};
+ghost use Rattle.lock_names.specs.declared.replies.Reply.{Reply};
+
+use crate::asks::{Rings, ask_ring, is_for_hold, unused_refusal};
+use crate::replies::{NameAnswers, NameAsk, Reply};
+use crate::starting::{NotBegun, begun_table, grants_of};
+use crate::table::{Counts, Table};
+use held_locks::{Answer, Locks, Refusal};
+use std::alloc::Global;
+use std::marker::Model;
+
+/// After this number of grants no client is granted any more, except those that wait already.
+pub const TOP_LIMIT: u64 = 1 << 63;
+
+/// Locks by any name, over a pool of rings. Contracts see the state of the machine, with its locks as they are kept.
+#[derive(Drop)]
+pub struct Names {
+    rings: Rings,
+    table: Table,
+}
+
+impl Model for Names {
+    ghost use Rattle.lock_names.specs.Kept.{NamedView, seen, IsKeptNamed};
+
+    ghost Value = { NamedView };
+
+    ghost view = { λ s. seen s.rings s.table };
+
+    ghost invariant = { λ s. IsKeptNamed (seen s.rings s.table) };
+}
+
+/// A reply that changes nothing.
+fn only(ring: Option<u32>, reply: Reply) -> NameAnswers
+    ensures { result ≡ record {
+      ring = ring;
+      fresh = false;
+      own = Some reply;
+      ended = None;
+      granted = None;
+    } }
+{
+    NameAnswers {
+        ring,
+        fresh: false,
+        own: Some(reply),
+        ended: None,
+        granted: None,
+    }
+}
+
+/// A refusal.
+fn refused(ring: Option<u32>, why: Refusal) -> NameAnswers
+    ensures { result ≡ record {
+      ring = ring;
+      fresh = false;
+      own = Some (Reply.Lock (Answer.Refused why));
+      ended = None;
+      granted = None;
+    } }
+{
+    only(ring, Reply::Lock(Answer::Refused(why)))
+}
+
+/// Whether the ask is for a hold, and the limit of grants is reached.
+fn is_spent(rings: &Rings, ask: NameAsk) -> bool
+    ensures yes { result ≡ true → (for_hold (ask_of ask) ≡ true) × (top_limit ≤ rings.now.top) }
+    ensures no { result ≡ false → for_hold (ask_of ask) ≡ true → rings.now.top < top_limit }
+{
+    is_for_hold(ask) && rings.top >= TOP_LIMIT
+}
+
+/// A ring of the pool that no client holds loses its name.
+fn settle(table: &mut Table, rings: &Rings, ring: u32)
+    requires lock { ring < length rings.now.locks }
+    requires ring { ring < length table.old }
+    ensures { (b : Bound) → slice_get table.old ring ≡ Some (Some b) → table.new ≡ slice_set
+        table.old ring (kept (stays rings.now.fixed ring (locks_of rings.now.locks)) b) }
+{
+    if ring < rings.fixed {
+        return;
+    }
+    if rings.locks.holder(ring).is_some() {
+        return;
+    }
+    table.forget(ring);
+}
+
+/// The ring of a name is asked.
+fn ask_bound(
+    rings: &mut Rings,
+    table: &mut Table,
+    client: u64,
+    ring: u32,
+    ask: NameAsk,
+) -> NameAnswers
+    requires kept { IsKeptNamed (seen rings.old table.old) }
+    requires ring { (b : Bound) × (found b.name table.old ≡ Some (ring, b)) }
+    ensures asked { (b : Bound) → found b.name table.old ≡ Some (ring, b) → IsAsked
+        (seen rings.old table.old) (seen rings.new table.new) client b.name (ask_of ask) result }
+    ensures kept { IsKeptNamed (seen rings.new table.new) }
+{
+    if is_spent(rings, ask) {
+        return refused(Some(ring), Refusal::Full);
+    }
+    let counts = table.counts(ring);
+    let answers = ask_ring(rings, client, ring, counts, ask);
+    settle(table, rings, ring);
+    answers
+}
+
+/// A name that no ring has is asked.
+fn ask_unbound(
+    rings: &mut Rings,
+    table: &mut Table,
+    alloc: Global,
+    client: u64,
+    name: &str,
+    ask: NameAsk,
+) -> NameAnswers
+    requires kept { IsKeptNamed (seen rings.old table.old) }
+    requires unused { found name.now table.old ≡ None }
+    ensures asked { IsAsked (seen rings.old table.old) (seen rings.new table.new) client name.now
+        (ask_of ask) result }
+    ensures kept { IsKeptNamed (seen rings.new table.new) }
+{
+    if let Some(why) = unused_refusal(ask) {
+        return refused(None, why);
+    }
+    let Some(ring) = table.lowest_free() else {
+        return only(None, Reply::Names);
+    };
+    if is_spent(rings, ask) {
+        return refused(Some(ring), Refusal::Full);
+    }
+    let counts = Counts {
+        before: rings.locks.ring(ring).grants(),
+        floor: rings.top,
+    };
+    let Ok(()) = table.bind(alloc, ring, name, counts) else {
+        return refused(Some(ring), Refusal::Memory);
+    };
+    let mut answers = ask_ring(rings, client, ring, counts, ask);
+    settle(table, rings, ring);
+    answers.fresh = table.find(name).is_some();
+    answers
+}
+
+/// A name is asked.
+fn take_among(
+    rings: &mut Rings,
+    table: &mut Table,
+    alloc: Global,
+    client: u64,
+    name: &str,
+    ask: NameAsk,
+) -> NameAnswers
+    requires { IsKeptNamed (seen rings.old table.old) }
+    ensures asked { IsAsked (seen rings.old table.old) (seen rings.new table.new) client name.now
+        (ask_of ask) result }
+    ensures kept { IsKeptNamed (seen rings.new table.new) }
+{
+    match table.find(name) {
+        Some(ring) => ask_bound(rings, table, client, ring, ask),
+        None => ask_unbound(rings, table, alloc, client, name, ask),
+    }
+}
+
+impl Names {
+    /// Locks begin to have names: the first ones those of this list, for ever, and the others, which are the pool, none. No client
+    /// may hold one of them yet.
+    ///
+    /// # Errors
+    ///
+    /// The first that applies: `Locks`, `Held`, `Full`, whichever lock comes first; `Twice`, `Memory`. The locks are let go.
+    pub fn begin(alloc: Global, locks: Locks, fixed: &[String]) -> Result<Names, NotBegun>
+        ensures ok { IfOk result (λ s. IsBegun locks (map string_bytes fixed.now) s) }
+        ensures why { IfErr result (λ e. CannotBegin locks (map string_bytes fixed.now) e) }
+    {
+        locks.are_kept();
+        let count = locks.count() as usize;
+        if count < fixed.len() {
+            return Err(NotBegun::Locks);
+        }
+        let top = match grants_of(&locks) {
+            Ok(top) => top,
+            Err(why) => return Err(why),
+        };
+        let table = match begun_table(alloc, fixed, count) {
+            Ok(table) => table,
+            Err(why) => return Err(why),
+        };
+        let rings = Rings {
+            locks,
+            fixed: fixed.len() as u32,
+            top,
+        };
+        Ok(Names { rings, table })
+    }
+
+    /// A client asks something of a name. A name that no ring has is bound to the lowest free ring by an ask for a hold that is
+    /// granted, and is forgotten with the end of a hold that is handed to nobody.
+    ///
+    /// Refused: `Names` where no ring has the name and none is free, `Holder` or `Waiter` where none has it and the ask is not for
+    /// a hold; `Full` where the ask is for a hold and [`TOP_LIMIT`] grants were counted; what the lock of its ring refuses, with
+    /// `Full`; or `Memory`. Nothing has changed then.
+    pub fn take(&mut self, alloc: Global, client: u64, name: &str, ask: NameAsk) -> NameAnswers
+        ensures { IsAsked self.old self.new client name.now (ask_of ask) result }
+    {
+        take_among(&mut self.rings, &mut self.table, alloc, client, name, ask)
+    }
+}

@@ -1,0 +1,151 @@
+//! Names of a fixed lock and of a pool of two rings.
+
+ghost use Rattle.held_locks.specs.Kept.{IsKeptRing};
+
+use crate::{NameAnswers, NameAsk, Names, NotBegun, Reply};
+use ring_book::Till;
+use ring_model::Base;
+use one_thread_ring::OneThreadRing;
+use endless_ring::EndlessRing;
+use held_locks::{Answer, Holder, Locks, Refusal};
+use std::alloc::Global;
+use std::process::Abort;
+
+/// A settled ring of ten seats.
+fn opened(rt: &impl Abort, alloc: Global) -> EndlessRing
+    ensures { IsKeptRing result }
+{
+    match OneThreadRing::open(alloc, 3, 3, &[0, 0, 0], 10, Till::new()) {
+        Ok(ring) => EndlessRing::after(Base::none(), ring),
+        Err(_) => panic!(rt; "the ring is opened"),
+    }
+}
+
+fn three_locks(rt: &impl Abort, alloc: Global) -> Locks {
+    let mut locks = Locks::none(alloc);
+    for _ in 0..3 {
+        assert!(rt; locks.add(alloc, opened(rt, alloc)).is_ok());
+    }
+    locks
+}
+
+/// Names of such locks, of which the first ones are fixed.
+fn begun(rt: &impl Abort, alloc: Global, locks: Locks, fixed: &[&str]) -> Result<Names, NotBegun> {
+    let mut names = Vec::new(alloc);
+    for name in fixed {
+        let Ok(name) = String::from_str(alloc, *name) else {
+            panic!(rt; "there is memory");
+        };
+        assert!(rt; names.push(name).is_ok());
+    }
+    Names::begin(alloc, locks, &names)
+}
+
+fn answers(ring: Option<u32>, own: Reply, granted: Option<Holder>) -> NameAnswers {
+    NameAnswers {
+        ring,
+        fresh: false,
+        own: Some(own),
+        ended: None,
+        granted,
+    }
+}
+
+/// The name is bound to this ring.
+fn bound(ring: u32, token: u64) -> NameAnswers {
+    let mut answers = granted(ring, token);
+    answers.fresh = true;
+    answers
+}
+
+fn granted(ring: u32, token: u64) -> NameAnswers {
+    answers(Some(ring), Reply::Lock(Answer::Granted(token)), None)
+}
+
+fn refused(ring: Option<u32>, why: Refusal) -> NameAnswers {
+    answers(ring, Reply::Lock(Answer::Refused(why)), None)
+}
+
+/// A hold of this ring ends.
+fn released(ring: u32, next: Option<Holder>) -> NameAnswers {
+    answers(Some(ring), Reply::Lock(Answer::Released), next)
+}
+
+/// Whether the answers are these, and a hold ended with a survey by seat 1 if it was released.
+fn are(said: NameAnswers, wanted: NameAnswers) -> bool {
+    let seat = match said.ended {
+        Some(end) => Some(end.seat),
+        None => None,
+    };
+    let end = match said.own {
+        Some(Reply::Lock(Answer::Released)) => Some(1),
+        _ => None,
+    };
+    let mut rest = said;
+    rest.ended = None;
+    seat == end && rest == wanted
+}
+
+// Ring 0 is that of the fixed lock. A name is bound by its grant, handed on with its ring, and forgotten with its last hold.
+#[test]
+fn names_are_bound_and_forgotten(rt: HostRuntime) {
+    let alloc = rt.alloc();
+    let Ok(mut names) = begun(&rt, alloc, three_locks(&rt, alloc), &["deploy"]) else {
+        panic!(&rt; "refused");
+    };
+    let next = Some(Holder {
+        client: 9,
+        token: 3,
+    });
+    let waits = answers(Some(1), Reply::Lock(Answer::Waiting(0)), None);
+    let full = answers(None, Reply::Names, None);
+    let rows: [(u64, &str, NameAsk, NameAnswers); 13] = [
+        (7, "deploy", NameAsk::Acquire(10), granted(0, 1)),
+        (8, "order/1", NameAsk::Acquire(20), bound(1, 2)),
+        (9, "order/1", NameAsk::Acquire(30), waits),
+        (5, "order/2", NameAsk::Try(40), bound(2, 3)),
+        (6, "order/3", NameAsk::Acquire(50), full),
+        (
+            8,
+            "order/1",
+            NameAsk::Release(1),
+            refused(Some(1), Refusal::Holder),
+        ),
+        (8, "order/1", NameAsk::Release(2), released(1, next)),
+        (9, "order/1", NameAsk::Release(3), released(1, None)),
+        (
+            9,
+            "order/1",
+            NameAsk::Release(3),
+            refused(None, Refusal::Holder),
+        ),
+        (
+            9,
+            "order/1",
+            NameAsk::Cancel,
+            refused(None, Refusal::Waiter),
+        ),
+        (6, "order/3", NameAsk::Acquire(50), bound(1, 5)),
+        (7, "deploy", NameAsk::Release(1), released(0, None)),
+        (7, "deploy", NameAsk::Acquire(60), granted(0, 2)),
+    ];
+    for (client, name, ask, wanted) in rows {
+        assert!(&rt; are(names.take(alloc, client, name, ask), wanted));
+    }
+}
+
+#[test]
+fn begins_with_names_of_its_own(rt: HostRuntime) {
+    let alloc = rt.alloc();
+    let rows = [(["a", "b"], None), (["a", "a"], Some(NotBegun::Twice))];
+    for (fixed, why) in rows {
+        let names = begun(&rt, alloc, three_locks(&rt, alloc), &fixed);
+        assert!(&rt; names.err() == why);
+    }
+    let names = begun(&rt, alloc, Locks::none(alloc), &["a"]);
+    assert!(&rt; names.err() == Some(NotBegun::Locks));
+    let mut locks = three_locks(&rt, alloc);
+    locks.acquire(7, 2, 1);
+    let names = begun(&rt, alloc, locks, &["a"]);
+    assert!(&rt; names.err() == Some(NotBegun::Held));
+}
