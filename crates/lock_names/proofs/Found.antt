@@ -4,7 +4,7 @@ use Rattle.std.specs.Prelude.{slice_get, is_some, if◌then◌else◌, option_ma
 use Rattle.std.specs.Str.{bytes_eq}
 use Rattle.std.proofs.lemmas.Bool.{both_ways, false≢true}
 use Rattle.std.proofs.lemmas.Slice.Eq.{bytes_eq-Decides}
-use Rattle.lock_names.specs.Names.{Bound, further, found, free}
+use Rattle.lock_names.specs.Bindings.{Bound, further, found, free}
 
 -- ---- names and options
 
