@@ -65,17 +65,17 @@ few_waiting vs entries k =
 
 -- ---- how many are granted or wait after an ask
 
-abbrev is_fault : Ask → Bool
+abbrev pub is_fault : Ask → Bool
 is_fault (Corrupt i v) = true
 is_fault _ = false
 
 -- how many more it may be
-abbrev grows : Ask → ℕ
+abbrev pub grows : Ask → ℕ
 grows (Acquire label) = 1
 grows (Try label) = 1
 grows _ = 0
 
-fewer : (c : ℕ) (queue : List Waiter) → length (without c queue) ≤ length queue
+pub fewer : (c : ℕ) (queue : List Waiter) → length (without c queue) ≤ length queue
 fewer c queue =
     let both : length (filter (λ (w : Waiter). w.client == c) queue) + length (without c queue) ≡ length queue =
     length-filter_both (λ (w : Waiter). w.client == c) (λ (w : Waiter). not (w.client == c)) (λ w. refl) queue in
@@ -93,7 +93,7 @@ end_fewer l c h ask seat queue answers (Left a b e f) =
     omega arith
 
 -- no more than n
-abbrev AreFew : ℕ → Lock → Type 0
+abbrev pub AreFew : ℕ → Lock → Type 0
 AreFew n m = m.ring.grants + length m.queue ≤ n
 
 one_more : (x g n high : ℕ) → x ≡ g + 1 → g + n + 1 ≤ high → x + n ≤ high
@@ -103,7 +103,7 @@ few_advanced : (l : Lock) (queue : List Waiter) (n : ℕ) → IsRing l.ring.ring
 few_advanced l [] n g le = le
 few_advanced l (w ∷ queue) n g le = one_more (advanced l.ring (w ∷ queue)).lock.ring.grants l.ring.grants (length queue) n (grant_grants l.ring w.label g) (omega (arith, le))
 
-few_move : (ls : List Lock) (l : Lock) (c : ℕ) (ask : Ask) (t : Turn) → IsRing l.ring.ring → is_fault ask ≡ false → Move ls l c ask t → AreFew (l.ring.grants + length l.queue + grows ask) t.lock
+pub few_move : (ls : List Lock) (l : Lock) (c : ℕ) (ask : Ask) (t : Turn) → IsRing l.ring.ring → is_fault ask ≡ false → Move ls l c ask t → AreFew (l.ring.grants + length l.queue + grows ask) t.lock
 few_move ls l c ask t g f (Stays a q leave e) =
     let le : l.ring.grants + length l.queue ≤ l.ring.grants + length l.queue + grows ask = omega arith in
     subst (λ (x : Turn). AreFew (l.ring.grants + length l.queue + grows ask) x.lock) (sym e) le
@@ -154,7 +154,7 @@ abbrev AreTellable : Bound → List (ℕ × Answer) → Type 0
 AreTellable b [] = Unit {0}
 AreTellable b (a ∷ list) = IsTellable b a.1 × AreTellable b list
 
-abbrev FitsNext : Bound → Lock → Type 0
+abbrev pub FitsNext : Bound → Lock → Type 0
 FitsNext b l = token_in b (l.ring.grants + 1) < 2 ^ 64
 
 join_tellable : (b : Bound) (l : Lock) (w : Waiter) (h : Option Holder) → FitsNext b l → AreTellable b (joined l w h).answers
@@ -231,7 +231,7 @@ pub record IsOutcome (vs ws : List LockView) (top i : ℕ) (b : Bound) (raw : An
   pub own : (a : Answer) → raw.own ≡ Some a → IsTellable b a
   pub granted : (h : Holder) → raw.granted ≡ Some h → token_in b h.token < 2 ^ 64
 
-next_fits : (top more : ℕ) (l : Lock) (b : Bound) → IsRightBound top l b → top + 1 < 2 ^ 64 → FitsNext b l
+pub next_fits : (top more : ℕ) (l : Lock) (b : Bound) → IsRightBound top l b → top + 1 < 2 ^ 64 → FitsNext b l
 next_fits top more l b r lt =
     let lo : b.before ≤ l.ring.grants = r.before in
     let hi : token_in b l.ring.grants ≤ top = r.token in

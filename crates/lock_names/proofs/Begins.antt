@@ -79,7 +79,7 @@ get_before [] ys i x e = absurd (none_some x e)
 get_before (y ∷ xs) ys zero x e = e
 get_before (y ∷ xs) ys (suc i) x e = get_before xs ys i x e
 
-taken_slot : {X : Type 0} (xs : List X) (k i : ℕ) (x : X) → slice_get (take k xs) i ≡ Some x → (i < k) × (slice_get xs i ≡ Some x)
+pub taken_slot : {X : Type 0} (xs : List X) (k i : ℕ) (x : X) → slice_get (take k xs) i ≡ Some x → (i < k) × (slice_get xs i ≡ Some x)
 taken_slot [] zero i x e = absurd (none_some x e)
 taken_slot [] (suc k) i x e = absurd (none_some x e)
 taken_slot (y ∷ xs) zero i x e = absurd (none_some x e)
@@ -190,7 +190,7 @@ none_found (Some p) e = absurd (false≢true (sym e))
 pub not_yet : (x : List ℕ) (os : List (Option Bound)) → is_some (ring_of x os) ≡ false → found x os ≡ None
 not_yet x os e = none_found (found x os) e
 
-take_few : {X : Type 0} (k : ℕ) (xs : List X) → length (take k xs) ≤ length xs
+pub take_few : {X : Type 0} (k : ℕ) (xs : List X) → length (take k xs) ≤ length xs
 take_few zero [] = let le : 0 ≤ 0 = omega arith in le
 take_few zero (x ∷ xs) = let le : 0 ≤ suc (length xs) = omega arith in le
 take_few (suc k) [] = let le : 0 ≤ 0 = omega arith in le

@@ -23,17 +23,17 @@ left_lock c l = (turn [] l c Leave).lock
 
 -- ---- the locks
 
-abbrev first_left : ℕ → ℕ → List Lock → List Lock
+abbrev pub first_left : ℕ → ℕ → List Lock → List Lock
 first_left c zero ls = ls
 first_left c (suc k) [] = []
 first_left c (suc k) (l ∷ ls) = left_lock c l ∷ first_left c k ls
 
-rest_stays : (c k : ℕ) (ls : List Lock) → slice_get (first_left c k ls) k ≡ slice_get ls k
+pub rest_stays : (c k : ℕ) (ls : List Lock) → slice_get (first_left c k ls) k ≡ slice_get ls k
 rest_stays c zero ls = refl
 rest_stays c (suc k) [] = refl
 rest_stays c (suc k) (l ∷ ls) = rest_stays c k ls
 
-next_left : (c k : ℕ) (ls : List Lock) (l : Lock) → slice_get ls k ≡ Some l → slice_set (first_left c k ls) k (left_lock c l) ≡ first_left c (suc k) ls
+pub next_left : (c k : ℕ) (ls : List Lock) (l : Lock) → slice_get ls k ≡ Some l → slice_set (first_left c k ls) k (left_lock c l) ≡ first_left c (suc k) ls
 next_left c k [] l e = absurd (none_some l e)
 next_left c zero (m ∷ ls) l e = ap (λ (x : Lock). left_lock c x ∷ ls) (sym (some_same m l e))
 next_left c (suc k) (m ∷ ls) l e = ap (λ (xs : List Lock). left_lock c m ∷ xs) (next_left c k ls l e)
@@ -49,7 +49,7 @@ left_first c (suc k) ls le =
     ∙ ap (λ (o : Option Lock). (step_at (first_left c k ls) c k Leave o).locks) at
     ∙ next_left c k ls w.0 w.1
 
-all_left : (c : ℕ) (ls : List Lock) → first_left c (length ls) ls ≡ map (left_lock c) ls
+pub all_left : (c : ℕ) (ls : List Lock) → first_left c (length ls) ls ≡ map (left_lock c) ls
 all_left c [] = refl
 all_left c (l ∷ ls) = ap (λ (xs : List Lock). left_lock c l ∷ xs) (all_left c ls)
 

@@ -11,3 +11,4 @@ pub mod Asking
 pub mod Taking
 pub mod Begins
 pub mod LeftNames
+pub mod LeftRings

@@ -204,7 +204,7 @@ client_some : (o : Option Holder) → is_some o ≡ true → is_some (client_of 
 client_some None e = e
 client_some (Some h) e = refl
 
-stays_held : (fixed i : ℕ) (l : Lock) → (fixed ≤ i → is_some l.holder ≡ true) → (low : Bool) → nat_lt i fixed ≡ low → (low || is_some (client_of l.holder)) ≡ true
+pub stays_held : (fixed i : ℕ) (l : Lock) → (fixed ≤ i → is_some l.holder ≡ true) → (low : Bool) → nat_lt i fixed ≡ low → (low || is_some (client_of l.holder)) ≡ true
 stays_held fixed i l h true e = refl
 stays_held fixed i l h false e = client_some l.holder (h (ltb-false i fixed e))
 

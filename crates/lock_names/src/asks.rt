@@ -79,7 +79,7 @@ fn ask_lock(locks: &mut Locks, client: u64, ring: u32, counts: Counts, ask: Name
 }
 
 /// The holder, with the token of the name.
-fn told_holder(counts: Counts, holder: Holder) -> Holder
+pub(crate) fn told_holder(counts: Counts, holder: Holder) -> Holder
     requires { token_in (bound_by counts) holder.token < 2 ^ 64 }
     ensures { result ≡ told_holder (bound_by counts) holder }
 {

@@ -3,6 +3,7 @@
 
 mod asks;
 pub mod laws;
+mod leaving;
 mod names;
 mod replies;
 mod starting;

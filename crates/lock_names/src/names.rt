@@ -1,18 +1,20 @@
 //! Locks that are called by names.
 
-ghost use Rattle.std.specs.Prelude.{◌≡◌, ℕ, ◌<◌, ◌≤◌, true, false, length, map, slice_get, slice_set, Some, None, IfOk, IfErr, string_bytes};
+ghost use Rattle.std.specs.Prelude.{◌≡◌, ℕ, ◌<◌, ◌≤◌, true, false, length, map, slice_get, slice_set, Some, None, IfOk, IfErr, string_bytes, vec_capacity};
 ghost use Rattle.held_locks.specs.Kept.{locks_of};
 ghost use Rattle.held_locks.specs.declared.answers.Answer.{Answer};
 ghost use Rattle.lock_names.specs.Names.{Bound, kept, stays, found};
 ghost use Rattle.lock_names.specs.Begun.{IsBegun, CannotBegin};
 ghost use Rattle.lock_names.specs.Kept.{seen, IsKeptNamed, ask_of, for_hold, top_limit, IsAsked};
+ghost use Rattle.lock_names.specs.Leaves.{IsLeftByName};
 ghost use Rattle.lock_names.specs.declared.replies.Reply.{Reply};
 
 use crate::asks::{Rings, ask_ring, is_for_hold, unused_refusal};
+use crate::leaving::leave_among;
 use crate::replies::{NameAnswers, NameAsk, Reply};
 use crate::starting::{NotBegun, begun_table, grants_of};
 use crate::table::{Counts, Table};
-use held_locks::{Answer, Locks, Refusal};
+use held_locks::{Answer, Left, Locks, Refusal};
 use std::alloc::Global;
 use std::marker::Model;
 
@@ -214,5 +216,16 @@ impl Names {
         ensures { IsAsked self.old self.new client name.now (ask_of ask) result }
     {
         take_among(&mut self.rings, &mut self.table, alloc, client, name, ask)
+    }
+
+    /// A client leaves all names: it waits for none any more, and its holds end. For each name that it held, `left` has an entry
+    /// after it, and no other: the ring, that the hold has ended, and the client that is granted the name next, with its
+    /// token. This needs neither room nor memory.
+    pub fn leave(&mut self, client: u64, left: &mut Vec<Left>)
+        requires room { length self.old.locks ≤ vec_capacity left.old }
+        ensures left { IsLeftByName self.old self.new client left.new.items }
+        ensures capacity { vec_capacity left.new ≡ vec_capacity left.old }
+    {
+        leave_among(&mut self.rings, &mut self.table, client, left);
     }
 }
