@@ -10,7 +10,7 @@ use Rattle.held_locks.specs.Locks.{Leave, Asked, Input, ended, dropped, turn, st
 use Rattle.held_locks.specs.Promises.{locks_after, leaves}
 use Rattle.held_locks.proofs.Shown.{locks_append}
 use Rattle.held_locks.proofs.Standing.{get_set_same}
-use Rattle.lock_names.specs.Names.{Bound, Named, NamedInput, Of, NamedStep, found, total, kept, at_ring, at_name, step_named, named_after, leave_each}
+use Rattle.lock_names.specs.Names.{Bound, Named, NamedInput, Of, Said, NamedStep, said_of, found, total, kept, at_ring, at_name, step_named, named_after, said_after, leave_each}
 use Rattle.lock_names.specs.Promises.{IsNamed}
 use Rattle.lock_names.specs.Leaves.{settled_name, settled_names, settled, LeavesAreSettled}
 use Rattle.lock_names.proofs.Found.{some_same, none_some, there_is, found_there}
@@ -90,7 +90,18 @@ abbrev AllLeft : ℕ → List Lock → List Lock → List (Option Bound) → Lis
 AllLeft c ps ls qs os fixed top =
     state (ps ++ map (left_lock c) ls) (qs ++ settled_names fixed (length ps) (map (left_lock c) ls) os) fixed (top + (total (map (left_lock c) ls) - total ls))
 
+-- what each of them says
+abbrev pub one_said : ℕ → Lock → Option Bound → List Said
+one_said c l None = []
+one_said c l (Some b) = map (said_of b) (turn [] l c Leave).answers
+
+abbrev pub each_said : ℕ → List Lock → List (Option Bound) → List Said
+each_said c [] os = []
+each_said c (l ∷ ls) [] = []
+each_said c (l ∷ ls) (o ∷ os) = one_said c l o ++ each_said c ls os
+
 record IsAllLeft (c : ℕ) (ps ls : List Lock) (qs os : List (Option Bound)) (fixed top : ℕ) : Type 0 where
+  said : said_after (state (ps ++ ls) (qs ++ os) fixed top) (leave_each c os) ≡ each_said c ls os
   same : named_after (state (ps ++ ls) (qs ++ os) fixed top) (leave_each c os) ≡ AllLeft c ps ls qs os fixed top
   more : total ls ≤ total (map (left_lock c) ls)
 
@@ -119,6 +130,13 @@ further_left c ps ls qs os fixed top high l m o p em ep count grows h =
       sum,
     )
 
+shifted_said : (c : ℕ) (ps ls : List Lock) (qs os : List (Option Bound)) (fixed top : ℕ) (m : Lock) (p : Option Bound) → IsAllLeft c (ps ++ m ∷ []) ls (qs ++ p ∷ []) os fixed top →
+    said_after (state (ps ++ m ∷ ls) (qs ++ p ∷ os) fixed top) (leave_each c os) ≡ each_said c ls os
+shifted_said c ps ls qs os fixed top m p h =
+    ap (λ (s : Named). said_after s (leave_each c os))
+    (same_named (ps ++ m ∷ ls) ((ps ++ m ∷ []) ++ ls) (qs ++ p ∷ os) ((qs ++ p ∷ []) ++ os) fixed fixed top top (sym (append_assoc ps (m ∷ []) ls)) (sym (append_assoc qs (p ∷ []) os)) refl refl)
+    ∙ h.said
+
 shifted : (ps ls : List Lock) (qs os : List (Option Bound)) (fixed top : ℕ) (l : Lock) (o : Option Bound) → IsNamed (state (ps ++ l ∷ ls) (qs ++ o ∷ os) fixed top) → IsNamed (state ((ps ++ l ∷ []) ++ ls) ((qs ++ o ∷ []) ++ os) fixed top)
 shifted ps ls qs os fixed top l o n =
     subst (λ (s : Named). IsNamed s)
@@ -129,6 +147,7 @@ as_many xs ys x y e = one_later xs x ∙ ap (λ (n : ℕ). suc n) e ∙ sym (one
 
 names_left : (c : ℕ) (ps ls : List Lock) (qs os : List (Option Bound)) (fixed top : ℕ) → length qs ≡ length ps → length os ≡ length ls → IsNamed (state (ps ++ ls) (qs ++ os) fixed top) → IsAllLeft c ps ls qs os fixed top
 names_left c ps [] qs [] fixed top p q n = record {
+  said = refl;
   same = same_named (ps ++ []) (ps ++ []) (qs ++ []) (qs ++ []) fixed fixed top (top + (0 - 0)) refl refl refl (omega arith);
   more = omega arith;
 }
@@ -141,7 +160,7 @@ names_left c ps (l ∷ ls) qs (None ∷ os) fixed top p q n =
     let same : left_lock c l ≡ l = unheld_left c l r.1 ((n.right.each (length ps) l there).held r.1) in
     let rest = names_left c (ps ++ l ∷ []) ls (qs ++ None ∷ []) os fixed top (as_many qs ps None l p) (omega (arith, q)) (shifted ps ls qs os fixed top l None n) in
     let all = further_left c ps ls qs os fixed top top l l None None (sym same) refl (omega arith) (omega arith) rest in
-    record { same = all.0; more = all.1 }
+    record { said = shifted_said c ps ls qs os fixed top l None rest; same = all.0; more = all.1 }
 names_left c ps (l ∷ ls) qs (Some b ∷ os) fixed top p q n =
     let s : Named = state (ps ++ l ∷ ls) (qs ++ Some b ∷ os) fixed top in
     let m : Lock = left_lock c l in
@@ -158,7 +177,18 @@ names_left c ps (l ∷ ls) qs (Some b ∷ os) fixed top p q n =
     let grows : l.ring.grants ≤ m.ring.grants = (moved s.locks l c Leave (n.right.each (length ps) l there).ring).more in
     let rest = names_left c (ps ++ m ∷ []) ls (qs ++ o ∷ []) os fixed high (as_many qs ps o m p) (omega (arith, q)) (shifted ps ls qs os fixed high m o later) in
     let all = further_left c ps ls qs os fixed top high l m (Some b) o refl refl refl grows rest in
-    record { same = ap (λ (z : Named). named_after z (leave_each c os)) one ∙ all.0; more = all.1 }
+    let said : (step_named s (Of c b.name Leave)).said ≡ one_said c l (Some b) = ap (λ (x : Option (ℕ × Bound)). (at_name s c b.name Leave x).said) e ∙ ap (λ (x : NamedStep). x.said) (at_ring_is s c (length ps) b Leave l there) in
+    record {
+      said =
+          ap (λ (z : Named). (step_named s (Of c b.name Leave)).said ++ said_after z (leave_each c os)) one
+          ∙ ap (λ (x : List Said). x ++ said_after (state (ps ++ m ∷ ls) (qs ++ o ∷ os) fixed high) (leave_each c os)) said
+          ∙ ap (λ (x : List Said). one_said c l (Some b) ++ x) (shifted_said c ps ls qs os fixed high m o rest);
+      same = ap (λ (z : Named). named_after z (leave_each c os)) one ∙ all.0;
+      more = all.1;
+    }
+
+pub leaves_say : (s : Named) (c : ℕ) → IsNamed s → said_after s (leave_each c s.names) ≡ each_said c s.locks s.names
+leaves_say s c n = (names_left c [] s.locks [] s.names s.fixed s.top refl n.many n).said
 
 pub leaves_are_settled : LeavesAreSettled
 leaves_are_settled s c n = (names_left c [] s.locks [] s.names s.fixed s.top refl n.many n).same ∙ ap (λ (ls : List Lock). settled s ls) (sym (locks_left c s.locks))

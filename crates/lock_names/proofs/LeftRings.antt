@@ -19,7 +19,7 @@ use Rattle.held_locks.proofs.Rings.{grant_grants}
 use Rattle.held_locks.proofs.Standing.{get_set_other}
 use Rattle.lock_names.specs.Names.{Bound, Named, token_in, told_holder, kept, total, named_after, leave_each}
 use Rattle.lock_names.specs.Promises.{IsRightBound, IsRightName, IsNamed}
-use Rattle.lock_names.specs.Leaves.{bound_or, settled_name, settled_names, settled, told_left, IsTellableLeft, name_left, names_left, grant_count, grants_in, IsLeftByName}
+use Rattle.lock_names.specs.Leaves.{bound_or, settled_name, settled_names, settled, told_left, IsTellableLeft, name_left, names_left, grant_count, grants_in}
 use Rattle.lock_names.specs.Kept.{NamedView, named_of, waiting, IsKeptNamed}
 use Rattle.lock_names.proofs.Found.{some_same, none_some, there_is}
 use Rattle.lock_names.proofs.Fitting.{total_set, named_stays}
@@ -30,10 +30,10 @@ use Rattle.lock_names.proofs.LeftNames.{left_lock, first_left, rest_stays, next_
 
 -- ---- what a leave does to one lock
 
-abbrev turn_if : Lock → ℕ → Bool → Turn
+abbrev pub turn_if : Lock → ℕ → Bool → Turn
 turn_if l c held = if held then ended l.ring (without c l.queue) 2 [] else dropped l c []
 
-abbrev left_if : ℕ → ℕ → LockView → Bool → List Left
+abbrev pub left_if : ℕ → ℕ → LockView → Bool → List Left
 left_if c i v held = left_by i (ended_in v.ring (turn_if (lock_of v) c held).marks) (turn_if (lock_of v) c held).lock.holder
 
 -- the holder after it, if the client held it
@@ -128,7 +128,7 @@ next_token : (b : Bound) (l : Lock) (queue : List Waiter) (h : Holder) → (0 < 
 next_token b l [] h fit e = absurd (none_some h e)
 next_token b l (w ∷ queue) h fit e = subst (λ (x : Holder). token_in b x.token < 2 ^ 64) (some_same (record { client = w.client; token = l.ring.grants + 1 }) h e) (fit (omega arith))
 
-free_held : (c : ℕ) (h : Option Holder) → h ≡ None → is_held_by c h ≡ true → ⊥
+pub free_held : (c : ℕ) (h : Option Holder) → h ≡ None → is_held_by c h ≡ true → ⊥
 free_held c h e f = true≢false (sym f ∙ ap (λ (x : Option Holder). is_held_by c x) e)
 
 tellable : (s : Named) (c i : ℕ) (l : Lock) (r : Left) (o : Option Bound) → IsNamed s → s.top + waiting s.locks < 2 ^ 64 → slice_get s.locks i ≡ Some l → slice_get s.names i ≡ Some o → r.lock ≡ i → is_held_by c l.holder ≡ true → r.granted ≡ next_holder c l →
@@ -321,7 +321,7 @@ pub record IsDoneLeave (old new : NamedView) (c : ℕ) (raw : List Left) : Type 
   pub fixed : new.fixed ≡ old.fixed
   pub top : new.top ≡ old.top + grants_in raw
 
-left_named : (old new : NamedView) (c : ℕ) (raw : List Left) → IsNamed (named_of old) → IsDoneLeave old new c raw → named_of new ≡ named_after (named_of old) (leave_each c old.names)
+pub left_named : (old new : NamedView) (c : ℕ) (raw : List Left) → IsNamed (named_of old) → IsDoneLeave old new c raw → named_of new ≡ named_after (named_of old) (leave_each c old.names)
 left_named old new c raw n d =
     let ls : List Lock = locks_of old.locks in
     let many : length ls ≡ length old.locks = length-map old.locks lock_of in
@@ -336,9 +336,6 @@ left_named old new c raw n d =
     same_named (locks_of new.locks) (map (left_lock c) ls) new.names (settled_names old.fixed 0 (map (left_lock c) ls) old.names) new.fixed old.fixed new.top (old.top + (total (map (left_lock c) ls) - total ls)) a.locks names d.fixed top
     ∙ ap (λ (x : List Lock). settled (named_of old) x) (sym (locks_left c ls))
     ∙ sym (leaves_are_settled (named_of old) c n)
-
-pub left_by_name : (old new : NamedView) (c : ℕ) (raw said : List Left) → IsKeptNamed old → IsDoneLeave old new c raw → said ≡ map (told_left old.names) raw → IsLeftByName old new c said
-left_by_name old new c raw said n d e = record { named = left_named old new c raw n.named d; raw = raw; left = d.left; told = e }
 
 pub left_kept : (old new : NamedView) (c : ℕ) (raw : List Left) → IsKeptNamed old → IsDoneLeave old new c raw → IsKeptNamed new
 left_kept old new c raw n d =
@@ -385,10 +382,10 @@ pub next_left_is : (fixed : ℕ) (os now : List (Option Bound)) (ls : List Left)
     ((j k : ℕ) (m n : Left) → slice_get ls j ≡ Some m → slice_get ls k ≡ Some n → m.lock ≡ n.lock → j ≡ k) → IsTellableLeft os l → IsNextLeft fixed os now ls i l
 next_left_is fixed os now ls i l e at apart t =
     let other : slice_get (names_left fixed os (take i ls)) l.lock ≡ slice_get os l.lock = names_other fixed l.lock os (take i ls) (λ j m f same.
-        let r = taken_slot ls i j m f in
-        let before : j < i = r.0 in
-        let is : j ≡ i = apart j i m l r.1 at same in
-        omega arith) in
+    let r = taken_slot ls i j m f in
+    let before : j < i = r.0 in
+    let is : j ≡ i = apart j i m l r.1 at same in
+    omega arith) in
     let slot : slice_get now l.lock ≡ slice_get os l.lock = ap (λ (x : List (Option Bound)). slice_get x l.lock) e ∙ other in
     let taken : take (i + 1) ls ≡ take i ls ++ l ∷ [] = more_taken ls i l at in
     let more : grants_in (take (i + 1) ls) ≡ grants_in (take i ls ++ l ∷ []) = ap (λ (x : List Left). grants_in x) taken in

@@ -12,3 +12,4 @@ pub mod Taking
 pub mod Begins
 pub mod LeftNames
 pub mod LeftRings
+pub mod LeftSaid

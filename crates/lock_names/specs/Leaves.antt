@@ -1,13 +1,13 @@
 -- A client that leaves all names (this project's own).
-use Rattle.std.specs.Prelude.{◌≡◌, ℕ, suc, ◌+◌, ◌-◌, ◌^◌, ◌<◌, nat_lt, ◌||◌, if◌then◌else◌, List, [], ◌∷◌, map, length, slice_get, slice_set, Option, Some, None, is_some, option_map}
+use Rattle.std.specs.Prelude.{◌≡◌, ℕ, suc, ◌+◌, ◌-◌, ◌^◌, ◌<◌, nat_lt, ◌||◌, if◌then◌else◌, List, [], ◌∷◌, ◌++◌, map, length, slice_get, slice_set, Option, Some, None, is_some, option_map}
 use Rattle.held_locks.specs.declared.answers.Holder.{Holder}
 use Rattle.held_locks.specs.declared.answers.Left.{Left}
 use Rattle.held_locks.specs.Queues.{Lock, client_of}
 use Rattle.held_locks.specs.Promises.{locks_after, leaves}
 use Rattle.held_locks.specs.Kept.{IsLeft}
-use Rattle.lock_names.specs.Names.{Bound, Named, token_in, told_holder, total, kept, named_after, leave_each}
+use Rattle.lock_names.specs.Names.{Bound, Named, token_in, told_holder, total, kept, Said, named_after, said_after, leave_each}
 use Rattle.lock_names.specs.Promises.{IsNamed}
-use Rattle.lock_names.specs.Kept.{NamedView, named_of}
+use Rattle.lock_names.specs.Kept.{NamedView, named_of, grant_said}
 
 -- the name of ring i, if its lock is this: of the pool it stays only while the lock is held
 abbrev pub settled_name : ℕ → ℕ → Lock → Option Bound → Option Bound
@@ -76,10 +76,17 @@ abbrev pub grants_in : List Left → ℕ
 grants_in [] = 0
 grants_in (l ∷ ls) = grant_count l.granted + grants_in ls
 
--- A client left all names: the state is the machine's after it left one after the other; and its
--- locks were left so, which is reported with the tokens of the names.
+-- what is said to the clients that are granted
+abbrev pub said_left : List (Option Bound) → List Left → List Said
+said_left os [] = []
+said_left os (l ∷ ls) =
+    grant_said (bound_or (slice_get os l.lock)).name l.granted ++ said_left os ls
+
+-- A client left all names: the state, and what is said, are the machine's after it left one
+-- name after the other; and its locks were left so, which is reported with the tokens of the names.
 pub record IsLeftByName (old new : NamedView) (c : ℕ) (said : List Left) : Type 0 where
   pub named : named_of new ≡ named_after (named_of old) (leave_each c old.names)
+  pub said : said_left old.names said ≡ said_after (named_of old) (leave_each c old.names)
   pub raw : List Left
   pub left : IsLeft old.locks new.locks c raw
   pub told : said ≡ map (told_left old.names) raw

@@ -71,12 +71,7 @@ fn settle_left(table: &mut Table, fixed: u32, left: &mut Vec<Left>) -> u64
 }
 
 /// A client leaves all names. What it held replaces what is there.
-pub(crate) fn leave_among(
-    rings: &mut Rings,
-    table: &mut Table,
-    client: u64,
-    left: &mut Vec<Left>,
-)
+pub(crate) fn leave_among(rings: &mut Rings, table: &mut Table, client: u64, left: &mut Vec<Left>)
     requires kept { IsKeptNamed (seen rings.old table.old) }
     requires room { length rings.old.locks ≤ vec_capacity left.old }
     ensures left { IsLeftByName (seen rings.old table.old) (seen rings.new table.new) client

@@ -3,11 +3,11 @@
 ghost use Rattle.held_locks.specs.Kept.{IsKeptRing};
 
 use crate::{NameAnswers, NameAsk, Names, NotBegun, Reply};
+use endless_ring::EndlessRing;
+use held_locks::{Answer, Holder, Left, Locks, Refusal};
+use one_thread_ring::OneThreadRing;
 use ring_book::Till;
 use ring_model::Base;
-use one_thread_ring::OneThreadRing;
-use endless_ring::EndlessRing;
-use held_locks::{Answer, Holder, Locks, Refusal};
 use std::alloc::Global;
 use std::process::Abort;
 
@@ -148,4 +148,52 @@ fn begins_with_names_of_its_own(rt: HostRuntime) {
     locks.acquire(7, 2, 1);
     let names = begun(&rt, alloc, locks, &["a"]);
     assert!(&rt; names.err() == Some(NotBegun::Held));
+}
+
+/// What a leave did to a hold of this ring, whose end is a survey by seat 2.
+fn is_left(left: Left, ring: u32, granted: Option<Holder>) -> bool {
+    left.lock == ring && left.ended.seat == 2 && left.granted == granted
+}
+
+// Client 8 holds two names of the pool and waits for the fixed one. One of the two is handed on, the other one is forgotten.
+#[test]
+fn a_client_leaves_all_names(rt: HostRuntime) {
+    let alloc = rt.alloc();
+    let Ok(mut names) = begun(&rt, alloc, three_locks(&rt, alloc), &["deploy"]) else {
+        panic!(&rt; "refused");
+    };
+    let asked: [(u64, &str, u64); 5] = [
+        (8, "order/1", 10),
+        (8, "order/2", 20),
+        (7, "deploy", 30),
+        (9, "order/1", 40),
+        (8, "deploy", 50),
+    ];
+    for (client, name, label) in asked {
+        names.take(alloc, client, name, NameAsk::Acquire(label));
+    }
+    let mut left = Vec::new(alloc);
+    assert!(&rt; left.reserve(3).is_ok());
+    names.leave(8, &mut left);
+    let next = Some(Holder {
+        client: 9,
+        token: 2,
+    });
+    assert!(&rt; left.len() == 2);
+    assert!(&rt; is_left(left[0], 1, next));
+    assert!(&rt; is_left(left[1], 2, None));
+    let rows: [(u64, &str, NameAsk, NameAnswers); 4] = [
+        (
+            8,
+            "order/2",
+            NameAsk::Release(2),
+            refused(None, Refusal::Holder),
+        ),
+        (5, "order/3", NameAsk::Try(60), bound(2, 5)),
+        (7, "deploy", NameAsk::Release(1), released(0, None)),
+        (9, "order/1", NameAsk::Release(2), released(1, None)),
+    ];
+    for (client, name, ask, wanted) in rows {
+        assert!(&rt; are(names.take(alloc, client, name, ask), wanted));
+    }
 }
