@@ -64,32 +64,32 @@ name_added ns k x now later lt at e f =
 
 -- ---- names that are twice in the list
 
-fixed_slot : (ns : List (List ℕ)) (i : ℕ) (b : Bound) → slice_get (fixed_names ns) i ≡ Some (Some b) → slice_get ns i ≡ Some b.name
-fixed_slot [] i b e = absurd (none_some (Some b) e)
-fixed_slot (n ∷ ns) zero b e = ap (λ (x : Bound). Some x.name) (some_same (fixed_name n) b (some_same (Some (fixed_name n)) (Some b) e))
-fixed_slot (n ∷ ns) (suc i) b e = fixed_slot ns i b e
+fixed_entry : (ns : List (List ℕ)) (i : ℕ) (b : Bound) → slice_get (fixed_names ns) i ≡ Some (Some b) → slice_get ns i ≡ Some b.name
+fixed_entry [] i b e = absurd (none_some (Some b) e)
+fixed_entry (n ∷ ns) zero b e = ap (λ (x : Bound). Some x.name) (some_same (fixed_name n) b (some_same (Some (fixed_name n)) (Some b) e))
+fixed_entry (n ∷ ns) (suc i) b e = fixed_entry ns i b e
 
-slot_fixed : (ns : List (List ℕ)) (i : ℕ) (x : List ℕ) → slice_get ns i ≡ Some x → slice_get (fixed_names ns) i ≡ Some (Some (fixed_name x))
-slot_fixed [] i x e = absurd (none_some x e)
-slot_fixed (n ∷ ns) zero x e = ap (λ (y : List ℕ). Some (Some (fixed_name y))) (some_same n x e)
-slot_fixed (n ∷ ns) (suc i) x e = slot_fixed ns i x e
+entry_fixed : (ns : List (List ℕ)) (i : ℕ) (x : List ℕ) → slice_get ns i ≡ Some x → slice_get (fixed_names ns) i ≡ Some (Some (fixed_name x))
+entry_fixed [] i x e = absurd (none_some x e)
+entry_fixed (n ∷ ns) zero x e = ap (λ (y : List ℕ). Some (Some (fixed_name y))) (some_same n x e)
+entry_fixed (n ∷ ns) (suc i) x e = entry_fixed ns i x e
 
 get_before : {X : Type 0} (xs ys : List X) (i : ℕ) (x : X) → slice_get xs i ≡ Some x → slice_get (xs ++ ys) i ≡ Some x
 get_before [] ys i x e = absurd (none_some x e)
 get_before (y ∷ xs) ys zero x e = e
 get_before (y ∷ xs) ys (suc i) x e = get_before xs ys i x e
 
-pub taken_slot : {X : Type 0} (xs : List X) (k i : ℕ) (x : X) → slice_get (take k xs) i ≡ Some x → (i < k) × (slice_get xs i ≡ Some x)
-taken_slot [] zero i x e = absurd (none_some x e)
-taken_slot [] (suc k) i x e = absurd (none_some x e)
-taken_slot (y ∷ xs) zero i x e = absurd (none_some x e)
-taken_slot (y ∷ xs) (suc k) zero x e = (omega arith, e)
-taken_slot (y ∷ xs) (suc k) (suc i) x e = let r = taken_slot xs k i x e in (omega arith, r.1)
+pub taken_entry : {X : Type 0} (xs : List X) (k i : ℕ) (x : X) → slice_get (take k xs) i ≡ Some x → (i < k) × (slice_get xs i ≡ Some x)
+taken_entry [] zero i x e = absurd (none_some x e)
+taken_entry [] (suc k) i x e = absurd (none_some x e)
+taken_entry (y ∷ xs) zero i x e = absurd (none_some x e)
+taken_entry (y ∷ xs) (suc k) zero x e = (omega arith, e)
+taken_entry (y ∷ xs) (suc k) (suc i) x e = let r = taken_entry xs k i x e in (omega arith, r.1)
 
 pub twice : (ns : List (List ℕ)) (k : ℕ) (x : List ℕ) (p : ℕ × Bound) → slice_get ns k ≡ Some x → found x (fixed_names (take k ns)) ≡ Some p → AreDistinct ns → ⊥
 twice ns k x p at e apart =
     let h = found_at x (fixed_names (take k ns)) p e in
-    let r = taken_slot ns k p.0 p.1.name (fixed_slot (take k ns) p.0 p.1 h.slot) in
+    let r = taken_entry ns k p.0 p.1.name (fixed_entry (take k ns) p.0 p.1 h.entry) in
     let same : p.0 ≡ k = apart p.0 k x (r.1 ∙ ap (λ (y : List ℕ). Some y) (sym h.name)) at in
     let lt : p.0 < k = r.0 in
     omega arith
@@ -97,7 +97,7 @@ twice ns k x p at e apart =
 pub distinct : (ns : List (List ℕ)) (os : List (Option Bound)) →
     ((i j : ℕ) (b d : Bound) → slice_get (fixed_names ns ++ os) i ≡ Some (Some b) → slice_get (fixed_names ns ++ os) j ≡ Some (Some d) → b.name ≡ d.name → i ≡ j) → AreDistinct ns
 distinct ns os once i j x e f =
-    once i j (fixed_name x) (fixed_name x) (get_before (fixed_names ns) os i (Some (fixed_name x)) (slot_fixed ns i x e)) (get_before (fixed_names ns) os j (Some (fixed_name x)) (slot_fixed ns j x f)) refl
+    once i j (fixed_name x) (fixed_name x) (get_before (fixed_names ns) os i (Some (fixed_name x)) (entry_fixed ns i x e)) (get_before (fixed_names ns) os j (Some (fixed_name x)) (entry_fixed ns j x f)) refl
 
 -- ---- grants
 
@@ -206,11 +206,11 @@ few_names ns k os e le =
 pub fixed_many : (ns : List (List ℕ)) → length (fixed_names ns) ≡ length ns
 fixed_many ns = length-map ns (λ (n : List ℕ). Some (fixed_name n))
 
-pub item_slot : (ns : List (List ℕ)) (k : ℕ) (x : List ℕ) → slice_get ns k ≡ Some x → (k < length ns) × (get_or ns k [] ≡ x)
-item_slot ns k x at = (slice_get_within ns k x at, get_or_from_slice_get ns k x [] at)
+pub item_entry : (ns : List (List ℕ)) (k : ℕ) (x : List ℕ) → slice_get ns k ≡ Some x → (k < length ns) × (get_or ns k [] ≡ x)
+item_entry ns k x at = (slice_get_within ns k x at, get_or_from_slice_get ns k x [] at)
 
-pub mapped_slot : {X : Type 0} (f : X → List ℕ) (xs : List X) (k : ℕ) (x : X) → k < length xs → x ≡ get_or xs k x → slice_get (map f xs) k ≡ Some (f x)
-mapped_slot {X = X} f xs k x lt e = slice_get-map f xs k ∙ ap (λ (o : Option X). option_map f o) (slice_get_read xs (length xs) k x refl lt e)
+pub mapped_entry : {X : Type 0} (f : X → List ℕ) (xs : List X) (k : ℕ) (x : X) → k < length xs → x ≡ get_or xs k x → slice_get (map f xs) k ≡ Some (f x)
+mapped_entry {X = X} f xs k x lt e = slice_get-map f xs k ∙ ap (λ (o : Option X). option_map f o) (slice_get_read xs (length xs) k x refl lt e)
 
 pub all_names : {X : Type 0} (f : X → List ℕ) (xs : List X) (k : ℕ) (os : List (Option Bound)) → length xs ≤ k → os ≡ fixed_names (take k (map f xs)) → os ≡ fixed_names (map f xs)
 all_names f xs k os le e =

@@ -111,7 +111,7 @@ pub record Fits (s : Named) (i : ℕ) (b : Bound) : Type 0 where
   pub lock : Lock
   pub there : slice_get s.locks i ≡ Some lock
   pub was : Option Bound
-  pub slot : slice_get s.names i ≡ Some was
+  pub entry : slice_get s.names i ≡ Some was
   pub which : (was ≡ Some b) ⊎ ((was ≡ None) × (lock.holder ≡ None) × (s.top ≤ token_in b lock.ring.grants))
   pub right : IsRightBound s.top lock b
   pub alone : (j : ℕ) (d : Bound) → j ≢ i → slice_get s.names j ≡ Some (Some d) → d.name ≢ b.name
@@ -171,24 +171,24 @@ named_turn s c i b ask f n =
       right = right_asked s.locks l c i ask n.right f.there;
       many = length-set s.names i o ∙ n.many ∙ sym (length-set s.locks i t.lock);
       each = λ j k u e d. elim (get_set s.locks i j t.lock l k f.there e) [
-        | inl p ↦ elim (get_set s.names i j o f.was u f.slot d) [
+        | inl p ↦ elim (get_set s.names i j o f.was u f.entry d) [
           | inl q ↦ subst (λ (z : ℕ). IsRightName s.fixed (top_after s.top l t) z k u) (sym p.0)
               (subst (λ (z : Lock). IsRightName s.fixed (top_after s.top l t) i z u) (sym p.1)
               (subst (λ (z : Option Bound). IsRightName s.fixed (top_after s.top l t) i t.lock z) (sym q.1)
               (own_after s.fixed (top_after s.top l t) i t.lock b right (nat_lt i s.fixed) (is_some (client_of t.lock.holder)) refl refl)))
           | inr q ↦ absurd (q.0 p.0)
         ]
-        | inr p ↦ elim (get_set s.names i j o f.was u f.slot d) [
+        | inr p ↦ elim (get_set s.names i j o f.was u f.entry d) [
           | inl q ↦ absurd (p.0 q.0)
           | inr q ↦ name_on s.fixed s.top (top_after s.top l t) j k u (omega arith) (n.each j k u p.1 q.1)
         ]
       ];
-      once = λ j k d e x y z. elim (get_set s.names i j o f.was (Some d) f.slot x) [
-        | inl p ↦ elim (get_set s.names i k o f.was (Some e) f.slot y) [
+      once = λ j k d e x y z. elim (get_set s.names i j o f.was (Some d) f.entry x) [
+        | inl p ↦ elim (get_set s.names i k o f.was (Some e) f.entry y) [
           | inl q ↦ p.0 ∙ sym q.0
           | inr q ↦ absurd (f.alone k e q.0 q.1 (sym z ∙ sym (own d p.1)))
         ]
-        | inr p ↦ elim (get_set s.names i k o f.was (Some e) f.slot y) [
+        | inr p ↦ elim (get_set s.names i k o f.was (Some e) f.entry y) [
           | inl q ↦ absurd (f.alone j d p.0 p.1 (z ∙ sym (own e q.1)))
           | inr q ↦ n.once j k d e p.1 q.1 z
         ]
@@ -208,30 +208,30 @@ lock_at s i o n e = there_is s.locks i (subst (λ (k : ℕ). i < k) n.many (slic
 pub fits_found : (s : Named) (x : List ℕ) (p : ℕ × Bound) → IsNamed s → found x s.names ≡ Some p → Fits s p.0 p.1
 fits_found s x p n e =
     let h = found_at x s.names p e in
-    let w = lock_at s p.0 (Some p.1) n h.slot in
-    let r = n.each p.0 w.0 (Some p.1) w.1 h.slot in
+    let w = lock_at s p.0 (Some p.1) n h.entry in
+    let r = n.each p.0 w.0 (Some p.1) w.1 h.entry in
     record {
       lock = w.0;
       there = w.1;
       was = Some p.1;
-      slot = h.slot;
+      entry = h.entry;
       which = inl refl;
       right = r.0;
-      alone = λ j d q f same. q (n.once j p.0 d p.1 f h.slot same);
+      alone = λ j d q f same. q (n.once j p.0 d p.1 f h.entry same);
     }
 
 -- the free ring
 pub fits_free : (s : Named) (x : List ℕ) (i : ℕ) → IsNamed s → found x s.names ≡ None → free s.names ≡ Some i → Fits s i (fresh s x i)
 fits_free s x i n e f =
-    let slot = free_at s.names i f in
-    let w = lock_at s i None n slot in
-    let r = n.each i w.0 None w.1 slot in
+    let entry = free_at s.names i f in
+    let w = lock_at s i None n entry in
+    let r = n.each i w.0 None w.1 entry in
     let grants : grants_at (slice_get s.locks i) ≡ w.0.ring.grants = ap grants_at w.1 in
     record {
       lock = w.0;
       there = w.1;
       was = None;
-      slot = slot;
+      entry = entry;
       which = inr (refl, r.1, omega (arith, grants));
       right = record { before = omega (arith, grants); token = omega (arith, grants); held = λ h q. absurd (none_some h (sym r.1 ∙ q)) };
       alone = λ j d q g same. unlike x s.names j d e g same;

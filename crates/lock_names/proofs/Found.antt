@@ -33,7 +33,7 @@ there_is (x ∷ xs) (suc i) lt = there_is xs i (omega (arith, lt))
 -- ---- the ring of a name
 
 pub record FoundAt (x : List ℕ) (os : List (Option Bound)) (p : ℕ × Bound) : Type 0 where
-  pub slot : slice_get os p.0 ≡ Some (Some p.1)
+  pub entry : slice_get os p.0 ≡ Some (Some p.1)
   pub name : x ≡ p.1.name
 
 onward : (x : List ℕ) (o : Option Bound) (os : List (Option Bound)) (p : ℕ × Bound) → ((r : ℕ × Bound) → found x os ≡ Some r → FoundAt x os r) →
@@ -41,11 +41,11 @@ onward : (x : List ℕ) (o : Option Bound) (os : List (Option Bound)) (p : ℕ �
 onward x o os p rest None q e = absurd (none_some p e)
 onward x o os p rest (Some r) q e =
     let h = rest r q in
-    subst (λ (z : ℕ × Bound). FoundAt x (o ∷ os) z) (some_same (suc r.0, r.1) p e) (record { slot = h.slot; name = h.name })
+    subst (λ (z : ℕ × Bound). FoundAt x (o ∷ os) z) (some_same (suc r.0, r.1) p e) (record { entry = h.entry; name = h.name })
 
 here_or : (x : List ℕ) (b : Bound) (os : List (Option Bound)) (p : ℕ × Bound) → ((r : ℕ × Bound) → found x os ≡ Some r → FoundAt x os r) →
     (q : Bool) → bytes_eq x b.name ≡ q → (if q then Some (zero, b) else further (found x os)) ≡ Some p → FoundAt x (Some b ∷ os) p
-here_or x b os p rest true q e = subst (λ (z : ℕ × Bound). FoundAt x (Some b ∷ os) z) (some_same (zero, b) p e) (record { slot = refl; name = same_name x b.name q })
+here_or x b os p rest true q e = subst (λ (z : ℕ × Bound). FoundAt x (Some b ∷ os) z) (some_same (zero, b) p e) (record { entry = refl; name = same_name x b.name q })
 here_or x b os p rest false q e = onward x (Some b) os p rest (found x os) refl e
 
 pub found_at : (x : List ℕ) (os : List (Option Bound)) (p : ℕ × Bound) → found x os ≡ Some p → FoundAt x os p
@@ -82,8 +82,8 @@ there_by : (x : List ℕ) (os : List (Option Bound)) (i : ℕ) (b : Bound) → s
 there_by x os i b e n only None q = absurd (unlike x os i b q e (sym n))
 there_by x os i b e n only (Some p) q =
     let h = found_at x os p q in
-    let at : p.0 ≡ i = only p.0 p.1 h.slot (sym h.name ∙ n) in
-    let same : p.1 ≡ b = some_same p.1 b (some_same (Some p.1) (Some b) (sym h.slot ∙ ap (λ (k : ℕ). slice_get os k) at ∙ e)) in
+    let at : p.0 ≡ i = only p.0 p.1 h.entry (sym h.name ∙ n) in
+    let same : p.1 ≡ b = some_same p.1 b (some_same (Some p.1) (Some b) (sym h.entry ∙ ap (λ (k : ℕ). slice_get os k) at ∙ e)) in
     ap (λ (k : ℕ). Some (k, p.1)) at ∙ ap (λ (d : Bound). Some (i, d)) same
 
 -- the only ring that has a name is found
@@ -93,7 +93,7 @@ found_there x os i b e n only = there_by x os i b e n only (found x os) refl
 -- nowhere, so not found
 none_by : (x : List ℕ) (os : List (Option Bound)) → ((i : ℕ) (b : Bound) → slice_get os i ≡ Some (Some b) → b.name ≡ x → ⊥) → (f : Option (ℕ × Bound)) → found x os ≡ f → f ≡ None
 none_by x os nope None q = refl
-none_by x os nope (Some p) q = let h = found_at x os p q in absurd (nope p.0 p.1 h.slot (sym h.name))
+none_by x os nope (Some p) q = let h = found_at x os p q in absurd (nope p.0 p.1 h.entry (sym h.name))
 
 pub found_nowhere : (x : List ℕ) (os : List (Option Bound)) → ((i : ℕ) (b : Bound) → slice_get os i ≡ Some (Some b) → b.name ≡ x → ⊥) → found x os ≡ None
 found_nowhere x os nope = none_by x os nope (found x os) refl

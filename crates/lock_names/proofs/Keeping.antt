@@ -48,7 +48,7 @@ keeps_none s c i b x Stats e h = e
 keeps_name : (s : Named) (c i : ℕ) (b : Bound) (x : List ℕ) (ask : Ask) (o : Option (ℕ × Bound)) → slice_get s.names i ≡ Some (Some b) → found x s.names ≡ o → Keeps s (at_name s c x ask o).named i b
 keeps_name s c i b x ask None e f h = keeps_none s c i b x ask e h
 keeps_name s c i b x ask (Some p) e f h =
-    keeps_asked s c i p.0 b p.1 ask e (λ q. some_same p.1 b (some_same (Some p.1) (Some b) (sym (found_at x s.names p f).slot ∙ ap (λ (n : ℕ). slice_get s.names n) q ∙ e))) h
+    keeps_asked s c i p.0 b p.1 ask e (λ q. some_same p.1 b (some_same (Some p.1) (Some b) (sym (found_at x s.names p f).entry ∙ ap (λ (n : ℕ). slice_get s.names n) q ∙ e))) h
 
 keeps : (s : Named) (n : NamedInput) (i : ℕ) (b : Bound) → slice_get s.names i ≡ Some (Some b) → Keeps s (step_named s n).named i b
 keeps s (Of c x ask) i b e h = keeps_name s c i b x ask (found x s.names) e refl h
@@ -60,9 +60,9 @@ keeps_all s (n ∷ is) i b e h = keeps_all (step_named s n).named is i b (keeps 
 
 pub waited_is_kept : WaitedIsKept
 waited_is_kept s is i b n e h =
-    let slot = keeps_all s is i b e h in
+    let entry = keeps_all s is i b e h in
     let m = named_stays s is n in
-    found_there b.name (named_after s is).names i b slot refl (λ j d f same. m.once j i d b f slot same)
+    found_there b.name (named_after s is).names i b entry refl (λ j d f same. m.once j i d b f entry same)
 
 pub waited_is_held : WaitedIsHeld
 waited_is_held s i l n e f = (n.right.each i l e).held f

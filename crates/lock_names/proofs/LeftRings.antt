@@ -25,7 +25,7 @@ use Rattle.lock_names.proofs.Found.{some_same, none_some, there_is}
 use Rattle.lock_names.proofs.Fitting.{total_set, named_stays}
 use Rattle.lock_names.proofs.Asking.{view_lock, queue_in, fewer, few_move, next_fits}
 use Rattle.lock_names.proofs.Taking.{same_named, set_same, stays_held}
-use Rattle.lock_names.proofs.Begins.{taken_slot, take_few}
+use Rattle.lock_names.proofs.Begins.{taken_entry, take_few}
 use Rattle.lock_names.proofs.LeftNames.{left_lock, first_left, rest_stays, next_left, all_left, locks_left, leaves_are_settled}
 
 -- ---- what a leave does to one lock
@@ -46,19 +46,19 @@ heads x y xs e = cc
 nil_cons : {X : Type 0} (y : X) (xs : List X) → ◌≡◌ {A = List X} [] (y ∷ xs) → ⊥
 nil_cons y xs e = cc
 
-record IsEntry (c i : ℕ) (v : LockView) (l : Left) : Type 0 where
+record IsReport (c i : ℕ) (v : LockView) (l : Left) : Type 0 where
   held : is_held_by c v.holder ≡ true
   granted : l.granted ≡ next_holder c (lock_of v)
 
-entry_if : (c i : ℕ) (v : LockView) (l : Left) (held : Bool) → is_held_by c v.holder ≡ held → left_if c i v held ≡ l ∷ [] → IsEntry c i v l
-entry_if c i v l true h e =
+report_if : (c i : ℕ) (v : LockView) (l : Left) (held : Bool) → is_held_by c v.holder ≡ held → left_if c i v held ≡ l ∷ [] → IsReport c i v l
+report_if c i v l true h e =
     let end : HoldEnd = record { seat = 2; survey = local_survey v.ring.ring } in
     let one : Left = record { lock = i; ended = end; granted = next_holder c (lock_of v) } in
     record { held = h; granted = sym (ap (λ (x : Left). x.granted) (heads one l [] e)) }
-entry_if c i v l false h e = absurd (nil_cons l [] e)
+report_if c i v l false h e = absurd (nil_cons l [] e)
 
-entry_of : (c i : ℕ) (v : LockView) (l : Left) → left_at c i (Some v) ≡ l ∷ [] → IsEntry c i v l
-entry_of c i v l e = entry_if c i v l (is_held_by c v.holder) refl e
+report_of : (c i : ℕ) (v : LockView) (l : Left) → left_at c i (Some v) ≡ l ∷ [] → IsReport c i v l
+report_of c i v l e = report_if c i v l (is_held_by c v.holder) refl e
 
 -- ---- the entries of what a leave reports
 
@@ -75,26 +75,26 @@ record IsOnly (i j : ℕ) (e : Option HoldEnd) (g : Option Holder) (l : Left) : 
   lock : l.lock ≡ i
   all : left_by i e g ≡ l ∷ []
 
-only_entry : (i : ℕ) (e : Option HoldEnd) (g : Option Holder) (j : ℕ) (l : Left) → slice_get (left_by i e g) j ≡ Some l → IsOnly i j e g l
-only_entry i None g j l f = absurd (none_some l f)
-only_entry i (Some d) g zero l f =
+only_report : (i : ℕ) (e : Option HoldEnd) (g : Option Holder) (j : ℕ) (l : Left) → slice_get (left_by i e g) j ≡ Some l → IsOnly i j e g l
+only_report i None g j l f = absurd (none_some l f)
+only_report i (Some d) g zero l f =
     let one : Left = record { lock = i; ended = d; granted = g } in
     let same : one ≡ l = some_same one l f in
     record { first = refl; lock = ap (λ (x : Left). x.lock) (sym same); all = ap (λ (x : Left). x ∷ []) same }
-only_entry i (Some d) g (suc j) l f = absurd (none_some l f)
+only_report i (Some d) g (suc j) l f = absurd (none_some l f)
 
-record IsEntryAt (c : ℕ) (vs : List LockView) (n k : ℕ) (l : Left) : Type 0 where
+record IsReportAt (c : ℕ) (vs : List LockView) (n k : ℕ) (l : Left) : Type 0 where
   below : l.lock < n
   view : LockView
   there : slice_get vs l.lock ≡ Some view
   one : left_at c l.lock (Some view) ≡ l ∷ []
   place : k ≡ length (left_of c vs l.lock)
 
-last_entry : (c : ℕ) (vs : List LockView) (n k j : ℕ) (l : Left) (o : Option LockView) → slice_get vs n ≡ o → k ≡ length (left_of c vs n) + j → slice_get (left_at c n o) j ≡ Some l → IsEntryAt c vs (suc n) k l
-last_entry c vs n k j l None at e f = absurd (none_some l f)
-last_entry c vs n k j l (Some v) at e f =
+last_report : (c : ℕ) (vs : List LockView) (n k j : ℕ) (l : Left) (o : Option LockView) → slice_get vs n ≡ o → k ≡ length (left_of c vs n) + j → slice_get (left_at c n o) j ≡ Some l → IsReportAt c vs (suc n) k l
+last_report c vs n k j l None at e f = absurd (none_some l f)
+last_report c vs n k j l (Some v) at e f =
     let t : Turn = turn [] (lock_of v) c Leave in
-    let r = only_entry n (ended_in v.ring t.marks) t.lock.holder j l f in
+    let r = only_report n (ended_in v.ring t.marks) t.lock.holder j l f in
     let first : j ≡ 0 = r.first in
     let lock : l.lock ≡ n = r.lock in
     let place : k ≡ length (left_of c vs n) = omega arith in
@@ -106,18 +106,18 @@ last_entry c vs n k j l (Some v) at e f =
       place = place ∙ ap (λ (m : ℕ). length (left_of c vs m)) (sym lock);
     }
 
-entry_at : (c : ℕ) (vs : List LockView) (n k : ℕ) (l : Left) → slice_get (left_of c vs n) k ≡ Some l → IsEntryAt c vs n k l
-entry_at c vs zero k l e = absurd (none_some l e)
-entry_at c vs (suc n) k l e = elim (append_cases (left_of c vs n) (left_at c n (slice_get vs n)) k l e) [
+report_at : (c : ℕ) (vs : List LockView) (n k : ℕ) (l : Left) → slice_get (left_of c vs n) k ≡ Some l → IsReportAt c vs n k l
+report_at c vs zero k l e = absurd (none_some l e)
+report_at c vs (suc n) k l e = elim (append_cases (left_of c vs n) (left_at c n (slice_get vs n)) k l e) [
   | inl p ↦
-      let r = entry_at c vs n k l p in
+      let r = report_at c vs n k l p in
       let lt : l.lock < n = r.below in
       record { below = omega arith; view = r.view; there = r.there; one = r.one; place = r.place }
-  | inr p ↦ last_entry c vs n k p.0 l (slice_get vs n) refl p.1 p.2
+  | inr p ↦ last_report c vs n k p.0 l (slice_get vs n) refl p.1 p.2
 ]
 
-pub entries_apart : (c : ℕ) (vs : List LockView) (n i j : ℕ) (l m : Left) → slice_get (left_of c vs n) i ≡ Some l → slice_get (left_of c vs n) j ≡ Some m → l.lock ≡ m.lock → i ≡ j
-entries_apart c vs n i j l m e f same = (entry_at c vs n i l e).place ∙ ap (λ (k : ℕ). length (left_of c vs k)) same ∙ sym (entry_at c vs n j m f).place
+pub reports_apart : (c : ℕ) (vs : List LockView) (n i j : ℕ) (l m : Left) → slice_get (left_of c vs n) i ≡ Some l → slice_get (left_of c vs n) j ≡ Some m → l.lock ≡ m.lock → i ≡ j
+reports_apart c vs n i j l m e f same = (report_at c vs n i l e).place ∙ ap (λ (k : ℕ). length (left_of c vs k)) same ∙ sym (report_at c vs n j m f).place
 
 -- ---- each has a name, and its token 64 bits
 
@@ -133,24 +133,24 @@ free_held c h e f = true≢false (sym f ∙ ap (λ (x : Option Holder). is_held_
 
 tellable : (s : Named) (c i : ℕ) (l : Lock) (r : Left) (o : Option Bound) → IsNamed s → s.top + waiting s.locks < 2 ^ 64 → slice_get s.locks i ≡ Some l → slice_get s.names i ≡ Some o → r.lock ≡ i → is_held_by c l.holder ≡ true → r.granted ≡ next_holder c l →
     IsTellableLeft s.names r
-tellable s c i l r None n lt there slot lock held granted = absurd (free_held c l.holder (n.each i l None there slot).1 held)
-tellable s c i l r (Some b) n lt there slot lock held granted =
-    let right : IsRightBound s.top l b = (n.each i l (Some b) there slot).0 in
+tellable s c i l r None n lt there entry lock held granted = absurd (free_held c l.holder (n.each i l None there entry).1 held)
+tellable s c i l r (Some b) n lt there entry lock held granted =
+    let right : IsRightBound s.top l b = (n.each i l (Some b) there entry).0 in
     let within : length l.queue ≤ waiting s.locks = queue_in s.locks i l there in (
       b,
-      ap (λ (k : ℕ). slice_get s.names k) lock ∙ slot,
+      ap (λ (k : ℕ). slice_get s.names k) lock ∙ entry,
       λ h e. next_token b l (without c l.queue) h (λ some. next_fits s.top 0 l b right (let more : 0 < length l.queue = some_queue c l some in omega arith)) (sym granted ∙ e),
     )
 
-pub entries_tellable : (v : NamedView) (c i : ℕ) (l : Left) → IsKeptNamed v → slice_get (left_of c v.locks (length v.locks)) i ≡ Some l → IsTellableLeft v.names l
-entries_tellable v c i l n e =
-    let r = entry_at c v.locks (length v.locks) i l e in
-    let q = entry_of c l.lock r.view l r.one in
+pub reports_tellable : (v : NamedView) (c i : ℕ) (l : Left) → IsKeptNamed v → slice_get (left_of c v.locks (length v.locks)) i ≡ Some l → IsTellableLeft v.names l
+reports_tellable v c i l n e =
+    let r = report_at c v.locks (length v.locks) i l e in
+    let q = report_of c l.lock r.view l r.one in
     let at : slice_get (locks_of v.locks) l.lock ≡ Some (lock_of r.view) = view_lock v.locks l.lock r.view r.there in
     let lt : l.lock < length (locks_of v.locks) = slice_get_within (locks_of v.locks) l.lock (lock_of r.view) at in
     let many : length v.names ≡ length (locks_of v.locks) = n.named.many in
-    let slot = there_is v.names l.lock (omega arith) in
-    tellable (named_of v) c l.lock (lock_of r.view) l slot.0 n.named n.tokens at slot.1 refl q.held q.granted
+    let entry = there_is v.names l.lock (omega arith) in
+    tellable (named_of v) c l.lock (lock_of r.view) l entry.0 n.named n.tokens at entry.1 refl q.held q.granted
 
 -- ---- how many are granted
 
@@ -272,16 +272,16 @@ named_first v c (suc n) h le =
     let at : slice_get ls n ≡ Some l = view_lock v.locks n w.0 w.1 in
     let lt : n < length ls = slice_get_within ls n l at in
     let many : length os ≡ length ls = h.many in
-    let slot = there_is os n (omega arith) in
-    let right : IsRightName v.fixed v.top n l slot.0 = h.each n l slot.0 at slot.1 in
+    let entry = there_is os n (omega arith) in
+    let right : IsRightName v.fixed v.top n l entry.0 = h.each n l entry.0 at entry.1 in
     let now : List (Option Bound) = settled_names v.fixed 0 (first_left c n ls) os in
     let there : slice_get (first_left c n ls) n ≡ Some l = rest_stays c n ls ∙ at in
-    let still : slice_get now n ≡ Some slot.0 = get_names v.fixed 0 n n (first_left c n ls) os l slot.0 (omega arith) there slot.1 ∙ ap (λ (o : Option Bound). Some o) (right_name v.fixed v.top n l slot.0 right) in
+    let still : slice_get now n ≡ Some entry.0 = get_names v.fixed 0 n n (first_left c n ls) os l entry.0 (omega arith) there entry.1 ∙ ap (λ (o : Option Bound). Some o) (right_name v.fixed v.top n l entry.0 right) in
     names_append v.fixed os (left_of c v.locks n) (left_at c n (slice_get v.locks n))
     ∙ ap (λ (o : Option LockView). names_left v.fixed (names_left v.fixed os (left_of c v.locks n)) (left_at c n o)) w.1
     ∙ ap (λ (xs : List (Option Bound)). names_left v.fixed xs (left_at c n (Some w.0))) (named_first v c n h (omega (arith, le)))
-    ∙ named_one v.fixed v.top c n w.0 now slot.0 still right
-    ∙ set_names v.fixed 0 n n (first_left c n ls) os (left_lock c l) slot.0 (omega arith) slot.1 (let same : length (first_left c n ls) ≡ length ls = first_many c n ls in omega arith)
+    ∙ named_one v.fixed v.top c n w.0 now entry.0 still right
+    ∙ set_names v.fixed 0 n n (first_left c n ls) os (left_lock c l) entry.0 (omega arith) entry.1 (let same : length (first_left c n ls) ≡ length ls = first_many c n ls in omega arith)
     ∙ ap (λ (xs : List Lock). settled_names v.fixed 0 xs os) (next_left c n ls l at)
 
 -- ---- all of it
@@ -367,7 +367,7 @@ grants_few (x ∷ xs) = let rest : grants_in xs ≤ length xs = grants_few xs in
 
 -- what is so of entry i, when those before it are done
 pub record IsNextLeft (fixed : ℕ) (os now : List (Option Bound)) (ls : List Left) (i : ℕ) (l : Left) : Type 0 where
-  pub slot : slice_get now l.lock ≡ slice_get os l.lock
+  pub entry : slice_get now l.lock ≡ slice_get os l.lock
   pub told : told_left now l ≡ told_left os l
   pub tellable : IsTellableLeft now l
   pub within : l.lock < length now
@@ -382,21 +382,21 @@ pub next_left_is : (fixed : ℕ) (os now : List (Option Bound)) (ls : List Left)
     ((j k : ℕ) (m n : Left) → slice_get ls j ≡ Some m → slice_get ls k ≡ Some n → m.lock ≡ n.lock → j ≡ k) → IsTellableLeft os l → IsNextLeft fixed os now ls i l
 next_left_is fixed os now ls i l e at apart t =
     let other : slice_get (names_left fixed os (take i ls)) l.lock ≡ slice_get os l.lock = names_other fixed l.lock os (take i ls) (λ j m f same.
-    let r = taken_slot ls i j m f in
+    let r = taken_entry ls i j m f in
     let before : j < i = r.0 in
     let is : j ≡ i = apart j i m l r.1 at same in
     omega arith) in
-    let slot : slice_get now l.lock ≡ slice_get os l.lock = ap (λ (x : List (Option Bound)). slice_get x l.lock) e ∙ other in
+    let entry : slice_get now l.lock ≡ slice_get os l.lock = ap (λ (x : List (Option Bound)). slice_get x l.lock) e ∙ other in
     let taken : take (i + 1) ls ≡ take i ls ++ l ∷ [] = more_taken ls i l at in
     let more : grants_in (take (i + 1) ls) ≡ grants_in (take i ls ++ l ∷ []) = ap (λ (x : List Left). grants_in x) taken in
     let split : grants_in (take i ls ++ l ∷ []) ≡ grants_in (take i ls) + (grant_count l.granted + 0) = grants_append (take i ls) (l ∷ []) in
     let some : grants_in (take (i + 1) ls) ≤ length (take (i + 1) ls) = grants_few (take (i + 1) ls) in
     let most : length (take (i + 1) ls) ≤ length ls = take_few (i + 1) ls in
     record {
-      slot = slot;
-      told = ap (λ (o : Option (Option Bound)). record { lock = l.lock; ended = l.ended; granted = option_map (told_holder (bound_or o)) l.granted }) slot;
-      tellable = (t.0, slot ∙ t.1, t.2);
-      within = slice_get_within now l.lock (Some t.0) (slot ∙ t.1);
+      entry = entry;
+      told = ap (λ (o : Option (Option Bound)). record { lock = l.lock; ended = l.ended; granted = option_map (told_holder (bound_or o)) l.granted }) entry;
+      tellable = (t.0, entry ∙ t.1, t.2);
+      within = slice_get_within now l.lock (Some t.0) (entry ∙ t.1);
       names = ap (λ (x : List (Option Bound)). name_left fixed x l) e ∙ sym (names_append fixed os (take i ls) (l ∷ [])) ∙ sym (ap (λ (x : List Left). names_left fixed os x) taken);
       grants = omega arith;
       few = omega arith;

@@ -79,14 +79,14 @@ said_first v c (suc n) h le =
     let at : slice_get ls n ≡ Some l = view_lock v.locks n w.0 w.1 in
     let many : length os ≡ length ls = h.many in
     let same : length ls ≡ length v.locks = length-map v.locks lock_of in
-    let slot = there_is os n (omega arith) in
-    let right : IsRightName v.fixed v.top n l slot.0 = h.each n l slot.0 at slot.1 in
+    let entry = there_is os n (omega arith) in
+    let right : IsRightName v.fixed v.top n l entry.0 = h.each n l entry.0 at entry.1 in
     ap (λ (x : List Left). said_left os x) (map-append (told_left os) (left_of c v.locks n) (left_at c n (slice_get v.locks n)))
     ∙ said_append os (map (told_left os) (left_of c v.locks n)) (map (told_left os) (left_at c n (slice_get v.locks n)))
     ∙ ap (λ (o : Option LockView). said_left os (map (told_left os) (left_of c v.locks n)) ++ said_left os (map (told_left os) (left_at c n o))) w.1
     ∙ ap (λ (x : List Said). x ++ said_left os (map (told_left os) (left_at c n (Some w.0)))) (said_first v c n h (omega (arith, le)))
-    ∙ ap (λ (x : List Said). first_said c n ls os ++ x) (ring_said v.fixed v.top c n w.0 os slot.0 slot.1 right)
-    ∙ sym (first_more c n ls os l slot.0 at slot.1)
+    ∙ ap (λ (x : List Said). first_said c n ls os ++ x) (ring_said v.fixed v.top c n w.0 os entry.0 entry.1 right)
+    ∙ sym (first_more c n ls os l entry.0 at entry.1)
 
 -- ---- all of them
 

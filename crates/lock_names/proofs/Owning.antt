@@ -87,7 +87,7 @@ no_holder (Some h) e = absurd (none_some h.client (sym e))
 -- a ring was asked under the name
 changed_turn : (s : Named) (i : ℕ) (b : Bound) (t : Turn) (x : List ℕ) (v : Lock) (f : Fits s i b) → b.name ≡ x → Same t.lock v → (v.holder ≡ None → v.queue ≡ []) → Changed s (turned s i b f.lock t).named x v
 changed_turn s i b t x v f own same empty = record {
-  used = λ j d l e g. elim (get_set s.names i j o f.was (Some d) f.slot e) [
+  used = λ j d l e g. elim (get_set s.names i j o f.was (Some d) f.entry e) [
     | inl p ↦ elim (get_set s.locks i j t.lock f.lock l f.there g) [
       | inl q ↦ inl (mine d p.1, record { held = ap (λ (y : Lock). client_of y.holder) q.1 ∙ same.held; queue = ap (λ (y : Lock). y.queue) q.1 ∙ same.queue })
       | inr q ↦ absurd (q.0 p.0)
@@ -99,7 +99,7 @@ changed_turn s i b t x v f own same empty = record {
   ];
   unused = λ y g. elim (cases_Bool (bytes_eq y x)) [
     | inl q ↦ elim (cases_Bool (nat_lt i s.fixed || is_some (client_of t.lock.holder))) [
-      | inl on ↦ absurd (unlike y (slice_set s.names i o) i b g (get_set_same s.names i o f.was f.slot ∙ ap (λ (a : Option Bound). Some a) (kept_stays _ b on)) (own ∙ sym (same_name y x q)))
+      | inl on ↦ absurd (unlike y (slice_set s.names i o) i b g (get_set_same s.names i o f.was f.entry ∙ ap (λ (a : Option Bound). Some a) (kept_stays _ b on)) (own ∙ sym (same_name y x q)))
       | inr off ↦
           let nobody : v.holder ≡ None = no_holder v.holder (sym same.held ∙ no_one (client_of t.lock.holder) (or_parts (nat_lt i s.fixed) (is_some (client_of t.lock.holder)) off).1) in
           inl (same_name y x q, nobody, empty nobody)
@@ -117,7 +117,7 @@ changed_turn s i b t x v f own same empty = record {
           ]),
         )
   ];
-  known = λ j d e. elim (get_set s.names i j o f.was (Some d) f.slot e) [
+  known = λ j d e. elim (get_set s.names i j o f.was (Some d) f.entry e) [
     | inl p ↦ inl (mine d p.1)
     | inr p ↦ inr p.1
   ];
@@ -130,7 +130,7 @@ changed_turn s i b t x v f own same empty = record {
     mine d e = ap (λ (a : Bound). a.name) (sym (kept_some (nat_lt i s.fixed || is_some (client_of t.lock.holder)) b d (sym e))) ∙ own
 
     was_is : (j : ℕ) (d : Bound) → j ≡ i → slice_get s.names j ≡ Some (Some d) → Some d ≡ f.was
-    was_is j d p e = some_same (Some d) f.was (sym e ∙ ap (λ (k : ℕ). slice_get s.names k) p ∙ f.slot)
+    was_is j d p e = some_same (Some d) f.was (sym e ∙ ap (λ (k : ℕ). slice_get s.names k) p ∙ f.entry)
 
 -- no ring has the name
 changed_none : (s : Named) (x : List ℕ) (v : Lock) → found x s.names ≡ None → v.holder ≡ None → v.queue ≡ [] → Changed s s x v
@@ -160,8 +160,8 @@ module _ (ns : List (List ℕ)) (s : Named) (ls : List Lock) (n : IsNamed s) (w 
   own_place : (j : ℕ) (m : Lock) → slice_get ls j ≡ Some m → (x : List ℕ) × (slice_get ns j ≡ Some x)
   own_place j m e = there_is ns j (subst (λ (k : ℕ). j < k) w.many (slice_get_within ls j m e))
 
-  slot_at : (i : ℕ) (l : Lock) → slice_get s.locks i ≡ Some l → (o : Option Bound) × (slice_get s.names i ≡ Some o)
-  slot_at i l e = there_is s.names i (subst (λ (k : ℕ). i < k) (sym n.many) (slice_get_within s.locks i l e))
+  entry_at : (i : ℕ) (l : Lock) → slice_get s.locks i ≡ Some l → (o : Option Bound) × (slice_get s.names i ≡ Some o)
+  entry_at i l e = there_is s.names i (subst (λ (k : ℕ). i < k) (sym n.many) (slice_get_within s.locks i l e))
 
   waiting : (c i : ℕ) (l : Lock) (o : Option Bound) → slice_get s.locks i ≡ Some l → slice_get s.names i ≡ Some o → stands c l.queue ≡ true → (m : Lock) × (waits_for ls c ≡ Some m) × (client_of l.holder ≡ client_of m.holder)
   waiting c i l None e f g = absurd (nobody_there c l.queue ((n.right.each i l e).held (n.each i l None e f).1) g)
@@ -175,8 +175,8 @@ module _ (ns : List (List ℕ)) (s : Named) (ls : List Lock) (n : IsNamed s) (w 
   not_waiting c j m x None e f g h t = nobody_there c m.queue (w.unused j x m g f h).1 t
   not_waiting c j m x (Some p) e f g h t =
       let a = found_at x s.names p h in
-      let l = lock_at s p.0 (Some p.1) n a.slot in
-      let same = w.used j m p.0 p.1 l.0 (g ∙ ap (λ (y : List ℕ). Some y) a.name) f a.slot l.1 in
+      let l = lock_at s p.0 (Some p.1) n a.entry in
+      let same = w.used j m p.0 p.1 l.0 (g ∙ ap (λ (y : List ℕ). Some y) a.name) f a.entry l.1 in
       both_ways (stands c l.0.queue) (waits_nowhere s.locks c p.0 l.0 e l.1) (subst (λ (y : List Waiter). stands c y ≡ true) (sym same.1) t)
 
   neither : (c : ℕ) (v : Option Lock) → waits_for s.locks c ≡ None → waits_for ls c ≡ v → v ≡ None
@@ -190,7 +190,7 @@ module _ (ns : List (List ℕ)) (s : Named) (ls : List Lock) (n : IsNamed s) (w 
   wait_by c None e = Neither refl (neither c (waits_for ls c) e refl)
   wait_by c (Some l) e =
       let a = waits_at s.locks c l e in
-      let o = slot_at a.at l a.lock in
+      let o = entry_at a.at l a.lock in
       let m = waiting c a.at l o.0 a.lock o.1 a.stands in
       Both l m.0 refl m.1 m.2
 
@@ -293,7 +293,7 @@ module _ (ns : List (List ℕ)) (s : Named) (ls : List Lock) (n : IsNamed s) (w 
   same_found p e =
       let f = fits_found s x p n e in
       let a = found_at x s.names p e in
-      let same = w.used k m p.0 p.1 f.lock (at ∙ ap (λ (y : List ℕ). Some y) a.name) there a.slot f.there in
+      let same = w.used k m p.0 p.1 f.lock (at ∙ ap (λ (y : List ℕ). Some y) a.name) there a.entry f.there in
       record { held = same.0; queue = same.1 }
 
   found_steps : (p : ℕ × Bound) (g : Option ℕ) (ask : Ask) → found x s.names ≡ Some p → Goal ask (Some p) g
@@ -349,7 +349,7 @@ module _ (ns : List (List ℕ)) (s : Named) (ls : List Lock) (n : IsNamed s) (w 
       })
 
   all_held : free s.names ≡ None → (i : ℕ) (l : Lock) → s.fixed ≤ i → slice_get s.locks i ≡ Some l → is_some l.holder ≡ true
-  all_held g i l le e = by (slot_at ns s ls n w i l e).0 (slot_at ns s ls n w i l e).1
+  all_held g i l le e = by (entry_at ns s ls n w i l e).0 (entry_at ns s ls n w i l e).1
     where
       by : (o : Option Bound) → slice_get s.names i ≡ Some o → is_some l.holder ≡ true
       by None q = absurd (none_free s.names i g q)

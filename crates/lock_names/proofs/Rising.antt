@@ -76,14 +76,14 @@ below_turn : (x : List ℕ) (low high : ℕ) (s : Named) (i : ℕ) (b : Bound) (
 below_turn x low high s i b t f w le own which = (
   le,
   λ j l d e g same. elim (get_set s.locks i j t.lock f.lock l f.there e) [
-    | inl p ↦ elim (get_set s.names i j (name_after s.fixed i b t) f.was (Some d) f.slot g) [
+    | inl p ↦ elim (get_set s.names i j (name_after s.fixed i b t) f.was (Some d) f.entry g) [
       | inl q ↦
           let is : b ≡ d = kept_some _ b d (sym q.1) in
           subst (λ (z : Lock). high ≤ token_in d z.ring.grants) (sym p.1)
           (subst (λ (z : Bound). high ≤ token_in z t.lock.ring.grants) is (own (ap (λ (z : Bound). z.name) is ∙ same)))
       | inr q ↦ absurd (q.0 p.0)
     ]
-    | inr p ↦ elim (get_set s.names i j (name_after s.fixed i b t) f.was (Some d) f.slot g) [
+    | inr p ↦ elim (get_set s.names i j (name_after s.fixed i b t) f.was (Some d) f.entry g) [
       | inl q ↦ absurd (p.0 q.0)
       | inr q ↦ elim which [
         | inl z ↦ subst (λ (k : ℕ). k ≤ token_in d l.ring.grants) (sym z) (w.1 j l d p.1 q.1 same)
@@ -96,7 +96,7 @@ below_turn x low high s i b t f w le own which = (
 -- the token of the ring's last grant is not below
 reached : (x : List ℕ) (low : ℕ) (s : Named) (i : ℕ) (b : Bound) (f : Fits s i b) → IsBelow low x s → b.name ≡ x → low ≤ token_in b f.lock.ring.grants
 reached x low s i b f w same = elim f.which [
-  | inl q ↦ w.1 i f.lock b f.there (f.slot ∙ ap (λ (o : Option Bound). Some o) q) same
+  | inl q ↦ w.1 i f.lock b f.there (f.entry ∙ ap (λ (o : Option Bound). Some o) q) same
   | inr q ↦
       let top : low ≤ s.top = w.0 in
       let more : s.top ≤ token_in b f.lock.ring.grants = q.2 in

@@ -211,12 +211,12 @@ found_added y (o ∷ os) = same_on y o (os ++ None ∷ []) os (found_added y os)
 once_bound : (os : List (Option Bound)) (i : ℕ) (b : Bound) → slice_get os i ≡ Some None → found b.name os ≡ None →
     ((j k : ℕ) (d e : Bound) → slice_get os j ≡ Some (Some d) → slice_get os k ≡ Some (Some e) → d.name ≡ e.name → j ≡ k) →
     (j k : ℕ) (d e : Bound) → slice_get (slice_set os i (Some b)) j ≡ Some (Some d) → slice_get (slice_set os i (Some b)) k ≡ Some (Some e) → d.name ≡ e.name → j ≡ k
-once_bound os i b slot none once j k d e f g same = elim (get_set os i j (Some b) None (Some d) slot f) [
-  | inl p ↦ elim (get_set os i k (Some b) None (Some e) slot g) [
+once_bound os i b entry none once j k d e f g same = elim (get_set os i j (Some b) None (Some d) entry f) [
+  | inl p ↦ elim (get_set os i k (Some b) None (Some e) entry g) [
     | inl q ↦ p.0 ∙ sym q.0
     | inr q ↦ absurd (unlike b.name os k e none q.1 (sym same ∙ ap (λ (x : Bound). x.name) (some_same d b p.1)))
   ]
-  | inr p ↦ elim (get_set os i k (Some b) None (Some e) slot g) [
+  | inr p ↦ elim (get_set os i k (Some b) None (Some e) entry g) [
     | inl q ↦ absurd (unlike b.name os j d none p.1 (same ∙ ap (λ (x : Bound). x.name) (some_same e b q.1)))
     | inr q ↦ once j k d e p.1 q.1 same
   ]
@@ -225,23 +225,23 @@ once_bound os i b slot none once j k d e f g same = elim (get_set os i j (Some b
 -- the first of the list gets a name
 pub bound_table : (os : List (Option Bound)) (look more : List ℕ → Option ℕ) (ring : ℕ) (ys : List ℕ) (b : Bound) → IsTable os look (ring ∷ ys) → slice_get os ring ≡ Some None → found b.name os ≡ None →
     ((y : List ℕ) → more y ≡ cond (bytes_eq b.name y) (Some ring) (look y)) → IsTable (slice_set os ring (Some b)) more ys
-bound_table os look more ring ys b t slot none new = record {
-  looks = λ y. new y ∙ ap (λ (o : Option ℕ). cond (bytes_eq b.name y) (Some ring) o) (t.looks y) ∙ sym (found_bound os ring b y slot none);
+bound_table os look more ring ys b t entry none new = record {
+  looks = λ y. new y ∙ ap (λ (o : Option ℕ). cond (bytes_eq b.name y) (Some ring) o) (t.looks y) ∙ sym (found_bound os ring b y entry none);
   free = λ f.
       let sum : sum_by f (ring ∷ ys) ≡ free_sum f 0 os = t.free f in
       let first : sum_by f (ring ∷ ys) ≡ f ring + sum_by f ys = sum_by-cons f ring ys in
-      let set : free_sum f 0 os ≡ f (0 + ring) + free_sum f 0 (slice_set os ring (Some b)) = sum_bound f 0 os ring b slot in
+      let set : free_sum f 0 os ≡ f (0 + ring) + free_sum f 0 (slice_set os ring (Some b)) = sum_bound f 0 os ring b entry in
       let same : f (0 + ring) ≡ f ring = ap f (omega arith) in
       omega arith;
-  once = once_bound os ring b slot none t.once;
+  once = once_bound os ring b entry none t.once;
 }
 
 once_forgot : (os : List (Option Bound)) (i : ℕ) (b : Bound) → slice_get os i ≡ Some (Some b) →
     ((j k : ℕ) (d e : Bound) → slice_get os j ≡ Some (Some d) → slice_get os k ≡ Some (Some e) → d.name ≡ e.name → j ≡ k) →
     (j k : ℕ) (d e : Bound) → slice_get (slice_set os i None) j ≡ Some (Some d) → slice_get (slice_set os i None) k ≡ Some (Some e) → d.name ≡ e.name → j ≡ k
-once_forgot os i b slot once j k d e f g same = elim (get_set os i j None (Some b) (Some d) slot f) [
+once_forgot os i b entry once j k d e f g same = elim (get_set os i j None (Some b) (Some d) entry f) [
   | inl p ↦ absurd (none_some d (sym p.1))
-  | inr p ↦ elim (get_set os i k None (Some b) (Some e) slot g) [
+  | inr p ↦ elim (get_set os i k None (Some b) (Some e) entry g) [
     | inl q ↦ absurd (none_some e (sym q.1))
     | inr q ↦ once j k d e p.1 q.1 same
   ]
@@ -250,15 +250,15 @@ once_forgot os i b slot once j k d e f g same = elim (get_set os i j None (Some 
 -- a ring loses its name
 pub forgot_table : (os : List (Option Bound)) (look less : List ℕ → Option ℕ) (ring : ℕ) (ys zs : List ℕ) (b : Bound) → IsTable os look ys → slice_get os ring ≡ Some (Some b) →
     ((y : List ℕ) → less y ≡ cond (bytes_eq b.name y) None (look y)) → ((f : ℕ → ℕ) → sum_by f zs ≡ f ring + sum_by f ys) → IsTable (slice_set os ring None) less zs
-forgot_table os look less ring ys zs b t slot new sums = record {
-  looks = λ y. new y ∙ ap (λ (o : Option ℕ). cond (bytes_eq b.name y) None o) (t.looks y) ∙ sym (found_forgot os ring b y slot (λ j d f same. t.once j ring d b f slot same));
+forgot_table os look less ring ys zs b t entry new sums = record {
+  looks = λ y. new y ∙ ap (λ (o : Option ℕ). cond (bytes_eq b.name y) None o) (t.looks y) ∙ sym (found_forgot os ring b y entry (λ j d f same. t.once j ring d b f entry same));
   free = λ f.
       let sum : sum_by f ys ≡ free_sum f 0 os = t.free f in
       let all : sum_by f zs ≡ f ring + sum_by f ys = sums f in
-      let set : free_sum f 0 (slice_set os ring None) ≡ f (0 + ring) + free_sum f 0 os = sum_forgot f 0 os ring b slot in
+      let set : free_sum f 0 (slice_set os ring None) ≡ f (0 + ring) + free_sum f 0 os = sum_forgot f 0 os ring b entry in
       let same : f (0 + ring) ≡ f ring = ap f (omega arith) in
       omega arith;
-  once = once_forgot os ring b slot t.once;
+  once = once_forgot os ring b entry t.once;
 }
 
 -- ---- lists of rings
@@ -404,11 +404,11 @@ kept_bound os look more rs qs room wide top ring key b k first_free name unused 
 pub kept_forgot : (os : List (Option Bound)) (look less : List ℕ → Option ℕ) (rs qs : List (Reverse ℕ)) (room wide : ℕ) (item : Reverse ℕ) (ring : ℕ) (b : Bound) → IsKeptTable os look rs room →
     slice_get os ring ≡ Some (Some b) → item.0 ≡ ring → IsPermutation (item ∷ rs) qs → KeepsHeap later rs qs → room ≤ wide →
     ((y : List ℕ) → less y ≡ cond (bytes_eq b.name y) None (look y)) → IsKeptTable (slice_set os ring None) less qs wide
-kept_forgot os look less rs qs room wide item ring b k slot at p keeps le new =
+kept_forgot os look less rs qs room wide item ring b k entry at p keeps le new =
     let len : length (slice_set os ring None) ≡ length os = length-set os ring None in
     let holds : length os ≤ room = k.holds in
     record {
-      table = forgot_table os look less ring (numbers rs) (numbers qs) b k.table slot new
+      table = forgot_table os look less ring (numbers rs) (numbers qs) b k.table entry new
           (λ f. subst (λ (n : ℕ). sum_by f (numbers qs) ≡ f n + sum_by f (numbers rs)) at (pushed_sums item rs qs p f));
       order = keeps k.order;
       holds = omega arith;
@@ -468,11 +468,11 @@ empty_contradicts os look rs room ring k len e = none_some ring (sym (empty_is_f
 
 -- ---- the list of bindings
 
-pub slot_within : (items : List (Option Binding)) (ring : ℕ) (o : Option Bound) → slice_get (bounds_of items) ring ≡ Some o → ring < length items
-slot_within items ring o e =
+pub entry_within : (items : List (Option Binding)) (ring : ℕ) (o : Option Bound) → slice_get (bounds_of items) ring ≡ Some o → ring < length items
+entry_within items ring o e =
     let len : length (bounds_of items) ≡ length items = length-map items (λ (x : Option Binding). option_map bound_of x) in
     let lt : ring < length (bounds_of items) = slice_get_within (bounds_of items) ring o e in
     omega arith
 
-pub slot_read : (items : List (Option Binding)) (ring : ℕ) (x : Option Binding) → ring < length items → x ≡ slice_index_or items ring x → slice_get (bounds_of items) ring ≡ Some (option_map bound_of x)
-slot_read items ring x lt e = slice_get-map (λ (o : Option Binding). option_map bound_of o) items ring ∙ ap (λ (o : Option (Option Binding)). option_map (λ (z : Option Binding). option_map bound_of z) o) (slice_get_read items (length items) ring x refl lt e)
+pub entry_read : (items : List (Option Binding)) (ring : ℕ) (x : Option Binding) → ring < length items → x ≡ slice_index_or items ring x → slice_get (bounds_of items) ring ≡ Some (option_map bound_of x)
+entry_read items ring x lt e = slice_get-map (λ (o : Option Binding). option_map bound_of o) items ring ∙ ap (λ (o : Option (Option Binding)). option_map (λ (z : Option Binding). option_map bound_of z) o) (slice_get_read items (length items) ring x refl lt e)

@@ -218,14 +218,14 @@ names_same v i b n f =
     let here : stays v.fixed i (locks_of v.locks) ≡ (nat_lt i v.fixed || is_some (client_of l.holder)) = ap (λ (o : Option Lock). nat_lt i v.fixed || is_some (holder_of o)) f.there in
     elim f.which [
       | inl e ↦
-          let slot : slice_get v.names i ≡ Some (Some b) = f.slot ∙ ap (λ (o : Option Bound). Some o) e in
-          let q = stays_held v.fixed i l (n.each i l (Some b) f.there slot).1 (nat_lt i v.fixed) refl in
-          ap (λ (z : Bool). slice_set v.names i (kept z b)) (here ∙ q) ∙ set_same v.names i (Some b) slot
+          let entry : slice_get v.names i ≡ Some (Some b) = f.entry ∙ ap (λ (o : Option Bound). Some o) e in
+          let q = stays_held v.fixed i l (n.each i l (Some b) f.there entry).1 (nat_lt i v.fixed) refl in
+          ap (λ (z : Bool). slice_set v.names i (kept z b)) (here ∙ q) ∙ set_same v.names i (Some b) entry
       | inr e ↦
-          let slot : slice_get v.names i ≡ Some None = f.slot ∙ ap (λ (o : Option Bound). Some o) e.0 in
-          let w = n.each i l None f.there slot in
+          let entry : slice_get v.names i ≡ Some None = f.entry ∙ ap (λ (o : Option Bound). Some o) e.0 in
+          let w = n.each i l None f.there entry in
           let q = goes_free v.fixed i l w.0 w.1 (nat_lt i v.fixed) refl in
-          ap (λ (z : Bool). slice_set v.names i (kept z b)) (here ∙ q) ∙ set_same v.names i None slot
+          ap (λ (z : Bool). slice_set v.names i (kept z b)) (here ∙ q) ∙ set_same v.names i None entry
     ]
 
 same_view : (ls ms : List LockView) (os ps : List (Option Bound)) (f g t u : ℕ) → ls ≡ ms → os ≡ ps → f ≡ g → t ≡ u →
@@ -368,9 +368,9 @@ settle_free os vs fixed i b v at le h =
 
 pub settle_kept : (os : List (Option Bound)) (vs : List LockView) (fixed i : ℕ) (b : Bound) (v : LockView) → slice_get os i ≡ Some (Some b) → slice_get vs i ≡ Some v → (fixed ≤ i → is_some v.holder ≡ true) →
     os ≡ slice_set os i (kept (stays fixed i (locks_of vs)) b)
-settle_kept os vs fixed i b v slot at h =
+settle_kept os vs fixed i b v entry at h =
     let q : stays fixed i (locks_of vs) ≡ true = ap (λ (o : Option Lock). nat_lt i fixed || is_some (holder_of o)) (view_lock vs i v at) ∙ stays_held fixed i (lock_of v) h (nat_lt i fixed) refl in
-    sym (ap (λ (z : Bool). slice_set os i (kept z b)) q ∙ set_same os i (Some b) slot)
+    sym (ap (λ (z : Bool). slice_set os i (kept z b)) q ∙ set_same os i (Some b) entry)
 
 -- ---- a name that a ring has
 
@@ -411,7 +411,7 @@ settled_bound os now later i b o e f = f ∙ ap (λ (x : List (Option Bound)). s
 
 -- what is so of the lowest free ring
 pub record IsFree (v : NamedView) (x : List ℕ) (ask : Ask) (i : ℕ) : Type 0 where
-  pub slot : slice_get v.names i ≡ Some None
+  pub entry : slice_get v.names i ≡ Some None
   pub lock : LockView
   pub there : slice_get v.locks i ≡ Some lock
   pub reach : Reaches (named_of v) x ask i (fresh (named_of v) x i)
@@ -419,12 +419,12 @@ pub record IsFree (v : NamedView) (x : List ℕ) (ask : Ask) (i : ℕ) : Type 0 
 
 pub free_ring : (v : NamedView) (x : List ℕ) (ask : NameAsk) (i : ℕ) → IsKeptNamed v → found x v.names ≡ None → unused_refusal (ask_of ask) ≡ None → free v.names ≡ Some i → IsFree v x (ask_of ask) i
 free_ring v x ask i n none not_refused f =
-    let slot : slice_get v.names i ≡ Some None = free_at v.names i f in
-    let l = lock_at (named_of v) i None n.named slot in
+    let entry : slice_get v.names i ≡ Some None = free_at v.names i f in
+    let l = lock_at (named_of v) i None n.named entry in
     let w = lock_view v.locks i l.0 l.1 in
     let hold : for_hold (ask_of ask) ≡ true = hold_or_refused ask not_refused in
     record {
-      slot = slot;
+      entry = entry;
       lock = w.0;
       there = w.1;
       reach = reaches_free (named_of v) x (ask_of ask) i n.named none hold f;

@@ -42,7 +42,7 @@ settle-requires-clause-ring c =
     let f = free_ring v c.args.name.now c.args.ask c.in-Some-lowest_free.ring c.requires.kept c.requires.unused none (sym c.lowest_free.ensures ∙ c.in-Some-lowest_free.is) in
     let b : Bound = record { name = c.args.name.now; before = c.grants.result; floor = c.args.rings.now.top } in
     slice_get_within c.bind.new.self c.in-Some-lowest_free.ring (Some b)
-    (ap (λ (t : List (Option Bound)). slice_get t c.in-Some-lowest_free.ring) c.in-Ok.ensures.ok ∙ get_set_same c.args.table.now c.in-Some-lowest_free.ring (Some b) None f.slot)
+    (ap (λ (t : List (Option Bound)). slice_get t c.in-Some-lowest_free.ring) c.in-Ok.ensures.ok ∙ get_set_same c.args.table.now c.in-Some-lowest_free.ring (Some b) None f.entry)
 
 pub returns-clause-asked : goal.returns-clause-asked
 returns-clause-asked c =
@@ -53,7 +53,7 @@ returns-clause-asked c =
     let f = free_ring v c.args.name.now c.args.ask i c.requires.kept c.requires.unused none (sym c.lowest_free.ensures ∙ c.in-Some-lowest_free.is) in
     let re = f.bound c.grants.result (c.grants.ensures ∙ ap (λ (e : EndlessView). e.base.grants + e.ring.book.now.grants) (c.ring.ensures f.lock f.there)) in
     let b : Bound = record { name = c.args.name.now; before = c.grants.result; floor = c.args.rings.now.top } in
-    let there : slice_get c.bind.new.self i ≡ Some (Some b) = ap (λ (t : List (Option Bound)). slice_get t i) c.in-Ok.ensures.ok ∙ get_set_same c.args.table.now i (Some b) None f.slot in
+    let there : slice_get c.bind.new.self i ≡ Some (Some b) = ap (λ (t : List (Option Bound)). slice_get t i) c.in-Ok.ensures.ok ∙ get_set_same c.args.table.now i (Some b) None f.entry in
     let t = told_as c.args.rings.now.locks c.ask_ring-answers.new.rings.locks c.args.rings.now.top c.ask_ring-answers.new.rings.top c.args.client i b (record { before = c.grants.result; floor = c.args.rings.now.top }) (ask_of c.args.ask)
     c.ask_ring-answers.result refl c.ask_ring-answers.ensures.told in
     let names = settled_bound c.args.table.now c.bind.new.self c.settle.new.table i b (kept (stays c.ask_ring-answers.new.rings.fixed i (locks_of c.ask_ring-answers.new.rings.locks)) b) c.in-Ok.ensures.ok (c.settle.ensures b there)
@@ -70,7 +70,7 @@ returns-clause-kept c =
     let f = free_ring v c.args.name.now c.args.ask i c.requires.kept c.requires.unused none (sym c.lowest_free.ensures ∙ c.in-Some-lowest_free.is) in
     let re = f.bound c.grants.result (c.grants.ensures ∙ ap (λ (e : EndlessView). e.base.grants + e.ring.book.now.grants) (c.ring.ensures f.lock f.there)) in
     let b : Bound = record { name = c.args.name.now; before = c.grants.result; floor = c.args.rings.now.top } in
-    let there : slice_get c.bind.new.self i ≡ Some (Some b) = ap (λ (t : List (Option Bound)). slice_get t i) c.in-Ok.ensures.ok ∙ get_set_same c.args.table.now i (Some b) None f.slot in
+    let there : slice_get c.bind.new.self i ≡ Some (Some b) = ap (λ (t : List (Option Bound)). slice_get t i) c.in-Ok.ensures.ok ∙ get_set_same c.args.table.now i (Some b) None f.entry in
     let t = told_as c.args.rings.now.locks c.ask_ring-answers.new.rings.locks c.args.rings.now.top c.ask_ring-answers.new.rings.top c.args.client i b (record { before = c.grants.result; floor = c.args.rings.now.top }) (ask_of c.args.ask)
     c.ask_ring-answers.result refl c.ask_ring-answers.ensures.told in
     let names = settled_bound c.args.table.now c.bind.new.self c.settle.new.table i b (kept (stays c.ask_ring-answers.new.rings.fixed i (locks_of c.ask_ring-answers.new.rings.locks)) b) c.in-Ok.ensures.ok (c.settle.ensures b there)

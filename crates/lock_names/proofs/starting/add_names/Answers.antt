@@ -2,16 +2,16 @@ use Rattle.std.proofs.Common.{◌≡◌, ◌<◌, ℕ, map, length, List, Option
 use Rattle.std.specs.Prelude.{slice_get, is_some, string_bytes}
 use Rattle.lock_names.specs.Bindings.{Bound}
 use Rattle.lock_names.specs.Table.{ring_of}
-use Rattle.lock_names.proofs.Begins.{mapped_slot, found_twice, few_names, not_yet, name_added, item_slot, all_names, names_within}
+use Rattle.lock_names.proofs.Begins.{mapped_entry, found_twice, few_names, not_yet, name_added, item_entry, all_names, names_within}
 use Rattle.lock_names.proofs.starting.add_names.Goals as goal
 
 pub returns-then-is_some-clause-why : goal.returns-then-is_some-clause-why
 returns-then-is_some-clause-why c =
     let ns : List (List ℕ) = map string_bytes c.args.names.now in
     let k = c.loop-name.name-index in
-    let slot : slice_get ns k ≡ Some c.as_str.result.now = mapped_slot string_bytes c.args.names.now k c.name-item.result c.loop-name-test.true c.name-item.is ∙ ap (λ (x : List ℕ). Some x) (sym c.as_str.ensures.value) in
+    let entry : slice_get ns k ≡ Some c.as_str.result.now = mapped_entry string_bytes c.args.names.now k c.name-item.result c.loop-name-test.true c.name-item.is ∙ ap (λ (x : List ℕ). Some x) (sym c.as_str.ensures.value) in
     let there = ap (λ (o : Option ℕ). is_some o) (sym c.find.ensures) ∙ sym c.is_some.ensures ∙ c.if-is_some.true in
-    inl (refl, λ apart. found_twice ns k c.as_str.result.now c.loop-name.table slot c.loop-name.invariant there apart)
+    inl (refl, λ apart. found_twice ns k c.as_str.result.now c.loop-name.table entry c.loop-name.invariant there apart)
 
 pub add_named-requires-clause-few : goal.add_named-requires-clause-few
 add_named-requires-clause-few c =
@@ -26,8 +26,8 @@ pub loop-name-preserved : goal.loop-name-preserved
 loop-name-preserved c =
     let ns : List (List ℕ) = map string_bytes c.args.names.now in
     let k = c.loop-name.name-index in
-    let slot : slice_get ns k ≡ Some c.as_str-in-loop-name.result.now = mapped_slot string_bytes c.args.names.now k c.name-item.result c.loop-name-test.true c.name-item.is ∙ ap (λ (x : List ℕ). Some x) (sym c.as_str-in-loop-name.ensures.value) in
-    let s = item_slot ns k c.as_str-in-loop-name.result.now slot in
+    let entry : slice_get ns k ≡ Some c.as_str-in-loop-name.result.now = mapped_entry string_bytes c.args.names.now k c.name-item.result c.loop-name-test.true c.name-item.is ∙ ap (λ (x : List ℕ). Some x) (sym c.as_str-in-loop-name.ensures.value) in
+    let s = item_entry ns k c.as_str-in-loop-name.result.now entry in
     name_added ns k c.as_str-in-loop-name.result.now c.loop-name.table c.add_named.new.self s.0 s.1 c.loop-name.invariant c.in-Ok.ensures.ok
 
 pub returns-clause-ok : goal.returns-clause-ok

@@ -8,12 +8,12 @@ use Rattle.lock_names.specs.declared.table.Binding.{Binding}
 use Rattle.lock_names.specs.Bindings.{Bound}
 use Rattle.lock_names.specs.Table.{bound_of, bounds_of, IsKeptTable}
 use Rattle.lock_names.proofs.Found.{free_at}
-use Rattle.lock_names.proofs.Tabled.{kept_bound, empty_contradicts, slot_within}
+use Rattle.lock_names.proofs.Tabled.{kept_bound, empty_contradicts, entry_within}
 use Rattle.lock_names.proofs.table.bind_among.Goals as goal
 
 pub index_mut-requires : goal.index_mut-requires
 index_mut-requires c =
-    let lt = slot_within c.args.bound.now.items c.args.ring None (free_at (bounds_of c.args.bound.now.items) c.args.ring c.requires.lowest) in
+    let lt = entry_within c.args.bound.now.items c.args.ring None (free_at (bounds_of c.args.bound.now.items) c.args.ring c.requires.lowest) in
     let n = c.args.bound.now.ok.0 in
     omega arith
 
