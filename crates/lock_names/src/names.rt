@@ -155,7 +155,7 @@ fn ask_unbound(
 }
 
 /// A name is asked.
-fn take_among(
+fn ask_among(
     rings: &mut Rings,
     table: &mut Table,
     alloc: Global,
@@ -212,10 +212,10 @@ impl Names {
     /// Refused: `Names` where no ring has the name and none is free, `Holder` or `Waiter` where none has it and the ask is not for
     /// a hold; `Full` where the ask is for a hold and [`TOP_LIMIT`] grants were counted; what the lock of its ring refuses, with
     /// `Full`; or `Memory`. Nothing has changed then.
-    pub fn take(&mut self, alloc: Global, client: u64, name: &str, ask: NameAsk) -> NameAnswers
+    pub fn ask(&mut self, alloc: Global, client: u64, name: &str, ask: NameAsk) -> NameAnswers
         ensures { IsAsked self.old self.new client name.now (ask_of ask) result }
     {
-        take_among(&mut self.rings, &mut self.table, alloc, client, name, ask)
+        ask_among(&mut self.rings, &mut self.table, alloc, client, name, ask)
     }
 
     /// A client leaves all names: it waits for none any more, and its holds end. For each name that it held, `left` has an entry

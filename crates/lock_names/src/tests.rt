@@ -130,7 +130,7 @@ fn names_are_bound_and_forgotten(rt: HostRuntime) {
         (7, "deploy", NameAsk::Acquire(60), granted(0, 2)),
     ];
     for (client, name, ask, wanted) in rows {
-        assert!(&rt; are(names.take(alloc, client, name, ask), wanted));
+        assert!(&rt; are(names.ask(alloc, client, name, ask), wanted));
     }
 }
 
@@ -170,7 +170,7 @@ fn a_client_leaves_all_names(rt: HostRuntime) {
         (8, "deploy", 50),
     ];
     for (client, name, label) in asked {
-        names.take(alloc, client, name, NameAsk::Acquire(label));
+        names.ask(alloc, client, name, NameAsk::Acquire(label));
     }
     let mut left = Vec::new(alloc);
     assert!(&rt; left.reserve(3).is_ok());
@@ -194,6 +194,6 @@ fn a_client_leaves_all_names(rt: HostRuntime) {
         (9, "order/1", NameAsk::Release(2), released(1, None)),
     ];
     for (client, name, ask, wanted) in rows {
-        assert!(&rt; are(names.take(alloc, client, name, ask), wanted));
+        assert!(&rt; are(names.ask(alloc, client, name, ask), wanted));
     }
 }

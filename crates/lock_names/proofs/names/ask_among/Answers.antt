@@ -2,7 +2,7 @@ use Rattle.std.proofs.Common.{◌≡◌, List, ℕ, Some, sym, ◌∙◌, subst}
 use Rattle.lock_names.specs.Names.{found}
 use Rattle.lock_names.specs.Kept.{seen, ask_of, IsAsked}
 use Rattle.lock_names.proofs.Taking.{ring_found}
-use Rattle.lock_names.proofs.names.take_among.Goals as goal
+use Rattle.lock_names.proofs.names.ask_among.Goals as goal
 
 pub ask_bound-requires-clause-ring : goal.ask_bound-requires-clause-ring
 ask_bound-requires-clause-ring c =

@@ -1,6 +1,0 @@
-use Rattle.std.proofs.Common.{subst}
-use Rattle.lock_names.specs.Kept.{NamedView, seen, ask_of, IsAsked}
-use Rattle.lock_names.proofs.names.Names.take.Goals as goal
-
-pub returns : goal.returns
-returns c = subst (λ (v : NamedView). IsAsked v (seen c.take_among.new.rings c.take_among.new.table) c.args.client c.args.name.now (ask_of c.args.ask) c.take_among.result) c.self.view_is c.take_among.ensures.asked
