@@ -1,13 +1,17 @@
 -- A ring that is asked: what it answers, how many are granted or wait after it, and tokens of 64 bits.
 use Rattle.std.proofs.Common.{◌≡◌, ℕ, zero, suc, ◌+◌, ◌-◌, ◌*◌, ◌^◌, ◌<◌, ◌≤◌, Bool, true, false, List, [], ◌∷◌, ◌++◌, map, length, Option, None, Some, ◌⊎◌, inl, inr, refl, sym, ◌∙◌, ap, subst, arith}
-use Rattle.std.specs.Prelude.{slice_get, slice_set, filter, not, ◌==◌, ◌&&◌, option_map, if◌then◌else◌}
+use Rattle.std.specs.Prelude.{slice_get, slice_set, filter, not, ◌==◌, ◌&&◌, option_map, nat_le, if◌then◌else◌}
 use Rattle.std.proofs.Math.Nat.{mul-le-mul_right, suc-mul}
 use Rattle.std.proofs.lemmas.Bool.{both_ways}
 use Rattle.std.proofs.lemmas.List.{length-append, length-set, length-map}
 use Rattle.std.proofs.lemmas.List.Filters.{length-filter_both}
 use Rattle.std.proofs.lemmas.Option.{slice_get-map, slice_get_within}
-use Rattle.ring_model.specs.Limits.{event_limit}
+use Rattle.ring_model.specs.Limits.{event_limit, machine_limit}
 use Rattle.ring_model.specs.Ring.{IsRing}
+use Rattle.ring_model.specs.History.{after}
+use Rattle.ring_model.specs.Resources.{till}
+use Rattle.ring_model.proofs.Histories.{grants-after}
+use Rattle.held_locks.specs.Grants.{most_passes}
 use Rattle.endless_ring.specs.Endless.{EndlessView}
 use Rattle.held_locks.specs.declared.answers.Waiter.{Waiter}
 use Rattle.held_locks.specs.declared.answers.Holder.{Holder}
@@ -17,16 +21,16 @@ use Rattle.held_locks.specs.declared.answers.Answers.{Answers}
 use Rattle.held_locks.specs.declared.answers.Refusal.{Refusal}
 use Rattle.held_locks.specs.declared.answers.Refusal.TheVariants as refusal
 use Rattle.held_locks.specs.Queues.{Lock, stands, without, is_held_with}
-use Rattle.held_locks.specs.Locks.{Ask, Acquire, Try, Release, Cancel, Leave, Corrupt, Stats, Asked, Step, Turn, told, granted, advanced, ended, joined, acquired, tried, tried_of, acquire_refusal, try_refusal, turn, step, step_at}
+use Rattle.held_locks.specs.Locks.{Ask, Acquire, Try, Release, Cancel, Leave, Corrupt, Stats, Asked, Step, Turn, told, granted, advanced, ended, joined, acquired, tried, tried_of, acquire_refusal, try_refusal, turn, fault, faulted, step, step_at}
 use Rattle.held_locks.specs.Kept.{LockView, lock_of, locks_of, lock_limit, AreKept, IsKeptLock, AreMade, ended_at, own_answer, other_grant, answers_of, IsDone, IsLack, IsAnswer}
 use Rattle.held_locks.proofs.Moves.{Move, Stays, Waits, Gets, Ends, Drops, Faults, IsAsking, Acquires, Tries, IsEnd, Released, Left, waiter, move_of}
-use Rattle.held_locks.proofs.Rings.{grant_grants}
+use Rattle.held_locks.proofs.Rings.{grant_grants, fault_few}
 use Rattle.held_locks.proofs.Standing.{get_set_same}
 use Rattle.lock_names.specs.declared.replies.NameAsk.{NameAsk}
 use Rattle.lock_names.specs.declared.replies.NameAsk.TheVariants as asks
 use Rattle.lock_names.specs.Names.{Bound, token_in, number_in, of_ring, grants_at}
 use Rattle.lock_names.specs.Promises.{IsRightBound}
-use Rattle.lock_names.specs.Kept.{waiting, top_limit, ask_of, for_hold, own_number, IsReady, IsTellable}
+use Rattle.lock_names.specs.Kept.{waiting, top_limit, ask_of, may_pass, own_number, IsReady, IsTellable}
 use Rattle.lock_names.proofs.Found.{some_same, none_some, there_is}
 use Rattle.lock_names.proofs.Fitting.{IsMoved, moved}
 use Rattle.lock_names.proofs.Twins.{same_token}
@@ -65,15 +69,12 @@ few_waiting vs entries k =
 
 -- ---- how many are granted or wait after an ask
 
-abbrev pub is_fault : Ask → Bool
-is_fault (Corrupt i v) = true
-is_fault _ = false
-
 -- how many more it may be
-abbrev pub grows : Ask → ℕ
-grows (Acquire label) = 1
-grows (Try label) = 1
-grows _ = 0
+abbrev pub grows : Lock → Ask → ℕ
+grows l (Acquire label) = 1
+grows l (Try label) = 1
+grows l (Corrupt i v) = 1 + most_passes (length l.ring.ring.values)
+grows l _ = 0
 
 pub fewer : (c : ℕ) (queue : List Waiter) → length (without c queue) ≤ length queue
 fewer c queue =
@@ -81,9 +82,9 @@ fewer c queue =
     length-filter_both (λ (w : Waiter). w.client == c) (λ (w : Waiter). not (w.client == c)) (λ w. refl) queue in
     omega arith
 
-grows_one : (ask : Ask) (label : ℕ) → IsAsking ask label → grows ask ≡ 1
-grows_one ask label (Acquires e) = ap grows e
-grows_one ask label (Tries e) = ap grows e
+grows_one : (l : Lock) (ask : Ask) (label : ℕ) → IsAsking ask label → grows l ask ≡ 1
+grows_one l ask label (Acquires e) = ap (λ (a : Ask). grows l a) e
+grows_one l ask label (Tries e) = ap (λ (a : Ask). grows l a) e
 
 end_fewer : (l : Lock) (c : ℕ) (h : Holder) (ask : Ask) (seat : ℕ) (queue : List Waiter) (answers : List (ℕ × Answer)) → IsEnd l c h ask seat queue answers → length queue ≤ length l.queue
 end_fewer l c h ask seat queue answers (Released a b e f) = let same : length queue ≡ length l.queue = ap (λ (x : List Waiter). length x) e in omega arith
@@ -103,50 +104,59 @@ few_advanced : (l : Lock) (queue : List Waiter) (n : ℕ) → IsRing l.ring.ring
 few_advanced l [] n g le = le
 few_advanced l (w ∷ queue) n g le = one_more (advanced l.ring (w ∷ queue)).lock.ring.grants l.ring.grants (length queue) n (grant_grants l.ring w.label g) (omega (arith, le))
 
-pub few_move : (ls : List Lock) (l : Lock) (c : ℕ) (ask : Ask) (t : Turn) → IsRing l.ring.ring → is_fault ask ≡ false → Move ls l c ask t → AreFew (l.ring.grants + length l.queue + grows ask) t.lock
-few_move ls l c ask t g f (Stays a q leave e) =
-    let le : l.ring.grants + length l.queue ≤ l.ring.grants + length l.queue + grows ask = omega arith in
-    subst (λ (x : Turn). AreFew (l.ring.grants + length l.queue + grows ask) x.lock) (sym e) le
-few_move ls l c ask t g f (Waits label h k held other free back e) =
-    subst (λ (x : Turn). AreFew (l.ring.grants + length l.queue + grows ask) x.lock) (sym e) (
-    let one : grows ask ≡ 1 = ap grows k in
+pub few_move : (ls : List Lock) (l : Lock) (c : ℕ) (ask : Ask) (t : Turn) → IsRing l.ring.ring → Move ls l c ask t → AreFew (l.ring.grants + length l.queue + grows l ask) t.lock
+few_move ls l c ask t g (Stays a q leave e) =
+    let le : l.ring.grants + length l.queue ≤ l.ring.grants + length l.queue + grows l ask = omega arith in
+    subst (λ (x : Turn). AreFew (l.ring.grants + length l.queue + grows l ask) x.lock) (sym e) le
+few_move ls l c ask t g (Waits label h k held other free back e) =
+    subst (λ (x : Turn). AreFew (l.ring.grants + length l.queue + grows l ask) x.lock) (sym e) (
+    let one : grows l ask ≡ 1 = ap (λ (a : Ask). grows l a) k in
     let len : length (l.queue ++ waiter c label ∷ []) ≡ length l.queue + 1 = length-append l.queue (waiter c label ∷ []) in
-    let le : l.ring.grants + length (l.queue ++ waiter c label ∷ []) ≤ l.ring.grants + length l.queue + grows ask = omega arith in
+    let le : l.ring.grants + length (l.queue ++ waiter c label ∷ []) ≤ l.ring.grants + length l.queue + grows l ask = omega arith in
     le
     )
-few_move ls l c ask t g f (Gets label asking a e) =
-    subst (λ (x : Turn). AreFew (l.ring.grants + length l.queue + grows ask) x.lock) (sym e) (
-    let one : grows ask ≡ 1 = grows_one ask label asking in
-    one_more (granted l.ring l.queue (waiter c label)).lock.ring.grants l.ring.grants (length l.queue) (l.ring.grants + length l.queue + grows ask) (grant_grants l.ring label g) (omega arith)
+few_move ls l c ask t g (Gets label asking a e) =
+    subst (λ (x : Turn). AreFew (l.ring.grants + length l.queue + grows l ask) x.lock) (sym e) (
+    let one : grows l ask ≡ 1 = grows_one l ask label asking in
+    one_more (granted l.ring l.queue (waiter c label)).lock.ring.grants l.ring.grants (length l.queue) (l.ring.grants + length l.queue + grows l ask) (grant_grants l.ring label g) (omega arith)
     )
-few_move ls l c ask t g f (Ends h seat queue answers held own is e) =
+few_move ls l c ask t g (Ends h seat queue answers held own is e) =
     let le : length queue ≤ length l.queue = end_fewer l c h ask seat queue answers is in
-    subst (λ (x : Turn). AreFew (l.ring.grants + length l.queue + grows ask) x.lock) (sym e) (few_advanced l queue (l.ring.grants + length l.queue + grows ask) g (omega arith))
-few_move ls l c ask t g f (Drops answers is e) =
+    subst (λ (x : Turn). AreFew (l.ring.grants + length l.queue + grows l ask) x.lock) (sym e) (few_advanced l queue (l.ring.grants + length l.queue + grows l ask) g (omega arith))
+few_move ls l c ask t g (Drops answers is e) =
     let le : length (without c l.queue) ≤ length l.queue = fewer c l.queue in
-    let all : l.ring.grants + length (without c l.queue) ≤ l.ring.grants + length l.queue + grows ask = omega arith in
-    subst (λ (x : Turn). AreFew (l.ring.grants + length l.queue + grows ask) x.lock) (sym e) all
-few_move ls l c ask t g f (Faults i v a lt lk e) = absurd (both_ways (is_fault ask) f (ap is_fault a))
+    let all : l.ring.grants + length (without c l.queue) ≤ l.ring.grants + length l.queue + grows l ask = omega arith in
+    subst (λ (x : Turn). AreFew (l.ring.grants + length l.queue + grows l ask) x.lock) (sym e) all
+few_move ls l c ask t g (Faults i v a lt lk e) =
+    let more : grows l ask ≡ 1 + most_passes (length l.ring.ring.values) = ap (λ (a : Ask). grows l a) a in
+    let passes : (after till l.ring (fault l.ring i v)).grants ≤ l.ring.grants + length (fault l.ring i v) = grants-after till l.ring (fault l.ring i v) in
+    let few : length (fault l.ring i v) ≤ 1 + most_passes (length l.ring.ring.values) = fault_few l.ring i v in
+    let all : (after till l.ring (fault l.ring i v)).grants + length l.queue ≤ l.ring.grants + length l.queue + grows l ask = omega arith in
+    subst (λ (x : Turn). AreFew (l.ring.grants + length l.queue + grows l ask) x.lock) (sym e) all
 
 -- ---- what a client asks of a name, as its ring understands it
 
-plain : (b : Bound) (ask : NameAsk) → is_fault (of_ring b (ask_of ask)) ≡ false
-plain b (asks.Acquire label) = refl
-plain b (asks.Try label) = refl
-plain b (asks.Release token) = refl
-plain b asks.Cancel = refl
+-- the lock's ring has few machines
+abbrev HasFew : Lock → Type 0
+HasFew l = length l.ring.ring.values ≤ machine_limit
 
-grown : (b : Bound) (ask : NameAsk) (top more : ℕ) → (for_hold (ask_of ask) ≡ true → top < top_limit) → more ≤ 4000000000000 → top + more < 2 ^ 64 → top + more + grows (of_ring b (ask_of ask)) < 2 ^ 64
-grown b (asks.Acquire label) top more limit few le =
+grown : (l : Lock) (b : Bound) (ask : NameAsk) (top more : ℕ) → HasFew l → (may_pass (ask_of ask) ≡ true → top < top_limit) → more ≤ 4000000000000 → top + more < 2 ^ 64 → top + more + grows l (of_ring b (ask_of ask)) < 2 ^ 64
+grown l b (asks.Acquire label) top more small limit few le =
     let lt : top < 2 ^ 63 = limit refl in
     let all : top + more + 1 < 2 ^ 64 = omega arith in
     all
-grown b (asks.Try label) top more limit few le =
+grown l b (asks.Try label) top more small limit few le =
     let lt : top < 2 ^ 63 = limit refl in
     let all : top + more + 1 < 2 ^ 64 = omega arith in
     all
-grown b (asks.Release token) top more limit few le = let all : top + more + 0 < 2 ^ 64 = omega arith in all
-grown b asks.Cancel top more limit few le = let all : top + more + 0 < 2 ^ 64 = omega arith in all
+grown l b (asks.Release token) top more small limit few le = let all : top + more + 0 < 2 ^ 64 = omega arith in all
+grown l b asks.Cancel top more small limit few le = let all : top + more + 0 < 2 ^ 64 = omega arith in all
+grown l b (asks.Corrupt i v) top more small limit few le =
+    let lt : top < 2 ^ 63 = limit refl in
+    let machines : length l.ring.ring.values ≤ 1024 = small in
+    let all : top + more + (1 + (length l.ring.ring.values - 1)) < 2 ^ 64 = omega arith in
+    all
+grown l b asks.Stats top more small limit few le = let all : top + more + 0 < 2 ^ 64 = omega arith in all
 
 -- ---- each token of an answer has 64 bits
 
@@ -186,11 +196,20 @@ cancel_tellable : (b : Bound) (l m : Lock) (c : ℕ) (is : Bool) → AreTellable
 cancel_tellable b l m c true = (tt, tt)
 cancel_tellable b l m c false = (tt, tt)
 
-turn_tellable : (ls : List Lock) (l : Lock) (c : ℕ) (b : Bound) (ask : NameAsk) → (for_hold (ask_of ask) ≡ true → FitsNext b l) → (0 < length l.queue → FitsNext b l) → AreTellable b (turn ls l c (of_ring b (ask_of ask))).answers
-turn_tellable ls l c b (asks.Acquire label) hold wait = acquire_tellable b l (waiter c label) (acquire_refusal ls l c) (hold refl)
-turn_tellable ls l c b (asks.Try label) hold wait = try_tellable b l (waiter c label) (try_refusal l c) (hold refl)
-turn_tellable ls l c b (asks.Release token) hold wait = release_tellable b l c (is_held_with c (number_in b token) l.holder) wait
-turn_tellable ls l c b asks.Cancel hold wait = cancel_tellable b l (record l { queue = without c l.queue }) c (stands c l.queue)
+corrupt_tellable : (b : Bound) (l : Lock) (c i v : ℕ) (far great : Bool) →
+    AreTellable b (if far then told l c (answer.Refused refusal.Machine) else if great then told l c (answer.Refused refusal.Value) else faulted l c i v).answers
+corrupt_tellable b l c i v true great = (tt, tt)
+corrupt_tellable b l c i v false true = (tt, tt)
+corrupt_tellable b l c i v false false = (tt, tt)
+
+turn_tellable : (ls : List Lock) (l : Lock) (c : ℕ) (b : Bound) (ask : NameAsk) → (may_pass (ask_of ask) ≡ true → FitsNext b l) → (0 < length l.queue → FitsNext b l) → ((h : Holder) → l.holder ≡ Some h → token_in b h.token < 2 ^ 64) →
+    AreTellable b (turn ls l c (of_ring b (ask_of ask))).answers
+turn_tellable ls l c b (asks.Acquire label) hold wait own = acquire_tellable b l (waiter c label) (acquire_refusal ls l c) (hold refl)
+turn_tellable ls l c b (asks.Try label) hold wait own = try_tellable b l (waiter c label) (try_refusal l c) (hold refl)
+turn_tellable ls l c b (asks.Release token) hold wait own = release_tellable b l c (is_held_with c (number_in b token) l.holder) wait
+turn_tellable ls l c b asks.Cancel hold wait own = cancel_tellable b l (record l { queue = without c l.queue }) c (stands c l.queue)
+turn_tellable ls l c b (asks.Corrupt i v) hold wait own = corrupt_tellable b l c i v (nat_le (length l.ring.ring.values) i) (nat_le l.ring.ring.k v)
+turn_tellable ls l c b asks.Stats hold wait own = (own, tt)
 
 own_part : (b : Bound) (c : ℕ) (o : Option Answer) (g : Option Holder) (a : Answer) → AreTellable b (own_answer c o ++ other_grant g) → o ≡ Some a → IsTellable b a
 own_part b c None g a all e = absurd (none_some a e)
@@ -237,6 +256,17 @@ next_fits top more l b r lt =
     let hi : token_in b l.ring.grants ≤ top = r.token in
     omega arith
 
+held_fits : (top : ℕ) (h : Holder) (l : Lock) (b : Bound) → IsRightBound top l b → l.holder ≡ Some h → top < 2 ^ 64 → token_in b h.token < 2 ^ 64
+held_fits top h l b r e lt =
+    let k = r.held h e in
+    let lo : b.before < h.token = k.0 in
+    let hi : h.token ≤ l.ring.grants = k.1 in
+    let token : token_in b l.ring.grants ≤ top = r.token in
+    omega arith
+
+few_machines : (vs : List LockView) (entries : List (ℕ × ℕ)) (i : ℕ) (v : LockView) → AreKept vs entries → slice_get vs i ≡ Some v → HasFew (lock_of v)
+few_machines vs entries i v k at = (k.each i v at).ring.endless.ring.book.now_ring.most_machines
+
 done_outcome : (vs ws : List LockView) (entries : List (ℕ × ℕ)) (top c i : ℕ) (b : Bound) (ask : NameAsk) (raw : Answers) → AreKept vs entries → IsReady vs top i b (ask_of ask) →
     IsDone vs ws c i (of_ring b (ask_of ask)) raw → IsOutcome vs ws top i b raw
 done_outcome vs ws entries top c i b ask raw k r d =
@@ -248,16 +278,16 @@ done_outcome vs ws entries top c i b ask raw k r d =
     let w = lock_view ws i t.lock (ap (λ (x : List Lock). slice_get x i) all ∙ get_set_same ls i t.lock l at) in
     let g : IsRing l.ring.ring = (r.right.each i l at).ring in
     let more : l.ring.grants ≤ t.lock.ring.grants = (moved ls l c (of_ring b (ask_of ask)) g).more in
-    let few : t.lock.ring.grants + length t.lock.queue ≤ l.ring.grants + length l.queue + grows (of_ring b (ask_of ask)) =
-    few_move ls l c (of_ring b (ask_of ask)) t g (plain b ask) (move_of ls l c (of_ring b (ask_of ask))) in
+    let few : t.lock.ring.grants + length t.lock.queue ≤ l.ring.grants + length l.queue + grows l (of_ring b (ask_of ask)) =
+    few_move ls l c (of_ring b (ask_of ask)) t g (move_of ls l c (of_ring b (ask_of ask))) in
     let sum : waiting (slice_set ls i t.lock) + length l.queue ≡ waiting ls + length t.lock.queue = waiting_set ls i l t.lock at in
     let bounded : waiting ls ≤ 4000000000000 = few_waiting vs entries k in
-    let limit : top + waiting ls + grows (of_ring b (ask_of ask)) < 2 ^ 64 = grown b ask top (waiting ls) r.limit bounded r.tokens in
+    let limit : top + waiting ls + grows l (of_ring b (ask_of ask)) < 2 ^ 64 = grown l b ask top (waiting ls) (few_machines vs entries i r.lock k r.there) r.limit bounded r.tokens in
     let within : length l.queue ≤ waiting ls = queue_in ls i l at in
     let before : top + waiting ls < 2 ^ 64 = r.tokens in
     let tokens : top + (t.lock.ring.grants - l.ring.grants) + waiting (slice_set ls i t.lock) < 2 ^ 64 = omega arith in
     let told : AreTellable b (answers_of c raw) = subst (λ (x : List (ℕ × Answer)). AreTellable b x) (sym (done_answers vs ws c i (of_ring b (ask_of ask)) raw l d at))
-    (turn_tellable ls l c b ask (λ h. next_fits top 0 l b r.bound (let lt : top < 2 ^ 63 = r.limit h in omega arith)) (λ lt. next_fits top 0 l b r.bound (omega (arith, lt)))) in
+    (turn_tellable ls l c b ask (λ h. next_fits top 0 l b r.bound (let lt : top < 2 ^ 63 = r.limit h in omega arith)) (λ lt. next_fits top 0 l b r.bound (omega (arith, lt))) (λ h e. held_fits top h l b r.bound e (omega arith))) in
     record {
       old = r.lock;
       there = r.there;
@@ -344,12 +374,9 @@ pub ready_held : (vs : List LockView) (top i : ℕ) (b : Bound) (ask : Ask) (v :
     (b.before < h.token) × (token_in b h.token < 2 ^ 64)
 ready_held vs top i b ask v h r at e =
     let same : v ≡ r.lock = some_same v r.lock (sym at ∙ r.there) in
-    let k = r.bound.held h (ap (λ (x : LockView). x.holder) (sym same) ∙ e) in
-    let lo : b.before < h.token = k.0 in
-    let hi : h.token ≤ (lock_of r.lock).ring.grants = k.1 in
-    let token : token_in b (lock_of r.lock).ring.grants ≤ top = r.bound.token in
+    let held : r.lock.holder ≡ Some h = ap (λ (x : LockView). x.holder) (sym same) ∙ e in
     let lt : top + waiting (locks_of vs) < 2 ^ 64 = r.tokens in
-    (lo, omega arith)
+    ((r.bound.held h held).0, held_fits top h (lock_of r.lock) b r.bound held (omega arith))
 
 pub answer_within : (vs ws : List LockView) (c i : ℕ) (a : Ask) (r : Answers) → IsAnswer vs ws c i a r → i < length vs → i < length ws
 answer_within vs ws c i a r all lt = elim all [

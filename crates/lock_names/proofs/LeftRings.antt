@@ -191,7 +191,7 @@ few_left : (c : ℕ) (ls : List Lock) → AreRings ls → total (map (left_lock 
 few_left c [] rings = omega arith
 few_left c (l ∷ ls) rings =
     let rest : total (map (left_lock c) ls) + waiting (map (left_lock c) ls) ≤ total ls + waiting ls = few_left c ls (λ i. rings (suc i)) in
-    let one : (left_lock c l).ring.grants + length (left_lock c l).queue ≤ l.ring.grants + length l.queue + 0 = few_move [] l c Leave (turn [] l c Leave) (rings zero l refl) refl (move_of [] l c Leave) in
+    let one : (left_lock c l).ring.grants + length (left_lock c l).queue ≤ l.ring.grants + length l.queue + 0 = few_move [] l c Leave (turn [] l c Leave) (rings zero l refl) (move_of [] l c Leave) in
     omega arith
 
 -- ---- the names

@@ -21,7 +21,7 @@ use Rattle.lock_names.specs.declared.table.Counts.{Counts}
 use Rattle.lock_names.specs.Names.{Bound, Named, Of, Said, NamedStep, token_in, of_ring, told_holder, as_told, said_of, found, free, grants_at, fresh, kept, stays, at_ring, replied, given, at_none, at_name, step_named}
 use Rattle.lock_names.specs.Promises.{IsRightBound, IsNamed}
 use Rattle.lock_names.specs.Table.{ring_of}
-use Rattle.lock_names.specs.Kept.{NamedView, named_of, waiting, top_limit, IsKeptNamed, ask_of, for_hold, unused_refusal, bound_by, IsReady, told_of, IsTold, reached_from, reached, at_free, own_said, grant_said, said_in, IsRecorded, IsTaken, HasNoRoom, IsWanting, IsAsked}
+use Rattle.lock_names.specs.Kept.{NamedView, named_of, waiting, top_limit, IsKeptNamed, ask_of, for_hold, may_pass, unused_answer, bound_by, IsReady, told_of, IsTold, reached_from, reached, at_free, own_said, grant_said, said_in, IsRecorded, IsTaken, HasNoRoom, IsWanting, IsAsked}
 use Rattle.lock_names.proofs.Found.{some_same, none_some, not_some, found_at, free_at}
 use Rattle.lock_names.proofs.Fitting.{Fits, turned, top_after, name_after, at_ring_is, fits_found, fits_free, lock_at, named_step}
 use Rattle.lock_names.proofs.Asking.{view_lock, lock_view, done_locks, done_answers}
@@ -68,7 +68,7 @@ told_as vs ws low high c i b k ask r e t =
       tokens = u.tokens;
     }
 
-pub ready_fits : (v : NamedView) (i : ℕ) (b : Bound) (k : Counts) (ask : Ask) → IsKeptNamed v → Fits (named_of v) i b → k ≡ numbers_of b → (for_hold ask ≡ true → v.top < top_limit) → IsReady v.locks v.top i (bound_by k) ask
+pub ready_fits : (v : NamedView) (i : ℕ) (b : Bound) (k : Counts) (ask : Ask) → IsKeptNamed v → Fits (named_of v) i b → k ≡ numbers_of b → (may_pass ask ≡ true → v.top < top_limit) → IsReady v.locks v.top i (bound_by k) ask
 ready_fits v i b k ask n f e limit =
     let w = lock_view v.locks i f.lock f.there in
     subst (λ (m : Counts). IsReady v.locks v.top i (bound_by m) ask) (sym e) (record {
@@ -309,7 +309,7 @@ nothing v c x ask r e step = record {
 }
 
 -- one was, but too many grants were counted
-pub limited : (v : NamedView) (c : ℕ) (x : List ℕ) (ask : Ask) (i : ℕ) (b : Bound) → Reaches (named_of v) x ask i b → for_hold ask ≡ true → top_limit ≤ v.top →
+pub limited : (v : NamedView) (c : ℕ) (x : List ℕ) (ask : Ask) (i : ℕ) (b : Bound) → Reaches (named_of v) x ask i b → may_pass ask ≡ true → top_limit ≤ v.top →
     IsAsked v v c x ask (only (Some i) (reply.Lock (answer.Refused refusal.Full)))
 limited v c x ask i b re h le = record {
   ring = sym (ap (λ (o : Option (ℕ × Bound)). option_map (λ (p : ℕ × Bound). p.0) o) re.is);
@@ -327,29 +327,29 @@ short v c x ask i b re = record {
   answer = inr (record { why = inr refl; none = (refl, refl, refl); same = refl });
 }
 
-unused_step : (s : Named) (c : ℕ) (x : List ℕ) (ask : Ask) (why : Refusal) → unused_refusal ask ≡ Some why → at_none s c x ask ≡ replied s c x (reply.Lock (answer.Refused why))
-unused_step s c x (Acquire label) why e = absurd (none_some why e)
-unused_step s c x (Try label) why e = absurd (none_some why e)
-unused_step s c x (Release token) why e = ap (λ (z : Refusal). replied s c x (reply.Lock (answer.Refused z))) (some_same refusal.Holder why e)
-unused_step s c x Cancel why e = ap (λ (z : Refusal). replied s c x (reply.Lock (answer.Refused z))) (some_same refusal.Waiter why e)
-unused_step s c x Leave why e = absurd (none_some why e)
-unused_step s c x (Corrupt i v) why e = absurd (none_some why e)
-unused_step s c x Stats why e = absurd (none_some why e)
+unused_step : (s : Named) (c : ℕ) (x : List ℕ) (ask : Ask) (a : Answer) → unused_answer ask ≡ Some a → at_none s c x ask ≡ replied s c x (reply.Lock a)
+unused_step s c x (Acquire label) a e = absurd (none_some a e)
+unused_step s c x (Try label) a e = absurd (none_some a e)
+unused_step s c x (Release token) a e = ap (λ (z : Answer). replied s c x (reply.Lock z)) (some_same (answer.Refused refusal.Holder) a e)
+unused_step s c x Cancel a e = ap (λ (z : Answer). replied s c x (reply.Lock z)) (some_same (answer.Refused refusal.Waiter) a e)
+unused_step s c x Leave a e = absurd (none_some a e)
+unused_step s c x (Corrupt i v) a e = ap (λ (z : Answer). replied s c x (reply.Lock z)) (some_same (answer.Refused refusal.Lock) a e)
+unused_step s c x Stats a e = ap (λ (z : Answer). replied s c x (reply.Lock z)) (some_same (answer.Stats (record { machines = 0; waiters = 0; passes = 0; holder = None })) a e)
 
-not_for_hold : (ask : Ask) (why : Refusal) → unused_refusal ask ≡ Some why → for_hold ask ≡ false
-not_for_hold (Acquire label) why e = absurd (none_some why e)
-not_for_hold (Try label) why e = absurd (none_some why e)
-not_for_hold (Release token) why e = refl
-not_for_hold Cancel why e = refl
-not_for_hold Leave why e = refl
-not_for_hold (Corrupt i v) why e = refl
-not_for_hold Stats why e = refl
+not_for_hold : (ask : Ask) (a : Answer) → unused_answer ask ≡ Some a → for_hold ask ≡ false
+not_for_hold (Acquire label) a e = absurd (none_some a e)
+not_for_hold (Try label) a e = absurd (none_some a e)
+not_for_hold (Release token) a e = refl
+not_for_hold Cancel a e = refl
+not_for_hold Leave a e = refl
+not_for_hold (Corrupt i v) a e = refl
+not_for_hold Stats a e = refl
 
-pub unused : (v : NamedView) (c : ℕ) (x : List ℕ) (ask : Ask) (why : Refusal) → found x v.names ≡ None → unused_refusal ask ≡ Some why → IsAsked v v c x ask (only None (reply.Lock (answer.Refused why)))
-unused v c x ask why e u =
-    nothing v c x ask (reply.Lock (answer.Refused why))
-    (ap (λ (o : Option (ℕ × Bound)). reached_from (named_of v) x ask o) e ∙ ap (λ (q : Bool). at_free (named_of v) x q (free v.names)) (not_for_hold ask why u))
-    (ap (λ (o : Option (ℕ × Bound)). at_name (named_of v) c x ask o) e ∙ unused_step (named_of v) c x ask why u)
+pub unused : (v : NamedView) (c : ℕ) (x : List ℕ) (ask : Ask) (a : Answer) → found x v.names ≡ None → unused_answer ask ≡ Some a → IsAsked v v c x ask (only None (reply.Lock a))
+unused v c x ask a e u =
+    nothing v c x ask (reply.Lock a)
+    (ap (λ (o : Option (ℕ × Bound)). reached_from (named_of v) x ask o) e ∙ ap (λ (q : Bool). at_free (named_of v) x q (free v.names)) (not_for_hold ask a u))
+    (ap (λ (o : Option (ℕ × Bound)). at_name (named_of v) c x ask o) e ∙ unused_step (named_of v) c x ask a u)
 
 pub all_held : (v : NamedView) (c : ℕ) (x : List ℕ) (ask : Ask) → found x v.names ≡ None → for_hold ask ≡ true → free v.names ≡ None → IsAsked v v c x ask (only None reply.Names)
 all_held v c x ask e h f =
@@ -390,11 +390,13 @@ pub reaches_bound : (v : NamedView) (x : List ℕ) (ask : Ask) (i g : ℕ) (w : 
     g ≡ (lock_of w).ring.grants → Reaches (named_of v) x ask i (record { name = x; before = g; floor = v.top })
 reaches_bound v x ask i g w n e h f at same = subst (λ (b : Bound). Reaches (named_of v) x ask i b) (fresh_is v x i g w at same) (reaches_free (named_of v) x ask i n e h f)
 
-pub hold_or_refused : (ask : NameAsk) → unused_refusal (ask_of ask) ≡ None → for_hold (ask_of ask) ≡ true
-hold_or_refused (asks.Acquire label) e = refl
-hold_or_refused (asks.Try label) e = refl
-hold_or_refused (asks.Release token) e = absurd (none_some refusal.Holder (sym e))
-hold_or_refused asks.Cancel e = absurd (none_some refusal.Waiter (sym e))
+pub hold_or_told : (ask : NameAsk) → unused_answer (ask_of ask) ≡ None → for_hold (ask_of ask) ≡ true
+hold_or_told (asks.Acquire label) e = refl
+hold_or_told (asks.Try label) e = refl
+hold_or_told (asks.Release token) e = absurd (none_some (answer.Refused refusal.Holder) (sym e))
+hold_or_told asks.Cancel e = absurd (none_some (answer.Refused refusal.Waiter) (sym e))
+hold_or_told (asks.Corrupt i v) e = absurd (none_some (answer.Refused refusal.Lock) (sym e))
+hold_or_told asks.Stats e = absurd (none_some (answer.Stats (record { machines = 0; waiters = 0; passes = 0; holder = None })) (sym e))
 
 some_mapped : {X Y : Type 0} (f : X → Y) (o : Option X) → is_some (option_map f o) ≡ is_some o
 some_mapped f None = refl
@@ -417,12 +419,12 @@ pub record IsFree (v : NamedView) (x : List ℕ) (ask : Ask) (i : ℕ) : Type 0 
   pub reach : Reaches (named_of v) x ask i (fresh (named_of v) x i)
   pub bound : (g : ℕ) → g ≡ (lock_of lock).ring.grants → Reaches (named_of v) x ask i (record { name = x; before = g; floor = v.top })
 
-pub free_ring : (v : NamedView) (x : List ℕ) (ask : NameAsk) (i : ℕ) → IsKeptNamed v → found x v.names ≡ None → unused_refusal (ask_of ask) ≡ None → free v.names ≡ Some i → IsFree v x (ask_of ask) i
-free_ring v x ask i n none not_refused f =
+pub free_ring : (v : NamedView) (x : List ℕ) (ask : NameAsk) (i : ℕ) → IsKeptNamed v → found x v.names ≡ None → unused_answer (ask_of ask) ≡ None → free v.names ≡ Some i → IsFree v x (ask_of ask) i
+free_ring v x ask i n none not_told f =
     let entry : slice_get v.names i ≡ Some None = free_at v.names i f in
     let l = lock_at (named_of v) i None n.named entry in
     let w = lock_view v.locks i l.0 l.1 in
-    let hold : for_hold (ask_of ask) ≡ true = hold_or_refused ask not_refused in
+    let hold : for_hold (ask_of ask) ≡ true = hold_or_told ask not_told in
     record {
       entry = entry;
       lock = w.0;

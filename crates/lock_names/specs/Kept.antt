@@ -7,7 +7,7 @@ use Rattle.held_locks.specs.declared.answers.Answers.{Answers}
 use Rattle.held_locks.specs.declared.answers.Refusal.{Refusal}
 use Rattle.held_locks.specs.declared.answers.Refusal.TheVariants as refusal
 use Rattle.held_locks.specs.Queues.{Lock}
-use Rattle.held_locks.specs.Locks.{Ask, Acquire, Try, Release, Cancel}
+use Rattle.held_locks.specs.Locks.{Ask, Acquire, Try, Release, Cancel, Corrupt, Stats}
 use Rattle.held_locks.specs.Promises.{AreRight}
 use Rattle.held_locks.specs.Kept.{LockView, lock_of, locks_of, IsDone, IsFull, IsAnswer}
 use Rattle.lock_names.specs.declared.replies.Reply.{Reply}
@@ -45,7 +45,8 @@ abbrev pub waiting : List Lock → ℕ
 waiting [] = 0
 waiting (l ∷ ls) = length l.queue + waiting ls
 
--- after this number of grants no client is granted any more, except those that wait already
+-- after this number of grants no client is granted any more, except those that wait already, and no
+-- fault is written
 abbrev pub top_limit : ℕ
 top_limit = 2 ^ 63
 
@@ -60,6 +61,8 @@ ask_of (asks.Acquire label) = Acquire label
 ask_of (asks.Try label) = Try label
 ask_of (asks.Release token) = Release token
 ask_of asks.Cancel = Cancel
+ask_of (asks.Corrupt machine value) = Corrupt machine value
+ask_of asks.Stats = Stats
 
 -- the ask is for a hold
 abbrev pub for_hold : Ask → Bool
@@ -67,11 +70,21 @@ for_hold (Acquire label) = true
 for_hold (Try label) = true
 for_hold _ = false
 
--- why an ask of a name that no ring has is refused, if it is not for a hold
-abbrev pub unused_refusal : Ask → Option Refusal
-unused_refusal (Release token) = Some refusal.Holder
-unused_refusal Cancel = Some refusal.Waiter
-unused_refusal _ = None
+-- the ask may make the ring pass, and not for a client that waits already
+abbrev pub may_pass : Ask → Bool
+may_pass (Acquire label) = true
+may_pass (Try label) = true
+may_pass (Corrupt machine value) = true
+may_pass _ = false
+
+-- the answer to an ask of a name that no ring has, if it is not for a hold
+abbrev pub unused_answer : Ask → Option Answer
+unused_answer (Release token) = Some (answer.Refused refusal.Holder)
+unused_answer Cancel = Some (answer.Refused refusal.Waiter)
+unused_answer (Corrupt machine value) = Some (answer.Refused refusal.Lock)
+unused_answer Stats =
+    Some (answer.Stats (record { machines = 0; waiters = 0; passes = 0; holder = None }))
+unused_answer _ = None
 
 -- ---- a ring that is asked
 
@@ -91,7 +104,7 @@ pub record IsReady (vs : List LockView) (top i : ℕ) (b : Bound) (ask : Ask) : 
   pub there : slice_get vs i ≡ Some lock
   pub bound : IsRightBound top (lock_of lock) b
   pub tokens : top + waiting (locks_of vs) < 2 ^ 64
-  pub limit : for_hold ask ≡ true → top < top_limit
+  pub limit : may_pass ask ≡ true → top < top_limit
 
 -- the token of each grant in an answer has 64 bits
 abbrev pub IsTellable : Bound → Answer → Type 0
@@ -168,7 +181,7 @@ pub record IsTaken (old new : NamedView) (c : ℕ) (x : List ℕ) (ask : Ask) (r
 abbrev pub HasNoRoom : NamedView → Ask → Option (ℕ × Bound) → Type 0
 HasNoRoom old ask None = ⊥
 HasNoRoom old ask (Some p) =
-    ((for_hold ask ≡ true) × (top_limit ≤ old.top)) ⊎ IsFull old.locks p.0 (of_ring p.1 ask)
+    ((may_pass ask ≡ true) × (top_limit ≤ old.top)) ⊎ IsFull old.locks p.0 (of_ring p.1 ask)
 
 -- The ask was refused for lack of room or of memory; nothing has changed.
 pub record IsWanting (old new : NamedView) (x : List ℕ) (ask : Ask) (r : NameAnswers) : Type 0

@@ -3,7 +3,7 @@
 ghost use Rattle.std.specs.Prelude.{◌≡◌, ℕ, ◌+◌, ◌-◌, ◌^◌, ◌<◌, ◌≤◌, true, length, slice_get, Some, option_map};
 ghost use Rattle.held_locks.specs.Kept.{LockView, IsAnswer};
 ghost use Rattle.lock_names.specs.Names.{of_ring, as_told, told_holder, token_in};
-ghost use Rattle.lock_names.specs.Kept.{ask_of, for_hold, unused_refusal, bound_by, own_number, told_of, IsReady, IsTellable, IsTold};
+ghost use Rattle.lock_names.specs.Kept.{ask_of, may_pass, unused_answer, bound_by, own_number, told_of, IsReady, IsTellable, IsTold};
 ghost use Rattle.held_locks.specs.declared.answers.Answer.{Answer};
 ghost use Rattle.held_locks.specs.declared.answers.Holder.{Holder};
 
@@ -11,24 +11,31 @@ use crate::replies::{NameAnswers, NameAsk, Reply};
 use crate::table::Counts;
 use held_locks::{Answer, Answers, Holder, Locks, Refusal, Stats};
 
-/// Whether the ask is for a hold.
-pub(crate) fn is_for_hold(ask: NameAsk) -> bool
-    ensures { result ≡ for_hold (ask_of ask) }
+/// Whether the ask may make the ring pass, and not for a client that waits already.
+pub(crate) fn may_pass(ask: NameAsk) -> bool
+    ensures { result ≡ may_pass (ask_of ask) }
 {
     match ask {
-        NameAsk::Acquire(_) | NameAsk::Try(_) => true,
-        NameAsk::Release(_) | NameAsk::Cancel => false,
+        NameAsk::Acquire(_) | NameAsk::Try(_) | NameAsk::Corrupt(_, _) => true,
+        NameAsk::Release(_) | NameAsk::Cancel | NameAsk::Stats => false,
     }
 }
 
-/// Why an ask of a name that no ring has is refused, if it is not for a hold.
-pub(crate) fn unused_refusal(ask: NameAsk) -> Option<Refusal>
-    ensures { result ≡ unused_refusal (ask_of ask) }
+/// The answer to an ask of a name that no ring has, if it is not for a hold.
+pub(crate) fn unused_answer(ask: NameAsk) -> Option<Answer>
+    ensures { result ≡ unused_answer (ask_of ask) }
 {
     match ask {
         NameAsk::Acquire(_) | NameAsk::Try(_) => None,
-        NameAsk::Release(_) => Some(Refusal::Holder),
-        NameAsk::Cancel => Some(Refusal::Waiter),
+        NameAsk::Release(_) => Some(Answer::Refused(Refusal::Holder)),
+        NameAsk::Cancel => Some(Answer::Refused(Refusal::Waiter)),
+        NameAsk::Corrupt(_, _) => Some(Answer::Refused(Refusal::Lock)),
+        NameAsk::Stats => Some(Answer::Stats(Stats {
+            machines: 0,
+            waiters: 0,
+            passes: 0,
+            holder: None,
+        })),
     }
 }
 
@@ -75,6 +82,8 @@ fn ask_lock(locks: &mut Locks, client: u64, ring: u32, counts: Counts, ask: Name
             locks.release(client, ring, number)
         }
         NameAsk::Cancel => locks.cancel(client, ring),
+        NameAsk::Corrupt(machine, value) => locks.corrupt(client, ring, machine, value),
+        NameAsk::Stats => locks.stats(ring),
     }
 }
 

@@ -5,11 +5,11 @@ ghost use Rattle.held_locks.specs.Kept.{locks_of};
 ghost use Rattle.held_locks.specs.declared.answers.Answer.{Answer};
 ghost use Rattle.lock_names.specs.Names.{Bound, kept, stays, found};
 ghost use Rattle.lock_names.specs.Begun.{IsBegun, CannotBegin};
-ghost use Rattle.lock_names.specs.Kept.{seen, IsKeptNamed, ask_of, for_hold, top_limit, IsAsked};
+ghost use Rattle.lock_names.specs.Kept.{seen, IsKeptNamed, ask_of, may_pass, top_limit, IsAsked};
 ghost use Rattle.lock_names.specs.Leaves.{IsLeftByName};
 ghost use Rattle.lock_names.specs.declared.replies.Reply.{Reply};
 
-use crate::asks::{Rings, ask_ring, is_for_hold, unused_refusal};
+use crate::asks::{Rings, ask_ring, may_pass, unused_answer};
 use crate::leaving::leave_among;
 use crate::replies::{NameAnswers, NameAsk, Reply};
 use crate::starting::{NotBegun, begun_table, grants_of};
@@ -18,7 +18,7 @@ use held_locks::{Answer, Left, Locks, Refusal};
 use std::alloc::Global;
 use std::marker::Model;
 
-/// After this number of grants no client is granted any more, except those that wait already.
+/// After this number of grants no client is granted any more, except those that wait already, and no fault is written.
 pub const TOP_LIMIT: u64 = 1 << 63;
 
 /// Locks by any name, over a pool of rings. Contracts see the state of the machine, with its locks as they are kept.
@@ -70,12 +70,12 @@ fn refused(ring: Option<u32>, why: Refusal) -> NameAnswers
     only(ring, Reply::Lock(Answer::Refused(why)))
 }
 
-/// Whether the ask is for a hold, and the limit of grants is reached.
+/// Whether the ask may make a ring pass, and the limit of grants is reached.
 fn is_spent(rings: &Rings, ask: NameAsk) -> bool
-    ensures yes { result ≡ true → (for_hold (ask_of ask) ≡ true) × (top_limit ≤ rings.now.top) }
-    ensures no { result ≡ false → for_hold (ask_of ask) ≡ true → rings.now.top < top_limit }
+    ensures yes { result ≡ true → (may_pass (ask_of ask) ≡ true) × (top_limit ≤ rings.now.top) }
+    ensures no { result ≡ false → may_pass (ask_of ask) ≡ true → rings.now.top < top_limit }
 {
-    is_for_hold(ask) && rings.top >= TOP_LIMIT
+    may_pass(ask) && rings.top >= TOP_LIMIT
 }
 
 /// A ring of the pool that no client holds loses its name.
@@ -132,8 +132,8 @@ fn ask_unbound(
         (ask_of ask) result }
     ensures kept { IsKeptNamed (seen rings.new table.new) }
 {
-    if let Some(why) = unused_refusal(ask) {
-        return refused(None, why);
+    if let Some(answer) = unused_answer(ask) {
+        return only(None, Reply::Lock(answer));
     }
     let Some(ring) = table.lowest_free() else {
         return only(None, Reply::Names);
@@ -209,9 +209,9 @@ impl Names {
     /// A client asks something of a name. A name that no ring has is bound to the lowest free ring by an ask for a hold that is
     /// granted, and is forgotten with the end of a hold that is handed to nobody.
     ///
-    /// Refused: `Names` where no ring has the name and none is free, `Holder` or `Waiter` where none has it and the ask is not for
-    /// a hold; `Full` where the ask is for a hold and [`TOP_LIMIT`] grants were counted; what the lock of its ring refuses, with
-    /// `Full`; or `Memory`. Nothing has changed then.
+    /// Refused: `Names` where no ring has the name and none is free; `Holder`, `Waiter` or `Lock` where none has it and the ask is
+    /// not for a hold; `Full` where the ask is for a hold, or a fault, and [`TOP_LIMIT`] grants were counted; what the lock of
+    /// its ring refuses, with `Full`; or `Memory`. Nothing has changed then.
     pub fn ask(&mut self, alloc: Global, client: u64, name: &str, ask: NameAsk) -> NameAnswers
         ensures { IsAsked self.old self.new client name.now (ask_of ask) result }
     {

@@ -22,6 +22,10 @@ pub enum NameAsk {
     Release(u64),
     /// To wait for it no more.
     Cancel,
+    /// A fault of its ring: this machine gets this value, and the ring is repaired at once.
+    Corrupt(u32, u32),
+    /// What there is to say of it.
+    Stats,
 }
 
 /// What an ask is answered.

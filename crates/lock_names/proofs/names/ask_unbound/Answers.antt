@@ -13,14 +13,14 @@ use Rattle.lock_names.proofs.names.ask_unbound.Goals as goal
 pub ring-requires : goal.ring-requires
 ring-requires c =
     let v = seen c.args.rings.now c.args.table.now in
-    let none = sym c.unused_refusal.ensures ∙ c.in_default.is in
+    let none = sym c.unused_answer.ensures ∙ c.in_default.is in
     let f = free_ring v c.args.name.now c.args.ask c.in-Some-lowest_free.ring c.requires.kept c.requires.unused none (sym c.lowest_free.ensures ∙ c.in-Some-lowest_free.is) in
     slice_get_within c.args.rings.now.locks c.in-Some-lowest_free.ring f.lock f.there
 
 pub ask_ring-answers-requires : goal.ask_ring-answers-requires
 ask_ring-answers-requires c =
     let v = seen c.args.rings.now c.args.table.now in
-    let none = sym c.unused_refusal.ensures ∙ c.in_default.is in
+    let none = sym c.unused_answer.ensures ∙ c.in_default.is in
     let f = free_ring v c.args.name.now c.args.ask c.in-Some-lowest_free.ring c.requires.kept c.requires.unused none (sym c.lowest_free.ensures ∙ c.in-Some-lowest_free.is) in
     let re = f.bound c.grants.result (c.grants.ensures ∙ ap (λ (e : EndlessView). e.base.grants + e.ring.book.now.grants) (c.ring.ensures f.lock f.there)) in
     let b : Bound = record { name = c.args.name.now; before = c.grants.result; floor = c.args.rings.now.top } in
@@ -29,7 +29,7 @@ ask_ring-answers-requires c =
 pub settle-requires-clause-lock : goal.settle-requires-clause-lock
 settle-requires-clause-lock c =
     let v = seen c.args.rings.now c.args.table.now in
-    let none = sym c.unused_refusal.ensures ∙ c.in_default.is in
+    let none = sym c.unused_answer.ensures ∙ c.in_default.is in
     let f = free_ring v c.args.name.now c.args.ask c.in-Some-lowest_free.ring c.requires.kept c.requires.unused none (sym c.lowest_free.ensures ∙ c.in-Some-lowest_free.is) in
     let t = c.ask_ring-answers.ensures.told in
     answer_within c.args.rings.now.locks c.ask_ring-answers.new.rings.locks c.args.client c.in-Some-lowest_free.ring (of_ring (bound_by (record { before = c.grants.result; floor = c.args.rings.now.top })) (ask_of c.args.ask)) t.raw t.answer
@@ -38,7 +38,7 @@ settle-requires-clause-lock c =
 pub settle-requires-clause-ring : goal.settle-requires-clause-ring
 settle-requires-clause-ring c =
     let v = seen c.args.rings.now c.args.table.now in
-    let none = sym c.unused_refusal.ensures ∙ c.in_default.is in
+    let none = sym c.unused_answer.ensures ∙ c.in_default.is in
     let f = free_ring v c.args.name.now c.args.ask c.in-Some-lowest_free.ring c.requires.kept c.requires.unused none (sym c.lowest_free.ensures ∙ c.in-Some-lowest_free.is) in
     let b : Bound = record { name = c.args.name.now; before = c.grants.result; floor = c.args.rings.now.top } in
     slice_get_within c.bind.new.self c.in-Some-lowest_free.ring (Some b)
@@ -49,7 +49,7 @@ returns-clause-asked c =
     let v = seen c.args.rings.now c.args.table.now in
     let w = seen c.ask_ring-answers.new.rings c.settle.new.table in
     let i = c.in-Some-lowest_free.ring in
-    let none = sym c.unused_refusal.ensures ∙ c.in_default.is in
+    let none = sym c.unused_answer.ensures ∙ c.in_default.is in
     let f = free_ring v c.args.name.now c.args.ask i c.requires.kept c.requires.unused none (sym c.lowest_free.ensures ∙ c.in-Some-lowest_free.is) in
     let re = f.bound c.grants.result (c.grants.ensures ∙ ap (λ (e : EndlessView). e.base.grants + e.ring.book.now.grants) (c.ring.ensures f.lock f.there)) in
     let b : Bound = record { name = c.args.name.now; before = c.grants.result; floor = c.args.rings.now.top } in
@@ -66,7 +66,7 @@ returns-clause-kept c =
     let v = seen c.args.rings.now c.args.table.now in
     let w = seen c.ask_ring-answers.new.rings c.settle.new.table in
     let i = c.in-Some-lowest_free.ring in
-    let none = sym c.unused_refusal.ensures ∙ c.in_default.is in
+    let none = sym c.unused_answer.ensures ∙ c.in_default.is in
     let f = free_ring v c.args.name.now c.args.ask i c.requires.kept c.requires.unused none (sym c.lowest_free.ensures ∙ c.in-Some-lowest_free.is) in
     let re = f.bound c.grants.result (c.grants.ensures ∙ ap (λ (e : EndlessView). e.base.grants + e.ring.book.now.grants) (c.ring.ensures f.lock f.there)) in
     let b : Bound = record { name = c.args.name.now; before = c.grants.result; floor = c.args.rings.now.top } in
