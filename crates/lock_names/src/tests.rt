@@ -4,7 +4,7 @@ ghost use Rattle.held_locks.specs.Kept.{IsKeptRing};
 
 use crate::{NameAnswers, NameAsk, Names, NotBegun, Reply};
 use endless_ring::EndlessRing;
-use held_locks::{Answer, Holder, Left, Locks, Refusal};
+use held_locks::{Answer, Holder, Left, Locks, Refusal, Stats};
 use one_thread_ring::OneThreadRing;
 use ring_book::Till;
 use ring_model::Base;
@@ -195,5 +195,53 @@ fn a_client_leaves_all_names(rt: HostRuntime) {
     ];
     for (client, name, ask, wanted) in rows {
         assert!(&rt; are(names.ask(alloc, client, name, ask), wanted));
+    }
+}
+
+// What is said of a name, and a fault of its ring, which needs no repair: the next token is the next one.
+#[test]
+fn a_name_is_looked_at_and_broken(rt: HostRuntime) {
+    let alloc = rt.alloc();
+    let Ok(mut names) = begun(&rt, alloc, three_locks(&rt, alloc), &["deploy"]) else {
+        panic!(&rt; "refused");
+    };
+    let nothing = Stats {
+        machines: 0,
+        waiters: 0,
+        passes: 0,
+        holder: None,
+    };
+    let held = Stats {
+        machines: 3,
+        waiters: 1,
+        passes: 1,
+        holder: Some(Holder {
+            client: 7,
+            token: 1,
+        }),
+    };
+    let next = Some(Holder {
+        client: 8,
+        token: 2,
+    });
+    let unused = answers(None, Reply::Lock(Answer::Stats(nothing)), None);
+    let waits = answers(Some(1), Reply::Lock(Answer::Waiting(0)), None);
+    let stats = answers(Some(1), Reply::Lock(Answer::Stats(held)), None);
+    let broken = answers(Some(1), Reply::Lock(Answer::Corrupted(1)), None);
+    let machine = refused(Some(1), Refusal::Machine);
+    let value = refused(Some(1), Refusal::Value);
+    let rows: [(u64, NameAsk, NameAnswers); 9] = [
+        (7, NameAsk::Stats, unused),
+        (7, NameAsk::Corrupt(0, 2), refused(None, Refusal::Lock)),
+        (7, NameAsk::Acquire(10), bound(1, 1)),
+        (8, NameAsk::Acquire(20), waits),
+        (9, NameAsk::Stats, stats),
+        (9, NameAsk::Corrupt(0, 2), broken),
+        (9, NameAsk::Corrupt(3, 0), machine),
+        (9, NameAsk::Corrupt(0, 3), value),
+        (7, NameAsk::Release(1), released(1, next)),
+    ];
+    for (client, ask, wanted) in rows {
+        assert!(&rt; are(names.ask(alloc, client, "order/1", ask), wanted));
     }
 }

@@ -1,7 +1,7 @@
 use Rattle.std.proofs.Common.{◌≡◌, ◌+◌, ◌^◌, ◌<◌, ℕ, List, ◌++◌, map, length, Some, refl, sym, ◌∙◌, ap, subst, arith}
 use Rattle.std.specs.Prelude.{slice_get}
 use Rattle.held_locks.specs.declared.answers.Left.{Left}
-use Rattle.lock_names.specs.Kept.{seen}
+use Rattle.lock_names.specs.Kept.{NamedView, seen}
 use Rattle.lock_names.specs.Leaves.{told_left, grants_in, IsTellableLeft}
 use Rattle.lock_names.proofs.LeftRings.{reports_apart, reports_tellable, few_grants, left_kept}
 use Rattle.lock_names.proofs.LeftSaid.{left_by_name}
@@ -20,3 +20,13 @@ settle_left-requires-clause-tellable c =
     let all : c.leave.new.left.items ≡ raw = c.leave.ensures.left.1 ∙ ap (λ (x : List Left). x ++ raw) c.clear.ensures.items in
     subst (λ (x : List Left). (i : ℕ) (l : Left) → slice_get x i ≡ Some l → IsTellableLeft c.args.table.now l) (sym (all ∙ c.leave.ensures.left.2.told))
     (λ i l. reports_tellable (seen c.args.rings.now c.args.table.now) c.args.client i l c.requires.kept)
+
+pub overflow_add-rings : goal.overflow_add-rings
+overflow_add-rings c =
+    let raw : List Left = c.leave.ensures.left.0 in
+    let all : c.leave.new.left.items ≡ raw = c.leave.ensures.left.1 ∙ ap (λ (x : List Left). x ++ raw) c.clear.ensures.items in
+    let v = seen c.args.rings.now c.args.table.now in
+    let w : NamedView = record { locks = c.leave.new.self; names = c.args.table.now; fixed = c.args.rings.now.fixed; top = c.args.rings.now.top } in
+    let few : c.args.rings.now.top + grants_in raw < 2 ^ 64 = few_grants v w c.args.client raw c.requires.kept c.leave.ensures.left.2 in
+    let count : c.settle_left.result ≡ grants_in raw = c.settle_left.ensures.grants ∙ ap (λ (x : List Left). grants_in x) all in
+    omega arith
