@@ -1,9 +1,9 @@
 -- A client that leaves all locks, as they are kept: what becomes of names and of the number of grants.
 use Rattle.std.proofs.Common.{◌≡◌, ℕ, zero, suc, ◌+◌, ◌-◌, ◌^◌, ◌<◌, ◌≤◌, Bool, true, false, List, [], ◌∷◌, ◌++◌, map, length, take, get_or, Option, None, Some, ◌⊎◌, inl, inr, refl, sym, ◌∙◌, ap, subst, arith}
-use Rattle.std.specs.Prelude.{slice_get, slice_set, is_some, option_map, nat_lt, ◌||◌, if◌then◌else◌}
+use Rattle.std.specs.Prelude.{slice_get, slice_set, slice_index_or, is_some, option_map, nat_lt, ◌||◌, if◌then◌else◌}
 use Rattle.std.proofs.lemmas.Bool.{true≢false}
 use Rattle.std.proofs.lemmas.List.{length-map, map-append, take_more, take_more_set, take_all}
-use Rattle.std.proofs.lemmas.Option.{slice_get_within, get_or_from_slice_get}
+use Rattle.std.proofs.lemmas.Option.{slice_get_within, slice_get_read, get_or_from_slice_get}
 use Rattle.ring_model.specs.Ring.{IsRing}
 use Rattle.endless_ring.specs.Endless.{local_survey}
 use Rattle.held_locks.specs.declared.answers.Waiter.{Waiter}
@@ -155,16 +155,16 @@ reports_tellable v c i l n e =
 -- ---- how many are granted
 
 grants_append : (xs ys : List Left) → grants_in (xs ++ ys) ≡ grants_in xs + grants_in ys
-grants_append [] ys = refl
+grants_append [] ys = let same : grants_in ys ≡ 0 + grants_in ys = omega arith in same
 grants_append (x ∷ xs) ys = let rest : grants_in (xs ++ ys) ≡ grants_in xs + grants_in ys = grants_append xs ys in omega arith
 
 advanced_grants : (l : Lock) (queue : List Waiter) → IsRing l.ring.ring → (advanced l.ring queue).lock.ring.grants ≡ l.ring.grants + (grant_count (advanced l.ring queue).lock.holder + 0)
-advanced_grants l [] g = omega arith
+advanced_grants l [] g = let same : l.ring.grants ≡ l.ring.grants + (0 + 0) = omega arith in same
 advanced_grants l (w ∷ queue) g = let one : (advanced l.ring (w ∷ queue)).lock.ring.grants ≡ l.ring.grants + 1 = grant_grants l.ring w.label g in omega arith
 
 counted_if : (c i : ℕ) (v : LockView) (held : Bool) → IsRing (lock_of v).ring.ring → (turn_if (lock_of v) c held).lock.ring.grants ≡ (lock_of v).ring.grants + grants_in (left_if c i v held)
 counted_if c i v true g = advanced_grants (lock_of v) (without c v.queue) g
-counted_if c i v false g = omega arith
+counted_if c i v false g = let same : (lock_of v).ring.grants ≡ (lock_of v).ring.grants + 0 = omega arith in same
 
 counted_one : (c i : ℕ) (v : LockView) → IsRing (lock_of v).ring.ring → (left_lock c (lock_of v)).ring.grants ≡ (lock_of v).ring.grants + grants_in (left_at c i (Some v))
 counted_one c i v g = counted_if c i v (is_held_by c v.holder) g
@@ -173,7 +173,7 @@ abbrev AreRings : List Lock → Type 0
 AreRings ls = (i : ℕ) (l : Lock) → slice_get ls i ≡ Some l → IsRing l.ring.ring
 
 counted_first : (c : ℕ) (vs : List LockView) (n : ℕ) → AreRings (locks_of vs) → n ≤ length vs → total (first_left c n (locks_of vs)) ≡ total (locks_of vs) + grants_in (left_of c vs n)
-counted_first c vs zero rings le = omega arith
+counted_first c vs zero rings le = let same : total (locks_of vs) ≡ total (locks_of vs) + 0 = omega arith in same
 counted_first c vs (suc n) rings le =
     let ls : List Lock = locks_of vs in
     let v = there_is vs n (omega (arith, le)) in
@@ -188,7 +188,7 @@ counted_first c vs (suc n) rings le =
     omega arith
 
 few_left : (c : ℕ) (ls : List Lock) → AreRings ls → total (map (left_lock c) ls) + waiting (map (left_lock c) ls) ≤ total ls + waiting ls
-few_left c [] rings = omega arith
+few_left c [] rings = let le : 0 + 0 ≤ 0 + 0 = omega arith in le
 few_left c (l ∷ ls) rings =
     let rest : total (map (left_lock c) ls) + waiting (map (left_lock c) ls) ≤ total ls + waiting ls = few_left c ls (λ i. rings (suc i)) in
     let one : (left_lock c l).ring.grants + length (left_lock c l).queue ≤ l.ring.grants + length l.queue + 0 = few_move [] l c Leave (turn [] l c Leave) (rings zero l refl) (move_of [] l c Leave) in
@@ -263,7 +263,7 @@ first_many c (suc n) [] = refl
 first_many c (suc n) (l ∷ ls) = let rest : length (first_left c n ls) ≡ length ls = first_many c n ls in omega arith
 
 named_first : (v : NamedView) (c n : ℕ) → IsNamed (named_of v) → n ≤ length v.locks → names_left v.fixed v.names (left_of c v.locks n) ≡ settled_names v.fixed 0 (first_left c n (locks_of v.locks)) v.names
-named_first v c zero h le = sym (right_names v.fixed v.top 0 (locks_of v.locks) v.names h.many (λ i k l o same f g. h.each k l o (subst (λ (m : ℕ). slice_get (locks_of v.locks) m ≡ Some l) same f) (subst (λ (m : ℕ). slice_get v.names m ≡ Some o) same g)))
+named_first v c zero h le = sym (right_names v.fixed v.top 0 (locks_of v.locks) v.names h.many (λ i k l o same f g. let is : i ≡ k = omega (arith, same) in h.each k l o (subst (λ (m : ℕ). slice_get (locks_of v.locks) m ≡ Some l) is f) (subst (λ (m : ℕ). slice_get v.names m ≡ Some o) is g)))
 named_first v c (suc n) h le =
     let ls : List Lock = locks_of v.locks in
     let os : List (Option Bound) = v.names in
@@ -367,6 +367,7 @@ grants_few (x ∷ xs) = let rest : grants_in xs ≤ length xs = grants_few xs in
 
 -- what is so of entry i, when those before it are done
 pub record IsNextLeft (fixed : ℕ) (os now : List (Option Bound)) (ls : List Left) (i : ℕ) (l : Left) : Type 0 where
+  pub at : slice_get ls i ≡ Some l
   pub entry : slice_get now l.lock ≡ slice_get os l.lock
   pub told : told_left now l ≡ told_left os l
   pub tellable : IsTellableLeft now l
@@ -393,6 +394,7 @@ next_left_is fixed os now ls i l e at apart t =
     let some : grants_in (take (i + 1) ls) ≤ length (take (i + 1) ls) = grants_few (take (i + 1) ls) in
     let most : length (take (i + 1) ls) ≤ length ls = take_few (i + 1) ls in
     record {
+      at = at;
       entry = entry;
       told = ap (λ (o : Option (Option Bound)). record { lock = l.lock; ended = l.ended; granted = option_map (told_holder (bound_or o)) l.granted }) entry;
       tellable = (t.0, entry ∙ t.1, t.2);
@@ -401,6 +403,15 @@ next_left_is fixed os now ls i l e at apart t =
       grants = omega arith;
       few = omega arith;
     }
+
+-- the same of an entry that was read
+pub next_read : (fixed : ℕ) (os now : List (Option Bound)) (ls xs : List Left) (i : ℕ) (l : Left) → now ≡ names_left fixed os (take i ls) → length xs ≡ length ls → i < length ls → l ≡ slice_index_or xs i l →
+    ((j : ℕ) → i ≤ j → slice_get xs j ≡ slice_get ls j) → ((j k : ℕ) (m n : Left) → slice_get ls j ≡ Some m → slice_get ls k ≡ Some n → m.lock ≡ n.lock → j ≡ k) →
+    ((j : ℕ) (m : Left) → slice_get ls j ≡ Some m → IsTellableLeft os m) → IsNextLeft fixed os now ls i l
+next_read fixed os now ls xs i l e many lt is rest apart tellable =
+    let within : i < length xs = omega arith in
+    let at : slice_get ls i ≡ Some l = sym (rest i (omega arith)) ∙ slice_get_read xs (length xs) i l refl within is in
+    next_left_is fixed os now ls i l e at apart (tellable i l at)
 
 pub told_more : (os : List (Option Bound)) (xs ls : List Left) (i : ℕ) (l told : Left) → length xs ≡ length ls → slice_get ls i ≡ Some l → told ≡ told_left os l → take i xs ≡ map (told_left os) (take i ls) →
     take (i + 1) (slice_set xs i told) ≡ map (told_left os) (take (i + 1) ls)

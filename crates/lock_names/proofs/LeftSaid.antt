@@ -105,6 +105,6 @@ left_by_name old new c raw said n d e = record {
   named = left_named old new c raw n.named d;
   said = left_said old c raw said n.named d.left.told e;
   raw = raw;
-  left = d.left;
+  locks = d.left;
   told = e;
 }

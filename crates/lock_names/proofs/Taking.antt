@@ -115,7 +115,7 @@ reaches_free s x ask i n e h f = record {
 
 -- ---- the state after it
 
-same_named : (ls ms : List Lock) (os ps : List (Option Bound)) (f g t u : ℕ) → ls ≡ ms → os ≡ ps → f ≡ g → t ≡ u →
+pub same_named : (ls ms : List Lock) (os ps : List (Option Bound)) (f g t u : ℕ) → ls ≡ ms → os ≡ ps → f ≡ g → t ≡ u →
     ◌≡◌ {A = Named} (record { locks = ls; names = os; fixed = f; top = t }) (record { locks = ms; names = ps; fixed = g; top = u })
 same_named ls ms os ps f g t u a b c d =
     ap (λ (x : List Lock). record { locks = x; names = os; fixed = f; top = t }) a

@@ -143,8 +143,8 @@ AreAmong ns [] = Unit {0}
 AreAmong ns (Of c x ask ∷ is) = ((j : ℕ) × (slice_get ns j ≡ Some x)) × AreAmong ns is
 AreAmong ns (Again ∷ is) = AreAmong ns is
 
--- The answers are those of locks of their own, one for each name, for ever, tokens aside; or `names`
--- if as many names are held as may be.
+-- The answers are those of locks of their own, one for each name, for ever, tokens aside; or
+-- `names` if as many names are held as may be.
 abbrev pub NamesAreLocks : Type 0
 NamesAreLocks =
     (ns : List (List ℕ)) (s : Named) (ls : List Lock) (is : List NamedInput) → IsNamed s

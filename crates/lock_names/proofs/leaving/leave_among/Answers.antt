@@ -2,8 +2,8 @@ use Rattle.std.proofs.Common.{◌≡◌, ◌+◌, ◌^◌, ◌<◌, ℕ, List, �
 use Rattle.std.specs.Prelude.{slice_get}
 use Rattle.held_locks.specs.declared.answers.Left.{Left}
 use Rattle.lock_names.specs.Kept.{NamedView, seen}
-use Rattle.lock_names.specs.Leaves.{told_left, grants_in, IsTellableLeft}
-use Rattle.lock_names.proofs.LeftRings.{reports_apart, reports_tellable, few_grants, left_kept}
+use Rattle.lock_names.specs.Leaves.{told_left, names_left, grants_in, IsTellableLeft}
+use Rattle.lock_names.proofs.LeftRings.{reports_apart, reports_tellable, few_grants, IsDoneLeave, left_kept}
 use Rattle.lock_names.proofs.LeftSaid.{left_by_name}
 use Rattle.lock_names.proofs.leaving.leave_among.Goals as goal
 
@@ -30,3 +30,31 @@ overflow_add-rings c =
     let few : c.args.rings.now.top + grants_in raw < 2 ^ 64 = few_grants v w c.args.client raw c.requires.kept c.leave.ensures.left.2 in
     let count : c.settle_left.result ≡ grants_in raw = c.settle_left.ensures.grants ∙ ap (λ (x : List Left). grants_in x) all in
     omega arith
+
+pub returns-clause-left : goal.returns-clause-left
+returns-clause-left c =
+    let raw : List Left = c.leave.ensures.left.0 in
+    let all : c.leave.new.left.items ≡ raw = c.leave.ensures.left.1 ∙ ap (λ (x : List Left). x ++ raw) c.clear.ensures.items in
+    let v = seen c.args.rings.now c.args.table.now in
+    let w : NamedView = record { locks = c.leave.new.self; names = c.settle_left.new.table; fixed = c.args.rings.now.fixed; top = c.args.rings.now.top + c.settle_left.result } in
+    let d : IsDoneLeave v w c.args.client raw = record {
+      left = c.leave.ensures.left.2;
+      names = c.settle_left.ensures.names ∙ ap (λ (x : List Left). names_left c.args.rings.now.fixed c.args.table.now x) all;
+      fixed = refl;
+      top = ap (λ (n : ℕ). c.args.rings.now.top + n) (c.settle_left.ensures.grants ∙ ap (λ (x : List Left). grants_in x) all);
+    } in
+    left_by_name v w c.args.client raw c.settle_left.new.left.items c.requires.kept d (c.settle_left.ensures.told ∙ ap (λ (x : List Left). map (told_left c.args.table.now) x) all)
+
+pub returns-clause-kept : goal.returns-clause-kept
+returns-clause-kept c =
+    let raw : List Left = c.leave.ensures.left.0 in
+    let all : c.leave.new.left.items ≡ raw = c.leave.ensures.left.1 ∙ ap (λ (x : List Left). x ++ raw) c.clear.ensures.items in
+    let v = seen c.args.rings.now c.args.table.now in
+    let w : NamedView = record { locks = c.leave.new.self; names = c.settle_left.new.table; fixed = c.args.rings.now.fixed; top = c.args.rings.now.top + c.settle_left.result } in
+    let d : IsDoneLeave v w c.args.client raw = record {
+      left = c.leave.ensures.left.2;
+      names = c.settle_left.ensures.names ∙ ap (λ (x : List Left). names_left c.args.rings.now.fixed c.args.table.now x) all;
+      fixed = refl;
+      top = ap (λ (n : ℕ). c.args.rings.now.top + n) (c.settle_left.ensures.grants ∙ ap (λ (x : List Left). grants_in x) all);
+    } in
+    left_kept v w c.args.client raw c.requires.kept d

@@ -11,13 +11,13 @@ use Rattle.lock_names.proofs.starting.grants_of.Goals as goal
 
 pub returns-then-is_some-clause-why : goal.returns-then-is_some-clause-why
 returns-then-is_some-clause-why c = λ ns.
-    let below : c.loop-lock.lock < length c.args.locks.now = let t = c.loop-lock-test.true in let n = c.count.ensures in omega arith in
+    let below : c.loop-lock.lock < length c.args.locks.now = let t = c.loop-lock-test.true in let n = c.count-lock-end.ensures in omega arith in
     let w = there_is c.args.locks.now c.loop-lock.lock below in
     held_one c.args.locks.now c.loop-lock.lock w.0 w.1 (ap (λ (o : Option Holder). is_some o) (sym (c.holder.ensures w.0 w.1)) ∙ sym c.is_some.ensures ∙ c.if-is_some.true)
 
 pub returns-then-more-room-clause-why : goal.returns-then-more-room-clause-why
 returns-then-more-room-clause-why c = λ ns.
-    let below : c.loop-lock.lock < length c.args.locks.now = let t = c.loop-lock-test.true in let n = c.count.ensures in omega arith in
+    let below : c.loop-lock.lock < length c.args.locks.now = let t = c.loop-lock-test.true in let n = c.count-lock-end.ensures in omega arith in
     let w = there_is c.args.locks.now c.loop-lock.lock below in
     let more : c.grants-more.result ≡ (lock_of w.0).ring.grants = c.grants-more.ensures ∙ ap (λ (e : EndlessView). e.base.grants + e.ring.book.now.grants) (c.ring.ensures w.0 w.1) in
     let sum : c.loop-lock.sum ≡ total_before c.loop-lock.lock (locks_of c.args.locks.now) = c.loop-lock.invariant.sum in
@@ -29,7 +29,7 @@ returns-then-more-room-clause-why c = λ ns.
 
 pub loop-lock-preserved : goal.loop-lock-preserved
 loop-lock-preserved c =
-    let below : c.loop-lock.lock < length c.args.locks.now = let t = c.loop-lock-test.true in let n = c.count.ensures in omega arith in
+    let below : c.loop-lock.lock < length c.args.locks.now = let t = c.loop-lock-test.true in let n = c.count-lock-end.ensures in omega arith in
     let w = there_is c.args.locks.now c.loop-lock.lock below in
     let more : c.grants-more.result ≡ (lock_of w.0).ring.grants = c.grants-more.ensures ∙ ap (λ (e : EndlessView). e.base.grants + e.ring.book.now.grants) (c.ring.ensures w.0 w.1) in
     let sum : c.loop-lock.sum ≡ total_before c.loop-lock.lock (locks_of c.args.locks.now) = c.loop-lock.invariant.sum in
@@ -46,10 +46,10 @@ loop-lock-preserved c =
 
 pub returns-clause-ok : goal.returns-clause-ok
 returns-clause-ok c =
-    let all : c.loop-lock.lock ≡ length c.args.locks.now = let past = c.loop-lock-test.false in let end = c.loop-lock.auto.lock-end in let n = c.count.ensures in omega arith in
+    let all : c.loop-lock.lock ≡ length c.args.locks.now = let past = c.loop-lock-test.false in let end = c.loop-lock.auto.lock-end in let n = c.count-lock-end.ensures in omega arith in
     c.loop-lock.invariant.sum ∙ counted_all c.args.locks.now c.loop-lock.lock all
 
 pub returns-clause-free : goal.returns-clause-free
 returns-clause-free c =
-    let all : c.loop-lock.lock ≡ length c.args.locks.now = let past = c.loop-lock-test.false in let end = c.loop-lock.auto.lock-end in let n = c.count.ensures in omega arith in
+    let all : c.loop-lock.lock ≡ length c.args.locks.now = let past = c.loop-lock-test.false in let end = c.loop-lock.auto.lock-end in let n = c.count-lock-end.ensures in omega arith in
     none_held c.args.locks.now (λ i v lt e. c.loop-lock.invariant.free i v (omega (arith, lt)) e)
