@@ -1,6 +1,6 @@
 //! Locks that are called by names.
 
-ghost use Rattle.std.specs.Prelude.{◌≡◌, ℕ, ◌<◌, ◌≤◌, true, false, length, map, slice_get, slice_set, Some, None, IfOk, IfErr, string_bytes, vec_capacity};
+ghost use Rattle.std.specs.Prelude.{◌≡◌, ℕ, ◌<◌, ◌≤◌, true, false, length, map, slice_get, slice_set, Some, None, IfOk, IfErr, option_map, string_bytes, vec_capacity};
 ghost use Rattle.held_locks.specs.Kept.{locks_of};
 ghost use Rattle.held_locks.specs.declared.answers.Answer.{Answer};
 ghost use Rattle.lock_names.specs.Names.{Bound, kept, stays, found};
@@ -204,6 +204,23 @@ impl Names {
             top,
         };
         Ok(Names { rings, table })
+    }
+
+    /// How many rings there are.
+    pub fn count(&self) -> u32
+        ensures { result ≡ length self.now.locks }
+    {
+        self.rings.locks.count()
+    }
+
+    /// The name of a ring, if it has one.
+    pub fn name(&self, ring: u32) -> Option<&str>
+        ensures some { (b : Bound) → slice_get self.now.names ring ≡ Some (Some b)
+            → option_map (λ x. x.now) result ≡ Some b.name }
+        ensures none { slice_get self.now.names ring ≡ Some None → result ≡ None }
+        ensures far { length self.now.names ≤ ring → result ≡ None }
+    {
+        self.table.name(ring)
     }
 
     /// A client asks something of a name. A name that no ring has is bound to the lowest free ring by an ask for a hold that is

@@ -228,6 +228,22 @@ impl Table {
         }
     }
 
+    /// The name of a ring, if it has one.
+    pub(crate) fn name(&self, ring: u32) -> Option<&str>
+        ensures some { (b : Bound) → slice_get self.now ring ≡ Some (Some b)
+            → option_map (λ x. x.now) result ≡ Some b.name }
+        ensures none { slice_get self.now ring ≡ Some None → result ≡ None }
+        ensures far { length self.now ≤ ring → result ≡ None }
+    {
+        if ring as usize >= self.bound.len() {
+            return None;
+        }
+        match &self.bound[ring as usize] {
+            Some(binding) => Some(binding.name.as_str()),
+            None => None,
+        }
+    }
+
     /// Gives a name to the lowest free ring. This is refused only for lack of memory.
     pub(crate) fn bind(
         &mut self,

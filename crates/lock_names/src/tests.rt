@@ -173,7 +173,7 @@ fn a_client_leaves_all_names(rt: HostRuntime) {
         names.ask(alloc, client, name, NameAsk::Acquire(label));
     }
     let mut left = Vec::new(alloc);
-    assert!(&rt; left.reserve(3).is_ok());
+    assert!(&rt; left.reserve(names.count() as usize).is_ok());
     names.leave(8, &mut left);
     let next = Some(Holder {
         client: 9,
@@ -182,6 +182,8 @@ fn a_client_leaves_all_names(rt: HostRuntime) {
     assert!(&rt; left.len() == 2);
     assert!(&rt; is_left(left[0], 1, next));
     assert!(&rt; is_left(left[1], 2, None));
+    assert!(&rt; names.name(1) == Some("order/1"));
+    assert!(&rt; names.name(2).is_none());
     let rows: [(u64, &str, NameAsk, NameAnswers); 4] = [
         (
             8,
