@@ -1,4 +1,4 @@
-use Rattle.std.proofs.Common.{◌≡◌, ℕ, ◌+◌, ◌^◌, ◌<◌, length, refl, ◌∙◌, arith}
+use Rattle.std.proofs.Common.{◌+◌, refl, ◌∙◌, arith}
 use Rattle.std.proofs.lemmas.List.{length-set}
 use Rattle.lock_names.proofs.LeftRings.{next_read, told_more, told_rest}
 use Rattle.lock_names.proofs.leaving.settle_left.Goals as goal
@@ -34,8 +34,7 @@ overflow_add-grants c =
     let one = c.grant_count-grants.ensures in
     let more = r.grants in
     let few = r.few in
-    let lt : c.loop-i.grants + c.grant_count-grants.result < 2 ^ 64 = omega arith in
-    lt
+    omega arith
 
 pub loop-i-preserved : goal.loop-i-preserved
 loop-i-preserved c =
