@@ -21,3 +21,8 @@ pub mod NextSegments
 pub mod Foreseen
 pub mod HandedOver
 pub mod TheirHolds
+pub mod Linking
+pub mod Chaining
+pub mod Gathering
+pub mod Listing
+pub mod Skipping

@@ -10,3 +10,4 @@ pub mod Opened
 pub mod Cuts
 pub mod Parts
 pub mod Handed
+pub mod Holding

@@ -4,8 +4,10 @@
 
 mod answers;
 mod asks;
+mod chains;
 mod cuts;
 mod handing;
+mod holds;
 pub mod laws;
 mod leaving;
 mod locks;

@@ -1,6 +1,6 @@
 //! Locks that are called by their numbers.
 
-ghost use Rattle.std.specs.Prelude.{◌≡◌, ℕ, ◌+◌, ◌<◌, ◌≤◌, ◌⊎◌, ◌++◌, ◌∷◌, [], List, true, false, length, slice_get, None, Some, IfOk, IfErr, OnOk, OnErr, vec_len, vec_capacity};
+ghost use Rattle.std.specs.Prelude.{◌≡◌, ℕ, ◌+◌, ◌-◌, ◌<◌, ◌≤◌, ◌⊎◌, ◌++◌, ◌∷◌, [], List, true, false, length, slice_get, None, Some, IfOk, IfErr, OnOk, OnErr, vec_len, vec_capacity};
 ghost use Rattle.held_locks.specs.Queues.{stands, waits_for, client_of, holder_of, comes_to};
 ghost use Rattle.held_locks.specs.Locks.{Acquire, Try, Release, Cancel, Corrupt, Stats, acquire_refusal, try_refusal};
 ghost use Rattle.held_locks.specs.Cuts.{AreNext, HaveNoNext};
@@ -9,12 +9,14 @@ ghost use Rattle.held_locks.specs.Kept.{LockView, lock_of, locks_of, lock_limit,
 ghost use Rattle.held_locks.specs.Opened.{holder_after, IsAdded, IsNotAdded};
 ghost use Rattle.held_locks.specs.Waiting.{lock_in};
 ghost use Rattle.held_locks.specs.Parts.{view_of, views_of};
+ghost use Rattle.held_locks.specs.Holding.{AreHolders};
 ghost use Rattle.held_locks.specs.declared.answers.Left.{Left};
 ghost use Rattle.held_locks.specs.declared.parts.LockParts.{LockParts};
 
 use crate::answers::{Answers, Holder, Left, Refusal, Waiter};
 use crate::cuts::next_locks;
-use crate::handing::{Handover, hand_among};
+use crate::handing::{Handover, hand_and_follow};
+use crate::holds::{Holds, client_of, follow};
 use crate::leaving::leave_all;
 use crate::opened::open_hold;
 use crate::parts::{LockParts, refused};
@@ -33,29 +35,23 @@ pub const LOCK_LIMIT: usize = 1_000_000;
 pub struct Locks {
     locks: Vec<LockParts>,
     waits: Waits,
+    holds: Holds,
+    /// The locks that a client leaves, while it leaves them. There is room for all of them.
+    order: Vec<usize>,
 }
 
 impl Model for Locks {
-    ghost use Rattle.std.specs.Prelude.{List};
-    ghost use Rattle.held_locks.specs.Kept.{LockView, AreKept};
+    ghost use Rattle.std.specs.Prelude.{List, vec_capacity};
+    ghost use Rattle.held_locks.specs.Kept.{LockView};
+    ghost use Rattle.held_locks.specs.Holding.{AreWhole};
     ghost use Rattle.held_locks.specs.Parts.{views_of};
 
     ghost Value = { List LockView };
 
     ghost view = { λ s. views_of s.locks.items };
 
-    ghost invariant = { λ s. AreKept (views_of s.locks.items) s.waits };
-}
-
-/// The client that holds.
-#[inline(always)]
-fn client_of(holder: Option<Holder>) -> Option<u64>
-    ensures { result ≡ client_of holder }
-{
-    match holder {
-        Some(holder) => Some(holder.client),
-        None => None,
-    }
+    ghost invariant = { λ s.
+        AreWhole (views_of s.locks.items) s.waits s.holds (vec_capacity s.order) };
 }
 
 /// The holder of what a client waits for.
@@ -244,10 +240,16 @@ fn stats_of(locks: &[LockParts], lock: u32) -> Answers
 /// A lock more, of a settled ring.
 fn add_to(
     locks: &mut Vec<LockParts>,
+    holds: &mut Holds,
+    order: &mut Vec<usize>,
     alloc: Global,
     ring: EndlessRing,
     holder: Option<Holder>,
 ) -> Result<(), Refusal>
+    requires holders { AreHolders (views_of locks.old.items) holds.old }
+    requires room { length locks.old.items ≤ vec_capacity order.old - 1 }
+    ensures holders { AreHolders (views_of locks.new.items) holds.new }
+    ensures room { length locks.new.items ≤ vec_capacity order.new - 1 }
     ensures ok { OnOk result (views_of locks.new.items ≡ views_of locks.old.items
         ++ record { ring = ring; queue = []; holder = holder } ∷ []) }
     ensures few { OnOk result (length locks.old.items < lock_limit) }
@@ -261,6 +263,14 @@ fn add_to(
     let Ok(()) = locks.reserve(1) else {
         return Err(Refusal::Memory);
     };
+    order.clear();
+    let Ok(()) = order.reserve(locks.len() + 2) else {
+        return Err(Refusal::Memory);
+    };
+    let Ok(()) = holds.add() else {
+        return Err(Refusal::Memory);
+    };
+    holds.put(locks.len(), client_of(holder));
     let queue = VecDeque::new(alloc);
     locks.push_reserved(LockParts {
         ring,
@@ -288,6 +298,8 @@ impl Locks {
         Locks {
             locks: Vec::new(alloc),
             waits: Waits::new(alloc),
+            holds: Holds::new(alloc),
+            order: Vec::new(alloc),
         }
     }
 
@@ -310,7 +322,14 @@ impl Locks {
             Ok(()) => {}
             Err(why) => return Err(why),
         }
-        add_to(&mut self.locks, alloc, ring, zeroth(held))
+        add_to(
+            &mut self.locks,
+            &mut self.holds,
+            &mut self.order,
+            alloc,
+            ring,
+            zeroth(held),
+        )
     }
 
     /// Hands an open hold of client 0 to another client, with the same token. It is not an input: a start does it, before any. False if
@@ -319,7 +338,7 @@ impl Locks {
         ensures yes { result ≡ true → IsHanded self.old self.new handover }
         ensures no { result ≡ false → CannotBeHanded self.old handover × (self.new ≡ self.old) }
     {
-        hand_among(&mut self.locks, handover)
+        hand_and_follow(&mut self.locks, &mut self.holds, handover)
     }
 
     /// The locks are right, and each has room for those who wait, at each moment: this does nothing, and says so.
@@ -387,7 +406,18 @@ impl Locks {
         let Ok(waits) = self.waits.copy() else {
             return Err(Refusal::Memory);
         };
-        Ok(Locks { locks, waits })
+        let Ok(holds) = self.holds.copy() else {
+            return Err(Refusal::Memory);
+        };
+        let Ok(order) = Vec::with_capacity(alloc, self.locks.len() + 1) else {
+            return Err(Refusal::Memory);
+        };
+        Ok(Locks {
+            locks,
+            waits,
+            holds,
+            order,
+        })
     }
 
     /// Acquires a lock for a client, with a label that the client chooses: it is granted at once if nobody holds the lock, or
@@ -398,7 +428,9 @@ impl Locks {
     pub fn acquire(&mut self, client: u64, lock: u32, label: u64) -> Answers
         ensures { IsAnswer self.old self.new client lock (Acquire label) result }
     {
-        acquire_among(&mut self.locks, &mut self.waits, client, lock, label)
+        let answers = acquire_among(&mut self.locks, &mut self.waits, client, lock, label);
+        follow(self.locks.as_slice(), &mut self.holds, lock);
+        answers
     }
 
     /// The same, but a client does not wait: if somebody holds the lock, the answer is `Busy`.
@@ -407,7 +439,9 @@ impl Locks {
     pub fn try_acquire(&mut self, client: u64, lock: u32, label: u64) -> Answers
         ensures { IsAnswer self.old self.new client lock (Try label) result }
     {
-        try_among(&mut self.locks, &mut self.waits, client, lock, label)
+        let answers = try_among(&mut self.locks, &mut self.waits, client, lock, label);
+        follow(self.locks.as_slice(), &mut self.holds, lock);
+        answers
     }
 
     /// Ends the hold of a client with this token, and grants the head of the queue.
@@ -417,7 +451,9 @@ impl Locks {
     pub fn release(&mut self, client: u64, lock: u32, token: u64) -> Answers
         ensures { IsDone self.old self.new client lock (Release token) result }
     {
-        release_among(&mut self.locks, &mut self.waits, client, lock, token)
+        let answers = release_among(&mut self.locks, &mut self.waits, client, lock, token);
+        follow(self.locks.as_slice(), &mut self.holds, lock);
+        answers
     }
 
     /// Takes a client that waits out of the queue.
@@ -426,7 +462,9 @@ impl Locks {
     pub fn cancel(&mut self, client: u64, lock: u32) -> Answers
         ensures { IsDone self.old self.new client lock Cancel result }
     {
-        cancel_among(&mut self.locks, &mut self.waits, client, lock)
+        let answers = cancel_among(&mut self.locks, &mut self.waits, client, lock);
+        follow(self.locks.as_slice(), &mut self.holds, lock);
+        answers
     }
 
     /// A client leaves all locks, one after the other: it goes out of the queue, or its hold ends and the head of the queue is
@@ -439,7 +477,14 @@ impl Locks {
             × IsLeft self.old self.new client said }
         ensures capacity { vec_capacity left.new ≡ vec_capacity left.old }
     {
-        leave_all(&mut self.locks, &mut self.waits, client, left);
+        leave_all(
+            &mut self.locks,
+            &mut self.waits,
+            &mut self.holds,
+            &mut self.order,
+            client,
+            left,
+        );
     }
 
     /// A fault of a lock's ring: a value is written into a machine, and the ring is repaired at once. No hold ends.
@@ -448,14 +493,16 @@ impl Locks {
     pub fn corrupt(&mut self, client: u64, lock: u32, machine: u32, value: u32) -> Answers
         ensures { IsAnswer self.old self.new client lock (Corrupt machine value) result }
     {
-        corrupt_among(
+        let answers = corrupt_among(
             &mut self.locks,
             &mut self.waits,
             client,
             lock,
             machine,
             value,
-        )
+        );
+        follow(self.locks.as_slice(), &mut self.holds, lock);
+        answers
     }
 
     /// How many machines the ring of a lock has, how many clients wait for it, how many passes of its ring were granted, and who
