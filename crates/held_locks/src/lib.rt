@@ -6,6 +6,7 @@ mod answers;
 mod asks;
 mod chains;
 mod cuts;
+mod growing;
 mod handing;
 mod holds;
 pub mod laws;
