@@ -7,7 +7,7 @@ use Rattle.std.proofs.lemmas.Option.{slice_get_within, slice_get_past}
 use Rattle.held_locks.specs.Holding.{Has, Differ, IsLinked, IsSpliced, IsChain, IsChainOf, IsHeldIn, AreChained}
 use Rattle.held_locks.proofs.Standing.{get_set}
 use Rattle.held_locks.proofs.Adding.{get_front, get_push}
-use Rattle.held_locks.proofs.Linking.{same_nat, there_is, one_before, get_more, node_linked}
+use Rattle.held_locks.proofs.Linking.{same_nat, there_is, one_before, get_more, link_linked}
 
 -- ---- a lock goes out of the chain in which it is, if it is in one
 
@@ -26,7 +26,7 @@ module _ (ends : ℕ) (N P M : List ℕ) (i p z : ℕ) (k : IsLinked N P) (befor
   pub alone : slice_get M (ends + i) ≡ Some (ends + i)
   alone = s.second ∙ before
 
-  -- the chain goes on from this node, which is another lock's, without the lock
+  -- the chain continues from this link, which is another lock's, without the lock
   out_cons : (at j y : ℕ) (is js : List ℕ) → at ≡ ends + j → slice_get M (ends + j) ≡ Some y → ((m : ℕ) → Has m js → Has m is) → ((m : ℕ) → Has m is → m ≢ i → Has m js) → (Differ is → Differ js) → Out y js → Out at (j ∷ is)
   out_cons at j y is js e g back on apart o = record {
     locks = j ∷ o.locks;
@@ -42,29 +42,29 @@ module _ (ends : ℕ) (N P M : List ℕ) (i p z : ℕ) (k : IsLinked N P) (befor
     differ = λ d. (λ h. d.0 (back j (o.only j h)), o.differ (apart d.1));
   }
 
-  -- and where the lock is the next of the chain, the chain goes on behind it
+  -- and where the lock is the next of the chain, the chain continues after it
   without_first : (y j : ℕ) (is : List ℕ) → y ≡ ends + i → IsChain ends N y (j ∷ is) → (j ≡ i) × IsChain ends N z is
   without_first y j is e c =
-      let a = c.0 in
+      let a : y ≡ ends + j = c.0 in
       let same : j ≡ i = omega (arith, a, e) in
-      let there : slice_get N (ends + i) ≡ Some c.1.0 = ap (λ (n : ℕ). slice_get N (ends + n)) (sym same) ∙ c.1.1.0 in
-      (same, subst (λ (n : ℕ). IsChain ends N n is) (same_nat c.1.0 z (sym there ∙ after)) c.1.1.1)
+      let there : slice_get N (ends + i) ≡ Some c.1.0 = ap (λ (n : ℕ). slice_get N (ends + n)) (sym same) ∙ c.1.1 in
+      (same, subst (λ (n : ℕ). IsChain ends N n is) (same_nat c.1.0 z (sym there ∙ after)) c.1.2)
 
   out : (at : ℕ) (is : List ℕ) → IsChain ends N at is → at ≢ ends + i → Out at is
   out at [] c n = record { locks = []; chain = c; only = λ j h. h; kept = λ j h m. h; differ = λ d. d }
   out at (j ∷ []) c n = elim (cases_eq (ends + j) p) [
     | inl q ↦
-        let y : c.1.0 ≡ ends + i = same_nat c.1.0 (ends + i) (sym c.1.1.0 ∙ ap (λ (m : ℕ). slice_get N m) q ∙ before) in
-        let l = c.1.1.1 in
+        let y : c.1.0 ≡ ends + i = same_nat c.1.0 (ends + i) (sym c.1.1 ∙ ap (λ (m : ℕ). slice_get N m) q ∙ before) in
+        let l : c.1.0 < ends = c.1.2 in
         absurd (omega (arith, y, l))
     | inr q ↦
         let m : ends + j ≢ ends + i = λ r. n (c.0 ∙ r) in
-        out_cons at j c.1.0 [] [] c.0 (s.others (ends + j) q m ∙ c.1.1.0) (λ m h. h) (λ m h _. h) (λ d. d) (record { locks = []; chain = c.1.1.1; only = λ j h. h; kept = λ j h m. h; differ = λ d. d })
+        out_cons at j c.1.0 [] [] c.0 (s.others (ends + j) q m ∙ c.1.1) (λ m h. h) (λ m h _. h) (λ d. d) (record { locks = []; chain = c.1.2; only = λ j h. h; kept = λ j h m. h; differ = λ d. d })
   ]
   out at (j ∷ l ∷ is) c n = elim (cases_eq (ends + j) p) [
     | inl q ↦
-        let y : c.1.0 ≡ ends + i = same_nat c.1.0 (ends + i) (sym c.1.1.0 ∙ ap (λ (m : ℕ). slice_get N m) q ∙ before) in
-        let w = without_first c.1.0 l is y c.1.1.1 in
+        let y : c.1.0 ≡ ends + i = same_nat c.1.0 (ends + i) (sym c.1.1 ∙ ap (λ (m : ℕ). slice_get N m) q ∙ before) in
+        let w = without_first c.1.0 l is y c.1.2 in
         let past : z ≢ ends + i = λ r. n (c.0 ∙ q ∙ one_before N P p (ends + i) (ends + i) k before (after ∙ ap (λ (m : ℕ). Some m) r)) in
         out_cons at j z (l ∷ is) is c.0 (ap (λ (m : ℕ). slice_get M m) q ∙ skipped) (λ m h. inr h)
         (λ m h d. elim h [
@@ -74,8 +74,8 @@ module _ (ends : ℕ) (N P M : List ℕ) (i p z : ℕ) (k : IsLinked N P) (befor
         (λ d. d.1) (out z is w.1 past)
     | inr q ↦
         let m : ends + j ≢ ends + i = λ r. n (c.0 ∙ r) in
-        let past : c.1.0 ≢ ends + i = λ r. q (one_before N P (ends + j) p (ends + i) k (c.1.1.0 ∙ ap (λ (m : ℕ). Some m) r) before) in
-        out_cons at j c.1.0 (l ∷ is) (l ∷ is) c.0 (s.others (ends + j) q m ∙ c.1.1.0) (λ m h. h) (λ m h _. h) (λ d. d) (out c.1.0 (l ∷ is) c.1.1.1 past)
+        let past : c.1.0 ≢ ends + i = λ r. q (one_before N P (ends + j) p (ends + i) k (c.1.1 ∙ ap (λ (m : ℕ). Some m) r) before) in
+        out_cons at j c.1.0 (l ∷ is) (l ∷ is) c.0 (s.others (ends + j) q m ∙ c.1.1) (λ m h. h) (λ m h _. h) (λ d. d) (out c.1.0 (l ∷ is) c.1.2 past)
   ]
 
   -- from an end on
@@ -83,10 +83,12 @@ module _ (ends : ℕ) (N P M : List ℕ) (i p z : ℕ) (k : IsLinked N P) (befor
   out_from t at to [] l e f c = elim (cases_eq t p) [
     | inl q ↦
         let y : at ≡ ends + i = same_nat at (ends + i) (sym e ∙ ap (λ (m : ℕ). slice_get N m) q ∙ before) in
-        absurd (omega (arith, y, c))
+        let b : at < ends = c in
+        absurd (omega (arith, y, b))
     | inr q ↦
         let same : to ≡ at = same_nat to at (sym f ∙ s.others t q (λ r. omega (arith, l, r)) ∙ e) in
-        subst (λ (m : ℕ). Out m []) (sym same) (out at [] c (λ r. omega (arith, r, c)))
+        let b : at < ends = c in
+        subst (λ (m : ℕ). Out m []) (sym same) (out at [] c (λ r. omega (arith, r, b)))
   ]
   out_from t at to (j ∷ is) l e f c = elim (cases_eq t p) [
     | inl q ↦
@@ -114,7 +116,7 @@ module _ (ends : ℕ) (N P M : List ℕ) (i p z : ℕ) (k : IsLinked N P) (befor
 -- ---- a lock that is in no chain comes into one
 
 module _ (ends : ℕ) (N P M : List ℕ) (i s h : ℕ) (k : IsLinked N P) (low : s < ends) (alone : slice_get N (ends + i) ≡ Some (ends + i)) (head : slice_get N s ≡ Some h) (sp : IsSpliced N M s (ends + i)) where
-  -- a node that does not come to itself comes to no lock that does
+  -- a link that does not come to itself comes to no lock that does
   other : (u y : ℕ) → slice_get N u ≡ Some y → u ≢ ends + i → y ≢ ends + i
   other u y e n = λ r. n (one_before N P u (ends + i) (ends + i) k (e ∙ ap (λ (m : ℕ). Some m) r) alone)
 
@@ -122,8 +124,8 @@ module _ (ends : ℕ) (N P M : List ℕ) (i s h : ℕ) (k : IsLinked N P) (low :
   on at [] c n = (c, λ x. x)
   on at (j ∷ is) c n =
       let a : ends + j ≢ ends + i = λ r. n (c.0 ∙ r) in
-      let r = on c.1.0 is c.1.1.1 (other (ends + j) c.1.0 c.1.1.0 a) in
-      ((c.0, (c.1.0, sp.others (ends + j) (λ q. omega (arith, low, q)) a ∙ c.1.1.0, r.0)), λ x. elim x [
+      let r = on c.1.0 is c.1.2 (other (ends + j) c.1.0 c.1.1 a) in
+      ((c.0, (c.1.0, sp.others (ends + j) (λ q. omega (arith, low, q)) a ∙ c.1.1, r.0)), λ x. elim x [
         | inl q ↦ a (ap (λ (m : ℕ). ends + m) (sym q))
         | inr q ↦ r.1 q
       ])
@@ -203,7 +205,7 @@ one_client c d e = cc
 some_is : (x y : Option ℕ) → ◌≡◌ {A = Option (Option ℕ)} (Some x) (Some y) → x ≡ y
 some_is x y e = cc
 
--- who holds which lock then
+-- the client that holds each lock then
 pub held_none : (clients : List (Option ℕ)) (i : ℕ) (o : Option ℕ) → slice_get clients i ≡ Some o → (j c : ℕ) → IsHeldIn (slice_set clients i None) j c → (j ≢ i) × IsHeldIn clients j c
 held_none clients i o at j c e = elim (get_set clients i j None o (Some c) at e) [
   | inl p ↦ absurd (no_client c (ap (λ (x : Option ℕ). Some x) (sym p.1)))
@@ -242,11 +244,11 @@ put_client ends N P M Q M' Q' clients i p c a l e sp k small sp' k' =
           (put_into ends M Q M' (IsHeldIn clients) i c h.0 k small alone h.1 sp' (taken_out ends N P M clients i p a l e sp) s at low there) (held_some clients i c o.0 o.1);
     }
 
--- ---- a node more
+-- ---- a link more
 
 chain_more : (ends : ℕ) (N : List ℕ) (x at : ℕ) (is : List ℕ) → IsChain ends N at is → IsChain ends (N ++ x ∷ []) at is
 chain_more ends N x at [] c = c
-chain_more ends N x at (i ∷ is) c = (c.0, (c.1.0, get_front N x (ends + i) c.1.0 c.1.1.0, chain_more ends N x c.1.0 is c.1.1.1))
+chain_more ends N x at (i ∷ is) c = (c.0, (c.1.0, get_front N x (ends + i) c.1.0 c.1.1, chain_more ends N x c.1.0 is c.1.2))
 
 chain_of_more : (ends : ℕ) (N : List ℕ) (H : ℕ → ℕ → Type 0) (x s at : ℕ) → IsChainOf ends N H s at → IsChainOf ends (N ++ x ∷ []) H s at
 chain_of_more ends N H x s at a = record { locks = a.locks; chain = chain_more ends N x at a.locks a.chain; differ = a.differ; known = a.known }
@@ -254,7 +256,7 @@ chain_of_more ends N H x s at a = record { locks = a.locks; chain = chain_more e
 -- an end
 pub end_more : (ends : ℕ) (N P : List ℕ) (clients : List (Option ℕ)) → AreChained ends N P clients → length N < ends → AreChained ends (N ++ length N ∷ []) (P ++ length N ∷ []) clients
 end_more ends N P clients a l = record {
-  linked = node_linked N P a.linked;
+  linked = link_linked N P a.linked;
   many = let x = length-append N (length N ∷ []) in let y = a.many in omega arith;
   chains = λ s at low there. elim (get_more N (length N) s at there) [
     | inl p ↦ chain_of_more ends N (IsHeldIn clients) (length N) s at (a.chains s at low p)
@@ -267,10 +269,10 @@ end_more ends N P clients a l = record {
   ];
 }
 
--- the node of a lock that nobody holds
+-- the link of a lock that nobody holds
 pub lock_more : (ends : ℕ) (N P : List ℕ) (clients : List (Option ℕ)) → AreChained ends N P clients → ends ≤ length N → AreChained ends (N ++ length N ∷ []) (P ++ length N ∷ []) (clients ++ None ∷ [])
 lock_more ends N P clients a l = record {
-  linked = node_linked N P a.linked;
+  linked = link_linked N P a.linked;
   many = let x = length-append N (length N ∷ []) in let z = length-append clients (None {A = ℕ} ∷ []) in let y = a.many in omega arith;
   chains = λ s at low there. elim (get_more N (length N) s at there) [
     | inl p ↦ fewer ends (N ++ length N ∷ []) (IsHeldIn clients) (IsHeldIn (clients ++ None ∷ [])) s at (chain_of_more ends N (IsHeldIn clients) (length N) s at (a.chains s at low p))
@@ -281,3 +283,15 @@ lock_more ends N P clients a l = record {
     | inr p ↦ let q = p.0 in absurd (omega (arith, q, l, low))
   ];
 }
+
+-- ---- the same, of lists that are known by equations
+
+pub same_chained : (ends : ℕ) (N P M Q : List ℕ) (clients : List (Option ℕ)) → M ≡ N → Q ≡ P → AreChained ends N P clients → AreChained ends M Q clients
+same_chained ends N P M Q clients e f a = subst (λ (x : List ℕ). AreChained ends x Q clients) (sym e) (subst (λ (x : List ℕ). AreChained ends N x clients) (sym f) a)
+
+pub end_added : (ends : ℕ) (N P M Q : List ℕ) (clients : List (Option ℕ)) → M ≡ N ++ length N ∷ [] → Q ≡ P ++ length N ∷ [] → AreChained ends N P clients → length N < ends → AreChained ends M Q clients
+end_added ends N P M Q clients e f a l = same_chained ends (N ++ length N ∷ []) (P ++ length N ∷ []) M Q clients e f (end_more ends N P clients a l)
+
+pub lock_added : (ends : ℕ) (N P M Q : List ℕ) (clients later : List (Option ℕ)) → M ≡ N ++ length N ∷ [] → Q ≡ P ++ length N ∷ [] → later ≡ clients ++ None ∷ [] → AreChained ends N P clients → ends ≤ length N → AreChained ends M Q later
+lock_added ends N P M Q clients later e f g a l =
+    subst (λ (x : List (Option ℕ)). AreChained ends M Q x) (sym g) (same_chained ends (N ++ length N ∷ []) (P ++ length N ∷ []) M Q (clients ++ None ∷ []) e f (lock_more ends N P clients a l))

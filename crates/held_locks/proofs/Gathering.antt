@@ -42,8 +42,8 @@ has_contains x [] h = absurd h
 has_contains x (y ∷ ys) (inl q) = (0, omega arith, sym q)
 has_contains x (y ∷ ys) (inr h) =
     let c = has_contains x ys h in
-    let l = c.1.0 in
-    (suc c.0, omega (arith, l), c.1.1)
+    let l = c.1 in
+    (suc c.0, omega (arith, l), c.2)
 
 has_at : (x : ℕ) (xs : List ℕ) (k : ℕ) → k < length xs → slice_index_or xs k x ≡ x → Has x xs
 has_at x [] k l e = absurd (omega arith)
@@ -51,7 +51,7 @@ has_at x (y ∷ ys) zero l e = inl (sym e)
 has_at x (y ∷ ys) (suc k) l e = inr (has_at x ys k (omega arith) e)
 
 pub contains_has : (x : ℕ) (xs : List ℕ) → Contains xs x → Has x xs
-contains_has x xs c = has_at x xs c.0 c.1.0 c.1.1
+contains_has x xs c = has_at x xs c.0 c.1 c.2
 
 pub has_front : (x y : ℕ) (xs : List ℕ) → Has x xs → Has x (xs ++ y ∷ [])
 has_front x y [] h = absurd h
@@ -82,13 +82,13 @@ differ_push x (y ∷ xs) d n = (λ h. elim (has_push y x xs h) [
 
 chain_within : (ends : ℕ) (N : List ℕ) (at : ℕ) (is : List ℕ) (j : ℕ) → IsChain ends N at is → Has j is → ends + j < length N
 chain_within ends N at [] j c h = absurd h
-chain_within ends N at (i ∷ is) j c (inl q) = slice_get_within N (ends + j) c.1.0 (ap (λ (n : ℕ). slice_get N (ends + n)) q ∙ c.1.1.0)
-chain_within ends N at (i ∷ is) j c (inr h) = chain_within ends N c.1.0 is j c.1.1.1 h
+chain_within ends N at (i ∷ is) j c (inl q) = slice_get_within N (ends + j) c.1.0 (ap (λ (n : ℕ). slice_get N (ends + n)) q ∙ c.1.1)
+chain_within ends N at (i ∷ is) j c (inr h) = chain_within ends N c.1.0 is j c.1.2 h
 
--- the locks of a client that were found before this node, and those behind it
-pub record IsGathered (ends : ℕ) (next : List ℕ) (clients : List (Option ℕ)) (c node more : ℕ) (found : List ℕ) : Type 0 where
+-- the locks of a client that were found before this link, and those after it
+pub record IsGathered (ends : ℕ) (next : List ℕ) (clients : List (Option ℕ)) (c link more : ℕ) (found : List ℕ) : Type 0 where
   pub rest : List ℕ
-  pub chain : IsChain ends next node rest
+  pub chain : IsChain ends next link rest
   pub apart : Differ rest
   pub few : length rest ≤ more
   pub room : length found + more ≤ length clients
@@ -125,9 +125,9 @@ found_none ends N P clients c s a low l = record {
 some_is : (x y : Option ℕ) → ◌≡◌ {A = Option (Option ℕ)} (Some x) (Some y) → x ≡ y
 some_is x y e = cc
 
-module _ (ends : ℕ) (N : List ℕ) (clients : List (Option ℕ)) (c node more lock z : ℕ) (o : Option ℕ) (found : List ℕ) (less : 0 < more) (is : node ≡ ends + lock) (next : slice_get N node ≡ Some z) (there : slice_get clients lock ≡ Some o) where
+module _ (ends : ℕ) (N : List ℕ) (clients : List (Option ℕ)) (c link more lock z : ℕ) (o : Option ℕ) (found : List ℕ) (less : 0 < more) (is : link ≡ ends + lock) (next : slice_get N link ≡ Some z) (there : slice_get clients lock ≡ Some o) where
   -- the lock is the client's
-  gather_it : (rest : List ℕ) → IsHeldIn clients lock c → (g : IsGathered ends N clients c node more found) → g.rest ≡ lock ∷ rest → IsChain ends N z rest → IsGathered ends N clients c z (more - 1) (found ++ lock ∷ [])
+  gather_it : (rest : List ℕ) → IsHeldIn clients lock c → (g : IsGathered ends N clients c link more found) → g.rest ≡ lock ∷ rest → IsChain ends N z rest → IsGathered ends N clients c z (more - 1) (found ++ lock ∷ [])
   gather_it rest h g e k =
       let new : ¬ Has lock found = λ x. g.once lock x (subst (λ (l : List ℕ). Has lock l) (sym e) (inl refl)) in
       let apart : Differ (lock ∷ rest) = subst Differ e g.apart in
@@ -159,7 +159,7 @@ module _ (ends : ℕ) (N : List ℕ) (clients : List (Option ℕ)) (c node more 
       }
 
   -- it is not
-  gather_not : (rest : List ℕ) → ¬ IsHeldIn clients lock c → (g : IsGathered ends N clients c node more found) → g.rest ≡ lock ∷ rest → IsChain ends N z rest → IsGathered ends N clients c z (more - 1) found
+  gather_not : (rest : List ℕ) → ¬ IsHeldIn clients lock c → (g : IsGathered ends N clients c link more found) → g.rest ≡ lock ∷ rest → IsChain ends N z rest → IsGathered ends N clients c z (more - 1) found
   gather_not rest n g e k =
       let apart : Differ (lock ∷ rest) = subst Differ e g.apart in
       let size : length g.rest ≡ suc (length rest) = ap (λ (l : List ℕ). length l) e in
@@ -182,7 +182,7 @@ module _ (ends : ℕ) (N : List ℕ) (clients : List (Option ℕ)) (c node more 
         ];
       }
 
-  by_holder : (rest : List ℕ) (h : Option ℕ) → o ≡ h → (g : IsGathered ends N clients c node more found) → g.rest ≡ lock ∷ rest → IsChain ends N z rest → IsGathered ends N clients c z (more - 1) (noted found lock h c)
+  by_holder : (rest : List ℕ) (h : Option ℕ) → o ≡ h → (g : IsGathered ends N clients c link more found) → g.rest ≡ lock ∷ rest → IsChain ends N z rest → IsGathered ends N clients c z (more - 1) (noted found lock h c)
   by_holder rest None q g e k = gather_not rest (λ x. nobody (some_is o (Some c) (sym there ∙ x))) g e k
     where
       nobody : o ≡ Some c → ⊥
@@ -198,22 +198,22 @@ module _ (ends : ℕ) (N : List ℕ) (clients : List (Option ℕ)) (c node more 
         rw t (gather_not rest (λ x. both_ways (d == c) t (eq-eqb d c (same_nat d c (sym q ∙ some_is o (Some c) (sym there ∙ x))))) g e k)
   ]
 
-  pub gather_more : IsGathered ends N clients c node more found → IsGathered ends N clients c z (more - 1) (noted found lock o c)
+  pub gather_more : IsGathered ends N clients c link more found → IsGathered ends N clients c z (more - 1) (noted found lock o c)
   gather_more g = by g.rest refl
     where
       by : (rest : List ℕ) → g.rest ≡ rest → IsGathered ends N clients c z (more - 1) (noted found lock o c)
-      by [] e = let k : node < ends = subst (λ (l : List ℕ). IsChain ends N node l) e g.chain in absurd (omega (arith, is, k))
+      by [] e = let k : link < ends = subst (λ (l : List ℕ). IsChain ends N link l) e g.chain in absurd (omega (arith, is, k))
       by (i ∷ rest) e =
-          let k : IsChain ends N node (i ∷ rest) = subst (λ (l : List ℕ). IsChain ends N node l) e g.chain in
-          let k0 = k.0 in
+          let k : IsChain ends N link (i ∷ rest) = subst (λ (l : List ℕ). IsChain ends N link l) e g.chain in
+          let k0 : link ≡ ends + i = k.0 in
           let same : i ≡ lock = omega (arith, k0, is) in
-          let there' : slice_get N node ≡ Some k.1.0 = ap (λ (n : ℕ). slice_get N n) k.0 ∙ k.1.1.0 in
+          let there' : slice_get N link ≡ Some k.1.0 = ap (λ (n : ℕ). slice_get N n) k.0 ∙ k.1.1 in
           let to : k.1.0 ≡ z = same_nat k.1.0 z (sym there' ∙ next) in
-          by_holder rest o refl g (e ∙ ap (λ (n : ℕ). n ∷ rest) same) (subst (λ (n : ℕ). IsChain ends N n rest) to k.1.1.1)
+          by_holder rest o refl g (e ∙ ap (λ (n : ℕ). n ∷ rest) same) (subst (λ (n : ℕ). IsChain ends N n rest) to k.1.2)
 
 -- at the end
-pub gathered : (ends : ℕ) (N : List ℕ) (clients : List (Option ℕ)) (c node more : ℕ) (found : List ℕ) → (node < ends) ⊎ (more ≤ 0) → IsGathered ends N clients c node more found → AreFound clients c found
-gathered ends N clients c node more found end g = record {
+pub gathered : (ends : ℕ) (N : List ℕ) (clients : List (Option ℕ)) (c link more : ℕ) (found : List ℕ) → (link < ends) ⊎ (more ≤ 0) → IsGathered ends N clients c link more found → AreFound clients c found
+gathered ends N clients c link more found end g = record {
   differ = g.differ;
   few = let room = g.room in omega arith;
   held = g.held;
@@ -223,9 +223,20 @@ gathered ends N clients c node more found end g = record {
   ];
 }
   where
-    none : (rest : List ℕ) → IsChain ends N node rest → length rest ≤ more → rest ≡ []
+    none : (rest : List ℕ) → IsChain ends N link rest → length rest ≤ more → rest ≡ []
     none [] k l = refl
-    none (i ∷ rest) k l = let k0 = k.0 in elim end [
+    none (i ∷ rest) k l = let k0 : link ≡ ends + i = k.0 in elim end [
       | inl p ↦ absurd (omega (arith, p, k0))
       | inr p ↦ absurd (omega (arith, p, l))
     ]
+
+-- a link on the way is a lock's
+pub link_within : (ends : ℕ) (N : List ℕ) (clients : List (Option ℕ)) (c link more : ℕ) (found : List ℕ) → IsGathered ends N clients c link more found → ends ≤ link → link < length N
+link_within ends N clients c link more found g l = by g.rest g.chain
+  where
+    by : (rest : List ℕ) → IsChain ends N link rest → link < length N
+    by [] k = let b : link < ends = k in absurd (omega (arith, b, l))
+    by (i ∷ rest) k =
+        let e : link ≡ ends + i = k.0 in
+        let w = slice_get_within N (ends + i) k.1.0 k.1.1 in
+        omega (arith, e, w)

@@ -1,4 +1,4 @@
--- Two lists of which one says what comes after each node, and the other what comes before it.
+-- Two lists of which one says what comes after each link, and the other what comes before it.
 use Rattle.std.proofs.Common.{◌≡◌, ◌≢◌, ℕ, zero, suc, ◌+◌, ◌<◌, List, [], ◌∷◌, ◌++◌, length, length-append, refl, sym, ◌∙◌, ap, subst, inl, inr, arith, Option, Some, None}
 use Rattle.std.specs.Prelude.{slice_get, slice_set, ◌⊎◌}
 use Rattle.std.proofs.lemmas.Bool.{cases_eq}
@@ -63,7 +63,7 @@ spliced_linked N P M Q a b x y k e f s t = record {
   behind = ahead P N Q M y x b a k.behind (k.ahead b y f) (k.ahead a x e) t s.first s.second (λ v n m. s.others v m n);
 }
 
--- what comes after a node is a node, and what comes before it
+-- what comes after a link is a link, and what comes before it
 pub after_within : (N P : List ℕ) (u v : ℕ) → IsLinked N P → slice_get N u ≡ Some v → v < length N
 after_within N P u v k e =
     let l = slice_get_within P v u (k.ahead u v e) in
@@ -73,11 +73,11 @@ after_within N P u v k e =
 pub before_within : (N P : List ℕ) (u v : ℕ) → IsLinked N P → slice_get P u ≡ Some v → v < length N
 before_within N P u v k e = slice_get_within N v u (k.behind u v e)
 
--- two nodes before the same one are one
+-- two links before the same one are one
 pub one_before : (N P : List ℕ) (u w v : ℕ) → IsLinked N P → slice_get N u ≡ Some v → slice_get N w ≡ Some v → u ≡ w
 one_before N P u w v k e f = same_nat u w (sym (k.ahead u v e) ∙ k.ahead w v f)
 
--- ---- a node more, which comes after itself
+-- ---- a link more, which comes after itself
 
 pub get_last : (xs : List ℕ) (x : ℕ) → slice_get (xs ++ x ∷ []) (length xs) ≡ Some x
 get_last [] x = refl
@@ -96,15 +96,15 @@ get_more (z ∷ xs) x (suc i) y e = elim (get_more xs x i y e) [
   | inr p ↦ inr (ap suc p.0, p.1)
 ]
 
-node_ahead : (N P : List ℕ) (n : ℕ) → length N ≡ n → length P ≡ n → ((x y : ℕ) → slice_get N x ≡ Some y → slice_get P y ≡ Some x) → (x y : ℕ) → slice_get (N ++ n ∷ []) x ≡ Some y → slice_get (P ++ n ∷ []) y ≡ Some x
-node_ahead N P n e f k x y g = elim (get_more N n x y g) [
+link_ahead : (N P : List ℕ) (n : ℕ) → length N ≡ n → length P ≡ n → ((x y : ℕ) → slice_get N x ≡ Some y → slice_get P y ≡ Some x) → (x y : ℕ) → slice_get (N ++ n ∷ []) x ≡ Some y → slice_get (P ++ n ∷ []) y ≡ Some x
+link_ahead N P n e f k x y g = elim (get_more N n x y g) [
   | inl p ↦ get_front P n y x (k x y p)
   | inr p ↦ ap (λ (i : ℕ). slice_get (P ++ n ∷ []) i) (p.1 ∙ sym f) ∙ get_last P n ∙ ap (λ (i : ℕ). Some i) (sym e ∙ sym p.0)
 ]
 
-pub node_linked : (N P : List ℕ) → IsLinked N P → IsLinked (N ++ length N ∷ []) (P ++ length N ∷ [])
-node_linked N P k = record {
+pub link_linked : (N P : List ℕ) → IsLinked N P → IsLinked (N ++ length N ∷ []) (P ++ length N ∷ [])
+link_linked N P k = record {
   same = let a = length-append N (length N ∷ []) in let b = length-append P (length N ∷ []) in let c = k.same in omega arith;
-  ahead = node_ahead N P (length N) refl k.same k.ahead;
-  behind = node_ahead P N (length N) k.same refl k.behind;
+  ahead = link_ahead N P (length N) refl k.same k.ahead;
+  behind = link_ahead P N (length N) k.same refl k.behind;
 }

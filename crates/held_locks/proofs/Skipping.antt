@@ -43,7 +43,7 @@ module _ (ps : List LockParts) (es : List (ℕ × ℕ)) (old : List LockView) (c
       subst (λ (x : List Left). AreLeft old (views_of ps) c (n + 1) x) (append-nil said)
       (more_left ps ps old c n said (record { own = None; ended = None; granted = None }) (omega (arith, l, many, size)) a d refl)
 
-  -- so many locks are passed by
+  -- a number of locks are passed by
   pub skip : (gap n : ℕ) → n + gap ≤ length old → ((j : ℕ) (v : LockView) → n ≤ j → j < n + gap → slice_get old j ≡ Some v → ¬ IsAt c v) → AreLeft old (views_of ps) c n said → AreLeft old (views_of ps) c (n + gap) said
   skip zero n l none a = let e : n ≡ n + 0 = omega arith in subst (λ (x : ℕ). AreLeft old (views_of ps) c x said) e a
   skip (suc gap) n l none a =
@@ -69,7 +69,7 @@ none_leaving old c order o = record {
   left = none_left old c;
   within = omega arith;
   more = λ i j l e. omega arith;
-  rest = λ j v l e a. let x = o.all j v e a in (x.0, (omega arith, slice_get-get_or order x.0 j x.1.0 ∙ ap (λ (n : ℕ). Some n) x.1.1));
+  rest = λ j v l e a. let x = o.all j v e a in (x.0, (omega arith, slice_get-get_or order x.0 j x.1 ∙ ap (λ (n : ℕ). Some n) x.2));
 }
 
 rising_at : (order : List ℕ) (i k a b : ℕ) → IsStrictlySortedBy nat_cmp order → i < k → slice_get order i ≡ Some a → slice_get order k ≡ Some b → a < b

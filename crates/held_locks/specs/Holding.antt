@@ -20,27 +20,27 @@ abbrev pub Differ : List ℕ → Type 0
 Differ [] = Unit {0}
 Differ (x ∷ xs) = (¬ Has x xs) × Differ xs
 
--- what comes after a node and what comes before it agree
+-- what comes after a link and what comes before it agree
 pub record IsLinked (next previous : List ℕ) : Type 0 where
   pub same : length previous ≡ length next
   pub ahead : (x y : ℕ) → slice_get next x ≡ Some y → slice_get previous y ≡ Some x
   pub behind : (x y : ℕ) → slice_get previous x ≡ Some y → slice_get next y ≡ Some x
 
--- two nodes have exchanged what comes after them
+-- two links have exchanged what comes after them
 pub record IsSpliced (old new : List ℕ) (a b : ℕ) : Type 0 where
   pub first : slice_get new a ≡ slice_get old b
   pub second : slice_get new b ≡ slice_get old a
   pub others : (x : ℕ) → x ≢ a → x ≢ b → slice_get new x ≡ slice_get old x
   pub many : length new ≡ length old
 
--- From this node on one comes over the nodes of these locks to an end. A node below the number of
+-- From this link on one comes over the links of these locks to an end. A link below the number of
 -- ends is an end; that of a lock is its number above them.
 abbrev pub IsChain : ℕ → List ℕ → ℕ → List ℕ → Type 0
 IsChain ends next at [] = at < ends
 IsChain ends next at (i ∷ is) =
     (at ≡ ends + i) × ((z : ℕ) × (slice_get next (ends + i) ≡ Some z) × IsChain ends next z is)
 
--- the chain of this end, which begins at this node, has each lock that one of its clients holds
+-- the chain of this end, which begins at this link, has each lock that one of its clients holds
 pub record IsChainOf (ends : ℕ) (next : List ℕ) (holds : ℕ → ℕ → Type 0) (s at : ℕ) : Type 0 where
   pub locks : List ℕ
   pub chain : IsChain ends next at locks
@@ -84,10 +84,10 @@ pub record AreHolders (vs : List LockView) (clients : List (Option ℕ)) : Type 
 -- The locks are kept, their holders are known, and there is room to note as many numbers as there
 -- are locks, and one more.
 pub record AreWhole (vs : List LockView) (entries : List (ℕ × ℕ)) (clients : List (Option ℕ))
-    (room : ℕ) : Type 0 where
+    (places : ℕ) : Type 0 where
   pub kept : AreKept vs entries
   pub holders : AreHolders vs clients
-  pub room : length vs ≤ room - 1
+  pub room : length vs ≤ places - 1
 
 -- no other lock has changed
 pub record IsSameBut (i : ℕ) (old new : List LockView) : Type 0 where

@@ -1,8 +1,8 @@
-//! The locks that are held, in chains by the clients that hold them. The nodes below [`CHAINS`] are the ends of the chains, and the
-//! node of a lock is its number above them. From an end one comes over the held locks of its chain back to an end. A lock that
+//! The locks that are held, in chains by the clients that hold them. The links below [`CHAINS`] are the ends of the chains, and the
+//! link of a lock is its number above them. From an end one comes over the held locks of its chain back to an end. A lock that
 //! nobody holds comes after itself.
 
-ghost use Rattle.std.specs.Prelude.{◌≡◌, ◌+◌, ◌%◌, ◌<◌, ◌≤◌, List, [], ◌∷◌, ◌++◌, length, slice_set, None, OnOk, OnErr, vec_capacity, vec_len, ℕ};
+ghost use Rattle.std.specs.Prelude.{◌≡◌, ◌+◌, ◌%◌, ◌<◌, ◌≤◌, List, [], ◌∷◌, ◌++◌, length, slice_set, Option, None, OnOk, OnErr, vec_capacity, vec_len, ℕ};
 ghost use Rattle.held_locks.specs.Holding.{chain_count, IsLinked, IsSpliced, AreChained, AreFound, noted};
 
 use std::alloc::AllocError;
@@ -18,7 +18,7 @@ fn chain_of(client: u64) -> usize
     (client % CHAINS as u64) as usize
 }
 
-/// Exchanges what comes after two nodes.
+/// Exchanges what comes after two links.
 fn splice(next: &mut Vec<usize>, previous: &mut Vec<usize>, a: usize, b: usize)
     requires linked { IsLinked next.old.items previous.old.items }
     requires first { a < length next.old.items }
@@ -48,16 +48,17 @@ pub(crate) fn put(
     ensures clients { clients.new.items ≡ slice_set clients.old.items lock client }
 {
     clients[lock] = client;
-    let node = CHAINS + lock;
-    let before = previous[node];
-    splice(next, previous, before, node);
-    if let Some(client) = client {
-        splice(next, previous, chain_of(client), node);
+    let link = CHAINS + lock;
+    let before = previous[link];
+    splice(next, previous, before, link);
+    match client {
+        Some(client) => splice(next, previous, chain_of(client), link),
+        None => {}
     }
 }
 
-/// A node more, which comes after itself.
-fn add_node(next: &mut Vec<usize>, previous: &mut Vec<usize>) -> Result<(), AllocError>
+/// A link more, which comes after itself.
+fn add_link(next: &mut Vec<usize>, previous: &mut Vec<usize>) -> Result<(), AllocError>
     ensures ok { OnOk result ((next.new.items ≡ next.old.items ++ length next.old.items ∷ [])
         × (previous.new.items ≡ previous.old.items ++ length next.old.items ∷ [])) }
     ensures err { OnErr result ((next.new.items ≡ next.old.items)
@@ -69,9 +70,9 @@ fn add_node(next: &mut Vec<usize>, previous: &mut Vec<usize>) -> Result<(), Allo
     let Ok(()) = previous.reserve(1) else {
         return Err(AllocError);
     };
-    let node = next.len();
-    next.push_reserved(node);
-    previous.push_reserved(node);
+    let link = next.len();
+    next.push_reserved(link);
+    previous.push_reserved(link);
     Ok(())
 }
 
@@ -83,7 +84,7 @@ fn add_ends(next: &mut Vec<usize>, previous: &mut Vec<usize>) -> Result<(), Allo
     ensures ok { OnOk result (chain_count ≤ length next.new.items) }
 {
     while next.len() < CHAINS {
-        let Ok(()) = add_node(next, previous) else {
+        let Ok(()) = add_link(next, previous) else {
             return Err(AllocError);
         };
     }
@@ -107,7 +108,7 @@ pub(crate) fn add(
     let Ok(()) = clients.reserve(1) else {
         return Err(AllocError);
     };
-    let Ok(()) = add_node(next, previous) else {
+    let Ok(()) = add_link(next, previous) else {
         return Err(AllocError);
     };
     clients.push_reserved(None);
@@ -131,30 +132,33 @@ fn note(found: &mut Vec<usize>, lock: usize, holder: Option<u64>, client: u64)
 
 /// The locks that a client holds, after nothing.
 pub(crate) fn find(
-    next: &[usize],
-    clients: &[Option<u64>],
+    next: &Vec<usize>,
+    clients: &Vec<Option<u64>>,
     client: u64,
     found: &mut Vec<usize>,
 )
-    requires chained { (previous : List ℕ) × AreChained chain_count next.now previous clients.now }
+    requires chained { (previous : List ℕ)
+        × AreChained chain_count next.now.items previous clients.now.items }
     requires empty { found.old.items ≡ [] }
-    requires room { length clients.now ≤ vec_capacity found.old }
-    ensures found { AreFound clients.now client found.new.items }
+    requires room { length clients.now.items ≤ vec_capacity found.old }
+    ensures found { AreFound clients.now.items client found.new.items }
     ensures capacity { vec_capacity found.new ≡ vec_capacity found.old }
 {
     let chain = chain_of(client);
     if chain >= next.len() {
         return;
     }
-    let mut node = next[chain];
+    let mut link = next[chain];
     let mut more = clients.len();
     while more > 0 {
-        if node < CHAINS {
+        if link < CHAINS {
             return;
         }
-        let lock = node - CHAINS;
-        note(found, lock, clients[lock], client);
-        node = next[node];
+        let lock = link - CHAINS;
+        let holder = clients[lock];
+        note(found, lock, holder, client);
+        let after = next[link];
+        link = after;
         more -= 1;
     }
 }

@@ -74,7 +74,7 @@ impl Holds {
         ensures found { AreFound self.now client found.new.items }
         ensures capacity { vec_capacity found.new ≡ vec_capacity found.old }
     {
-        chains::find(self.next.as_slice(), self.clients.as_slice(), client, found);
+        chains::find(&self.next, &self.clients, client, found);
     }
 
     /// The same, in memory of its own.

@@ -5,7 +5,7 @@ use Rattle.held_locks.proofs.chains.find.Given as goal
 
 abbrev pub invariant-loop-more : goal.invariant-loop-more
 invariant-loop-more l = record {
-  gathered : IsGathered chain_count l.next l.clients l.client l.node l.more l.found.items;
+  gathered : IsGathered chain_count l.next.items l.clients.items l.client l.link l.more l.found.items;
   room : vec_len l.found + l.more ≤ vec_capacity l.found;
   capacity : vec_capacity l.found ≡ vec_capacity l.fn.found;
 }

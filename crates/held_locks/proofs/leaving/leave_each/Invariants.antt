@@ -11,10 +11,10 @@ invariant-loop-place l = record {
   kept : AreKept (views_of l.locks.items) l.waits;
   holders : AreHolders (views_of l.locks.items) l.holds;
   left : (from : ℕ)
-      × ((said : List Left)
-      × ((l.left.items ≡ l.fn.left.items ++ said)
-      × (IsLeaving (views_of l.fn.locks.items) (views_of l.locks.items) l.client l.order l.place-index from said
-      × (vec_len l.left ≤ vec_len l.fn.left + from))));
+      × (said : List Left)
+      × (l.left.items ≡ l.fn.left.items ++ said)
+      × IsLeaving (views_of l.fn.locks.items) (views_of l.locks.items) l.client l.order l.place-index from said
+      × (vec_len l.left ≤ vec_len l.fn.left + from);
   same : length l.locks.items ≡ length l.fn.locks.items;
   capacity : vec_capacity l.left ≡ vec_capacity l.fn.left;
 }
