@@ -7,7 +7,7 @@ use Rattle.std.proofs.lemmas.Option.{slice_get_within, slice_get_past}
 use Rattle.held_locks.specs.Holding.{Has, Differ, IsLinked, IsSpliced, IsChain, IsChainOf, IsHeldIn, AreChained}
 use Rattle.held_locks.proofs.Standing.{get_set}
 use Rattle.held_locks.proofs.Adding.{get_front, get_push}
-use Rattle.held_locks.proofs.Linking.{same_nat, there_is, one_before, get_more, link_linked}
+use Rattle.held_locks.proofs.Linking.{same_nat, there_is, one_longer, one_before, get_more, link_linked}
 
 -- ---- a lock goes out of the chain in which it is, if it is in one
 
@@ -273,7 +273,7 @@ end_more ends N P clients a l = record {
 pub lock_more : (ends : ℕ) (N P : List ℕ) (clients : List (Option ℕ)) → AreChained ends N P clients → ends ≤ length N → AreChained ends (N ++ length N ∷ []) (P ++ length N ∷ []) (clients ++ None ∷ [])
 lock_more ends N P clients a l = record {
   linked = link_linked N P a.linked;
-  many = let x = length-append N (length N ∷ []) in let z = length-append clients (None {A = ℕ} ∷ []) in let y = a.many in omega arith;
+  many = let x = length-append N (length N ∷ []) in let z = one_longer clients None in let y = a.many in omega arith;
   chains = λ s at low there. elim (get_more N (length N) s at there) [
     | inl p ↦ fewer ends (N ++ length N ∷ []) (IsHeldIn clients) (IsHeldIn (clients ++ None ∷ [])) s at (chain_of_more ends N (IsHeldIn clients) (length N) s at (a.chains s at low p))
         (λ i c h. elim (get_push clients None i (Some c) h) [

@@ -122,6 +122,9 @@ found_none ends N P clients c s a low l = record {
   all = λ i h. let w = slice_get_within clients i (Some c) h in let many = a.many in absurd (omega (arith, w, many, low, l));
 }
 
+none_some : (c : ℕ) → ◌≡◌ {A = Option ℕ} None (Some c) → ⊥
+none_some c e = cc
+
 some_is : (x y : Option ℕ) → ◌≡◌ {A = Option (Option ℕ)} (Some x) (Some y) → x ≡ y
 some_is x y e = cc
 
@@ -183,13 +186,7 @@ module _ (ends : ℕ) (N : List ℕ) (clients : List (Option ℕ)) (c link more 
       }
 
   by_holder : (rest : List ℕ) (h : Option ℕ) → o ≡ h → (g : IsGathered ends N clients c link more found) → g.rest ≡ lock ∷ rest → IsChain ends N z rest → IsGathered ends N clients c z (more - 1) (noted found lock h c)
-  by_holder rest None q g e k = gather_not rest (λ x. nobody (some_is o (Some c) (sym there ∙ x))) g e k
-    where
-      nobody : o ≡ Some c → ⊥
-      nobody r = none_some c (sym q ∙ r)
-        where
-          none_some : (c : ℕ) → ◌≡◌ {A = Option ℕ} None (Some c) → ⊥
-          none_some c e = cc
+  by_holder rest None q g e k = gather_not rest (λ x. none_some c (sym q ∙ some_is o (Some c) (sym there ∙ x))) g e k
   by_holder rest (Some d) q g e k = elim (cases_Bool (d == c)) [
     | inl t ↦
         let it : IsHeldIn clients lock c = there ∙ ap (λ (x : Option ℕ). Some x) (q ∙ ap (λ (x : ℕ). Some x) (eqb-true d c t)) in

@@ -16,6 +16,9 @@ there_is [] i l = absurd (omega arith)
 there_is (x ∷ xs) zero l = (x, refl)
 there_is (x ∷ xs) (suc i) l = there_is xs i (omega arith)
 
+pub one_longer : (xs : List (Option ℕ)) (x : Option ℕ) → length (xs ++ x ∷ []) ≡ length xs + 1
+one_longer xs x = length-append xs (x ∷ [])
+
 -- two writes that exchange what is at two places
 pub set_spliced : (xs : List ℕ) (a b x y : ℕ) → slice_get xs a ≡ Some x → slice_get xs b ≡ Some y → IsSpliced xs (slice_set (slice_set xs a y) b x) a b
 set_spliced xs a b x y e f = record {

@@ -23,7 +23,7 @@ use Rattle.held_locks.specs.Holding.{Has, Differ, IsHeldIn, AreFound, with_await
 use Rattle.held_locks.proofs.Standing.{get_set_same, get_set_other}
 use Rattle.held_locks.proofs.Adding.{get_front}
 use Rattle.held_locks.proofs.Lifting.{held_out, view_there}
-use Rattle.held_locks.proofs.Linking.{same_nat, there_is}
+use Rattle.held_locks.proofs.Linking.{same_nat, there_is, one_longer}
 use Rattle.held_locks.proofs.Gathering.{distinct, flips, has_contains, contains_has, has_front, has_last, has_push, differ_push}
 
 -- ---- the holder of a lock
@@ -135,7 +135,7 @@ holder_more ps clients p h =
     let last : slice_get (clients ++ None ∷ []) (length ps) ≡ Some None = ap (λ (n : ℕ). slice_get (clients ++ None ∷ []) n) (sym many) ∙ get_end clients None in record {
       many =
           let a = length-set (clients ++ None ∷ []) (length ps) (client_of p.holder) in
-          let b = length-append clients (None {A = ℕ} ∷ []) in
+          let b = one_longer clients None in
           let d = length-map (ps ++ p ∷ []) view_of in
           let e = length-append ps (p ∷ []) in
           omega arith;

@@ -44,20 +44,22 @@ pub(crate) fn add_to(
     ensures why { IfErr result (λ e.
         ((e ≡ Refusal.Full) × (lock_limit ≤ length locks.old.items)) ⊎ (e ≡ Refusal.Memory)) }
 {
-    if locks.len() >= LOCK_LIMIT {
+    let count = locks.len();
+    if count >= LOCK_LIMIT {
         return Err(Refusal::Full);
     }
     let Ok(()) = locks.reserve(1) else {
         return Err(Refusal::Memory);
     };
     order.clear();
-    let Ok(()) = order.reserve(locks.len() + 2) else {
+    let Ok(()) = order.reserve(count + 2) else {
         return Err(Refusal::Memory);
     };
     let Ok(()) = holds.add() else {
         return Err(Refusal::Memory);
     };
-    holds.put(locks.len(), client_of(holder));
+    let client = client_of(holder);
+    holds.put(count, client);
     let queue = VecDeque::new(alloc);
     locks.push_reserved(LockParts {
         ring,

@@ -78,16 +78,16 @@ impl Holds {
     }
 
     /// The same, in memory of its own.
-    pub(crate) fn copy(&self) -> Result<Holds, AllocError>
+    pub(crate) fn copy(&self, alloc: Global) -> Result<Holds, AllocError>
         ensures { IfOk result (λ copy. copy ≡ self.now) }
     {
-        let Ok(clients) = self.clients.clone() else {
+        let Ok(clients) = Vec::from_slice(alloc, self.clients.as_slice()) else {
             return Err(AllocError);
         };
-        let Ok(next) = self.next.clone() else {
+        let Ok(next) = Vec::from_slice(alloc, self.next.as_slice()) else {
             return Err(AllocError);
         };
-        let Ok(previous) = self.previous.clone() else {
+        let Ok(previous) = Vec::from_slice(alloc, self.previous.as_slice()) else {
             return Err(AllocError);
         };
         Ok(Holds {

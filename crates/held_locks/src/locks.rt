@@ -354,7 +354,7 @@ impl Locks {
         let Ok(waits) = self.waits.copy() else {
             return Err(Refusal::Memory);
         };
-        let Ok(holds) = self.holds.copy() else {
+        let Ok(holds) = self.holds.copy(alloc) else {
             return Err(Refusal::Memory);
         };
         let Ok(order) = Vec::with_capacity(alloc, self.locks.len() + 1) else {
