@@ -124,11 +124,13 @@ module _ (ends : ℕ) (N P M : List ℕ) (i s h : ℕ) (k : IsLinked N P) (low :
   on at [] c n = (c, λ x. x)
   on at (j ∷ is) c n =
       let a : ends + j ≢ ends + i = λ r. n (c.0 ∙ r) in
-      let r = on c.1.0 is c.1.2 (other (ends + j) c.1.0 c.1.1 a) in
-      ((c.0, (c.1.0, sp.others (ends + j) (λ q. omega (arith, low, q)) a ∙ c.1.1, r.0)), λ x. elim x [
-        | inl q ↦ a (ap (λ (m : ℕ). ends + m) (sym q))
-        | inr q ↦ r.1 q
-      ])
+      let r = on c.1.0 is c.1.2 (other (ends + j) c.1.0 c.1.1 a) in (
+        (c.0, (c.1.0, sp.others (ends + j) (λ q. omega (arith, low, q)) a ∙ c.1.1, r.0)),
+        λ x. elim x [
+          | inl q ↦ a (ap (λ (m : ℕ). ends + m) (sym q))
+          | inr q ↦ r.1 q
+        ],
+      )
 
   -- the chain of that end
   pub into : (is : List ℕ) → IsChain ends N h is → IsChain ends M (ends + i) (i ∷ is) × (¬ Has i is)

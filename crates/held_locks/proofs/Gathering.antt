@@ -73,10 +73,13 @@ has_push x y (z ∷ xs) (inr h) = elim (has_push x y xs h) [
 
 pub differ_push : (x : ℕ) (xs : List ℕ) → Differ xs → ¬ Has x xs → Differ (xs ++ x ∷ [])
 differ_push x [] d n = (λ h. h, tt)
-differ_push x (y ∷ xs) d n = (λ h. elim (has_push y x xs h) [
-  | inl p ↦ d.0 p
-  | inr p ↦ n (inl (sym p))
-], differ_push x xs d.1 (λ h. n (inr h)))
+differ_push x (y ∷ xs) d n = (
+  λ h. elim (has_push y x xs h) [
+    | inl p ↦ d.0 p
+    | inr p ↦ n (inl (sym p))
+  ],
+  differ_push x xs d.1 (λ h. n (inr h)),
+)
 
 -- ---- along a chain
 
