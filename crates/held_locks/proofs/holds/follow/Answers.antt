@@ -1,15 +1,14 @@
-use Rattle.std.proofs.Common.{◌≡◌, ◌<◌, ◌≤◌, length, sym, subst, ap, arith, List, Option, ℕ}
-use Rattle.std.specs.Prelude.{slice_set}
+use Rattle.std.proofs.Common.{sym, subst, List, Option, ℕ}
 use Rattle.held_locks.specs.Parts.{views_of}
 use Rattle.held_locks.specs.Holding.{AreHolders}
 use Rattle.held_locks.proofs.Lifting.{part_at}
 use Rattle.held_locks.proofs.Listing.{follow_put, follow_past}
 use Rattle.held_locks.proofs.holds.follow.Goals as goal
 
-pub returns-then : goal.returns-then
-returns-then c = λ vs s h. follow_past vs c.args.locks.now c.args.holds.now c.args.lock c.if-place-len.true s h
+pub returns-then-place-locks : goal.returns-then-place-locks
+returns-then-place-locks c = λ vs s h. follow_past vs c.args.locks.now c.args.holds.now c.args.lock c.if-place-locks.true s h
 
 pub returns : goal.returns
 returns c = λ vs s h.
     subst (λ (x : List (Option ℕ)). AreHolders (views_of c.args.locks.now) x) (sym c.put.ensures)
-    (follow_put vs c.args.locks.now c.args.holds.now c.args.lock c.index.result.now s h (part_at c.args.locks.now c.args.lock c.index.result.now c.if-place-len.false c.index.ensures))
+    (follow_put vs c.args.locks.now c.args.holds.now c.args.lock c.index-locks-place.result s h (part_at c.args.locks.now c.args.lock c.index-locks-place.result c.if-place-locks.false c.index-locks-place.is))
