@@ -84,7 +84,7 @@ module _ (ps : List LockParts) (es : List (ℕ × ℕ)) (old : List LockView) (c
   pub next_within : (n : ℕ) → slice_get order k ≡ Some n → n < length old
   next_within n e =
       let l = slice_get_within order k n e in
-      let v = o.within n (k, (l, get_or_from_slice_get order k n n e)) in
+      let v = o.within n (k, l, get_or_from_slice_get order k n n e) in
       slice_get_within old n v.0 v.1.0
 
   -- the locks before it are passed by

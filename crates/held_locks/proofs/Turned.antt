@@ -96,16 +96,16 @@ passed_turned number v ring queue w others c token own end es fs k room e f s m 
 -- ---- turns in which nobody comes into the queue or goes out of it
 
 -- a grant, once there is room for it
-pub granted_is : (v : LockView) (now ring : EndlessView) (w : Waiter) (token : ℕ) (r : Answers) → IsKeptLock (record { ring = ring; queue = v.queue; holder = Some (record { client = w.client; token = token }) }) → IsSameEndless v.ring now → IsMade now ring 0 (first_pass (state_of now) w.order) → token ≡ (state_of now).grants + 1 →
+pub granted_is : (v : LockView) (now ring : EndlessView) (w : Waiter) (token : ℕ) (r : Answers) → IsKeptLock (record { ring = ring; queue = v.queue; holder = Some (record { client = w.client; token = token }) }) → IsSameEndless v.ring now → IsMade now ring 0 (first_pass (state_of now) w.label) → token ≡ (state_of now).grants + 1 →
     r ≡ record { own = Some (answer.Granted token); ended = None; granted = None } →
     IsTurned v (record { ring = ring; queue = v.queue; holder = Some (record { client = w.client; token = token }) }) w.client (granted (state_of v.ring) v.queue w) r
 granted_is v now ring w token r k same made t e =
     let state : state_of now ≡ state_of v.ring = same_state v.ring now same in
-    let marks = Call (called (state_of v.ring) 0 (first_pass (state_of v.ring) w.order)) ∷ [] in
-    let all : AreMade v.ring marks ring = made_of_same v.ring now ring marks same (subst (λ (a : State ℕ). AreMade now (Call (called a 0 (first_pass a w.order)) ∷ []) ring) state made) in
+    let marks = Call (called (state_of v.ring) 0 (first_pass (state_of v.ring) w.label)) ∷ [] in
+    let all : AreMade v.ring marks ring = made_of_same v.ring now ring marks same (subst (λ (a : State ℕ). AreMade now (Call (called a 0 (first_pass a w.label)) ∷ []) ring) state made) in
     let number : token ≡ (state_of v.ring).grants + 1 = t ∙ ap (λ (a : State ℕ). a.grants + 1) state in
     record {
-      lock = lock_is (state_of ring) (next till (state_of v.ring) (first_pass (state_of v.ring) w.order)) v.queue v.queue (Some (record { client = w.client; token = token })) (Some (record { client = w.client; token = (state_of v.ring).grants + 1 }))
+      lock = lock_is (state_of ring) (next till (state_of v.ring) (first_pass (state_of v.ring) w.label)) v.queue v.queue (Some (record { client = w.client; token = token })) (Some (record { client = w.client; token = (state_of v.ring).grants + 1 }))
           (made_state v.ring ring marks all) refl (ap (λ (x : ℕ). Some (record { client = w.client; token = x })) number);
       marks = all;
       answers = ap (λ (x : Answers). answers_of w.client x) e ∙ ap (λ (x : ℕ). (w.client, answer.Granted x) ∷ []) number;

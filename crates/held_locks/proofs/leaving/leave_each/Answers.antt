@@ -1,7 +1,7 @@
-use Rattle.std.proofs.Common.{◌≡◌, ◌<◌, ◌≤◌, ◌+◌, ℕ, List, ◌++◌, [], Some, length, refl, sym, append_assoc, append-nil, ◌∙◌, ap, arith}
+use Rattle.std.proofs.Common.{◌≡◌, ◌<◌, ◌≤◌, ◌+◌, ℕ, List, ◌++◌, [], Some, length, refl, sym, append_assoc, append-nil, ◌∙◌, ap, arith, rules}
 use Rattle.std.specs.Prelude.{slice_get, slice_index_or}
 use Rattle.std.proofs.lemmas.List.{length-map}
-use Rattle.std.proofs.lemmas.Option.{slice_get_read}
+use Rattle.std.proofs.lemmas.Option.{slice_get-get_or}
 use Rattle.held_locks.specs.declared.answers.Left.{Left}
 use Rattle.held_locks.specs.Kept.{left_by}
 use Rattle.held_locks.specs.Parts.{view_of, views_of}
@@ -13,8 +13,8 @@ use Rattle.held_locks.proofs.leaving.leave_each.Goals as goal
 as_many : (ps qs : List LockParts) → length qs ≡ length ps → length (views_of qs) ≡ length (views_of ps)
 as_many ps qs e = length-map qs view_of ∙ e ∙ sym (length-map ps view_of)
 
-at_place : (order : List ℕ) (k n : ℕ) → k < length order → n ≡ slice_index_or order k n → slice_get order k ≡ Some n
-at_place order k n l e = slice_get_read order (length order) k n refl l e
+at_place : (order : List ℕ) (k : ℕ) → k < length order → slice_get order k ≡ Some (slice_index_or order k 0)
+at_place order k l = slice_get-get_or order k 0 l
 
 pub loop-place-init : goal.loop-place-init
 loop-place-init c =
@@ -26,13 +26,25 @@ loop-place-init c =
       capacity = refl;
     }
 
-pub leave_and_follow-requires-clause-lock : goal.leave_and_follow-requires-clause-lock
-leave_and_follow-requires-clause-lock c =
+pub overflow_cast-lock : goal.overflow_cast-lock
+overflow_cast-lock c =
     let i = c.loop-place.invariant in
     let ps = c.args.locks.now.items in
     let now = c.loop-place.locks.items in
-    let n = c.place-item.result in
-    let at = at_place c.args.order.now c.loop-place.place-index n c.loop-place-test.true c.place-item.is in
+    let n = slice_index_or c.args.order.now c.loop-place.place-index 0 in
+    let at = at_place c.args.order.now c.loop-place.place-index c.loop-place-test.true in
+    let within = next_within now c.loop-place.waits (views_of ps) c.args.client c.args.order.now c.loop-place.place-index i.left.0 i.left.1 i.kept (as_many ps now i.same) c.requires.listed i.left.3 n at in
+    let few = c.requires.kept.few in
+    let low : n < 4294967296 = omega (arith, within, few) in
+    search rules
+
+pub leave_and_follow-answers-requires-clause-lock : goal.leave_and_follow-answers-requires-clause-lock
+leave_and_follow-answers-requires-clause-lock c =
+    let i = c.loop-place.invariant in
+    let ps = c.args.locks.now.items in
+    let now = c.loop-place.locks.items in
+    let n = slice_index_or c.args.order.now c.loop-place.place-index 0 in
+    let at = at_place c.args.order.now c.loop-place.place-index c.loop-place-test.true in
     let within = next_within now c.loop-place.waits (views_of ps) c.args.client c.args.order.now c.loop-place.place-index i.left.0 i.left.1 i.kept (as_many ps now i.same) c.requires.listed i.left.3 n at in
     let size : length (views_of ps) ≡ length ps = length-map ps view_of in
     let same = i.same in
@@ -43,8 +55,8 @@ tell-requires c =
     let i = c.loop-place.invariant in
     let ps = c.args.locks.now.items in
     let now = c.loop-place.locks.items in
-    let n = c.place-item.result in
-    let at = at_place c.args.order.now c.loop-place.place-index n c.loop-place-test.true c.place-item.is in
+    let n = slice_index_or c.args.order.now c.loop-place.place-index 0 in
+    let at = at_place c.args.order.now c.loop-place.place-index c.loop-place-test.true in
     let within = next_within now c.loop-place.waits (views_of ps) c.args.client c.args.order.now c.loop-place.place-index i.left.0 i.left.1 i.kept (as_many ps now i.same) c.requires.listed i.left.3 n at in
     let low = i.left.3.more c.loop-place.place-index n (omega arith) at in
     let size : length (views_of ps) ≡ length ps = length-map ps view_of in
@@ -58,11 +70,11 @@ loop-place-preserved c =
     let i = c.loop-place.invariant in
     let ps = c.args.locks.now.items in
     let now = c.loop-place.locks.items in
-    let n = c.place-item.result in
+    let n = slice_index_or c.args.order.now c.loop-place.place-index 0 in
     let r = c.leave_and_follow-answers.result in
     let said : List Left = i.left.1 in
     let more : List Left = left_by n r.ended r.granted in
-    let at = at_place c.args.order.now c.loop-place.place-index n c.loop-place-test.true c.place-item.is in
+    let at = at_place c.args.order.now c.loop-place.place-index c.loop-place-test.true in
     let low = i.left.3.more c.loop-place.place-index n (omega arith) at in
     let len = c.tell.ensures.len in
     let before = i.left.4 in
