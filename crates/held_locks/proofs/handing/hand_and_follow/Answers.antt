@@ -9,9 +9,9 @@ use Rattle.held_locks.proofs.Listing.{nothing_same, handed_same, as_many, holder
 use Rattle.held_locks.proofs.handing.hand_and_follow.Goals as goal
 
 same : (ps qs : List LockParts) (h : Handover) (b : Bool) → (b ≡ true → IsHanded (views_of ps) (views_of qs) h) → (b ≡ false → CannotBeHanded (views_of ps) h × (qs ≡ ps)) → IsSameBut h.lock (views_of ps) (views_of qs)
-same ps qs h b yes no = elim (cases_Bool b) [
-  | inl t ↦ handed_same (views_of ps) (views_of qs) h (yes t)
-  | inr f ↦ nothing_same (views_of ps) (views_of qs) h.lock (ap (λ (x : List LockParts). views_of x) (no f).1)
+same ps qs h b done not_done = elim (cases_Bool b) [
+  | inl t ↦ handed_same (views_of ps) (views_of qs) h (done t)
+  | inr f ↦ nothing_same (views_of ps) (views_of qs) h.lock (ap (λ (x : List LockParts). views_of x) (not_done f).1)
 ]
 
 pub follow-requires : goal.follow-requires

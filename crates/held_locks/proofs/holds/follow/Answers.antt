@@ -1,4 +1,5 @@
-use Rattle.std.proofs.Common.{sym, subst, List, Option, ℕ}
+use Rattle.std.proofs.Common.{sym, ap, ◌∙◌, subst, List, Option, ℕ}
+use Rattle.std.specs.Prelude.{slice_set}
 use Rattle.held_locks.specs.Parts.{views_of}
 use Rattle.held_locks.specs.Holding.{AreHolders}
 use Rattle.held_locks.proofs.Lifting.{part_at}
@@ -10,5 +11,5 @@ returns-then-place-locks c = λ vs s h. follow_past vs c.args.locks.now c.args.h
 
 pub returns : goal.returns
 returns c = λ vs s h.
-    subst (λ (x : List (Option ℕ)). AreHolders (views_of c.args.locks.now) x) (sym c.put.ensures)
+    subst (λ (x : List (Option ℕ)). AreHolders (views_of c.args.locks.now) x) (sym (c.put.ensures ∙ ap (λ (x : Option ℕ). slice_set c.args.holds.now c.args.lock x) c.client_of.ensures))
     (follow_put vs c.args.locks.now c.args.holds.now c.args.lock c.index-locks-place.result s h (part_at c.args.locks.now c.args.lock c.index-locks-place.result c.if-place-locks.false c.index-locks-place.is))
