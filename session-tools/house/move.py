@@ -99,6 +99,7 @@ ring_files src/laws file_laws
 ring_files specs/Laws FileLaws
 ring_locks specs/Lines Queues
 ring_locks src/line queue
+lock_serve proofs/Inputs ToldInputs
 ring_report src/rings report_rings
 ring_report src/seats report_seats
 ring_text src/report farm_report
@@ -144,7 +145,6 @@ held_locks line queue
 held_locks lines queues
 held_locks line_apart queue_apart
 held_locks line_fewer queue_fewer
-held_locks line_same queue_same
 held_locks not_in_own_line not_in_own_queue
 held_locks EmptyLinesAreRight EmptyQueuesAreRight
 held_locks empty_lines_are_right empty_queues_are_right
