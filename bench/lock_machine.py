@@ -11,9 +11,10 @@ import sys
 TOP = 2**64
 LONGEST = 8192
 NUMBER = r"(0|[1-9][0-9]*)"
+NAME = r"([0-9a-zA-Z._/-]{1,128})"
 FRONT = re.compile(rf"{NUMBER}(?: |$)")
-ASKS = [re.compile(form.replace("N", NUMBER) + r"\Z") for form in
-        ("acquire N N", "try N N", "release N N", "cancel N", "leave", "corrupt N N N", "stats N")]
+ASKS = [re.compile(form.replace("L", NAME).replace("N", NUMBER) + r"\Z") for form in
+        ("acquire L N", "try L N", "release L N", "cancel L", "leave", "corrupt L N N", "stats L")]
 GRANT, CARRY, FAULT, REPAIR = 0, 3, 8, 9
 RELEASED, LEFT = 1, 2
 
@@ -92,10 +93,10 @@ class Ring:
 
 
 class Lock:
-    """A lock: its ring, who waits, and who holds it with which token; nobody is None."""
+    """A lock: its name and its ring, who waits, and who holds it with which token; nobody is None."""
 
-    def __init__(self, ring, token=None):
-        self.ring, self.line, self.holder = ring, [], None if token is None else (0, token)
+    def __init__(self, name, ring, token=None):
+        self.name, self.ring, self.line, self.holder = name, ring, [], None if token is None else (0, token)
 
     def grant(self, client, order):
         line = self.ring.let_pass(GRANT, self.ring.first(), order)
@@ -106,17 +107,18 @@ class Lock:
 class Locks:
     """The machine: locks that answer lines, with the files of its journal as they have to be."""
 
-    def __init__(self, sizes, limit, faults=False):
+    def __init__(self, listed, limit, faults=False):
         self.locks, self.limit, self.faults = [], limit, faults
         self.number, self.behind, self.files = 1, "0" * 64, {}
         self.waits = {}
-        self.add(sizes)
+        self.add(listed)
         self.begin()
 
     # ---- segments
 
-    def add(self, sizes):
-        self.locks += [Lock(Ring(k, [0] * n)) for n, k in sizes]
+    def add(self, listed):
+        self.locks += [Lock(name, Ring(k, [0] * n)) for name, n, k in listed]
+        self.places = {it.name: place for place, it in enumerate(self.locks)}
 
     def begin(self):
         """The file of the segment, as it begins; one that is due then is cut."""
@@ -168,26 +170,26 @@ class Locks:
         ask = next((found for form in ASKS if (found := form.match(rest))), None)
         if not ask or len(line) >= LONGEST or len(line) == len(front[1]):
             return [f"{client} refused syntax"]
-        word, *numbers = ask[0].split(" ")
+        word, *named = ask[0].split(" ")
+        numbers = named[1:]
         if any(map(is_great, numbers)):
             return [f"{client} refused number"]
-        numbers = [*map(int, numbers)]
         if word == "corrupt" and not self.faults:
             return [f"{client} refused off"]
         self.said, self.noted = [], []
         if word == "leave":
             self.leave(client)
-        elif numbers[0] >= len(self.locks):
-            self.said.append(f"{client} refused lock")
+        elif named[0] not in self.places:
+            self.said.append(f"{client} refused lock {named[0]}")
         else:
-            getattr(self, word)(client, *numbers)
+            getattr(self, word)(client, self.places[named[0]], *map(int, numbers))
         self.files[self.number] += self.noted
         self.left = max(self.left - len(self.noted), 0)
         self.cut_if_due()
         return self.said
 
     def say(self, client, word, lock, *numbers):
-        self.said.append(" ".join(map(str, (client, word, lock, *numbers))))
+        self.said.append(" ".join(map(str, (client, word, self.locks[lock].name, *numbers))))
 
     def note(self, lock, *lines):
         self.noted += [f"{lock} {line}\n" for line in lines]
@@ -377,9 +379,11 @@ def recovered(folder, limit, faults):
     with open(segment_file(folder, number)) as file:
         named, behind, rings, orders = read_segment(file.read())
     assert named == number, f"segment {number} says {named}"
+    with open(os.path.join(folder, "locks")) as file:
+        names = [line.split(" ")[0] for line in file]
     it = Locks([], limit, faults)
     it.number, it.behind, it.files, it.locks = number, behind, {}, []
-    for ring, order in zip(rings, orders):
+    for name, ring, order in zip(names, rings, orders):
         token = None
         for word in signs(order):
             if word[0] == "s" and int(word[1]) in (RELEASED, LEFT):
@@ -389,19 +393,20 @@ def recovered(folder, limit, faults):
             elif word[1] == str(CARRY):
                 token = int(word[3])
         ring.repair()
-        it.locks.append(Lock(ring, token))
+        it.locks.append(Lock(name, ring, token))
+    it.add([])
     it.begin()
     return it
 
 
-def sizes_of(names):
-    """The sizes of a list of locks, as the option has it."""
-    parts = [name.split(":")[1:] for name in names.split(",")]
-    return [(int(it[0]), int(it[-1])) if it else (8, 8) for it in parts]
+def listed(word):
+    """The locks of a list, as the option has it: of each the name and the size."""
+    parts = [it.split(":") for it in word.split(",")]
+    return [(name, *((int(size[0]), int(size[-1])) if size else (8, 8))) for name, *size in parts]
 
 
 if __name__ == "__main__":
-    machine = Locks(sizes_of(sys.argv[1]), int((sys.argv[2:] or ["1000000"])[0]), "faults" in sys.argv[3:])
+    machine = Locks(listed(sys.argv[1]), int((sys.argv[2:] or ["1000000"])[0]), "faults" in sys.argv[3:])
     for asked in sys.stdin.read().split("\n")[:-1]:
         for said in machine.answer(asked):
             print(said)

@@ -73,36 +73,38 @@ class Draw:
     def line(self, machine):
         chance, kind = self.chance, self.chance.random()
         client, lock = chance.randrange(CLIENTS), chance.randrange(len(machine.locks))
+        name = machine.locks[lock].name
         if kind < 0.40:
             self.label += 1
-            return f"{client} acquire {lock} {self.label}"
+            return f"{client} acquire {name} {self.label}"
         if kind < 0.45:
             self.label += 1
-            return f"{client} try {lock} {self.label}"
+            return f"{client} try {name} {self.label}"
         if kind < 0.78:
             holder, token = self.holder(machine, lock)
-            return f"{holder} release {lock} {token}"
+            return f"{holder} release {name} {token}"
         if kind < 0.82:
-            return f"{client} release {lock} {chance.randrange(3)}"
+            return f"{client} release {name} {chance.randrange(3)}"
         if kind < 0.88:
             waiting = chance.choice([*machine.waits]) if machine.waits else client
-            return f"{waiting} cancel {machine.waits.get(waiting, lock)}"
+            return f"{waiting} cancel {machine.locks[machine.waits.get(waiting, lock)].name}"
         if kind < 0.93:
             return f"{chance.choice([client, self.holder(machine, lock)[0], 0])} leave"
         if kind < 0.95:
-            return f"{client} stats {lock}"
+            return f"{client} stats {name}"
         if kind < 0.97:
             n, k = len(machine.locks[lock].ring.values), machine.locks[lock].ring.k
-            return f"{client} corrupt {lock} {chance.randrange(n)} {chance.randrange(k)}"
-        return self.odd(client, lock)
+            return f"{client} corrupt {name} {chance.randrange(n)} {chance.randrange(k)}"
+        return self.odd(client, name)
 
-    def odd(self, client, lock):
+    def odd(self, client, name):
         """A line that is refused, or is no client's."""
         return self.chance.choice([
-            f"{client} cancel {lock}", f"{client} corrupt {lock} 99 0", f"{client} corrupt {lock} 0 65535",
-            f"{client} acquire {len(NAMES) + len(MORE)} 1", f"{client} acquire {lock} {2**64}", f"{client} stats {2**32 + lock}",
-            f"{client} acquire {lock}", f"{client} free {lock}", f"{client} ", f"{client}", "", f"{client}  leave", f"0{client} leave",
-            f"{2**64} leave", f"{2**64 - 1} leave", "leave", f"{client} leave {lock}", f"{client} acquire {lock} " + "1" * 9000])
+            f"{client} cancel {name}", f"{client} corrupt {name} 99 0", f"{client} corrupt {name} 0 65535", f"{client} try {name}x 1",
+            f"{client} acquire {name[:-1]} 1", f"{client} acquire {name} {2**64}", f"{client} stats 0", f"{client} cancel {name}:8",
+            f"{client} stats " + name * 20, f"{client} acquire {name * 70} 1", f"{client} acquire  1", f"{client} acquire {name}",
+            f"{client} free {name}", f"{client} ", f"{client}", "", f"{client}  leave", f"0{client} leave", f"{2**64} leave",
+            f"{2**64 - 1} leave", "leave", f"{client} leave {name}", f"{client} acquire {name} " + "1" * 9000])
 
     def terms(self, chance):
         """The words of a start, with the machine's: how many lines a segment has, and whether there are faults."""
@@ -141,7 +143,7 @@ def session(program, machine, draw, chance, count):
             batch.append(draw.line(machine))
             wanted += machine.answer(batch[-1])
         # (when this is answered, a segment that was due has ended)
-        batch.append("0 stats 0")
+        batch.append("0 stats plain")
         wanted += machine.answer(batch[-1])
         program.send(batch)
         text = "".join(line + "\n" for line in wanted).encode()
@@ -167,10 +169,10 @@ def trial(tool, folder, count, seed):
         names += more
         listed = not machine or more or chance.random() < 0.2
         if machine:
-            machine.restart(limit, faults, lock_machine.sizes_of(",".join(more)) if more else [])
+            machine.restart(limit, faults, lock_machine.listed(",".join(more)) if more else [])
             open_at_start += sum(1 for it in machine.locks if it.holder)
         else:
-            machine = lock_machine.Locks(lock_machine.sizes_of(",".join(names)), limit, faults)
+            machine = lock_machine.Locks(lock_machine.listed(",".join(names)), limit, faults)
         sync = chance.random() < 0.02
         program = Program(tool, folder, [*words, *(["--locks", ",".join(names)] if listed else []), *([] if sync else ["--no-sync"])])
         starts += 1
@@ -251,7 +253,7 @@ def kills(tool, folder, count, seed):
             machine = lock_machine.recovered(folder, limit, faults)
             held_over += sum(1 for it in machine.locks if it.holder)
         else:
-            machine = lock_machine.Locks(lock_machine.sizes_of(",".join(NAMES)), limit, faults)
+            machine = lock_machine.Locks(lock_machine.listed(",".join(NAMES)), limit, faults)
         program = Program(tool, folder, [*words, "--locks", ",".join(NAMES), *chance.choice([[], ["--no-sync"]])])
         if chance.random() < 0.15:
             # (before the first answer: the next start finds the same)
@@ -261,7 +263,7 @@ def kills(tool, folder, count, seed):
             if has_segment(folder):
                 assert standing(lock_machine.recovered(folder, limit, faults)) == standing(machine), "a start changed the locks"
             continue
-        asked = [f"7 stats {lock}" for lock in range(len(NAMES))]
+        asked = [f"7 stats {it.name}" for it in machine.locks]
         stats = "".join(machine.answer(line)[0] + "\n" for line in asked)
         program.send(asked)
         said = program.read(len(stats))

@@ -17,16 +17,16 @@ WAITERS = [500_000, 700_000, 1_000_000]
 def one_client(count):
     """Lines of one client that acquires and releases, again and again."""
     for token in range(1, count // 2 + 1):
-        yield f"1 acquire 0 {token % 100}\n1 release 0 {token}\n"
+        yield f"1 acquire a {token % 100}\n1 release a {token}\n"
 
 
 def in_line(count, clients=64):
     """Lines of so many clients: each asks again when it has released, so all but one wait."""
     for client in range(1, clients + 1):
-        yield f"{client} acquire 0 7\n"
+        yield f"{client} acquire a 7\n"
     for token in range(1, (count - clients) // 2 + 1):
         client = (token - 1) % clients + 1
-        yield f"{client} release 0 {token}\n{client} acquire 0 7\n"
+        yield f"{client} release a {token}\n{client} acquire a 7\n"
 
 
 def passes(count):
@@ -74,12 +74,12 @@ def each(tool, kind, make, per):
 
 def memory(tool, waiters):
     """The memory of a process in which so many clients wait, in bytes."""
-    write("lines.txt", (f"{client} acquire 0 7\n" for client in range(1, waiters + 2)))
+    write("lines.txt", (f"{client} acquire a 7\n" for client in range(1, waiters + 2)))
     it = subprocess.Popen(words_of(tool, "locks"), stdin=subprocess.PIPE, stdout=open("answers.txt", "w"), stderr=subprocess.DEVNULL)
     with open("lines.txt", "rb") as lines:
         shutil.copyfileobj(lines, it.stdin)
     it.stdin.flush()
-    last = f"{waiters + 1} waiting 0 {waiters - 1}\n" if waiters else "1 granted 0 1\n"
+    last = f"{waiters + 1} waiting a {waiters - 1}\n" if waiters else "1 granted a 1\n"
     while not open("answers.txt").read()[-len(last):] == last:
         time.sleep(0.1)
     with open(f"/proc/{it.pid}/status") as status:

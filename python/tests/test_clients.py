@@ -62,6 +62,15 @@ class Threads(unittest.TestCase):
             with self.assertRaises(TooMany):
                 two.acquire("a")
 
+    def test_as_many_locks_as_one_may_have(self):
+        with Server("--most-holds", "1") as server, Client(server.path) as client:
+            token = client.acquire("a")
+            with self.assertRaises(TooMany) as caught:
+                client.acquire("b")
+            self.assertEqual((caught.exception.why, caught.exception.lock), ("many", "b"))
+            client.release("a", token)
+            client.release("b", client.acquire("b"))
+
     def test_circle(self):
         with Server() as server, Client(server.path) as one, Client(server.path) as two:
             one.acquire("a")

@@ -72,7 +72,8 @@ class Lines(unittest.TestCase):
     def test_refusals_have_their_class(self):
         for word, kind in (("holds", wozgirt.Holds), ("waits", wozgirt.Waits), ("circle", wozgirt.Circle),
                            ("holder", wozgirt.NotHolder), ("waiter", wozgirt.NotWaiter), ("lock", wozgirt.NoSuchLock),
-                           ("permission", wozgirt.NotPermitted), ("waiters", wozgirt.TooMany), ("other", wozgirt.Refused)):
+                           ("permission", wozgirt.NotPermitted), ("waiters", wozgirt.TooMany), ("many", wozgirt.TooMany),
+                           ("other", wozgirt.Refused)):
             error = lines.refusal(["refused", word, "a"])
             self.assertIs(type(error), kind)
             self.assertEqual((error.why, error.lock), (word, "a"))

@@ -11,12 +11,17 @@ import sys
 import tempfile
 import threading
 import time
+import types
 import unittest
 
+sys.path.insert(0, os.path.dirname(os.path.dirname(os.path.abspath(__file__))))
 sys.path.insert(0, os.path.join(os.path.dirname(os.path.abspath(__file__)), "..", "..", "server", "tests"))
 
 from etcd_members import ETCD, ETCDCTL, Members  # noqa: E402
 from harness import FOLDER, PATIENCE, by_the_clock, needs_loopback, wait_until  # noqa: E402
+from wozgirt.etcd import coded  # noqa: E402
+from wozgirt.log import Shortener  # noqa: E402
+from wozgirt.places import Lost, Place  # noqa: E402
 
 #: Seconds after which a stream that says nothing ends.
 SILENCE = 2
@@ -578,6 +583,28 @@ class Away(unittest.TestCase):
             place = nobody.getsockname()
             self.ends_with_its_input(place)  # it says nothing
         self.ends_with_its_input(place)  # nobody listens
+
+
+class Hosts(unittest.TestCase):
+    """The list of hosts, with a member of etcd that answers as it is told."""
+
+    def listed(self, succeeded):
+        """What a host asked to be listed, where the log is its own or was replaced."""
+        asked = []
+        member = types.SimpleNamespace(ask=lambda path, body: asked.append((path, body)) or {"succeeded": succeeded})
+        program = types.SimpleNamespace(name="a", place=Place("mine", 2, 7), member=lambda: member,
+                                        key=lambda *words: "/".join(("locks", *words)))
+        if succeeded:
+            Shortener(program, None, (2, 7))._list(member)
+        else:
+            self.assertRaises(Lost, Shortener(program, None, (2, 7))._list, member)
+        return asked
+
+    def test_a_host_is_listed_in_no_other_log(self):
+        put = {"key": coded("locks/hosts/a"), "value": coded("2 7")}
+        mine = {"key": coded("locks/identity"), "target": "VALUE", "value": coded("mine")}
+        for succeeded in (True, False):
+            self.assertEqual(self.listed(succeeded), [("kv/txn", {"compare": [mine], "success": [{"request_put": put}]})])
 
 
 class Words(unittest.TestCase):

@@ -79,11 +79,11 @@ class NotWaiter(Refused):
 
 
 class TooMany(Refused):
-    """There are too many connections, or too many clients wait for the lock."""
+    """There are too many connections, too many clients wait for the lock, or this one has as many locks as it may."""
 
 
 _BY_WORD = {"lock": NoSuchLock, "permission": NotPermitted, "holds": Holds, "waits": Waits, "circle": Circle,
-            "holder": NotHolder, "waiter": NotWaiter, "connections": TooMany, "waiters": TooMany}
+            "holder": NotHolder, "waiter": NotWaiter, "connections": TooMany, "waiters": TooMany, "many": TooMany}
 
 
 @dataclass(frozen=True)

@@ -326,8 +326,12 @@ class Shortener:
             self._list(member)
 
     def _list(self, member: Member) -> None:
-        value = "%d %d" % self._need
-        member.ask("kv/put", {"key": coded(self._program.key("hosts", self._program.name)), "value": coded(value)})
+        """Puts what this host needs, but not into another log."""
+        program = self._program
+        entry = {"key": coded(program.key("hosts", program.name)), "value": coded("%d %d" % self._need)}
+        conditions = [is_identity(program.key("identity"), program.place.identity or "")]
+        if not member.ask("kv/txn", {"compare": conditions, "success": [{"request_put": entry}]}).get("succeeded"):
+            raise Lost("other", "it was replaced meanwhile")
 
     def _least(self) -> int:
         """The revision up to which no host needs the log. Names those that are away and need more of it than this one."""

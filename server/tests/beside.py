@@ -25,7 +25,7 @@ RUNS = int(sys.argv[2]) if len(sys.argv) > 2 else 40
 ROUND = 1
 # how long strace holds the program up, in microseconds; the change comes after half of it
 HELD_UP = 800000
-CALLS = b"1 try 0 5\n1 leave\n"
+CALLS = b"1 try deploy 5\n1 leave\n"
 LOCKS = ["locks", "--journal", "k", "--locks", "deploy:3", "--no-sync"]
 KEPT = 2
 

@@ -5,8 +5,10 @@ they have been answered for the first time. KIND is one of KINDS; clients of an 
 `attached` so that a session of each ends."""
 
 import itertools
+import os
 import select
 import socket
+import subprocess
 import sys
 
 KINDS = {
@@ -18,6 +20,7 @@ KINDS = {
     "untold-deaf": b"stats a\n" + b"status\n" * 500,
     "mixed": b"try a 1\nping\nstatus\nlease 0\nstats b\nleave\n" * 50,
     "leave": b"try a 1\nleave\n" * 200,
+    "leave-many": b"".join(b"try n%d 1\n" % lock for lock in range(200)) + b"leave\n",
     "come": b"try a 1\n" * 128,
     "asked": b"try a 1\n",
     "attached": b"session KEY attached\n1 try a 1\n",
@@ -88,6 +91,22 @@ def wait_for_answers(socks):
         for number, _ in told:
             poller.unregister(number)
         left = left - len(told) if told else 0
+
+
+class Flood:
+    """The same for a test: clients in a process of their own."""
+
+    def __init__(self, server, kind, clients):
+        words = [sys.executable, os.path.abspath(__file__), server.path, kind, str(clients)]
+        self.process = subprocess.Popen(words, stdout=subprocess.PIPE, stderr=subprocess.DEVNULL)
+        self.process.stdout.readline()
+
+    def __enter__(self):
+        return self
+
+    def __exit__(self, *_):
+        self.process.kill()
+        self.process.communicate()
 
 
 if __name__ == "__main__":

@@ -118,7 +118,7 @@ one_at_a_time() {
 }
 
 mkdir locked kept
-one_at_a_time locked '1 try 0 5' '1 granted 0 1' locks --journal locked --locks deploy
+one_at_a_time locked '1 try deploy 5' '1 granted deploy 1' locks --journal locked --locks deploy
 one_at_a_time kept 'pass 0 0 1 5' 'granted 3 14' serve history.txt --journal kept
 
 # has_grant WORD ..: the journal that this command reads records one grant
@@ -163,7 +163,7 @@ without_syncs() {
 
 "$tool" new 3:3 >one.txt
 mkdir unsynced empty
-without_syncs "locks in a folder" '1 try 0 5' locks --journal unsynced --locks deploy -- check unsynced
+without_syncs "locks in a folder" '1 try deploy 5' locks --journal unsynced --locks deploy -- check unsynced
 mkdir unsynced
 without_syncs "serve in a folder" 'pass 0 0 0 5' serve one.txt --journal unsynced -- check unsynced
 rmdir empty
@@ -177,7 +177,7 @@ short() {
 
 # is_told: without `--strict` memory is short at some call, and later ones are answered
 is_told() {
-    [ "$status" -eq 0 ] && grep -q '^1 refused memory 0$' whole && [ "$(wc -l <whole)" -eq 8000 ]
+    [ "$status" -eq 0 ] && grep -q '^1 refused memory deploy$' whole && [ "$(wc -l <whole)" -eq 8000 ]
 }
 
 # is_stopped: with it the calls of the blocks before are answered, and nothing more
@@ -187,7 +187,7 @@ is_stopped() {
 }
 
 if "${CC:-cc}" -shared -fPIC -O1 -o refuse.so "$refuser" -ldl 2>/dev/null; then
-    awk 'BEGIN { for (i = 1; i <= 4000; i++) printf "1 try 0 %d\n1 release 0 %d\n", i, i }' >calls.txt
+    awk 'BEGIN { for (i = 1; i <= 4000; i++) printf "1 try deploy %d\n1 release deploy %d\n", i, i }' >calls.txt
     short short.told
     cp out whole
     is "memory that is short, told" is_told

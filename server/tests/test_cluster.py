@@ -2,6 +2,7 @@
 
 import filecmp
 import os
+import re
 import shutil
 import signal
 import subprocess
@@ -144,6 +145,19 @@ class Several(Trial):
             self.assertEqual(got, [w for i in range(1, count + 1) for w in (f"granted a {i}", "released a", "pong")])
         self.assertLess(len(self.log.entries), count)  # many in one
 
+    def test_holds_have_a_limit_for_each_client(self):
+        """It is counted before the log, so no server has to know that of another."""
+        a, b = self.server("a", "--most-holds", "2"), self.server("b")
+        with self.raw(a) as sock, self.raw(b) as other:
+            self.assertEqual(say(sock, "acquire a 1\ntry b 1\ntry c 1\n", 3), ["granted a 1", "granted b 1", "refused many c"])
+            self.assertEqual(say(sock, "acquire c 1\ntry a 1\n", 2), ["refused many c", "refused holds a"])
+            self.assertEqual(say(other, "try c 1\n"), ["granted c 1"])
+            self.assertEqual(say(sock, "release b 1\n"), ["released b"])
+            self.assertEqual(say(sock, "acquire c 1\n"), ["waiting c 0"])
+            self.assertEqual(say(sock, "try b 1\n"), ["refused many b"])
+        asked = re.findall("(?:acquire|try) (?:2|c) 1", " ".join(self.log.texts()))
+        self.assertEqual(len(asked), 2)  # by the other one, and once by this
+
     def test_an_entry_that_is_there_twice_counts_once(self):
         self.log.twice = True
         a, b = self.server("a"), self.server("b")
@@ -152,7 +166,7 @@ class Several(Trial):
 
     def test_other_texts_in_the_log_are_passed_by(self):
         a, b = self.server("a"), self.server("b")
-        for text in ("", "nonsense", f"by a 1 9 0 {'0' * 64}\t1 1 leave", f"by x 9 1 0 {'0' * 64}\t5 1 acquire 0 1"):
+        for text in ("", "nonsense", f"by a 1 9 0 {'0' * 64}\t1 1 leave", f"by x 9 1 0 {'0' * 64}\t5 1 acquire a 1"):
             self.log.put(text)
         self.assertEqual(say(self.raw(b), "acquire a 1\n"), ["granted a 1"])
         self.hand_over(a)
@@ -220,7 +234,7 @@ class Ends(Trial):
         sock = self.raw(a)
         self.assertEqual(say(sock, "acquire a 1\n"), ["granted a 1"])
         sock.sendall(b"release a 1\nacquire b 1\n")
-        wait_until(lambda: self.log.texts()[-1].endswith("acquire 1 1"))
+        wait_until(lambda: self.log.texts()[-1].endswith("acquire b 1"))
         a.process.terminate()
         self.assertEqual(a.process.wait(PATIENCE), 0)
         self.assertEqual(read_lines(sock, 3), ["released a", "granted b 1"])
@@ -291,14 +305,26 @@ class Ends(Trial):
         RUNNING.remove(b)
         before = self.files(b.journal)
         self.assertIn(os.path.join(b.journal, "journal", "locks"), before)
-        for more, here in ((["--checkpoint", "7"], "`7 - 1 a:8:8,b:8:8,c:8:8`"), (["--segment", "9"], "`100000 9 1 a:8:8,b:8:8,c:8:8`"),
-                           (["--locks", "a,c,b"], "`100000 - 1 a:8:8,c:8:8,b:8:8`"), (["--locks", "a,b:9,c,d"], "`100000 - 1 a:8:8,b:9:9,c:8:8,d:8:8`")):
+        for more, here in ((["--checkpoint", "7"], "`2 7 - 1 a:8:8,b:8:8,c:8:8`"), (["--segment", "9"], "`2 100000 9 1 a:8:8,b:8:8,c:8:8`"),
+                           (["--locks", "a,c,b"], "`2 100000 - 1 a:8:8,c:8:8,b:8:8`"), (["--locks", "a,b:9,c,d"], "`2 100000 - 1 a:8:8,b:9:9,c:8:8,d:8:8`")):
             with self.subTest(more):
                 it = subprocess.run(self.words("b", "--journal", b.journal, *more), capture_output=True, text=True, timeout=PATIENCE)
                 self.assertEqual(it.returncode, 1)
-                self.assertIn(f"are the same for all servers; in the log they are `100000 - 1 a:8:8,b:8:8,c:8:8`, here {here}", it.stderr)
+                self.assertIn(f"are the same for all servers; in the log they are `2 100000 - 1 a:8:8,b:8:8,c:8:8`, here {here}", it.stderr)
                 self.assertEqual(self.files(b.journal), before)
         self.hand_over(self.server("b"))
+
+    def test_a_log_of_the_first_version(self):
+        """Its entries have numbers of locks, so no server begins in it; nor with a checkpoint of that version."""
+        self.log.put(f"by a 1 1 0 {'0' * 64}\twith 100000 - 1 a:8:8,b:8:8,c:8:8\there 7 u0\t7 1 acquire 0 5")
+        it = subprocess.run(self.words("b"), capture_output=True, text=True, timeout=PATIENCE)
+        self.assertEqual(it.returncode, 1)
+        self.assertIn("the version of entries, --checkpoint, --segment, --faults and --locks are the same for all servers; "
+                      "in the log they are `100000 - 1 a:8:8,b:8:8,c:8:8`, here `2 100000 - 1 a:8:8,b:8:8,c:8:8`", it.stderr)
+        with open(os.path.join(self.folder, "b", "CHECKPOINT"), "w", encoding="ascii") as file:
+            file.write("wozgirt checkpoint 2\n")
+        it = subprocess.run(self.words("b"), capture_output=True, text=True, timeout=PATIENCE)
+        self.assertEqual((it.returncode, "CHECKPOINT: line 1 is wrong" in it.stderr), (1, True), it.stderr)
 
     def test_a_folder_is_one_servers(self):
         a = self.server("a")
@@ -454,12 +480,12 @@ class Checkpoints(Trial):
             return subprocess.Popen(c.words, stderr=subprocess.PIPE, text=True)
 
         for damaged, status, why in ((text[:100], 1, "CHECKPOINT: line "), (text.replace("end\n", ""), 1, "CHECKPOINT: line "),
-                                     (text.replace("hold 0 1 ", "hold 0 2 "), 1, "the engine keeps ending before it is ready")):
+                                     (text.replace("hold a 1 ", "hold a 2 "), 1, "the engine keeps ending before it is ready")):
             it = start(damaged)
             said = it.communicate(timeout=PATIENCE)[1]
             self.assertEqual((it.returncode, why in said), (status, True), said)
         # another client holds the lock: that may be, but is not what the others say
-        lines = [line if not line.startswith("hold 0 1 ") else "hold 0 1 12345" for line in text.split("\n")]
+        lines = [line if not line.startswith("hold a 1 ") else "hold a 1 12345" for line in text.split("\n")]
         it = start("\n".join(lines))
         say(held, "release a 1\n")
         for _ in range(3):

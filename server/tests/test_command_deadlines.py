@@ -158,11 +158,12 @@ class Several(Commands):
         self.assertLessEqual(time.monotonic() - begun, WAIT + LATE * min(longer, 5))
         self.assertIn("what was asked is withdrawn at the end of the lease, of 30 s", errors)
 
-    def test_one_of_two_answers(self):
+    @by_the_clock
+    def test_one_of_two_answers(self, longer):
         self.doors[0].is_silent = True
-        status, errors, took = self.timed("--wait", "4", "a", "--", "true")
+        status, errors, took = self.timed("--wait", str(4 * longer), "a", "--", "true")
         self.assertEqual((status, errors), (0, ""))
-        self.assertLess(took, 4)
+        self.assertLess(took, 4 * longer)
 
 
 @needs_programs

@@ -12,7 +12,7 @@ import time
 import unittest
 import urllib.request
 
-from harness import FOLDER, PATIENCE, SERVER, Server, needs_loopback, needs_programs, read_lines, say, wait_until
+from harness import FOLDER, PATIENCE, SERVER, Server, by_the_clock, needs_loopback, needs_programs, read_lines, say, wait_until
 
 # seconds in which the server has ended, on a machine that is busy: 10 for what was asked, and some more for what stands still
 LIMIT = 25
@@ -144,11 +144,13 @@ class Hangs(unittest.TestCase):
             with server.raw() as sock:
                 self.assertEqual(say(sock, "acquire a 1\n"), ["granted a 1"])
 
-    def test_a_server_that_stood_still_itself_ends_no_engine(self):
-        with Server("--engine-patience", "1.2") as server:
+    @by_the_clock
+    def test_a_server_that_stood_still_itself_ends_no_engine(self, longer):
+        patience = 1.2 * min(longer, 5)
+        with Server("--engine-patience", str(patience)) as server:
             for _ in range(3):
                 server.process.send_signal(signal.SIGSTOP)
-                time.sleep(2)
+                time.sleep(patience + 0.8)
                 server.process.send_signal(signal.SIGCONT)
                 self.assertEqual(server.operate("ping"), "pong")
             self.assertEqual(server.text_of_log().count("engine started"), 1)

@@ -149,7 +149,6 @@ class Sessions(Trial):
         one, two = over_tcp(a, "127.0.0.1"), over_tcp(b, "127.0.0.2")
         self.assertEqual(say(one, "session 77\n1 acquire a 5\n2 leave\n", 3), ["session 77 0", "1 granted a 1", "2 left"])
         self.assertEqual(say(two, "session 77\n1 acquire a 5\n", 2), ["session 77 0", "1 granted a 2"])
-        one.settimeout(5)
         self.assertEqual(say(one, "3 acquire b 5\n"), [])
         self.assertEqual(say(over_tcp(a, "127.0.0.1"), "session 77\nping\n", 2), ["refused session", "pong"])
         self.assertEqual(say(two, "2 release a 2\n"), ["2 released a"])

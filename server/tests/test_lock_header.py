@@ -9,7 +9,7 @@ import tempfile
 import unittest
 
 from harness import FOLDER, PATIENCE, Server, by_the_clock, needs_programs, say, wait_until
-from header_clients import CHILD, DONE, LATE, LOST, MARGIN, NAME, REFUSED, Clients, Door, FullDoor, Interrupted, needs_c
+from header_clients import CHILD, DONE, LATE, LOST, NAME, REFUSED, Clients, Door, FullDoor, Interrupted, margin, needs_c
 
 # the answers to a question that are none
 WRONG = {
@@ -121,11 +121,11 @@ class Interrupts(Interrupted):
 class Deadlines(Clients):
     """A call ends at its deadline, whoever stands still."""
 
-    def is_lost(self, client, line, seconds):
+    def is_lost(self, client, line, seconds, longer):
         """The call ends with the connection, at its time."""
         it = client.ask(line)
         self.assertEqual(it[1:4], (LOST, 0, errno.ETIMEDOUT))
-        self.assertLessEqual(it.seconds, seconds + MARGIN)
+        self.assertLessEqual(it.seconds, seconds + margin(longer))
         self.assertGreaterEqual(it.seconds, seconds - 0.002)
 
     @by_the_clock
@@ -141,14 +141,14 @@ class Deadlines(Clients):
                 try:
                     it = waiter.hear()
                     self.assertEqual(it[1:4], (LOST, 0, errno.ETIMEDOUT))
-                    self.assertLessEqual(it.seconds, 0.7 * longer + MARGIN)
+                    self.assertLessEqual(it.seconds, 0.7 * longer + margin(longer))
                     lines = ["acquire a 1 0", "acquire a 1 -1", "release a 1"] + ["check"] * (who == "server")
                     for client, line in zip(clients, lines):
-                        self.is_lost(client, line, 0.4 * longer)
+                        self.is_lost(client, line, 0.4 * longer, longer)
                     for wait in (1, 300):
                         it = self.client(server.path, 5000).ask(f"acquire a 1 {wait}")
                         self.assertEqual(it[1:4], (LOST, 0, errno.ETIMEDOUT))
-                        self.assertLessEqual(it.seconds, wait / 1000 + MARGIN)
+                        self.assertLessEqual(it.seconds, wait / 1000 + margin(longer))
                 finally:
                     os.kill(process, signal.SIGCONT)
                 # of what was asked nothing is held or waited for
@@ -156,14 +156,14 @@ class Deadlines(Clients):
                            [["free", "0"], ["held", "0"]])
 
     @by_the_clock
-    def test_a_full_queue(self, _):
+    def test_a_full_queue(self, longer):
         with tempfile.TemporaryDirectory(dir=FOLDER) as folder:
             door = FullDoor(socket.AF_UNIX, os.path.join(folder, "door"))
             self.addCleanup(door.close)
             client = self.client(door.place, 300, result=LOST)
             it = client.ask(f"open {door.place} 300")
             self.assertEqual(it[1:4], (LOST, 0, errno.ETIMEDOUT))
-            self.assertLessEqual(it.seconds, 0.3 + MARGIN)
+            self.assertLessEqual(it.seconds, 0.3 + margin(longer))
             client.tell(f"open {door.place} {PATIENCE * 1000}")
             sock = door.open()
             self.addCleanup(sock.close)

@@ -102,8 +102,9 @@ class Blocks(unittest.TestCase):
             self.assertIn(name, rules)
             rules = rules.replace(name, own)
         write(f"{self.folder}/rules", rules)
-        with Server("--rules", f"{self.folder}/rules", locks="deploy,other") as server, server.raw() as sock:
-            self.assertEqual(say(sock, "try deploy 1\ntry other 1\n", 2), ["granted deploy 1", "granted other 1"])
+        with Server("--rules", f"{self.folder}/rules", locks="deploy,order/1,other") as server, server.raw() as sock:
+            self.assertEqual(say(sock, "try deploy 1\ntry order/1 1\ntry other 1\n", 3),
+                             ["granted deploy 1", "granted order/1 1", "granted other 1"])
 
 
 if __name__ == "__main__":

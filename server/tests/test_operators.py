@@ -128,6 +128,16 @@ class Rules(unittest.TestCase):
                 wait_until(lambda: "rules-bad rules not read again, the old ones hold: " in server.text_of_log())
                 self.assertIn("line 1: there is no user nobody-has-this-name", server.text_of_log())
                 self.assertEqual(say(sock, "release b 1\ntry b 1\n", 2), ["released b", "granted b 2"])
+                for times, of_all in enumerate((user, 65533), 2):  # a pattern, and one that is longer than that
+                    write(f"lock *: {of_all}\nlock b*: 65533\n")
+                    server.process.send_signal(signal.SIGHUP)
+                    wait_until(lambda: server.text_of_log().count("rules read again\n") == times)
+                    line = "granted c 1" if of_all == user else "refused permission c"
+                    self.assertEqual(say(sock, "release b 2\ntry c 1\n", 2), ["refused permission b", line])
+                write(f"lock b*: {user}\nlock *b: {user}\n")
+                server.process.send_signal(signal.SIGHUP)
+                wait_until(lambda: "line 2: in *b a `*` is not at the end" in server.text_of_log())
+                self.assertEqual(say(sock, "release b 2\n"), ["refused permission b"])
 
 
 @needs_programs

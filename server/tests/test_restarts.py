@@ -208,21 +208,25 @@ class Restarts(Trial):
                 for name in ("journal", "journal.sessions"):
                     shutil.rmtree(os.path.join(self.folder, name))
 
-    def test_one_that_may_be_that_of_a_client_without_a_session(self):
+    @by_the_clock
+    def test_one_that_may_be_that_of_a_client_without_a_session(self, longer):
         """It lasts for the grace, since such a client may have been told of it."""
-        server = self.behind_a_gate("4")
+        lease = str(2 * longer)
+        server = self.behind_a_gate(lease)
         (one, _), plain, (two, _) = self.session(server, 1), self.raw(server), self.session(server, 2)
         self.assertEqual(say(one, "1 acquire a 5\n"), ["1 granted a 1"])
         self.assertEqual(say(plain, "acquire a 6\n"), ["waiting a 0"])
         self.assertEqual(say(two, "1 acquire a 6\n"), ["1 waiting a 1"])
-        server = self.hand_over_unheard(server, one, "4")
+        server = self.hand_over_unheard(server, one, lease)
         two, lines = self.session(server, 2, 1)
         self.assertEqual(lines, ["waits a"])
         self.assertEqual(granted_late(two), "granted a 3")
 
-    def test_a_hold_of_one_that_is_gone_is_nobodys(self):
+    @by_the_clock
+    def test_a_hold_of_one_that_is_gone_is_nobodys(self, longer):
         """It is granted when its session is over, and the server ends before the engine hears of that."""
-        server = self.behind_a_gate("4", DEAF)
+        lease = str(2 * longer)
+        server = self.behind_a_gate(lease, DEAF)
         (one, _), two, (three, _) = self.session(server, 1), self.raw(server), self.session(server, 3)
         self.assertEqual(say(one, "1 acquire a 5\n"), ["1 granted a 1"])
         self.assertEqual(say(two, "session 2 attached\n1 acquire a 6\n", 2)[1], "1 waiting a 0")
@@ -234,7 +238,7 @@ class Restarts(Trial):
         self.wait_for_clients(server, 2)
         self.assertEqual(say(one, "2 release a 1\n"), ["2 released a"])
         self.assertEqual(server.operate("stats a").split()[-1], "2")  # the grant was heard
-        server = self.again(server, signal.SIGKILL, lease="4")
+        server = self.again(server, signal.SIGKILL, lease=lease)
         os.remove(gate)
         three, lines = self.session(server, 3, 1)
         self.assertEqual(lines, ["waits a"])
@@ -278,7 +282,6 @@ class Restarts(Trial):
         two, _ = self.session(server, 1)
         self.assertEqual(say(two, "1 acquire a 5\n"), ["1 granted a 2"])
         self.assertEqual(say(one, "3 acquire b 5\n"), ["3 granted b 1"])
-        two.settimeout(5)
         self.assertEqual(two.recv(10), b"")
         self.assertEqual(say(one, "4 release a 2\n"), ["4 released a"])
 

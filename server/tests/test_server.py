@@ -193,6 +193,49 @@ class Others(unittest.TestCase):
             self.assertEqual(say(two, "cancel a\n"), ["cancelled a"])
             self.assertEqual(say(three, "acquire a 1\n"), ["waiting a 0"])
 
+    def test_who_waits_may_ask_again_though_no_other_may(self):
+        """The answer was lost on its way: it is the same."""
+        with Server("--waiters", "1") as server, server.raw() as holder:
+            self.assertEqual(say(holder, "acquire a 1\n"), ["granted a 1"])
+            for lines in (["session 7 0 alone"], ["session 7 1 alone", "waits a"]):
+                with server.raw() as sock:
+                    self.assertEqual(say(sock, "session 7\n1 acquire a 1\n", len(lines) + 1), [*lines, "1 waiting a 0"])
+
+    def test_holds_have_a_limit_for_each_client(self):
+        """What it waits for counts, and what it has asked for; what it has may be asked for again."""
+        with Server("--most-holds", "2") as server, server.raw() as one, server.raw() as two:
+            self.assertEqual(say(one, "acquire a 1\ntry b 1\ntry c 1\nacquire c 1\n", 4),
+                             ["granted a 1", "granted b 1", "refused many c", "refused many c"])
+            self.assertEqual(say(one, "try a 1\nacquire b 1\nacquire q 1\nstats c\n", 4),
+                             ["refused holds a", "refused holds b", "refused lock q", "stats c 8 0 0 0 0"])
+            self.assertEqual(say(two, "acquire c 1\n"), ["granted c 1"])
+            self.assertEqual(say(one, "release b 1\n"), ["released b"])
+            self.assertEqual(say(one, "acquire c 1\n"), ["waiting c 0"])
+            self.assertEqual(say(one, "try b 1\nacquire c 1\n", 2), ["refused many b", "refused waits c"])
+            self.assertEqual(say(one, "cancel c\ntry c 1\n", 2), ["cancelled c", "busy c"])
+            self.assertEqual(say(one, "try b 1\nleave\n", 2), ["granted b 2", "left"])
+            self.assertEqual(say(one, "try a 1\ntry b 1\n", 2), ["granted a 2", "granted b 3"])
+            self.assertEqual(server.operate("try c 1"), "busy c")
+
+    def test_holds_have_a_limit_for_each_session(self):
+        with Server("--most-holds", "2") as server:
+            with server.raw() as one:
+                self.assertEqual(say(one, "session 7\n1 acquire a 1\n2 try b 1\n3 try c 1\n", 4),
+                                 ["session 7 0 alone", "1 granted a 1", "2 granted b 1", "3 refused many c"])
+            with server.raw() as again:  # it may ask once more for what has no answer
+                self.assertEqual(say(again, "session 7\n", 3), ["session 7 2 alone", "holds a 1", "holds b 1"])
+                self.assertEqual(say(again, "2 try b 1\n4 acquire c 1\n5 release a 1\n", 3),
+                                 ["2 granted b 1", "4 refused many c", "5 released a"])
+                self.assertEqual(say(again, "6 acquire c 1\n"), ["6 granted c 1"])
+
+    def test_a_client_may_hold_a_thousand(self):
+        names = [f"n{i}" for i in range(1025)]
+        with Server(locks=",".join(names)) as server, server.raw() as sock:
+            for first in range(0, 1024, 128):
+                some = names[first:first + 128]
+                self.assertEqual(say(sock, "".join(f"try {name} 1\n" for name in some), 128), [f"granted {name} 1" for name in some])
+            self.assertEqual(say(sock, "try n1024 1\n"), ["refused many n1024"])
+
     def test_open_files_are_checked_at_the_start(self):
         with a_folder() as folder:
             fewer = lambda: resource.setrlimit(resource.RLIMIT_NOFILE, (100, 100))
@@ -406,6 +449,30 @@ class Permissions(unittest.TestCase):
             it = run("--journal", folder, "--locks", "a,b,c", "--socket", folder + "/s", "--rules", rules)
             self.assertEqual(it.returncode, 1)
             self.assertIn("rules: line 4: there is no lock d", it.stderr)
+
+    def test_rules_of_patterns(self):
+        """A whole name goes before a pattern, and the longest pattern before others."""
+        names = ["deploy", "order", "order/4", "order/47", "order/471", "order/5"]
+        with a_folder() as folder:
+            rules, user = folder + "/rules", os.getuid()
+
+            def write(text):
+                with open(rules, "w", encoding="ascii") as file:
+                    file.write(text)
+
+            write(f"lock *: 65533\nlock order/4*: {user}\nlock order/*: 65533\nlock order/47: 65533\nlock none/*:\n")
+            with Server("--rules", rules, locks=",".join(names)) as server, server.raw() as sock:
+                told = say(sock, "".join(f"try {name} 1\n" for name in [*names, "none/1"]), 7)
+                self.assertEqual([line.split()[:2] for line in told], [["refused", "permission"]] * 2 + [
+                    ["granted", "order/4"], ["refused", "permission"], ["granted", "order/471"], ["refused", "permission"],
+                    ["refused", "lock"]])
+                self.assertEqual([line.split()[1] for line in say(sock, "status\n", 3)], ["2", "order/4", "order/471"])
+            for name, why in (("order/*4", "in order/*4 a `*` is not at the end, where it means any rest of a name"),
+                              ("order/ *", "no name of a lock begins with `order/ `")):
+                write(f"lock deploy: *\nlock {name}: *\n")
+                it = run("--journal", folder, "--locks", "deploy", "--socket", folder + "/s", "--rules", rules)
+                self.assertEqual(it.returncode, 1)
+                self.assertIn("rules: line 2: " + why, it.stderr)
 
     @unittest.skipUnless(os.getuid() == 0 and os.access("/usr/bin/python3", os.X_OK), "only root can be another user")
     def test_another_user(self):

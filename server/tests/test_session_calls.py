@@ -12,7 +12,7 @@ import unittest
 
 import header_clients
 from harness import FOLDER, TOP, at_least, by_the_clock, needs_loopback, needs_programs, wait_until
-from header_clients import CHILD, DONE, LATE, LOST, MARGIN, NAME, REFUSED, SILENT, Clients, FullDoor, Interrupted, needs_c
+from header_clients import CHILD, DONE, LATE, LOST, NAME, REFUSED, SILENT, Clients, FullDoor, Interrupted, margin, needs_c
 from test_cluster import Trial, needs_strict
 
 sys.path.insert(0, os.path.join(TOP, "python", "tests"))
@@ -218,12 +218,12 @@ class Interrupts(Calls):
 class Deadlines(Calls):
     """A call ends at its deadline, whoever stands still."""
 
-    def is_in_time(self, it, result, seconds):
+    def is_in_time(self, it, result, seconds, longer):
         self.assertEqual(it.result, result)
-        self.assertLessEqual(it.seconds, seconds + MARGIN)
+        self.assertLessEqual(it.seconds, seconds + margin(longer))
 
     @by_the_clock
-    def test_an_acquire(self, _):
+    def test_an_acquire(self, longer):
         for is_known in (False, True):
             client = self.session()
             self.hold()
@@ -231,9 +231,9 @@ class Deadlines(Calls):
             if is_known:
                 wait_until(lambda: self.arbiter.lines.get("a"))
             self.silence()
-            self.is_in_time(client.hear(), SILENT, 0.4)
-            self.is_in_time(client.ask("acquire a 1 100"), SILENT, 0.1)
-            self.is_in_time(client.ask("check"), DONE, 0)
+            self.is_in_time(client.hear(), SILENT, 0.4, longer)
+            self.is_in_time(client.ask("acquire a 1 100"), SILENT, 0.1, longer)
+            self.is_in_time(client.ask("check"), DONE, 0, longer)
             self.silence(False)
             self.assertEqual(client.ask("acquire b 1 5000").result, DONE)
             self.assertEqual(self.arbiter.lines["a"], [])
@@ -241,26 +241,26 @@ class Deadlines(Calls):
             client.ask("close")
 
     @by_the_clock
-    def test_it_is_withdrawn_at_the_next_server(self, _):
+    def test_it_is_withdrawn_at_the_next_server(self, longer):
         self.hold()
         client = self.session(lease=4000)
         self.doors[0].is_silent = True
         self.addCleanup(setattr, self.doors[0], "is_silent", False)
-        self.is_in_time(client.ask("acquire a 1 100"), SILENT, 0.1)
+        self.is_in_time(client.ask("acquire a 1 100"), SILENT, 0.1, longer)
         wait_until(lambda: client.ask("check").result != DONE or "leave" in self.verbs(), 3)
         self.assertEqual(client.ask("acquire a 1 100").result, LATE)
 
     @by_the_clock
-    def test_a_server_that_says_much(self, _):
+    def test_a_server_that_says_much(self, longer):
         client = self.session()
         self.doors[0].lie = "granted a 0\n" * 3000000
-        self.is_in_time(client.ask("acquire a 1 100"), SILENT, 0.1)
+        self.is_in_time(client.ask("acquire a 1 100"), SILENT, 0.1, longer)
         self.assertEqual(client.results("check", "acquire b 1 20000"), [DONE, DONE])
         door = header_clients.Door(lambda line: line + " 9999999\n" + "waits a\n" * 3000000)
         self.addCleanup(door.close)
         client = self.client("tcp:%s:%d," % self.doors[0].place + door.path, 4000)
         self.doors[0].close()
-        self.is_in_time(client.ask("acquire a 1 100"), SILENT, 0.1)
+        self.is_in_time(client.ask("acquire a 1 100"), SILENT, 0.1, longer)
 
     @by_the_clock
     def test_a_hold_is_lost_in_time(self, longer):
@@ -275,12 +275,12 @@ class Deadlines(Calls):
                 it = client.ask(line.replace(" 1", f" {it.token}"))
             self.assertEqual(it[1:4], (LOST, 0, errno.ETIMEDOUT))
             at_least(lease / 2 - 0.002, begun)
-            self.assertLess(time.monotonic() - begun, lease / 2 + MARGIN)
+            self.assertLess(time.monotonic() - begun, lease / 2 + margin(longer))
             self.silence(False)
             self.arbiter.holders.clear()
 
     @by_the_clock
-    def test_nobody_is_let_in(self, _):
+    def test_nobody_is_let_in(self, longer):
         """The other server's queue is full, or the way to it is cut."""
         with tempfile.TemporaryDirectory(dir=FOLDER) as folder:
             for family, address in ((socket.AF_UNIX, os.path.join(folder, "door")), (socket.AF_INET, ("127.0.0.1", 0))):
@@ -290,13 +290,13 @@ class Deadlines(Calls):
                 place = full.place if family == socket.AF_UNIX else "tcp:%s:%d" % full.place
                 client = self.client("tcp:%s:%d" % door.place + "," + place, 4000)
                 door.close()
-                self.is_in_time(client.ask("acquire a 1 500"), SILENT, 0.5)
+                self.is_in_time(client.ask("acquire a 1 500"), SILENT, 0.5, longer)
                 begun = time.monotonic()
                 client.ask("close")
-                self.assertLess(time.monotonic() - begun, 1 + MARGIN)
+                self.assertLess(time.monotonic() - begun, 1 + margin(longer))
 
     @by_the_clock
-    def test_nobody_is_there(self, _):
+    def test_nobody_is_there(self, longer):
         """At the beginning."""
         with tempfile.TemporaryDirectory(dir=FOLDER) as folder:
             full = FullDoor(socket.AF_UNIX, os.path.join(folder, "door"))
@@ -304,7 +304,7 @@ class Deadlines(Calls):
             client = self.client("/nonexistent/a", 4000, result=LOST)
             it = client.ask(f"open {full.place} 4000")
             self.assertEqual(it.result, LOST)
-            self.assertLess(it.seconds, 10 + MARGIN)
+            self.assertLess(it.seconds, 10 + margin(longer))
 
 
 class Forks(Calls):
@@ -362,7 +362,7 @@ class Servers(Interrupted, Trial):
             try:
                 it = client.hear()
                 self.assertEqual(it.result, SILENT)
-                self.assertLessEqual(it.seconds, (wait if wait > 1 else 100) / 1000 + MARGIN)
+                self.assertLessEqual(it.seconds, (wait if wait > 1 else 100) / 1000 + margin(longer))
                 it = client.ask("acquire b 1 0")  # the other server answers this one
                 self.assertEqual(it.result, DONE)
                 self.assertEqual(b.waiters("a"), 0)

@@ -14,12 +14,12 @@ import verify  # noqa: E402
 from harness import FOLDER  # noqa: E402
 
 HEAD = "by {} 0 " + "0" * 64 + "\t"
-ENTRIES = [HEAD.format("a 1 1") + "with 9 - 0 l0,l1\there 7 u0\t7 1 acquire 0 5",
-           HEAD.format("b 2 1") + "with 9 - 0 l0,l1\there 8 a10.0.0.1\there 8 a10.0.0.2\t8 1 acquire 0 6\t8 1 acquire 0 6",
-           HEAD.format("a 1 2") + "7 2 release 0 1",
-           HEAD.format("a 1 2") + "7 2 release 0 1",
-           HEAD.format("b 2 2") + "here 7 u0\t8 2 release 0 2\t9 1 acquire 1 1",
-           HEAD.format("a 1 3") + "7 3 acquire 1 1"]
+ENTRIES = [HEAD.format("a 1 1") + "with 2 9 - 0 l0,l1\there 7 u0\t7 1 acquire l0 5",
+           HEAD.format("b 2 1") + "with 2 9 - 0 l0,l1\there 8 a10.0.0.1\there 8 a10.0.0.2\t8 1 acquire l0 6\t8 1 acquire l0 6",
+           HEAD.format("a 1 2") + "7 2 release l0 1",
+           HEAD.format("a 1 2") + "7 2 release l0 1",
+           HEAD.format("b 2 2") + "here 7 u0\t8 2 release l0 2\t9 1 acquire l1 1",
+           HEAD.format("a 1 3") + "7 3 acquire l1 1"]
 FIRST = ["did 7 1 1.0 1.1 acquire l0 5 | granted l0 1", "inside l0 1 1.2 1.3", "wrote l0 1", "did 7 2 1.4 1.5 release l0 1 | released l0"]
 SECOND = ["did 8 1 1.0 1.2 acquire l0 6 | waiting l0 0", "granted 8 l0 2", "inside l0 2 1.6 1.7", "wrote l0 2", "did 8 2 1.8 1.9 release l0 2 | released l0"]
 JUDGES = (verify.judge_log, verify.judge_answers, verify.judge_holds, verify.judge_files)
@@ -61,14 +61,14 @@ class Verify(unittest.TestCase):
     def test_the_second_reading(self):
         self.wrong()
         reading = verify.Run(self.folder, ["l0", "l1"]).reading
-        self.assertEqual(reading.locks.grants, [(0, 1, 7, 5), (0, 2, 8, 6)])
+        self.assertEqual(reading.locks.grants, [("l0", 1, 7, 5), ("l0", 2, 8, 6)])
         self.assertEqual((reading.done, reading.again, reading.ignored), (4, 3, 1))
 
     def test_a_gap_in_the_log(self):
         self.assertEqual(self.wrong(entries=[*ENTRIES[:3], "", *ENTRIES[4:]]), ["entries"])
 
     def test_an_input_that_is_done_twice(self):
-        again = HEAD.format("a 1 3") + "here 7 u0\tgone 7\there 7 u0\t7 2 release 0 1"
+        again = HEAD.format("a 1 3") + "here 7 u0\tgone 7\there 7 u0\t7 2 release l0 1"
         self.assertIn("inputs", self.wrong(entries=[*ENTRIES[:4], again, ENTRIES[4]]))
 
     def test_answers_that_the_log_does_not_have(self):

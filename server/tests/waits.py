@@ -1,66 +1,62 @@
-"""Times that a slow engine or a busy machine makes longer: an engine that is slow on purpose, and what was waited for a processor."""
+"""Times of what a server does, without what a busy machine adds to them."""
 
-import contextlib
-import os
-import sys
-import tempfile
 import threading
-import unittest.mock
-
-import harness
-from harness import ENGINE, FOLDER
-
-#: An engine for which each leave takes a while, as it does where there are very many locks.
-SLOW = """#!{python}
-import subprocess, sys, time
-engine = subprocess.Popen(["{engine}", *sys.argv[1:]], stdin=subprocess.PIPE, bufsize=0)
-for line in sys.stdin.buffer:
-    if line.endswith(b" leave\\n"):
-        time.sleep(0.001)
-    engine.stdin.write(line)
-engine.stdin.close()
-sys.exit(engine.wait())
-"""
-
-
-@contextlib.contextmanager
-def slow_engine():
-    """Servers that start meanwhile have it."""
-    with tempfile.TemporaryDirectory(dir=FOLDER) as folder:
-        engine = os.path.join(folder, "engine")
-        with open(engine, "w", encoding="utf-8") as file:
-            file.write(SLOW.format(python=sys.executable, engine=ENGINE))
-        os.chmod(engine, 0o700)
-        with unittest.mock.patch.object(harness, "ENGINE", engine):
-            yield
-
-
-def children(process):
-    """The numbers of its children, where the system tells them."""
-    try:
-        with open(f"/proc/{process}/task/{process}/children", encoding="ascii") as file:
-            return file.read().split()
-    except OSError:
-        return []
+import time
 
 
 class Waits:
     """For how long the server, its engine and this thread have wanted a processor and had none, as the system counts it, in seconds. What
     somebody waits for is on time if it is so without that: a machine that is busy is late, and that is no fault. On one that has a
     processor for each of them it is nearly nothing. Where two of them wait at once both times count, so on a busy machine a little of the
-    server's own delay passes."""
+    server's own delay passes. All that the server answers is the work of its first thread."""
 
     def __init__(self, server):
-        engine = server.engine_number()
-        tasks = (server.process.pid, engine, *children(engine), threading.get_native_id())
+        tasks = (server.process.pid, server.engine_number(), threading.get_native_id())
         self.paths = [f"/proc/{task}/schedstat" for task in tasks]
 
-    def __call__(self):
-        waited = 0
+    def look(self):
+        """For how long each of them has run, and has waited; nothing of one that has ended, or on a system that does not count."""
+        ran, waited = [], []
         for path in self.paths:
             try:
                 with open(path, encoding="ascii") as file:
-                    waited += int(file.read().split()[1])
+                    words = file.read().split()
             except OSError:
-                pass  # a system that does not count
-        return waited / 1e9
+                continue
+            ran.append(int(words[0]) / 1e9)
+            waited.append(int(words[1]) / 1e9)
+        return ran, waited
+
+    def __call__(self):
+        return sum(self.look()[1])
+
+
+class Watch:
+    """Measures times by the clock without those waits, and the work that was done meanwhile: for how long the server or its engine ran,
+    whichever ran longer. A machine that gives a part of its processors to others, as a virtual one does, takes longer for all that is
+    done, and no wait is counted; but the work is no more. Who lets others come before does their work first, so it shows in both."""
+
+    def __init__(self, waits):
+        self.waits = waits
+        # a processor that is lost while this looks counts as waited for, here and below
+        self.before, self.begun = waits.look(), time.monotonic()
+
+    def times(self):
+        """By the clock, and of work."""
+        time_now = time.monotonic()
+        (ran, waited), (ran_before, waited_before) = self.waits.look(), self.before
+        by_clock = time_now - self.begun - (sum(waited) - sum(waited_before))
+        if len(ran) < len(self.waits.paths):
+            return by_clock, by_clock
+        return by_clock, max(now - before for now, before in zip(ran[:2], ran_before))
+
+
+def least(measure, limit, tries=3):
+    """The least of what is measured in so many tries; of one that is below the limit no other is made. What the server does wrong, it
+    does in each of them, and what a machine does in one may be over by the next."""
+    found = measure()
+    for _ in range(tries - 1):
+        if found < limit:
+            break
+        found = min(found, measure())
+    return found

@@ -11,10 +11,10 @@ const HELP: &str = "\
 It checks FILE as `check` does: a saved history, or, if FILE is a folder, the segments that `locks` keeps there. If that
 is legal, and each ring of it has the history of a lock, it prints a line for each hold, lock by lock and in their order:
   lock LOCK token TOKEN label LABEL from FROM to TO ENDING
-LOCK is the number of the lock, TOKEN that of the grant, and LABEL the label that the client chose. FROM is how many events
-of the lock's ring come before the grant, TO how many come before the end; they are counted from the first event of all, as
-TOKEN is. ENDING is `released`, `left`, or `open` with `-` for TO. If the grant is in a segment that is gone, LABEL and FROM
-are `-`.
+LOCK is the number of the lock, its place in the list from 0, TOKEN that of the grant, and LABEL the label that the client
+chose. FROM is how many events of the lock's ring come before the grant, TO how many come before the end; they are counted
+from the first event of all, as TOKEN is. ENDING is `released`, `left`, or `open` with `-` for TO. If the grant is in a
+segment that is gone, LABEL and FROM are `-`.
 
 With `--by label` it prints a line for each label that a hold has, in rising order, instead of the lines of holds:
   label LABEL holds HOLDS released RELEASED left LEFT open OPEN

@@ -12,22 +12,22 @@ const LOCKS_ABOUT: &str =
 const LOCKS_HELP: &str = "\
 Each line of standard input is a call of a client, of at most 8192 bytes with its end. A client is a connection: each call
 begins with its number, and each answer with the number of the client that it is for:
-  CONNECTION acquire LOCK ORDER     granted LOCK TOKEN, or waiting LOCK BEFORE and, when it is its turn, granted LOCK TOKEN
-  CONNECTION try LOCK ORDER         the same, but busy LOCK if it would wait
-  CONNECTION release LOCK TOKEN     released LOCK
-  CONNECTION cancel LOCK            cancelled LOCK: it waits no longer
+  CONNECTION acquire NAME LABEL     granted NAME TOKEN, or waiting NAME BEFORE and, when it is its turn, granted NAME TOKEN
+  CONNECTION try NAME LABEL         the same, but busy NAME if it would wait
+  CONNECTION release NAME TOKEN     released NAME
+  CONNECTION cancel NAME            cancelled NAME: it waits no longer
   CONNECTION leave                  no answer: the client gives up all that it holds and waits for
-  CONNECTION corrupt LOCK MACHINE VALUE   corrupted LOCK OLD: a fault in the lock's ring; needs `--faults`
-  CONNECTION stats LOCK             stats LOCK MACHINES WAITERS PASSES HOLDER TOKEN, where HOLDER and TOKEN are 0 if it is free
-LOCK is the number of a lock, from 0, and ORDER a label that the client chooses and the journal keeps. The tokens of a
-lock rise. Any other line, and a call that cannot be done, changes nothing: the answer is `refused` and the reason, as
-`syntax`, `number`, `off`, `lock`, or `holds LOCK`, `waits LOCK`, `circle LOCK`, `holder LOCK`, `waiter LOCK`, `machine LOCK`,
-`value LOCK`, `full LOCK`, `memory LOCK`. A line that does not begin with a number is not answered.
+  CONNECTION corrupt NAME MACHINE VALUE   corrupted NAME OLD: a fault in the lock's ring; needs `--faults`
+  CONNECTION stats NAME             stats NAME MACHINES WAITERS PASSES HOLDER TOKEN, where HOLDER and TOKEN are 0 if it is free
+NAME is the name of a lock, and LABEL a number that the client chooses and the journal keeps. The tokens of a lock rise. Any
+other line, and a call that cannot be done, changes nothing: the answer is `refused` and the reason, as `syntax`, `number`,
+`off`, or `lock NAME`, `holds NAME`, `waits NAME`, `circle NAME`, `holder NAME`, `waiter NAME`, `machine NAME`, `value NAME`,
+`full NAME`, `memory NAME`. A line that does not begin with a number is not answered.
 With `--strict` no line is answered `full` or `memory`: if memory is short, or a segment that is full cannot be ended, the
 program ends with status 1, and answers neither this line nor earlier lines of the same batch and segment. So equal locks
 and equal lines have equal answers.
 
-A call may begin with a key and a number of the client's choice: `KEY NUMBER CONNECTION acquire LOCK ORDER`. A number is
+A call may begin with a key and a number of the client's choice: `KEY NUMBER CONNECTION acquire NAME LABEL`. A number is
 done once: the last of KEY gets its first line again, if it is for that CONNECTION, and one below the last gets
 `KEY refused past LAST`. `KEY NUMBER forget` lets go of KEY. `at PLACE` answers a digest of all answers so far, and `state`
 the lines that bring the locks, the keys and the digest back.
@@ -37,20 +37,20 @@ The answers leave before more is read. At the end of standard input the totals o
 FOLDER, which has to be there, keeps the journal: a chain of segments, FOLDER/0000000001.ring and so on, which `check
 FOLDER` checks, and the file FOLDER/locks with the names and the sizes of the locks. Each grant, and each end of one, is in
 the journal before its answer leaves. What was held when the process ended is held by the client 0 at the next start, until
-`0 leave` or `0 release LOCK TOKEN`; clients that waited have to ask again. One process at a time keeps FOLDER. A server that
-knows the holders gives `--holders`: each line of FILE is `hold LOCK TOKEN CLIENT`, and that hold is then the client's, not
+`0 leave` or `0 release NAME TOKEN`; clients that waited have to ask again. One process at a time keeps FOLDER. A server that
+knows the holders gives `--holders`: each line of FILE is `hold NAME TOKEN CLIENT`, and that hold is then the client's, not
 client 0's.
 
-The first start needs `--locks`: names of 1 to 64 ASCII letters, digits, `.`, `_`, `-` and `/`, each with how many machines its
-ring has (2 to 1024) and how many values they can hold (N to 65536), if it is not 8. A later start may leave the list out, or
-name more locks after those that are there; each other difference is refused.
+The first start needs `--locks`: names of 1 to 128 ASCII letters, digits, `.`, `_`, `-` and `/`, each with how many machines
+its ring has (2 to 1024) and how many values they can hold (N to 65536), if it is not 8. A later start may leave the list out,
+or name more locks after those that are there; each other difference is refused.
 
 Example:
-  $ printf '1 acquire 0 77\\n2 acquire 0 78\\n1 release 0 1\\n' | ring_tool locks --journal folder --locks deploy
-  1 granted 0 1
-  2 waiting 0 0
-  1 released 0
-  2 granted 0 2
+  $ printf '1 acquire deploy 77\\n2 acquire deploy 78\\n1 release deploy 1\\n' | ring_tool locks --journal folder --locks deploy
+  1 granted deploy 1
+  2 waiting deploy 0
+  1 released deploy
+  2 granted deploy 2
 
 Exit status: 0 at the end of standard input, 1 if FOLDER is refused or reading or writing fails, 2 after a usage error or
 if the list of locks cannot be read.";

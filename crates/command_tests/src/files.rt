@@ -6,6 +6,7 @@ mod joins;
 mod losing;
 pub mod memory;
 mod one_server;
+mod playing;
 mod replacing;
 mod safety;
 mod streams;

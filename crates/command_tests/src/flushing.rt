@@ -149,14 +149,14 @@ fn lend(
 fn locks_end_where_their_output_is_stuck(rt: HostRuntime) -> Result<(), Fail> {
     let alloc = rt.alloc();
     for (flushes, read, written) in [
-        (0, 15, "1 granted 0 1\n"),
-        (1, 30, "1 granted 0 1\n2 waiting 0 0\n"),
+        (0, 20, "1 granted deploy 1\n"),
+        (1, 40, "1 granted deploy 1\n2 waiting deploy 0\n"),
     ] {
         let mut disk = no_files(alloc);
         make_folder(&mut disk, "j")?;
         let mut input = Giver {
-            at_most: 15,
-            ..Giver::new(b"1 acquire 0 77\n2 acquire 0 78\n1 release 0 1\n")
+            at_most: 20,
+            ..Giver::new(b"1 acquire deploy 77\n2 acquire deploy 78\n1 release deploy 1\n")
         };
         let mut out = stuck_after(alloc, flushes);
         let mut err = Vec::new(alloc);

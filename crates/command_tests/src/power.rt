@@ -44,8 +44,8 @@ pub const LENT: &str =
 const LOCKS_TOLD: [(u32, &str, Option<&str>); 4] = [
     (0, "", None),
     (1, "", Some(SEGMENT)),
-    (2, "1 granted 0 1\n", Some(LENT)),
-    (3, "1 granted 0 1\n", Some(LENT)),
+    (2, "1 granted deploy 1\n", Some(LENT)),
+    (3, "1 granted deploy 1\n", Some(LENT)),
 ];
 
 /// A journal in memory, all of which is on the disk, and a folder. Of each file that is opened only `syncs` syncs succeed.
@@ -90,7 +90,7 @@ fn lend_on<D: Disk>(alloc: Global, disk: &mut D, synced: bool) -> (Vec<u8>, bool
         faults: false,
         strict: false,
     };
-    let mut input: &[u8] = b"1 acquire 0 77\n";
+    let mut input: &[u8] = b"1 acquire deploy 77\n";
     let mut out = Vec::new(alloc);
     let mut err = Vec::new(alloc);
     let ended = locks::run(alloc, disk, &words, &mut input, &mut out, &mut err).is_ok();

@@ -4,8 +4,9 @@ ghost use Rattle.held_locks.specs.Kept.{IsKeptRing};
 
 use crate::files::memory::no_files;
 use endless_ring::EndlessRing;
-use held_locks::Locks;
+use held_locks::{Answer, Locks, OneAsk, Refusal, Stats};
 use line_service::{AnswersLines, EndFault, Ending, Pending, Segmented, Unread, serve_part};
+use lock_protocol::LockNames;
 use lock_service::{LockService, Terms};
 use one_thread_ring::OneThreadRing;
 use ring_book::Till;
@@ -24,7 +25,7 @@ fn opened(rt: &impl Abort, alloc: Global) -> EndlessRing
     }
 }
 
-/// Two locks that answer lines, in segments of `limit` notes.
+/// Two locks, a and b, that answer lines, in segments of `limit` notes.
 fn two_locks(rt: &impl Abort, alloc: Global, limit: u64, strict: bool) -> LockService {
     let terms = Terms {
         faults: false,
@@ -35,7 +36,13 @@ fn two_locks(rt: &impl Abort, alloc: Global, limit: u64, strict: bool) -> LockSe
     let mut locks = Locks::none(alloc);
     assert!(rt; locks.add(alloc, opened(rt, alloc)).is_ok());
     assert!(rt; locks.add(alloc, opened(rt, alloc)).is_ok());
-    match LockService::new(alloc, locks, terms) {
+    let Ok(names) = LockNames::none(alloc).with(alloc, b"a") else {
+        panic!(rt; "there is memory");
+    };
+    let Ok(names) = names.with(alloc, b"b") else {
+        panic!(rt; "there is memory");
+    };
+    match LockService::new(alloc, locks, names, terms) {
         Ok(service) => service,
         Err(_) => panic!(rt; "there is memory"),
     }
@@ -111,8 +118,8 @@ fn keeps_on(rt: HostRuntime) {
     let alloc = rt.alloc();
     let mut service = two_locks(&rt, alloc, 4, false);
     let mut unread = Unread::none();
-    let lines = b"1 try 0 5\n1 try 1 6\n1 leave\n1 try 0 7\n";
-    let said = b"1 granted 0 1\n1 granted 1 1\n";
+    let lines = b"1 try a 5\n1 try b 6\n1 leave\n1 try a 7\n";
+    let said = b"1 granted a 1\n1 granted b 1\n";
     let noted = b"0 p 0 0 5 g 1 5\n1 p 0 0 6 g 1 6\n0 s 2 1 1 1 1 0\n1 s 2 1 1 1 1 0\n";
     serves(
         &rt,
@@ -126,7 +133,7 @@ fn keeps_on(rt: HostRuntime) {
     );
     assert!(rt; service.is_due());
     service.keep_on(EndFault::File);
-    let said = b"1 granted 0 2\n";
+    let said = b"1 granted a 2\n";
     let noted = b"0 p 0 1 7 g 2 12\n";
     serves(
         &rt,
@@ -140,7 +147,7 @@ fn keeps_on(rt: HostRuntime) {
     );
     assert!(rt; service.is_due() && !service.is_over());
     let next = next_of(&rt, alloc, &service);
-    assert!(rt; !next.is_due() && next.locks().count() == 2);
+    assert!(rt; !next.is_due() && next.locks().count() == 2 && next.names().find(b"b") == Some(1));
 }
 
 // On strict terms lines are answered as ever until the segment is due. If it is kept on, no line is answered: nothing is pending,
@@ -149,8 +156,8 @@ fn keeps_on(rt: HostRuntime) {
 fn stops_on_strict_terms(rt: HostRuntime) {
     let alloc = rt.alloc();
     let mut service = two_locks(&rt, alloc, 3, true);
-    let lines = b"1 acquire 0 77\n2 acquire 0 78\n3 acquire 0 79\n1 release 0 1\n";
-    let said = b"1 granted 0 1\n2 waiting 0 0\n3 waiting 0 1\n1 released 0\n2 granted 0 2\n";
+    let lines = b"1 acquire a 77\n2 acquire a 78\n3 acquire a 79\n1 release a 1\n";
+    let said = b"1 granted a 1\n2 waiting a 0\n3 waiting a 1\n1 released a\n2 granted a 2\n";
     let noted = b"0 p 0 0 77 g 1 77\n0 s 1 1 1 1 1 0\n0 p 0 1 78 g 2 155\n";
     serves(
         &rt,
@@ -172,7 +179,7 @@ fn stops_on_strict_terms(rt: HostRuntime) {
     assert!(rt; !service.is_over());
     assert!(rt;
         service
-            .answer(&mut disk, b"1 try 1 5\n", &mut pending)
+            .answer(&mut disk, b"1 try b 5\n", &mut pending)
             .is_err()
     );
     assert!(rt; pending.answers.is_empty() && pending.notes.is_empty());
@@ -192,4 +199,39 @@ fn begins(rt: HostRuntime) {
     let text = text_of(&rt, alloc, &service, 1);
     assert!(rt; text.len() == FIRST.len() + BEGINNING.len());
     assert!(rt; text.starts_with(FIRST.as_bytes()) && text.ends_with(BEGINNING.as_bytes()));
+}
+
+// What one lock answers to each kind of ask: a fault is repaired by one pass.
+#[test]
+fn answers_each_ask(rt: HostRuntime) {
+    let alloc = rt.alloc();
+    let mut locks = Locks::none(alloc);
+    assert!(rt; locks.add(alloc, opened(&rt, alloc)).is_ok());
+    let fault = OneAsk::Corrupt {
+        machine: 1,
+        value: 2,
+    };
+    let stats = Stats {
+        machines: 3,
+        waiters: 0,
+        passes: 2,
+        holder: None,
+    };
+    let asks = [
+        (1, 0, OneAsk::Acquire { label: 7 }, Answer::Granted(1)),
+        (2, 0, OneAsk::Acquire { label: 8 }, Answer::Waiting(0)),
+        (2, 0, OneAsk::Cancel, Answer::Cancelled),
+        (2, 0, OneAsk::Try { label: 8 }, Answer::Busy),
+        (1, 0, OneAsk::Release { token: 1 }, Answer::Released),
+        (2, 0, fault, Answer::Corrupted(0)),
+        (2, 0, OneAsk::Stats, Answer::Stats(stats)),
+        (2, 1, OneAsk::Stats, Answer::Refused(Refusal::Lock)),
+    ];
+    let mut events = 0;
+    for (client, lock, ask, answer) in asks {
+        let done = locks.ask(client, lock, ask);
+        assert!(rt; done.answers.own == Some(answer));
+        assert!(rt; lock > 0 || done.before == events);
+        events = done.after;
+    }
 }

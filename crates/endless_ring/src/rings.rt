@@ -1,6 +1,7 @@
 //! A ring whose segment can end and be followed by the next.
 
-ghost use Rattle.std.specs.Prelude.{◌≡◌, ◌≤◌, ◌+◌, IsOk, IfOk, IfErr, OnOk, OnErr, length};
+ghost use Rattle.std.specs.Prelude.{◌≡◌, ◌<◌, ◌≤◌, ◌+◌, true, IsOk, IfOk, IfErr, OnOk, OnErr, length};
+ghost use Rattle.ring_model.specs.Ring.{is_privileged};
 ghost use Rattle.ring_model.specs.Resources.{till};
 ghost use Rattle.ring_model.specs.declared.events.Op.TheVariants as op;
 ghost use Rattle.one_thread_ring.specs.Rings.{IsOneThreadRing};
@@ -138,6 +139,22 @@ impl EndlessRing {
             Err(error) => return Err(error),
         };
         Ok(self.base.shift_receipt(receipt))
+    }
+
+    /// A pass by a machine that is privileged, for a seat that there is, where the segment has room for an event: it is not
+    /// refused. Its receipt is shifted.
+    #[inline(always)]
+    pub fn grant(&mut self, seat: u32, machine: u32, order: u64) -> Receipt
+        requires seat { seat < length self.old.ring.clients }
+        requires machine { machine < length self.old.ring.book.now.ring.values }
+        requires privileged { is_privileged self.old.ring.book.now.ring.values machine ≡ true }
+        requires room { 1 ≤ self.old.ring.book.room }
+        ensures called { IsCalled self.old self.new seat (op.Pass machine order) result }
+        ensures endless { IsEndless self.new }
+        ensures room { self.old.ring.book.room ≤ self.new.ring.book.room + 1 }
+    {
+        let receipt = self.ring.grant(seat, machine, order);
+        self.base.shift_receipt(receipt)
     }
 
     /// A pass by a machine, for a seat, if the machine is privileged, with its receipt, shifted; if it is not, nothing changes.

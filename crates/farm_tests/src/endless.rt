@@ -1,5 +1,6 @@
 //! A ring that is cut after its first three calls.
 
+ghost use Rattle.std.specs.Prelude.{◌≡◌, ◌<◌, length};
 ghost use Rattle.ring_model.specs.Resources.{till};
 ghost use Rattle.one_thread_ring.specs.Rings.{IsOneThreadRing};
 
@@ -12,7 +13,8 @@ use std::process::Abort;
 
 /// Three machines with three values, and two seats.
 fn opened(rt: &impl Abort, alloc: Global) -> OneThreadRing<Till>
-    ensures { IsOneThreadRing till 0 result }
+    ensures ring { IsOneThreadRing till 0 result }
+    ensures seats { length result.clients ≡ 2 }
 {
     match OneThreadRing::open(alloc, 3, 3, &[0, 2, 0], 2, Till::new()) {
         Ok(ring) => ring,
@@ -71,4 +73,43 @@ fn goes_on_over_a_cut(rt: HostRuntime) {
         rest: 0,
     };
     assert!(rt; next.glance() == end && next.segment().history_length() == 3);
+}
+
+/// The position and the reply of a grant to a machine that is privileged, with room for its event.
+fn surely_granted(
+    rt: &impl Abort,
+    ring: &mut EndlessRing,
+    seat: u32,
+    machine: u32,
+    order: u64,
+) -> (u64, Reply)
+    requires { seat < length ring.old.ring.clients }
+{
+    assert!(rt; machine < ring.segment().machines());
+    assert!(rt; ring.segment().is_privileged(machine));
+    let Ok(()) = ring.reserve(1) else {
+        panic!(rt; "there is memory");
+    };
+    let receipt = ring.grant(seat, machine, order);
+    (receipt.position, receipt.event.reply)
+}
+
+// A pass that cannot be refused: its receipt counts what came before the segment.
+#[test]
+fn grants_count_what_came_before(rt: HostRuntime) {
+    let mut ring = EndlessRing::after(Base::none(), opened(&rt, rt.alloc()));
+    let first = Reply::Granted {
+        number: 1,
+        result: 10,
+    };
+    assert!(rt; surely_granted(&rt, &mut ring, 0, 0, 10) == (0, first));
+    let Ok(next) = ring.cut(rt.alloc()) else {
+        panic!(rt; "there is memory");
+    };
+    let mut after = EndlessRing::after(*next.base(), opened(&rt, rt.alloc()));
+    let second = Reply::Granted {
+        number: 2,
+        result: 17,
+    };
+    assert!(rt; surely_granted(&rt, &mut after, 1, 2, 7) == (1, second));
 }

@@ -1,5 +1,5 @@
-//! Tests of settings, of farms, of rings that are called by numbers and by lines, of the texts that are written of them, and of the
-//! loops in which a service answers lines, by their public calls only.
+//! Tests of settings, of farms, of rings that are called by numbers and by lines, of the texts that are written of them, of the
+//! loops in which a service answers lines, and of locks by any name, by their public calls only.
 #![tactic(auto)]
 
 #[cfg(test)]
@@ -14,6 +14,8 @@ mod events;
 mod farm;
 #[cfg(test)]
 mod loops;
+#[cfg(test)]
+mod named_locks;
 #[cfg(test)]
 mod names;
 #[cfg(test)]

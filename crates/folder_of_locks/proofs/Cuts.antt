@@ -11,7 +11,8 @@ use Rattle.std.proofs.lemmas.Fmt.{digits_decimal}
 use Rattle.std.proofs.lemmas.Str.Parse.{IsNumeralModel, numerals_by_value, tells_by_index}
 use Rattle.text_lines.specs.Reading.{is_digit}
 use Rattle.text_lines.proofs.Decimals.{is_digit_at}
-use Rattle.folder_of_locks.specs.Lists.{Listed, IsName, IsSizeText, IsLockText, is_name_byte}
+use Rattle.lock_protocol.specs.Names.{IsName, is_name_byte}
+use Rattle.folder_of_locks.specs.Lists.{Listed, IsSizeText, IsLockText}
 use Rattle.folder_of_locks.specs.ListSteps.{IsMark, IsAfterName, IsPlain, IsCut, AreMarks}
 
 -- a mark is not a byte of a plain text

@@ -1,15 +1,34 @@
 -- One hold after another is handed over.
-use Rattle.std.proofs.Common.{◌≡◌, ℕ, suc, ◌+◌, ◌<◌, List, [], ◌∷◌, ◌++◌, length, take, get_or, refl, subst, sym, ◌∙◌, ap, arith}
+use Rattle.std.proofs.Common.{◌≡◌, ℕ, suc, ◌+◌, ◌<◌, List, [], ◌∷◌, ◌++◌, length, take, map, get_or, Option, refl, subst, sym, ◌∙◌, ap, arith}
 use Rattle.std.proofs.Math.Seq.{take-suc}
-use Rattle.held_locks.specs.declared.handing.Handover.{Handover}
+use Rattle.std.specs.List.{take-map}
+use Rattle.std.specs.Option.{option_map}
+use Rattle.std.proofs.lemmas.List.{map-append}
+use Rattle.std.proofs.lemmas.Option.{slice_get-map, slice_get_read}
 use Rattle.held_locks.specs.Kept.{LockView}
-use Rattle.held_locks.specs.Handed.{IsHanded, AreHanded}
+use Rattle.lock_protocol.specs.Names.{Names}
+use Rattle.folder_of_locks.specs.declared.holder_reading.NamedHold.{NamedHold}
+use Rattle.folder_of_locks.specs.Holders.{Hold, hold_of, IsHandedBy, AreHandedBy, CannotBeHandedBy, IsNotHanded}
 
-handed_more : (old mid new : List LockView) (hs : List Handover) (h : Handover) → AreHanded old hs mid → IsHanded mid new h → AreHanded old (hs ++ h ∷ []) new
-handed_more old mid new [] h are is = (new, subst (λ (x : List LockView). IsHanded x new h) are is, refl)
-handed_more old mid new (g ∷ hs) h are is = (are.0, are.1, handed_more are.0 mid new hs h are.2 is)
+handed_more : (names : Names) (old mid new : List LockView) (hs : List Hold) (h : Hold) → AreHandedBy names old hs mid → IsHandedBy names mid new h → AreHandedBy names old (hs ++ h ∷ []) new
+handed_more names old mid new [] h are is = (new, subst (λ (x : List LockView). IsHandedBy names x new h) are is, refl)
+handed_more names old mid new (g ∷ hs) h are is = (are.0, are.1, handed_more names are.0 mid new hs h are.2 is)
 
-pub handed_next : (old mid new : List LockView) (hs : List Handover) (i : ℕ) (d : Handover) → i < length hs → AreHanded old (take i hs) mid → IsHanded mid new (get_or hs i d) → AreHanded old (take (i + 1) hs) new
-handed_next old mid new hs i d below are is =
+pub handed_next : (names : Names) (old mid new : List LockView) (hs : List NamedHold) (i : ℕ) (h : NamedHold) → i < length hs → h ≡ get_or hs i h → AreHandedBy names old (map hold_of (take i hs)) mid → IsHandedBy names mid new (hold_of h) → AreHandedBy names old (map hold_of (take (i + 1) hs)) new
+handed_next names old mid new hs i h below at are is =
     let next : i + 1 ≡ suc i = omega arith in
-    subst (λ (x : List Handover). AreHanded old x new) (sym (ap (λ (n : ℕ). take n hs) next ∙ take-suc hs i d below)) (handed_more old mid new (take i hs) (get_or hs i d) are is)
+    let longer : take (i + 1) hs ≡ take i hs ++ h ∷ [] = ap (λ (n : ℕ). take n hs) next ∙ (take-suc hs i h below ∙ ap (λ (x : NamedHold). take i hs ++ x ∷ []) (sym at)) in
+    let holds : map hold_of (take (i + 1) hs) ≡ map hold_of (take i hs) ++ hold_of h ∷ [] = ap (λ (x : List NamedHold). map hold_of x) longer ∙ map-append hold_of (take i hs) (h ∷ []) in
+    subst (λ (x : List Hold). AreHandedBy names old x new) (sym holds) (handed_more names old mid new (map hold_of (take i hs)) (hold_of h) are is)
+
+-- the first hold that cannot be handed over
+pub not_handed : (names : Names) (old mid : List LockView) (hs : List NamedHold) (i : ℕ) (h : NamedHold) → i < length hs → h ≡ get_or hs i h → AreHandedBy names old (map hold_of (take i hs)) mid → CannotBeHandedBy names mid (hold_of h) → IsNotHanded names old (map hold_of hs) (i + 1)
+not_handed names old mid hs i h below at are cannot = record {
+  place = i;
+  line_is = refl;
+  mid = mid;
+  before = subst (λ (x : List Hold). AreHandedBy names old x mid) (sym (take-map hold_of i hs)) are;
+  hold = hold_of h;
+  there = slice_get-map hold_of hs i ∙ ap (λ (o : Option NamedHold). option_map hold_of o) (slice_get_read hs (length hs) i h refl below at);
+  cannot = cannot;
+}

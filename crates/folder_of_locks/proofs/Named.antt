@@ -16,6 +16,7 @@ use Rattle.std.proofs.lemmas.List.Folds.{list_any-append}
 use Rattle.std.proofs.lemmas.Map.Keys.{IsDistinct-push}
 use Rattle.std.proofs.lemmas.Map.Text.{hash_map_updates_str, hash_map_str_same}
 use Rattle.std.proofs.lemmas.Slice.Eq.{bytes_eq-Decides}
+use Rattle.lock_protocol.specs.Names.{Names}
 use Rattle.folder_of_locks.specs.declared.locks.ListedLock.{ListedLock}
 use Rattle.folder_of_locks.specs.Lists.{Listed, listed, names_of}
 use Rattle.folder_of_locks.proofs.Checked.{map-append, grown, got}
@@ -101,3 +102,14 @@ seen_twice m locks i d v lt before some = (
 -- all locks have names of their own
 pub all_apart : (locks : List ListedLock) (i : ℕ) → length locks ≤ i → IsDistinct bytes_eq (names_of (map listed (take i locks))) → IsDistinct bytes_eq (names_of (map listed locks))
 all_apart locks i le h = subst (λ (x : List ListedLock). IsDistinct bytes_eq (names_of (map listed x))) (take_all i locks le) h
+
+-- ---- the table of the names
+
+pub names_next : (locks : List ListedLock) (i : ℕ) (d : ListedLock) (names more : Names) → i < length locks → names ≡ names_of (map listed (take i locks)) → more ≡ names ++ (get_or locks i d).name.now ∷ [] → more ≡ names_of (map listed (take (i + 1) locks))
+names_next locks i d names more lt so_far e =
+    let ls = map listed (take i locks) in
+    let l = listed (get_or locks i d) in
+    e ∙ (ap (λ (x : Names). x ++ l.name ∷ []) so_far ∙ (sym (names-more ls l) ∙ sym (ap (λ (x : List Listed). names_of x) (grown locks i d lt))))
+
+pub names_all : (locks : List ListedLock) (i : ℕ) (names : Names) → length locks ≤ i → names ≡ names_of (map listed (take i locks)) → names ≡ names_of (map listed locks)
+names_all locks i names le e = subst (λ (x : List ListedLock). names ≡ names_of (map listed x)) (take_all i locks le) e

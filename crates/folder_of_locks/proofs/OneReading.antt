@@ -3,17 +3,16 @@ use Rattle.std.proofs.Common.{◌≡◌, ℕ, ◌+◌, List, [], ◌∷◌, ◌+
 use Rattle.std.specs.List.{AllByRecursion}
 use Rattle.std.proofs.lemmas.List.{append-nil}
 use Rattle.text_lines.proofs.Basics.{ok_is}
-use Rattle.held_locks.specs.declared.handing.Handover.{Handover}
-use Rattle.folder_of_locks.specs.Holders.{hold_line, FitsLine, lines_of, HasNoHold, IsBadLine, OneText, NoBadLine, OneBadLine}
+use Rattle.folder_of_locks.specs.Holders.{Hold, hold_line, FitsLine, lines_of, HasNoHold, IsBadLine, OneText, NoBadLine, OneBadLine}
 use Rattle.folder_of_locks.specs.HolderSteps.{hold_at}
-use Rattle.folder_of_locks.proofs.Lines.{hold_reads}
+use Rattle.folder_of_locks.proofs.Lines.{hold_again}
 
-same_first : (h g : Handover) (x y : List ℕ) → FitsLine h → FitsLine g → hold_line h ++ x ≡ hold_line g ++ y → (h ≡ g) × (x ≡ y)
+same_first : (h g : Hold) (x y : List ℕ) → FitsLine h → FitsLine g → hold_line h ++ x ≡ hold_line g ++ y → (h ≡ g) × (x ≡ y)
 same_first h g x y f k e =
-    let both : ◌≡◌ {A = Handover × List ℕ} (h, x) (g, y) = ok_is (h, x) (g, y) (sym (hold_reads.again h x f) ∙ ap hold_at e ∙ hold_reads.again g y k) in
-    (ap (λ (z : Handover × List ℕ). z.0) both, ap (λ (z : Handover × List ℕ). z.1) both)
+    let both : ◌≡◌ {A = Hold × List ℕ} (h, x) (g, y) = ok_is (h, x) (g, y) (sym (hold_again h x f) ∙ ap hold_at e ∙ hold_again g y k) in
+    (ap (λ (z : Hold × List ℕ). z.0) both, ap (λ (z : Hold × List ℕ). z.1) both)
 
-one_reading : (hs gs : List Handover) (r s : List ℕ) → AllByRecursion FitsLine hs → AllByRecursion FitsLine gs → HasNoHold r → HasNoHold s → lines_of hs ++ r ≡ lines_of gs ++ s → (hs ≡ gs) × (r ≡ s)
+one_reading : (hs gs : List Hold) (r s : List ℕ) → AllByRecursion FitsLine hs → AllByRecursion FitsLine gs → HasNoHold r → HasNoHold s → lines_of hs ++ r ≡ lines_of gs ++ s → (hs ≡ gs) × (r ≡ s)
 one_reading [] [] r s f k nr ns e = (refl, e)
 one_reading [] (g ∷ gs) r s f k nr ns e = absurd (nr g (lines_of gs ++ s) k.0 (e ∙ append_assoc (hold_line g) (lines_of gs) s))
 one_reading (h ∷ hs) [] r s f k nr ns e = absurd (ns h (lines_of hs ++ r) f.0 (sym e ∙ append_assoc (hold_line h) (lines_of hs) r))
@@ -35,4 +34,4 @@ no_bad_line bytes hs line a b = b.some (sym (one_reading hs b.before [] b.rest a
 pub one_bad_line : OneBadLine
 one_bad_line bytes line other a b =
     let same = one_reading a.before b.before a.rest b.rest a.each b.each a.none b.none (sym a.lines ∙ b.lines) in
-    a.many ∙ ap (λ (x : List Handover). length x + 1) same.0 ∙ sym b.many
+    a.many ∙ ap (λ (x : List Hold). length x + 1) same.0 ∙ sym b.many

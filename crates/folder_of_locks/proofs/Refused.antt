@@ -3,25 +3,25 @@ use Rattle.std.proofs.Common.{◌≡◌, ◌⊎◌, inl, inr, ℕ, List, Bool, t
 use Rattle.disks.specs.Held.{Held}
 use Rattle.line_service.specs.declared.segment_numbers.SegmentNumbers.{SegmentNumbers}
 use Rattle.folder_of_locks.specs.Lists.{Listed, IsLockList}
-use Rattle.held_locks.specs.declared.handing.Handover.{Handover}
+use Rattle.folder_of_locks.specs.Holders.{Hold}
 use Rattle.folder_of_locks.specs.declared.faults.StartFault.{StartFault}
 use Rattle.folder_of_locks.specs.declared.faults.StartFault.TheVariants as fault
 use Rattle.folder_of_locks.specs.Folders.{IsOfFile, Continues, AreLocksOf, IsHandingFault, IsWordRefusal, IsStartRefusal}
 
 -- a list that continues that of the folder
-pub again : (files : Option Held) (folder : List ℕ) (range : Option SegmentNumbers) (given : Option (List ℕ)) (word : List ℕ) (old ls : List Listed) (holders : List Handover) (e : StartFault) → given ≡ Some word → IsOfFile files folder old → IsLockList word ls → Continues old ls →
+pub again : (files : Option Held) (folder : List ℕ) (range : Option SegmentNumbers) (given : Option (List ℕ)) (word : List ℕ) (old ls : List Listed) (holders : List Hold) (e : StartFault) → given ≡ Some word → IsOfFile files folder old → IsLockList word ls → Continues old ls →
     IsHandingFault files folder range ls holders e ⊎ ((e ≡ fault.Unsaved) ⊎ (e ≡ fault.OutOfMemory)) → IsStartRefusal files folder true range given holders e
 again files folder range given word old ls holders e same file list more (inl h) =
     inr (inr (inr (inr (inl (ls, subst (λ (w : Option (List ℕ)). AreLocksOf files folder true range w ls) (sym same) (old, file, list, more), h)))))
 again files folder range given word old ls holders e same file list more (inr h) = inr (inr (inr (inr (inr h))))
 
 -- a list of a new folder
-pub anew : (files : Option Held) (folder : List ℕ) (range : Option SegmentNumbers) (given : Option (List ℕ)) (word : List ℕ) (ls : List Listed) (holders : List Handover) (e : StartFault) → given ≡ Some word → range ≡ None → IsLockList word ls →
+pub anew : (files : Option Held) (folder : List ℕ) (range : Option SegmentNumbers) (given : Option (List ℕ)) (word : List ℕ) (ls : List Listed) (holders : List Hold) (e : StartFault) → given ≡ Some word → range ≡ None → IsLockList word ls →
     IsHandingFault files folder range ls holders e ⊎ ((e ≡ fault.Unsaved) ⊎ (e ≡ fault.OutOfMemory)) → IsStartRefusal files folder false range given holders e
 anew files folder range given word ls holders e same none list (inl h) =
     inr (inr (inr (inr (inl (ls, subst (λ (w : Option (List ℕ)). AreLocksOf files folder false range w ls) (sym same) (none, list), h)))))
 anew files folder range given word ls holders e same none list (inr h) = inr (inr (inr (inr (inr h))))
 
 -- a word that names no list
-pub by_word : (files : Option Held) (folder : List ℕ) (has : Bool) (range : Option SegmentNumbers) (given : Option (List ℕ)) (word : List ℕ) (holders : List Handover) (e : StartFault) → given ≡ Some word → IsWordRefusal word e → IsStartRefusal files folder has range given holders e
+pub by_word : (files : Option Held) (folder : List ℕ) (has : Bool) (range : Option SegmentNumbers) (given : Option (List ℕ)) (word : List ℕ) (holders : List Hold) (e : StartFault) → given ≡ Some word → IsWordRefusal word e → IsStartRefusal files folder has range given holders e
 by_word files folder has range given word holders e same h = inr (inr (inl (word, same, h)))

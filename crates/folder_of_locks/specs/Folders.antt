@@ -13,15 +13,15 @@ use Rattle.segment_files.specs.Spelling.{no_digest}
 use Rattle.segment_files.specs.declared.last.LastSegment.{LastSegment}
 use Rattle.segment_files.specs.declared.errors.SegmentError.TheVariants as segment
 use Rattle.segment_files.specs.Torn.{IsRightEnd}
-use Rattle.held_locks.specs.declared.handing.Handover.{Handover}
 use Rattle.held_locks.specs.Kept.{LockView}
-use Rattle.held_locks.specs.Handed.{AreHanded}
-use Rattle.folder_of_locks.specs.Holders.{IsNotHanded}
+use Rattle.lock_protocol.specs.Names.{Names}
+use Rattle.folder_of_locks.specs.Holders.{Hold, AreHandedBy, IsNotHanded}
 use Rattle.folder_of_locks.specs.declared.locks.ListError.{ListError}
 use Rattle.folder_of_locks.specs.declared.locks.ListError.TheVariants as lists
-use Rattle.folder_of_locks.specs.Lists.{Listed, IsLockList, IsLockFile, IsWordFault, IsFileFault, file_text}
+use Rattle.folder_of_locks.specs.Lists.{Listed, IsLockList, IsLockFile, IsWordFault, IsFileFault, file_text, names_of as names_in}
 use Rattle.folder_of_locks.specs.declared.faults.StartFault.{StartFault}
 use Rattle.folder_of_locks.specs.declared.faults.StartFault.TheVariants as fault
+use Rattle.folder_of_locks.specs.declared.places.FoundLocks.{FoundLocks}
 use Rattle.folder_of_locks.specs.declared.places.Start.{Start}
 use Rattle.folder_of_locks.specs.Rings.{AreBegun, AreRingsRefused}
 
@@ -31,18 +31,29 @@ locks_file folder = path_in folder list_name
 
 -- ---- where locks start
 
--- the locks, the number of the segment that they are in, and the digest of the file before it
-pub record Place : Type 0 where
+-- the locks where a segment ends, its number, and the digest of the file before it
+pub record Found : Type 0 where
   pub locks : List LockView
   pub number : ℕ
   pub behind : List ℕ
 
 -- the content of the program's own type
+abbrev pub found_of : FoundLocks → Found
+found_of f = record { locks = f.locks; number = f.number; behind = f.behind }
+
+-- the same of locks that start, with their names
+pub record Place : Type 0 where
+  pub locks : List LockView
+  pub names : Names
+  pub number : ℕ
+  pub behind : List ℕ
+
+-- the content of the program's own type
 abbrev pub place_of : Start → Place
-place_of s = record { locks = s.locks; number = s.number; behind = s.behind }
+place_of s = record { locks = s.locks; names = s.names; number = s.number; behind = s.behind }
 
 -- all with settled rings, in the first segment of all
-pub record IsAtFirst (ls : List Listed) (p : Place) : Type 0 where
+pub record IsAtFirst (ls : List Listed) (p : Found) : Type 0 where
   pub begun : AreBegun [] [] ls p.locks
   pub number : p.number ≡ 1
   pub behind : p.behind ≡ no_digest
@@ -56,7 +67,7 @@ pub record IsAtLast (files : Option Held) (folder : List ℕ) (n : ℕ) (s : Las
     pub named : s.head.number ≡ n
 
 -- where it ends
-pub record IsAfter (files : Option Held) (folder : List ℕ) (n : ℕ) (ls : List Listed) (p : Place) :
+pub record IsAfter (files : Option Held) (folder : List ℕ) (n : ℕ) (ls : List Listed) (p : Found) :
     Type 0 where
   pub segment : LastSegment
   pub last : IsAtLast files folder n segment
@@ -65,16 +76,17 @@ pub record IsAfter (files : Option Held) (folder : List ℕ) (n : ℕ) (ls : Lis
   pub behind : p.behind ≡ segment.head.behind
 
 -- where the last of these segments ends, if there is one
-abbrev pub StandsAt : Option Held → List ℕ → Option SegmentNumbers → List Listed → Place → Type 0
+abbrev pub StandsAt : Option Held → List ℕ → Option SegmentNumbers → List Listed → Found → Type 0
 StandsAt files folder None ls p = IsAtFirst ls p
 StandsAt files folder (Some r) ls p = IsAfter files folder r.last ls p
 
--- and then each of these open holds was handed to its client
+-- They have the names of the list, and then each of these open holds was handed to its client.
 pub record StandsHanded (files : Option Held) (folder : List ℕ) (range : Option SegmentNumbers)
-    (ls : List Listed) (holders : List Handover) (p : Place) : Type 0 where
-  pub found : Place
+    (ls : List Listed) (holders : List Hold) (p : Place) : Type 0 where
+  pub found : Found
   pub stands : StandsAt files folder range ls found
-  pub handed : AreHanded found.locks holders p.locks
+  pub names : p.names ≡ names_in ls
+  pub handed : AreHandedBy p.names found.locks holders p.locks
   pub number : p.number ≡ found.number
   pub behind : p.behind ≡ found.behind
 
@@ -113,7 +125,7 @@ IsListSaved folder (Some word) ls before after =
 -- The locks of the folder start here, by whether it has a file of locks and by which segments it
 -- has.
 pub record AreStartedIn (folder : List ℕ) (has : Bool) (range : Option SegmentNumbers)
-    (word : Option (List ℕ)) (holders : List Handover) (before after : Option Held) (p : Place) :
+    (word : Option (List ℕ)) (holders : List Hold) (before after : Option Held) (p : Place) :
     Type 0 where
   pub locks : List Listed
   pub named : AreLocksOf before folder has range word locks
@@ -121,7 +133,7 @@ pub record AreStartedIn (folder : List ℕ) (has : Bool) (range : Option Segment
   pub saved : IsListSaved folder word locks before after
 
 -- the same, by the names in the folder
-pub record AreStarted (folder : List ℕ) (word : Option (List ℕ)) (holders : List Handover)
+pub record AreStarted (folder : List ℕ) (word : Option (List ℕ)) (holders : List Hold)
     (before after : Option Held) (p : Place) : Type 0 where
   pub entries : List FolderEntry
   pub listed : Lists before folder (names_of entries)
@@ -189,19 +201,20 @@ abbrev pub IsPlaceFault : Option Held → List ℕ → Option SegmentNumbers →
 IsPlaceFault files folder None ls e = IsFirstFault ls e
 IsPlaceFault files folder (Some r) ls e = IsLastFault files folder r.last ls e
 
--- the hold of a line is not open
-abbrev pub IsUnhanded : List LockView → List Handover → StartFault → Type 0
-IsUnhanded locks holders (fault.Holder line) = IsNotHanded locks holders line
-IsUnhanded locks holders _ = ⊥
+-- the hold of a line is not open, or no lock has its name; or out of memory
+abbrev pub IsUnhanded : Names → List LockView → List Hold → StartFault → Type 0
+IsUnhanded names locks holders (fault.Holder line) = IsNotHanded names locks holders line
+IsUnhanded names locks holders fault.OutOfMemory = Unit {0}
+IsUnhanded names locks holders _ = ⊥
 
 -- the locks do not start, or a hold is not open
 abbrev pub IsHandingFault : Option Held → List ℕ → Option SegmentNumbers → List Listed
-    → List Handover → StartFault → Type 0
+    → List Hold → StartFault → Type 0
 IsHandingFault files folder range ls holders e =
     IsPlaceFault files folder range ls e
-    ⊎ ((found : Place)
+    ⊎ ((found : Found)
     × StandsAt files folder range ls found
-    × IsUnhanded found.locks holders e)
+    × IsUnhanded (names_in ls) found.locks holders e)
 
 -- no locks are named and the folder has none; or it has segments, but no file of locks
 abbrev pub IsListless : Option SegmentNumbers → Option (List ℕ) → StartFault → Type 0
@@ -220,7 +233,7 @@ IsFileRefusal files folder e =
 -- Why the locks of a folder do not start, by whether it has a file of locks. Every file is as it
 -- was.
 abbrev pub IsStartRefusal : Option Held → List ℕ → Bool → Option SegmentNumbers
-    → Option (List ℕ) → List Handover → StartFault → Type 0
+    → Option (List ℕ) → List Hold → StartFault → Type 0
 IsStartRefusal files folder has range word holders e =
     ((has ≡ false) × IsListless range word e)
     ⊎ (((has ≡ true) × IsFileRefusal files folder e)
@@ -238,7 +251,7 @@ IsStartRefusal files folder has range word holders e =
     ⊎ ((e ≡ fault.Unsaved) ⊎ (e ≡ fault.OutOfMemory))))))
 
 -- the same of the folder; or its names are refused
-abbrev pub AreUnstarted : Option Held → List ℕ → Option (List ℕ) → List Handover → StartFault
+abbrev pub AreUnstarted : Option Held → List ℕ → Option (List ℕ) → List Hold → StartFault
     → Type 0
 AreUnstarted files folder word holders e =
     (e ≡ fault.Folder folders.Unlisted)

@@ -3,7 +3,8 @@ use Rattle.std.specs.Prelude.{◌≡◌, ◌≢◌, ℕ, ◌<◌, ◌+◌, Bool,
 use Rattle.text_lines.specs.Reading.{is_digit}
 use Rattle.folder_of_locks.specs.declared.locks.ListError.{ListError}
 use Rattle.folder_of_locks.specs.declared.locks.ListError.TheVariants as refused
-use Rattle.folder_of_locks.specs.Lists.{Listed, is_name_byte, IsLockText, AreTexts}
+use Rattle.lock_protocol.specs.Names.{is_name_byte}
+use Rattle.folder_of_locks.specs.Lists.{Listed, IsLockText, AreTexts}
 
 -- a byte that neither a name nor a number has
 pub record IsMark (b : ℕ) : Type 0 where

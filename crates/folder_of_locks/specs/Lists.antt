@@ -1,13 +1,13 @@
 -- Lists of locks, as texts (this project's own).
-use Rattle.std.specs.Prelude.{◌≡◌, ◌≢◌, ℕ, ◌<◌, ◌≤◌, ◌^◌, ◌==◌, ◌||◌, Bool, true, false, List, [], ◌∷◌, ◌++◌, length, slice_index, slice_get, Some, decimal, codes, ◌⊎◌, map, take, All}
+use Rattle.std.specs.Prelude.{◌≡◌, ℕ, ◌<◌, ◌≤◌, ◌^◌, true, List, [], ◌∷◌, ◌++◌, length, slice_get, Some, decimal, codes, ◌⊎◌, map, take, All}
 use Rattle.std.specs.List.{flat_map, list_any, IsDistinct}
 use Rattle.std.specs.Str.{bytes_eq}
-use Rattle.std.specs.Char.{is_ascii_alphanumeric}
 use Rattle.ring_state.specs.Sizes.{Size, IsSize}
 use Rattle.ring_state.specs.declared.sizes.ParamsError.{ParamsError}
 use Rattle.ring_state.specs.declared.sizes.ParamsError.TheVariants as params
 use Rattle.ring_model.specs.Limits.{machine_limit, value_limit}
 use Rattle.held_locks.specs.Kept.{lock_limit}
+use Rattle.lock_protocol.specs.Names.{IsName, Names}
 use Rattle.folder_of_locks.specs.declared.locks.ListedLock.{ListedLock}
 use Rattle.folder_of_locks.specs.declared.locks.ListError.{ListError}
 use Rattle.folder_of_locks.specs.declared.locks.ListError.TheVariants as refused
@@ -23,17 +23,6 @@ abbrev pub listed : ListedLock → Listed
 listed l = record { name = l.name.now; n = l.n; k = l.k }
 
 -- ---- texts
-
--- a letter or a digit of ASCII, or one of `.`, `_`, `-` and `/`
-abbrev pub is_name_byte : ℕ → Bool
-is_name_byte b =
-    is_ascii_alphanumeric b || ((b == 46) || ((b == 95) || ((b == 45) || (b == 47))))
-
--- a name has 1 to 64 of them
-pub record IsName (name : List ℕ) : Type 0 where
-  pub some : 0 < length name
-  pub most : length name ≤ 64
-  pub each : (i : ℕ) → i < length name → is_name_byte (slice_index name i) ≡ true
 
 -- What comes after a name, where the parts have this mark between them: nothing, for 8 machines
 -- of 8 values; a number, for as many machines and values; or both numbers.
@@ -67,7 +56,7 @@ AreTexts end mark bytes (l ∷ ls) =
 abbrev pub size_of : Listed → Size
 size_of l = record { n = l.n; k = l.k }
 
-abbrev pub names_of : List Listed → List (List ℕ)
+abbrev pub names_of : List Listed → Names
 names_of ls = map (λ (l : Listed). l.name) ls
 
 -- There is one at least, and not too many; each has a size that is allowed; no two have one name.

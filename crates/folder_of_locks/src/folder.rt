@@ -5,14 +5,15 @@ ghost use Rattle.std.specs.Option.{option_map};
 ghost use Rattle.disks.specs.Held.{Replaces};
 ghost use Rattle.segment_files.specs.Spelling.{DigestFits};
 ghost use Rattle.folder_of_locks.specs.Lists.{listed, file_text};
+ghost use Rattle.folder_of_locks.specs.Holders.{hold_of};
 ghost use Rattle.folder_of_locks.specs.Folders.{AreStarted, AreUnstarted, AreStartedIn, IsStartRefusal, IsHandingFault, IsOfFile, StandsHanded, locks_file, place_of};
 
 use crate::faults::StartFault;
+use crate::holder_reading::NamedHold;
 use crate::lists::{check_continues, list_bytes, list_in, list_named, save_list};
 use crate::locks::ListedLock;
 use crate::places::{Start, place_handed};
 use disks::Disk;
-use held_locks::Handover;
 use line_service::{FolderError, SegmentNumbers, has_list, numbers_among};
 use std::alloc::Global;
 
@@ -23,16 +24,16 @@ fn start_named<D: Disk>(
     folder: &str,
     range: Option<SegmentNumbers>,
     list: &[ListedLock<'_>],
-    holders: &[Handover],
+    holders: &[NamedHold],
 ) -> Result<Start, StartFault>
     ensures ok { IfOk result (λ start. StandsHanded (D.holds disk.old) folder.now range
-        (map listed list.now) holders.now (place_of start)
+        (map listed list.now) (map hold_of holders.now) (place_of start)
         × Replaces (D.holds disk.old) (D.holds disk.new) (locks_file folder.now) (Some (file_text (map listed list.now)))) }
     ensures fits { IfOk result (λ start. DigestFits start.behind) }
     ensures some { IfOk result (λ start. 0 < start.number) }
     ensures kept { OnErr result (D.holds disk.new ≡ D.holds disk.old) }
     ensures err { IfErr result (λ e. IsHandingFault (D.holds disk.old) folder.now range
-        (map listed list.now) holders.now e
+        (map listed list.now) (map hold_of holders.now) e
         ⊎ ((e ≡ StartFault.Unsaved) ⊎ (e ≡ StartFault.OutOfMemory))) }
 {
     let start = match place_handed(alloc, disk, folder, range, list, holders) {
@@ -52,15 +53,16 @@ fn start_new<D: Disk>(
     folder: &str,
     range: Option<SegmentNumbers>,
     word: Option<&str>,
-    holders: &[Handover],
+    holders: &[NamedHold],
 ) -> Result<Start, StartFault>
     ensures ok { IfOk result (λ start. AreStartedIn folder.now false range
-        (option_map (λ w. w.now) word.entry) holders.now (D.holds disk.old) (D.holds disk.new) (place_of start)) }
+        (option_map (λ w. w.now) word.entry) (map hold_of holders.now) (D.holds disk.old)
+        (D.holds disk.new) (place_of start)) }
     ensures fits { IfOk result (λ start. DigestFits start.behind) }
     ensures some { IfOk result (λ start. 0 < start.number) }
     ensures kept { OnErr result (D.holds disk.new ≡ D.holds disk.old) }
     ensures err { IfErr result (λ e. IsStartRefusal (D.holds disk.old) folder.now false range
-        (option_map (λ w. w.now) word.entry) holders.now e) }
+        (option_map (λ w. w.now) word.entry) (map hold_of holders.now) e) }
 {
     if range.is_some() {
         return Err(StartFault::NoLocksFile);
@@ -86,16 +88,17 @@ fn start_again<D: Disk>(
     range: Option<SegmentNumbers>,
     word: Option<&str>,
     old: &[ListedLock<'_>],
-    holders: &[Handover],
+    holders: &[NamedHold],
 ) -> Result<Start, StartFault>
     requires { IsOfFile (D.holds disk.old) folder.now (map listed old.now) }
     ensures ok { IfOk result (λ start. AreStartedIn folder.now true range
-        (option_map (λ w. w.now) word.entry) holders.now (D.holds disk.old) (D.holds disk.new) (place_of start)) }
+        (option_map (λ w. w.now) word.entry) (map hold_of holders.now) (D.holds disk.old)
+        (D.holds disk.new) (place_of start)) }
     ensures fits { IfOk result (λ start. DigestFits start.behind) }
     ensures some { IfOk result (λ start. 0 < start.number) }
     ensures kept { OnErr result (D.holds disk.new ≡ D.holds disk.old) }
     ensures err { IfErr result (λ e. IsStartRefusal (D.holds disk.old) folder.now true range
-        (option_map (λ w. w.now) word.entry) holders.now e) }
+        (option_map (λ w. w.now) word.entry) (map hold_of holders.now) e) }
 {
     let Some(word) = word else {
         return place_handed(alloc, disk, folder, range, old, holders);
@@ -121,15 +124,16 @@ fn start_old<D: Disk>(
     folder: &str,
     range: Option<SegmentNumbers>,
     word: Option<&str>,
-    holders: &[Handover],
+    holders: &[NamedHold],
 ) -> Result<Start, StartFault>
     ensures ok { IfOk result (λ start. AreStartedIn folder.now true range
-        (option_map (λ w. w.now) word.entry) holders.now (D.holds disk.old) (D.holds disk.new) (place_of start)) }
+        (option_map (λ w. w.now) word.entry) (map hold_of holders.now) (D.holds disk.old)
+        (D.holds disk.new) (place_of start)) }
     ensures fits { IfOk result (λ start. DigestFits start.behind) }
     ensures some { IfOk result (λ start. 0 < start.number) }
     ensures kept { OnErr result (D.holds disk.new ≡ D.holds disk.old) }
     ensures err { IfErr result (λ e. IsStartRefusal (D.holds disk.old) folder.now true range
-        (option_map (λ w. w.now) word.entry) holders.now e) }
+        (option_map (λ w. w.now) word.entry) (map hold_of holders.now) e) }
 {
     let bytes = match list_bytes(alloc, disk, folder) {
         Ok(bytes) => bytes,
@@ -153,15 +157,16 @@ fn start_in<D: Disk>(
     has: bool,
     range: Option<SegmentNumbers>,
     word: Option<&str>,
-    holders: &[Handover],
+    holders: &[NamedHold],
 ) -> Result<Start, StartFault>
     ensures ok { IfOk result (λ start. AreStartedIn folder.now has range
-        (option_map (λ w. w.now) word.entry) holders.now (D.holds disk.old) (D.holds disk.new) (place_of start)) }
+        (option_map (λ w. w.now) word.entry) (map hold_of holders.now) (D.holds disk.old)
+        (D.holds disk.new) (place_of start)) }
     ensures fits { IfOk result (λ start. DigestFits start.behind) }
     ensures some { IfOk result (λ start. 0 < start.number) }
     ensures kept { OnErr result (D.holds disk.new ≡ D.holds disk.old) }
     ensures err { IfErr result (λ e. IsStartRefusal (D.holds disk.old) folder.now has range
-        (option_map (λ w. w.now) word.entry) holders.now e) }
+        (option_map (λ w. w.now) word.entry) (map hold_of holders.now) e) }
 {
     if has {
         start_old(alloc, disk, folder, range, word, holders)
@@ -184,15 +189,16 @@ pub fn start_locks<D: Disk>(
     disk: &mut D,
     folder: &str,
     word: Option<&str>,
-    holders: &[Handover],
+    holders: &[NamedHold],
 ) -> Result<Start, StartFault>
-    ensures ok { IfOk result (λ start. AreStarted folder.now (option_map (λ w. w.now) word.entry) holders.now
-        (D.holds disk.old) (D.holds disk.new) (place_of start)) }
+    ensures ok { IfOk result (λ start. AreStarted folder.now
+        (option_map (λ w. w.now) word.entry) (map hold_of holders.now) (D.holds disk.old)
+        (D.holds disk.new) (place_of start)) }
     ensures fits { IfOk result (λ start. DigestFits start.behind) }
     ensures some { IfOk result (λ start. 0 < start.number) }
     ensures kept { OnErr result (D.holds disk.new ≡ D.holds disk.old) }
     ensures err { IfErr result (λ e. AreUnstarted (D.holds disk.old) folder.now
-        (option_map (λ w. w.now) word.entry) holders.now e) }
+        (option_map (λ w. w.now) word.entry) (map hold_of holders.now) e) }
 {
     let Ok(entries) = disk.list(folder) else {
         return Err(StartFault::Folder(FolderError::Unlisted));

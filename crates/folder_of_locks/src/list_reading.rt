@@ -6,9 +6,9 @@ ghost use Rattle.folder_of_locks.specs.Lists.{Listed, listed, IsLockText, AreTex
 ghost use Rattle.folder_of_locks.specs.ListSteps.{IsMark, AreMarks, IsPieceFault, IsReadFault, HasReadAll};
 
 use crate::checks::check_locks;
-use crate::lock_names::is_name;
 use crate::locks::{ListError, ListedLock};
 use crate::sizes::{cut, read_size};
+use lock_protocol::is_name;
 use std::alloc::Global;
 
 /// The lock whose text this is, by the mark between its parts.
@@ -21,7 +21,7 @@ fn read_lock(text: &str, mark: char) -> Option<ListedLock<'_>>
     let Some((n, k)) = read_size(after, mark) else {
         return None;
     };
-    if !is_name(name) {
+    if !is_name(name.as_bytes()) {
         return None;
     }
     Some(ListedLock { name, n, k })

@@ -7,17 +7,20 @@ ghost use Rattle.ring_model.specs.Bases.{IsBase};
 ghost use Rattle.segment_files.specs.Spelling.{DigestFits};
 ghost use Rattle.segment_files.specs.Torn.{IsRightEnd};
 ghost use Rattle.folder_of_locks.specs.Lists.{listed};
-ghost use Rattle.held_locks.specs.Handed.{AreHanded};
-ghost use Rattle.folder_of_locks.specs.Folders.{IsUnread, IsNoEnd, IsSegmentFault, IsAtFirst, IsAtLast, IsAfter, StandsAt, StandsHanded, place_of, IsFirstFault, IsLastFault, IsPlaceFault, IsUnhanded, IsHandingFault};
+ghost use Rattle.folder_of_locks.specs.Holders.{hold_of, AreHandedBy};
+ghost use Rattle.folder_of_locks.specs.Folders.{IsUnread, IsNoEnd, IsSegmentFault, IsAtFirst, IsAtLast, IsAfter, StandsAt, StandsHanded, found_of, place_of, IsFirstFault, IsLastFault, IsPlaceFault, IsUnhanded, IsHandingFault};
 
 use crate::faults::StartFault;
 use crate::handing::hand_all;
+use crate::holder_reading::NamedHold;
 use crate::lists::file_bytes;
 use crate::locks::ListedLock;
+use crate::naming::names_of;
 use crate::rings::locks_of;
 use disks::Disk;
-use held_locks::{Handover, Locks};
+use held_locks::Locks;
 use line_service::{SegmentNumbers, segment_file};
+use lock_protocol::LockNames;
 use segment_files::{DIGEST_DIGITS, LastSegment, SegmentError, read_end};
 use std::alloc::Global;
 
@@ -25,10 +28,20 @@ use std::alloc::Global;
 #[derive(Drop)]
 pub struct Start {
     pub locks: Locks,
+    /// Their names.
+    pub names: LockNames,
     /// The number of the segment that they are in, from 1.
     pub number: u64,
     /// The digest of the file before it, in digits.
     pub behind: [u8; DIGEST_DIGITS],
+}
+
+/// The locks where a segment ends.
+#[derive(Drop)]
+pub(crate) struct FoundLocks {
+    locks: Locks,
+    number: u64,
+    behind: [u8; DIGEST_DIGITS],
 }
 
 /// All bytes of the file of a segment.
@@ -97,14 +110,14 @@ fn last_segment<D: Disk>(
 }
 
 /// The locks of a list in the first segment of all.
-fn first_place(alloc: Global, list: &[ListedLock<'_>]) -> Result<Start, StartFault>
-    ensures ok { IfOk result (λ start. IsAtFirst (map listed list.now) (place_of start)) }
-    ensures fits { IfOk result (λ start. DigestFits start.behind) }
-    ensures some { IfOk result (λ start. 0 < start.number) }
+fn first_place(alloc: Global, list: &[ListedLock<'_>]) -> Result<FoundLocks, StartFault>
+    ensures ok { IfOk result (λ found. IsAtFirst (map listed list.now) (found_of found)) }
+    ensures fits { IfOk result (λ found. DigestFits found.behind) }
+    ensures some { IfOk result (λ found. 0 < found.number) }
     ensures err { IfErr result (λ e. IsFirstFault (map listed list.now) e) }
 {
     match locks_of(alloc, list, &[], &[]) {
-        Ok(locks) => Ok(Start {
+        Ok(locks) => Ok(FoundLocks {
             locks,
             number: 1,
             behind: [b'0'; DIGEST_DIGITS],
@@ -120,11 +133,12 @@ fn last_place<D: Disk>(
     folder: &str,
     number: u64,
     list: &[ListedLock<'_>],
-) -> Result<Start, StartFault>
+) -> Result<FoundLocks, StartFault>
     ensures ok { IfOk result
-        (λ start. IsAfter (D.holds disk.now) folder.now number (map listed list.now) (place_of start)) }
-    ensures fits { IfOk result (λ start. DigestFits start.behind) }
-    ensures some { IfOk result (λ start. 0 < start.number) }
+        (λ found. IsAfter (D.holds disk.now) folder.now number (map listed list.now)
+        (found_of found)) }
+    ensures fits { IfOk result (λ found. DigestFits found.behind) }
+    ensures some { IfOk result (λ found. 0 < found.number) }
     ensures err { IfErr result
         (λ e. IsLastFault (D.holds disk.now) folder.now number (map listed list.now) e) }
 {
@@ -133,7 +147,7 @@ fn last_place<D: Disk>(
         Err(fault) => return Err(fault),
     };
     match locks_of(alloc, list, &last.saved.rings, &last.head.bases) {
-        Ok(locks) => Ok(Start {
+        Ok(locks) => Ok(FoundLocks {
             locks,
             number,
             behind: last.head.behind,
@@ -149,11 +163,12 @@ fn place<D: Disk>(
     folder: &str,
     range: Option<SegmentNumbers>,
     list: &[ListedLock<'_>],
-) -> Result<Start, StartFault>
+) -> Result<FoundLocks, StartFault>
     ensures ok { IfOk result
-        (λ start. StandsAt (D.holds disk.now) folder.now range (map listed list.now) (place_of start)) }
-    ensures fits { IfOk result (λ start. DigestFits start.behind) }
-    ensures some { IfOk result (λ start. 0 < start.number) }
+        (λ found. StandsAt (D.holds disk.now) folder.now range (map listed list.now)
+        (found_of found)) }
+    ensures fits { IfOk result (λ found. DigestFits found.behind) }
+    ensures some { IfOk result (λ found. 0 < found.number) }
     ensures err { IfErr result
         (λ e. IsPlaceFault (D.holds disk.now) folder.now range (map listed list.now) e) }
 {
@@ -164,20 +179,27 @@ fn place<D: Disk>(
 }
 
 /// Hands each of these open holds to its client.
-fn with_holders(found: Start, holders: &[Handover]) -> Result<Start, StartFault>
-    ensures ok { IfOk result (λ start. AreHanded found.locks holders.now start.locks) }
-    ensures same { IfOk result
-        (λ start. (start.number ≡ found.number) × (start.behind ≡ found.behind)) }
-    ensures err { IfErr result (λ e. IsUnhanded found.locks holders.now e) }
+fn with_holders(
+    found: FoundLocks,
+    names: LockNames,
+    holders: &[NamedHold],
+) -> Result<Start, StartFault>
+    ensures ok { IfOk result
+        (λ start. AreHandedBy names found.locks (map hold_of holders.now) start.locks) }
+    ensures same { IfOk result (λ start. (start.names ≡ names)
+        × (start.number ≡ found.number)
+        × (start.behind ≡ found.behind)) }
+    ensures err { IfErr result (λ e. IsUnhanded names found.locks (map hold_of holders.now) e) }
 {
-    let Start {
+    let FoundLocks {
         mut locks,
         number,
         behind,
     } = found;
-    match hand_all(&mut locks, holders) {
+    match hand_all(&mut locks, &names, holders) {
         Ok(()) => Ok(Start {
             locks,
+            names,
             number,
             behind,
         }),
@@ -185,27 +207,31 @@ fn with_holders(found: Start, holders: &[Handover]) -> Result<Start, StartFault>
     }
 }
 
-/// The same, with each of these open holds as its client's.
+/// The same with the names of the list, and with each of these open holds as its client's.
 pub(crate) fn place_handed<D: Disk>(
     alloc: Global,
     disk: &D,
     folder: &str,
     range: Option<SegmentNumbers>,
     list: &[ListedLock<'_>],
-    holders: &[Handover],
+    holders: &[NamedHold],
 ) -> Result<Start, StartFault>
     ensures ok { IfOk result (λ start. StandsHanded (D.holds disk.now) folder.now range
-        (map listed list.now) holders.now (place_of start)) }
+        (map listed list.now) (map hold_of holders.now) (place_of start)) }
     ensures fits { IfOk result (λ start. DigestFits start.behind) }
     ensures some { IfOk result (λ start. 0 < start.number) }
     ensures err { IfErr result (λ e. IsHandingFault (D.holds disk.now) folder.now range
-        (map listed list.now) holders.now e) }
+        (map listed list.now) (map hold_of holders.now) e) }
 {
     let found = match place(alloc, disk, folder, range, list) {
         Ok(found) => found,
         Err(fault) => return Err(fault),
     };
-    match with_holders(found, holders) {
+    let names = match names_of(alloc, list) {
+        Ok(names) => names,
+        Err(fault) => return Err(fault),
+    };
+    match with_holders(found, names, holders) {
         Ok(start) => Ok(start),
         Err(fault) => Err(fault),
     }

@@ -1,34 +1,25 @@
 -- The calls of a ring, over all its segments.
-use Rattle.std.proofs.Common.{◌≡◌, ℕ, zero, suc, ◌-◌, ◌<◌, Bool, true, false, List, [], ◌∷◌, ◌++◌, map, length, refl, sym, ◌∙◌, ap, subst, inl, inr, arith, Option, Some, None, ◌⊎◌}
-use Rattle.std.specs.Prelude.{◌==◌}
-use Rattle.std.proofs.lemmas.Bool.{lt-leb, ne_eqb, eqb-true}
+use Rattle.std.proofs.Common.{◌≡◌, ℕ, zero, suc, ◌-◌, ◌<◌, true, false, List, [], ◌∷◌, ◌++◌, map, length, refl, sym, ◌∙◌, ap, subst, arith}
 use Rattle.std.proofs.lemmas.List.{length-set, append-nil, append_assoc}
-use Rattle.ring_model.specs.Limits.{event_limit}
-use Rattle.ring_model.specs.Ring.{IsRing, first_privileged, is_settled}
+use Rattle.ring_model.specs.Ring.{IsRing, is_privileged, first_privileged, is_settled}
 use Rattle.held_locks.specs.Grants.{most_passes}
 use Rattle.ring_model.specs.History.{State, next, reply, after}
 use Rattle.ring_model.specs.Resources.{till}
 use Rattle.ring_model.specs.declared.events.Op.{Op}
-use Rattle.ring_model.specs.declared.events.Op.TheVariants as op
 use Rattle.ring_model.specs.declared.events.Reply.{Reply}
 use Rattle.ring_model.specs.declared.events.Event.{Event}
 use Rattle.ring_model.specs.declared.events.Receipt.{Receipt}
 use Rattle.ring_model.proofs.Histories.{StepOf-next, StepOf-reply}
 use Rattle.ring_model.proofs.Settled.{first_is}
-use Rattle.one_thread_ring.specs.Refusals.{Bounds, when, first_of, pass_refusal, corrupt_refusal}
-use Rattle.one_thread_ring.specs.declared.errors.CallError.{CallError}
-use Rattle.one_thread_ring.specs.declared.errors.CallError.TheVariants as call
 use Rattle.ring_model.specs.declared.bases.Base.{Base}
 use Rattle.ring_model.specs.Bases.{shifted_reply}
 use Rattle.ring_model.proofs.Shifts.{shifted_state, next_shifted, reply_shifted}
 use Rattle.endless_ring.specs.Endless.{EndlessView, IsEndless, IsCalled, IsSameEndless}
-use Rattle.held_locks.specs.declared.answers.Refusal.{Refusal}
-use Rattle.held_locks.specs.declared.answers.Refusal.TheVariants as refusal
 use Rattle.ring_book.specs.BookView.{BookView}
-use Rattle.held_locks.specs.Locks.{Mark, Call, Survey, called, first_pass, repairs, fault}
+use Rattle.held_locks.specs.Locks.{Mark, Call, Survey, called, first_pass, repairs}
 use Rattle.held_locks.specs.Promises.{events_of}
 use Rattle.held_locks.specs.Kept.{state_of, IsKeptRing, AreMade}
-use Rattle.held_locks.specs.Parts.{IsMade, IsLackOf}
+use Rattle.held_locks.specs.Parts.{IsMade}
 use Rattle.ring_model.proofs.FirstPasses.{passes_left_means}
 use Rattle.held_locks.proofs.Rings.{repairs_are, events_of_calls}
 
@@ -81,31 +72,11 @@ first_below e k =
     let two = r.two in
     (first_is (state_of e).ring.values (omega arith)).0
 
--- ---- refusals
-
-pub admitted : (b : Bounds) (seat machine : ℕ) → seat < b.seats → machine < length b.ring.values → b.events < event_limit → pass_refusal b seat machine ≡ None
-admitted b seat machine s m e = rw (lt-leb b.seats seat s, lt-leb (length b.ring.values) machine m, ne_eqb b.events event_limit (λ q. omega (arith, q, e))) refl
-
-last_refusal : (full : Bool) (e : CallError) → first_of (when full call.HistoryFull ∷ []) ≡ Some e → (full ≡ true) × (e ≡ call.HistoryFull)
-last_refusal true e q = (refl, cc)
-last_refusal false e q = absurd (differ e q)
-  where
-    differ : (e : CallError) → ◌≡◌ {A = Option CallError} None (Some e) → ⊥
-    differ e q = cc
-
-pub refused_full : (b : Bounds) (seat machine : ℕ) (e : CallError) → seat < b.seats → machine < length b.ring.values → pass_refusal b seat machine ≡ Some e → (b.events ≡ event_limit) × (e ≡ call.HistoryFull)
-refused_full b seat machine e s m q =
-    let last : first_of (when (b.events == event_limit) call.HistoryFull ∷ []) ≡ Some e = rw (lt-leb b.seats seat s, lt-leb (length b.ring.values) machine m) at q in
-    let p = last_refusal (b.events == event_limit) e last in
-    (eqb-true b.events event_limit p.0, p.1)
-
-pub lack_is : (v : EndlessView) (b : Bounds) (seat machine : ℕ) (e : CallError) (why : Refusal) → b.events ≡ length v.ring.book.history → seat < b.seats → machine < length b.ring.values →
-    (pass_refusal b seat machine ≡ Some e) ⊎ ((pass_refusal b seat machine ≡ None) × (e ≡ call.OutOfMemory)) →
-    (e ≡ call.HistoryFull → why ≡ refusal.Full) → (e ≡ call.OutOfMemory → why ≡ refusal.Memory) → IsLackOf v 1 why
-lack_is v b seat machine e why n s m d full memory = elim d [
-  | inl p ↦ let f = refused_full b seat machine e s m p in let many : b.events ≡ event_limit = f.0 in inl (full f.1, omega arith)
-  | inr p ↦ inr (memory p.1)
-]
+pub first_passes : (e : EndlessView) → IsKeptRing e → is_privileged e.ring.book.now.ring.values (first_privileged e.ring.book.now.ring.values) ≡ true
+first_passes e k =
+    let r : IsRing (state_of e).ring = kept_is_ring e k in
+    let two = r.two in
+    (first_is (state_of e).ring.values (omega arith)).1
 
 -- ---- what is made one after the other
 
@@ -172,28 +143,6 @@ repairing old now new more ms all l e m q p =
       made = made_append old now new ms (one ∷ []) m p;
       all = append_assoc ms (one ∷ []) (map Call (repairs (more - 1) (state_of new))) ∙ ap (λ (x : List Event). ms ++ map Call x) (sym go) ∙ q;
     }
-
--- ---- a fault
-
-pub faulted : (old now broken new : EndlessView) (machine value : ℕ) (r : Receipt) → IsSameEndless old now → IsCalled now broken 8 (op.Corrupt machine value) r →
-    AreMade broken (map Call (repairs (most_passes (length (state_of old).ring.values)) (state_of broken))) new → AreMade old (map Call (fault (state_of old) machine value)) new
-faulted old now broken new machine value r s c m =
-    let same : state_of now ≡ state_of old = same_state old now s in
-    let state : state_of broken ≡ next till (state_of old) (op.Corrupt machine value) = called_state now broken 8 (op.Corrupt machine value) r c ∙ ap (λ (a : State ℕ). next till a (op.Corrupt machine value)) same in
-    let event : r.event ≡ called (state_of old) 8 (op.Corrupt machine value) = called_event now broken 8 (op.Corrupt machine value) r c ∙ ap (λ (a : State ℕ). called a 8 (op.Corrupt machine value)) same in
-    (now, broken, r, s, c, event, subst (λ (a : State ℕ). AreMade broken (map Call (repairs (most_passes (length (state_of old).ring.values)) a)) new) state m)
-
-pub corrupt_lack : (v : EndlessView) (b : Bounds) (seat machine value need : ℕ) (e : CallError) (why : Refusal) → b.events ≡ length v.ring.book.history → seat < b.seats → machine < length b.ring.values → value < b.ring.k → 0 < need →
-    (corrupt_refusal b seat machine value ≡ Some e) ⊎ ((corrupt_refusal b seat machine value ≡ None) × (e ≡ call.OutOfMemory)) →
-    (e ≡ call.HistoryFull → why ≡ refusal.Full) → (e ≡ call.OutOfMemory → why ≡ refusal.Memory) → IsLackOf v need why
-corrupt_lack v b seat machine value need e why n s m k l d full memory = elim d [
-  | inl p ↦
-      let last : first_of (when (b.events == event_limit) call.HistoryFull ∷ []) ≡ Some e = rw (lt-leb b.seats seat s, lt-leb (length b.ring.values) machine m, lt-leb b.ring.k value k) at p in
-      let f = last_refusal (b.events == event_limit) e last in
-      let many : b.events ≡ event_limit = eqb-true b.events event_limit f.0 in
-      inl (full f.1, omega arith)
-  | inr p ↦ inr (memory p.1)
-]
 
 -- a ring that was repaired is settled
 pub repaired_settled : (old new : EndlessView) → IsKeptRing old → AreMade old (map Call (repairs (most_passes (length (state_of old).ring.values)) (state_of old))) new → is_settled (state_of new).ring.values ≡ true

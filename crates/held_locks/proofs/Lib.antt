@@ -21,3 +21,9 @@ pub mod NextSegments
 pub mod Foreseen
 pub mod HandedOver
 pub mod TheirHolds
+pub mod Asking
+pub mod Linking
+pub mod Chaining
+pub mod Gathering
+pub mod Listing
+pub mod Skipping

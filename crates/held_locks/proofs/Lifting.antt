@@ -278,7 +278,7 @@ lock_kept ps es i p k e = k.each i (view_of p) (view_there ps i p e)
 pub lock_settled : (ps : List LockParts) (es : List (ℕ × ℕ)) (i : ℕ) (p : LockParts) → AreKept (views_of ps) es → slice_get ps i ≡ Some p → is_settled (state_of p.ring).ring.values ≡ true
 lock_settled ps es i p k e = (k.right.each i (lock_of (view_of p)) (lock_there (views_of ps) i (view_of p) (view_there ps i p e))).settled
 
-held_out : (ls : List Lock) (i : ℕ) (l : Lock) (c : ℕ) (h : Option Holder) → AreRight ls → slice_get ls i ≡ Some l → l.holder ≡ h → is_held_by c h ≡ true → stands c l.queue ≡ false
+pub held_out : (ls : List Lock) (i : ℕ) (l : Lock) (c : ℕ) (h : Option Holder) → AreRight ls → slice_get ls i ≡ Some l → l.holder ≡ h → is_held_by c h ≡ true → stands c l.queue ≡ false
 held_out ls i l c None r e f g = absurd (false≢true g)
 held_out ls i l c (Some h) r e f g = subst (λ (x : ℕ). stands x l.queue ≡ false) (eqb-true h.client c g) (not_in_own_queue ls i l h r e f)
 

@@ -1,19 +1,16 @@
 -- A hold that was handed over is its client's.
-use Rattle.std.proofs.Common.{◌≡◌, ◌≢◌, ℕ, Bool, true, false, List, [], ◌∷◌, ◌++◌, refl, sym, ◌∙◌, ap, subst, inl, inr, Option, Some}
-use Rattle.std.specs.Prelude.{◌&&◌, ◌==◌, if◌then◌else◌, slice_get, slice_set, option_map, ◌⊎◌}
+use Rattle.std.proofs.Common.{◌≡◌, ◌≢◌, ℕ, Bool, true, false, List, [], ◌∷◌, refl, sym, ◌∙◌, ap, inl, inr, Option, Some}
+use Rattle.std.specs.Prelude.{◌&&◌, ◌==◌, if◌then◌else◌, slice_get, option_map, ◌⊎◌}
 use Rattle.std.proofs.lemmas.Bool.{eq-eqb, ne_eqb, and_from, true≢false}
 use Rattle.std.proofs.lemmas.Option.{slice_get-map}
-use Rattle.ring_model.specs.History.{State}
-use Rattle.held_locks.specs.declared.answers.Answer.{Answer}
 use Rattle.held_locks.specs.declared.answers.Answer.TheVariants as answer
 use Rattle.held_locks.specs.declared.answers.Holder.{Holder}
 use Rattle.held_locks.specs.declared.answers.Refusal.TheVariants as refusal
 use Rattle.held_locks.specs.declared.answers.Waiter.{Waiter}
-use Rattle.held_locks.specs.declared.handing.Handover.{Handover}
 use Rattle.held_locks.specs.Queues.{Lock, is_held_with}
-use Rattle.held_locks.specs.Locks.{Release, Asked, Turn, told, ended, turn, step, step_at}
+use Rattle.held_locks.specs.Locks.{Release, told, ended, step_at}
 use Rattle.held_locks.specs.Kept.{LockView, lock_of, locks_of}
-use Rattle.held_locks.specs.Handed.{handed, IsHanded, IsTheirs, HandedHoldsAreTheirs}
+use Rattle.held_locks.specs.Handed.{handed, IsTheirs, HandedHoldsAreTheirs}
 use Rattle.held_locks.proofs.Standing.{get_set_same}
 use Rattle.held_locks.proofs.Excluded.{exclusion, others_release_nothing}
 

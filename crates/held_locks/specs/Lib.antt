@@ -10,3 +10,5 @@ pub mod Opened
 pub mod Cuts
 pub mod Parts
 pub mod Handed
+pub mod Asked
+pub mod Holding

@@ -14,6 +14,23 @@ use crate::parts::{LockParts, drop_waiter, end_hold, fault, grant, refused, told
 use crate::waits::Waits;
 use ring_model::lock_seats::{LEAVE_SEAT, RELEASE_SEAT};
 
+/// What a client asks of one lock.
+#[derive(Clone, Copy)]
+pub enum OneAsk {
+    /// To hold it, with a label that the client chooses, or else to wait for it.
+    Acquire { label: u64 },
+    /// To hold it, and not to wait for it.
+    Try { label: u64 },
+    /// To hold it no more, of which this is the token.
+    Release { token: u64 },
+    /// To wait for it no more.
+    Cancel,
+    /// A fault: a value is written into a machine of its ring.
+    Corrupt { machine: u32, value: u32 },
+    /// What there is to say of it.
+    Stats,
+}
+
 /// Whether the client is this holder.
 #[inline(always)]
 pub(crate) fn is_held_by(client: u64, holder: Option<Holder>) -> bool

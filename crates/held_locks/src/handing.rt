@@ -3,9 +3,11 @@
 ghost use Rattle.std.specs.Prelude.{◌≡◌, true, false};
 ghost use Rattle.held_locks.specs.Parts.{view_of, views_of};
 ghost use Rattle.held_locks.specs.Handed.{IsOpen, IsHanded, CannotBeHanded};
+ghost use Rattle.held_locks.specs.Holding.{AreHolders};
 
 use crate::answers::Holder;
 use crate::asks::is_held_with;
+use crate::holds::{Holds, follow};
 use crate::parts::LockParts;
 
 /// A hold of client 0, by its lock and its token, and the client to which it is handed.
@@ -25,7 +27,7 @@ fn is_open(lock: &LockParts, token: u64) -> bool
 }
 
 /// Hands a hold over, if client 0 has it and nobody waits for its lock.
-pub(crate) fn hand_among(locks: &mut Vec<LockParts>, handover: Handover) -> bool
+fn hand_among(locks: &mut Vec<LockParts>, handover: Handover) -> bool
     ensures yes { result ≡ true
         → IsHanded (views_of locks.old.items) (views_of locks.new.items) handover }
     ensures no { result ≡ false → CannotBeHanded (views_of locks.old.items) handover
@@ -40,4 +42,22 @@ pub(crate) fn hand_among(locks: &mut Vec<LockParts>, handover: Handover) -> bool
         token: handover.token,
     });
     true
+}
+
+/// The same, and it is noted who holds the lock then.
+pub(crate) fn hand_and_follow(
+    locks: &mut Vec<LockParts>,
+    holds: &mut Holds,
+    handover: Handover,
+) -> bool
+    requires { AreHolders (views_of locks.old.items) holds.old }
+    ensures yes { result ≡ true
+        → IsHanded (views_of locks.old.items) (views_of locks.new.items) handover }
+    ensures no { result ≡ false → CannotBeHanded (views_of locks.old.items) handover
+        × (locks.new.items ≡ locks.old.items) }
+    ensures holders { AreHolders (views_of locks.new.items) holds.new }
+{
+    let handed = hand_among(locks, handover);
+    follow(locks, holds, handover.lock);
+    handed
 }

@@ -4,8 +4,11 @@
 
 mod answers;
 mod asks;
+mod chains;
 mod cuts;
+mod growing;
 mod handing;
+mod holds;
 pub mod laws;
 mod leaving;
 mod locks;
@@ -15,6 +18,7 @@ mod parts;
 mod queue;
 mod waits;
 
-pub use answers::{Answer, Answers, HoldEnd, Holder, Left, Refusal, Stats, Waiter};
+pub use answers::{Answer, Answers, HoldEnd, Holder, Left, OneAnswer, Refusal, Stats, Waiter};
+pub use asks::OneAsk;
 pub use handing::Handover;
 pub use locks::{LOCK_LIMIT, Locks};

@@ -1,20 +1,24 @@
 //! Locks that are called by their numbers.
 
-ghost use Rattle.std.specs.Prelude.{◌≡◌, ℕ, ◌+◌, ◌<◌, ◌≤◌, ◌⊎◌, ◌++◌, ◌∷◌, [], List, true, false, length, slice_get, None, Some, IfOk, IfErr, OnOk, OnErr, vec_len, vec_capacity};
+ghost use Rattle.std.specs.Prelude.{◌≡◌, ℕ, ◌+◌, ◌<◌, ◌≤◌, ◌++◌, [], List, true, false, length, slice_get, None, Some, IfOk, IfErr, OnOk, OnErr, vec_len, vec_capacity};
 ghost use Rattle.held_locks.specs.Queues.{stands, waits_for, client_of, holder_of, comes_to};
 ghost use Rattle.held_locks.specs.Locks.{Acquire, Try, Release, Cancel, Corrupt, Stats, acquire_refusal, try_refusal};
 ghost use Rattle.held_locks.specs.Cuts.{AreNext, HaveNoNext};
 ghost use Rattle.held_locks.specs.Handed.{IsHanded, CannotBeHanded};
-ghost use Rattle.held_locks.specs.Kept.{LockView, lock_of, locks_of, lock_limit, IsKeptRing, IsKeptLock, AreKept, IsDone, IsAnswer, IsLeft};
-ghost use Rattle.held_locks.specs.Opened.{holder_after, IsAdded, IsNotAdded};
+ghost use Rattle.held_locks.specs.Asked.{asked, IsAnswerTo, events_at};
+ghost use Rattle.held_locks.specs.Kept.{LockView, lock_of, locks_of, IsKeptRing, IsKeptLock, AreKept, IsDone, IsAnswer, IsLeft};
+ghost use Rattle.held_locks.specs.Opened.{IsAdded, IsNotAdded};
 ghost use Rattle.held_locks.specs.Waiting.{lock_in};
 ghost use Rattle.held_locks.specs.Parts.{view_of, views_of};
 ghost use Rattle.held_locks.specs.declared.answers.Left.{Left};
 ghost use Rattle.held_locks.specs.declared.parts.LockParts.{LockParts};
 
-use crate::answers::{Answers, Holder, Left, Refusal, Waiter};
+use crate::answers::{Answer, Answers, Holder, Left, OneAnswer, Refusal, Waiter};
+use crate::asks::OneAsk;
 use crate::cuts::next_locks;
-use crate::handing::{Handover, hand_among};
+use crate::growing::{add_to, zeroth};
+use crate::handing::{Handover, hand_and_follow};
+use crate::holds::{Holds, client_of, follow};
 use crate::leaving::leave_all;
 use crate::opened::open_hold;
 use crate::parts::{LockParts, refused};
@@ -22,7 +26,6 @@ use crate::waits::Waits;
 use crate::{asks, marks};
 use endless_ring::EndlessRing;
 use std::alloc::Global;
-use std::collections::VecDeque;
 use std::marker::Model;
 
 /// How many locks there may be.
@@ -33,29 +36,23 @@ pub const LOCK_LIMIT: usize = 1_000_000;
 pub struct Locks {
     locks: Vec<LockParts>,
     waits: Waits,
+    holds: Holds,
+    /// The locks that a client leaves, while it leaves them. There is room for all of them.
+    order: Vec<usize>,
 }
 
 impl Model for Locks {
-    ghost use Rattle.std.specs.Prelude.{List};
-    ghost use Rattle.held_locks.specs.Kept.{LockView, AreKept};
+    ghost use Rattle.std.specs.Prelude.{List, vec_capacity};
+    ghost use Rattle.held_locks.specs.Kept.{LockView};
+    ghost use Rattle.held_locks.specs.Holding.{AreWhole};
     ghost use Rattle.held_locks.specs.Parts.{views_of};
 
     ghost Value = { List LockView };
 
     ghost view = { λ s. views_of s.locks.items };
 
-    ghost invariant = { λ s. AreKept (views_of s.locks.items) s.waits };
-}
-
-/// The client that holds.
-#[inline(always)]
-fn client_of(holder: Option<Holder>) -> Option<u64>
-    ensures { result ≡ client_of holder }
-{
-    match holder {
-        Some(holder) => Some(holder.client),
-        None => None,
-    }
+    ghost invariant = { λ s.
+        AreWhole (views_of s.locks.items) s.waits s.holds (vec_capacity s.order) };
 }
 
 /// The holder of what a client waits for.
@@ -140,91 +137,64 @@ fn try_refusal(locks: &[LockParts], waits: &Waits, client: u64, lock: u32) -> Op
     None
 }
 
+/// How many events the segment of a lock's ring has.
 #[inline(always)]
-fn acquire_among(
-    locks: &mut Vec<LockParts>,
-    waits: &mut Waits,
-    client: u64,
-    lock: u32,
-    label: u64,
-) -> Answers
-    requires { AreKept (views_of locks.old.items) waits.old }
-    ensures { IsAnswer (views_of locks.old.items) (views_of locks.new.items) client lock
-        (Acquire label) result × AreKept (views_of locks.new.items) waits.new }
+fn events_of(lock: &LockParts) -> usize
+    ensures { result ≡ length lock.now.ring.ring.book.history }
 {
-    if lock as usize >= locks.len() {
-        return refused(Refusal::Lock);
-    }
-    let why = acquire_refusal(locks, waits, client, lock as usize);
-    let waiter = Waiter { client, label };
-    asks::acquire(&mut locks[lock as usize], waits, lock, waiter, why)
+    lock.ring.segment().history().len()
 }
 
-fn try_among(
-    locks: &mut Vec<LockParts>,
-    waits: &mut Waits,
-    client: u64,
-    lock: u32,
-    label: u64,
-) -> Answers
-    requires { AreKept (views_of locks.old.items) waits.old }
-    ensures { IsAnswer (views_of locks.old.items) (views_of locks.new.items) client lock
-        (Try label) result × AreKept (views_of locks.new.items) waits.new }
+/// What comes of an ask of a lock that there is not.
+fn no_lock() -> OneAnswer
+    ensures answers { result.answers
+        ≡ record { own = Some (Answer.Refused Refusal.Lock); ended = None; granted = None } }
+    ensures none { (result.before ≡ 0) × (result.after ≡ 0) }
 {
-    if lock as usize >= locks.len() {
-        return refused(Refusal::Lock);
+    OneAnswer {
+        answers: refused(Refusal::Lock),
+        before: 0,
+        after: 0,
     }
-    let why = try_refusal(locks, waits, client, lock);
-    let waiter = Waiter { client, label };
-    asks::try_acquire(&mut locks[lock as usize], waiter, why)
 }
 
+/// Answers what a client asks of one lock that there is.
 #[inline(always)]
-fn release_among(
+fn ask_among(
     locks: &mut Vec<LockParts>,
     waits: &mut Waits,
     client: u64,
     lock: u32,
-    token: u64,
+    ask: OneAsk,
 ) -> Answers
-    requires { AreKept (views_of locks.old.items) waits.old }
-    ensures { IsDone (views_of locks.old.items) (views_of locks.new.items) client lock
-        (Release token) result × AreKept (views_of locks.new.items) waits.new }
+    requires kept { AreKept (views_of locks.old.items) waits.old }
+    requires there { lock < length locks.old.items }
+    ensures { IsAnswerTo (views_of locks.old.items) (views_of locks.new.items) client lock
+        (asked ask) result × AreKept (views_of locks.new.items) waits.new }
 {
-    if lock as usize >= locks.len() {
-        return refused(Refusal::Lock);
+    match ask {
+        OneAsk::Acquire { label } => {
+            let why = acquire_refusal(locks, waits, client, lock as usize);
+            let waiter = Waiter { client, label };
+            asks::acquire(&mut locks[lock as usize], waits, lock, waiter, why)
+        }
+        OneAsk::Try { label } => {
+            let why = try_refusal(locks, waits, client, lock);
+            let waiter = Waiter { client, label };
+            asks::try_acquire(&mut locks[lock as usize], waiter, why)
+        }
+        OneAsk::Release { token } => {
+            asks::release(&mut locks[lock as usize], waits, lock, client, token)
+        }
+        OneAsk::Cancel => {
+            let waiting = stands_at(locks, waits, client, lock);
+            asks::cancel(&mut locks[lock as usize], waits, lock, client, waiting)
+        }
+        OneAsk::Corrupt { machine, value } => {
+            asks::corrupt(&mut locks[lock as usize], client, machine, value)
+        }
+        OneAsk::Stats => asks::stats(&locks[lock as usize]),
     }
-    asks::release(&mut locks[lock as usize], waits, lock, client, token)
-}
-
-fn cancel_among(locks: &mut Vec<LockParts>, waits: &mut Waits, client: u64, lock: u32) -> Answers
-    requires { AreKept (views_of locks.old.items) waits.old }
-    ensures { IsDone (views_of locks.old.items) (views_of locks.new.items) client lock
-        Cancel result × AreKept (views_of locks.new.items) waits.new }
-{
-    if lock as usize >= locks.len() {
-        return refused(Refusal::Lock);
-    }
-    let waiting = stands_at(locks, waits, client, lock);
-    asks::cancel(&mut locks[lock as usize], waits, lock, client, waiting)
-}
-
-fn corrupt_among(
-    locks: &mut Vec<LockParts>,
-    waits: &mut Waits,
-    client: u64,
-    lock: u32,
-    machine: u32,
-    value: u32,
-) -> Answers
-    requires { AreKept (views_of locks.old.items) waits.old }
-    ensures { IsAnswer (views_of locks.old.items) (views_of locks.new.items) client lock
-        (Corrupt machine value) result × AreKept (views_of locks.new.items) waits.new }
-{
-    if lock as usize >= locks.len() {
-        return refused(Refusal::Lock);
-    }
-    asks::corrupt(&mut locks[lock as usize], client, machine, value)
 }
 
 /// What there is to say of a lock.
@@ -241,45 +211,6 @@ fn stats_of(locks: &[LockParts], lock: u32) -> Answers
     asks::stats(&locks[lock as usize])
 }
 
-/// A lock more, of a settled ring.
-fn add_to(
-    locks: &mut Vec<LockParts>,
-    alloc: Global,
-    ring: EndlessRing,
-    holder: Option<Holder>,
-) -> Result<(), Refusal>
-    ensures ok { OnOk result (views_of locks.new.items ≡ views_of locks.old.items
-        ++ record { ring = ring; queue = []; holder = holder } ∷ []) }
-    ensures few { OnOk result (length locks.old.items < lock_limit) }
-    ensures err { OnErr result (locks.new.items ≡ locks.old.items) }
-    ensures why { IfErr result (λ e.
-        ((e ≡ Refusal.Full) × (lock_limit ≤ length locks.old.items)) ⊎ (e ≡ Refusal.Memory)) }
-{
-    if locks.len() >= LOCK_LIMIT {
-        return Err(Refusal::Full);
-    }
-    let Ok(()) = locks.reserve(1) else {
-        return Err(Refusal::Memory);
-    };
-    let queue = VecDeque::new(alloc);
-    locks.push_reserved(LockParts {
-        ring,
-        queue,
-        holder,
-    });
-    Ok(())
-}
-
-/// The holder of a lock whose hold with this token was open at a restart.
-fn zeroth(held: Option<u64>) -> Option<Holder>
-    ensures { result ≡ holder_after held }
-{
-    match held {
-        Some(token) => Some(Holder { client: 0, token }),
-        None => None,
-    }
-}
-
 impl Locks {
     /// No locks.
     pub fn none(alloc: Global) -> Locks
@@ -288,6 +219,8 @@ impl Locks {
         Locks {
             locks: Vec::new(alloc),
             waits: Waits::new(alloc),
+            holds: Holds::new(alloc),
+            order: Vec::new(alloc),
         }
     }
 
@@ -310,7 +243,14 @@ impl Locks {
             Ok(()) => {}
             Err(why) => return Err(why),
         }
-        add_to(&mut self.locks, alloc, ring, zeroth(held))
+        add_to(
+            &mut self.locks,
+            &mut self.holds,
+            &mut self.order,
+            alloc,
+            ring,
+            zeroth(held),
+        )
     }
 
     /// Hands an open hold of client 0 to another client, with the same token. It is not an input: a start does it, before any. False if
@@ -319,7 +259,7 @@ impl Locks {
         ensures yes { result ≡ true → IsHanded self.old self.new handover }
         ensures no { result ≡ false → CannotBeHanded self.old handover × (self.new ≡ self.old) }
     {
-        hand_among(&mut self.locks, handover)
+        hand_and_follow(&mut self.locks, &mut self.holds, handover)
     }
 
     /// The locks are right, and each has room for those who wait, at each moment: this does nothing, and says so.
@@ -387,7 +327,40 @@ impl Locks {
         let Ok(waits) = self.waits.copy() else {
             return Err(Refusal::Memory);
         };
-        Ok(Locks { locks, waits })
+        let Ok(holds) = self.holds.copy(alloc) else {
+            return Err(Refusal::Memory);
+        };
+        let Ok(order) = Vec::with_capacity(alloc, self.locks.len() + 1) else {
+            return Err(Refusal::Memory);
+        };
+        Ok(Locks {
+            locks,
+            waits,
+            holds,
+            order,
+        })
+    }
+
+    /// Answers what a client asks of one lock, as the call of its name does. It says too how many events the segment of the lock's
+    /// ring had before, and has now.
+    #[inline(always)]
+    pub fn ask(&mut self, client: u64, lock: u32, ask: OneAsk) -> OneAnswer
+        ensures answer { IsAnswerTo self.old self.new client lock (asked ask) result.answers }
+        ensures before { result.before ≡ events_at (slice_get self.old lock) }
+        ensures after { result.after ≡ events_at (slice_get self.new lock) }
+    {
+        if lock as usize >= self.locks.len() {
+            return no_lock();
+        }
+        let before = events_of(&self.locks[lock as usize]);
+        let answers = ask_among(&mut self.locks, &mut self.waits, client, lock, ask);
+        follow(self.locks.as_slice(), &mut self.holds, lock);
+        let after = events_of(&self.locks[lock as usize]);
+        OneAnswer {
+            answers,
+            before,
+            after,
+        }
     }
 
     /// Acquires a lock for a client, with a label that the client chooses: it is granted at once if nobody holds the lock, or
@@ -398,7 +371,7 @@ impl Locks {
     pub fn acquire(&mut self, client: u64, lock: u32, label: u64) -> Answers
         ensures { IsAnswer self.old self.new client lock (Acquire label) result }
     {
-        acquire_among(&mut self.locks, &mut self.waits, client, lock, label)
+        self.ask(client, lock, OneAsk::Acquire { label }).answers
     }
 
     /// The same, but a client does not wait: if somebody holds the lock, the answer is `Busy`.
@@ -407,7 +380,7 @@ impl Locks {
     pub fn try_acquire(&mut self, client: u64, lock: u32, label: u64) -> Answers
         ensures { IsAnswer self.old self.new client lock (Try label) result }
     {
-        try_among(&mut self.locks, &mut self.waits, client, lock, label)
+        self.ask(client, lock, OneAsk::Try { label }).answers
     }
 
     /// Ends the hold of a client with this token, and grants the head of the queue.
@@ -417,7 +390,7 @@ impl Locks {
     pub fn release(&mut self, client: u64, lock: u32, token: u64) -> Answers
         ensures { IsDone self.old self.new client lock (Release token) result }
     {
-        release_among(&mut self.locks, &mut self.waits, client, lock, token)
+        self.ask(client, lock, OneAsk::Release { token }).answers
     }
 
     /// Takes a client that waits out of the queue.
@@ -426,7 +399,7 @@ impl Locks {
     pub fn cancel(&mut self, client: u64, lock: u32) -> Answers
         ensures { IsDone self.old self.new client lock Cancel result }
     {
-        cancel_among(&mut self.locks, &mut self.waits, client, lock)
+        self.ask(client, lock, OneAsk::Cancel).answers
     }
 
     /// A client leaves all locks, one after the other: it goes out of the queue, or its hold ends and the head of the queue is
@@ -439,7 +412,14 @@ impl Locks {
             × IsLeft self.old self.new client said }
         ensures capacity { vec_capacity left.new ≡ vec_capacity left.old }
     {
-        leave_all(&mut self.locks, &mut self.waits, client, left);
+        leave_all(
+            &mut self.locks,
+            &mut self.waits,
+            &mut self.holds,
+            &mut self.order,
+            client,
+            left,
+        );
     }
 
     /// A fault of a lock's ring: a value is written into a machine, and the ring is repaired at once. No hold ends.
@@ -448,14 +428,8 @@ impl Locks {
     pub fn corrupt(&mut self, client: u64, lock: u32, machine: u32, value: u32) -> Answers
         ensures { IsAnswer self.old self.new client lock (Corrupt machine value) result }
     {
-        corrupt_among(
-            &mut self.locks,
-            &mut self.waits,
-            client,
-            lock,
-            machine,
-            value,
-        )
+        self.ask(client, lock, OneAsk::Corrupt { machine, value })
+            .answers
     }
 
     /// How many machines the ring of a lock has, how many clients wait for it, how many passes of its ring were granted, and who

@@ -124,52 +124,32 @@ pub(crate) fn reserve(ring: &mut EndlessRing, waiting: usize, events: u32) -> Re
     }
 }
 
-/// A pass of the first privileged machine, which is known, by this seat. Answers its number, which counts all passes of the ring.
-///
-/// # Errors
-///
-/// `Full`, `Memory`; neither if there is room for an event. Nothing has changed then.
+/// A pass of the first privileged machine, which is known, by this seat; there is room for it. Answers its number, which counts all
+/// passes of the ring.
 #[inline(always)]
-pub(crate) fn pass_first(
-    ring: &mut EndlessRing,
-    seat: u32,
-    first: u32,
-    order: u64,
-) -> Result<u64, Refusal>
+pub(crate) fn pass_first(ring: &mut EndlessRing, seat: u32, first: u32, order: u64) -> u64
     requires kept { IsKeptRing ring.old }
     requires seat { seat < seat_count }
     requires first { first ≡ first_privileged (state_of ring.old).ring.values }
-    ensures number { IfOk result (λ number. number ≡ (state_of ring.old).grants + 1) }
-    ensures made { OnOk result
-        (IsMade ring.old ring.new seat (first_pass (state_of ring.old) order)) }
+    requires room { 1 ≤ ring.old.ring.book.room }
+    ensures number { result ≡ (state_of ring.old).grants + 1 }
+    ensures made { IsMade ring.old ring.new seat (first_pass (state_of ring.old) order) }
     ensures kept { IsKeptRing ring.new }
-    ensures err { OnErr result (ring.new ≡ ring.old) }
-    ensures why { IfErr result (λ e. IsLackOf ring.old 1 e) }
-    ensures succeeds { 1 ≤ ring.old.ring.book.room → IsOk result }
-    ensures room { OnOk result (ring.old.ring.book.room ≤ ring.new.ring.book.room + 1) }
+    ensures room { ring.old.ring.book.room ≤ ring.new.ring.book.room + 1 }
 {
-    match ring.pass(seat, first, order) {
-        Ok(receipt) => Ok(number_of(receipt.event.reply)),
-        Err(error) => Err(lack(error)),
-    }
+    let receipt = ring.grant(seat, first, order);
+    number_of(receipt.event.reply)
 }
 
 /// The same, of a ring whose first privileged machine is not known.
-///
-/// # Errors
-///
-/// `Full`, `Memory`; neither if there is room for an event. Nothing has changed then.
-pub(crate) fn pass(ring: &mut EndlessRing, seat: u32, order: u64) -> Result<u64, Refusal>
+fn pass(ring: &mut EndlessRing, seat: u32, order: u64) -> u64
     requires kept { IsKeptRing ring.old }
     requires seat { seat < seat_count }
-    ensures number { IfOk result (λ number. number ≡ (state_of ring.old).grants + 1) }
-    ensures made { OnOk result
-        (IsMade ring.old ring.new seat (first_pass (state_of ring.old) order)) }
+    requires room { 1 ≤ ring.old.ring.book.room }
+    ensures number { result ≡ (state_of ring.old).grants + 1 }
+    ensures made { IsMade ring.old ring.new seat (first_pass (state_of ring.old) order) }
     ensures kept { IsKeptRing ring.new }
-    ensures err { OnErr result (ring.new ≡ ring.old) }
-    ensures why { IfErr result (λ e. IsLackOf ring.old 1 e) }
-    ensures succeeds { 1 ≤ ring.old.ring.book.room → IsOk result }
-    ensures room { OnOk result (ring.old.ring.book.room ≤ ring.new.ring.book.room + 1) }
+    ensures room { ring.old.ring.book.room ≤ ring.new.ring.book.room + 1 }
 {
     let first = first(ring);
     pass_first(ring, seat, first, order)
@@ -266,10 +246,7 @@ fn repair(ring: &mut EndlessRing, most: u32)
         if is_settled(ring) {
             return;
         }
-        match pass(ring, REPAIR_SEAT, 0) {
-            Ok(_) => {}
-            Err(_) => unreachable!(),
-        }
+        pass(ring, REPAIR_SEAT, 0);
         more -= 1;
     }
 }

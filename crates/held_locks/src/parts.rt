@@ -60,16 +60,12 @@ pub(crate) fn grant(lock: &mut LockParts, waiter: Waiter) -> Answers
         Err(why) => return refused(why),
     }
     let first = marks::privileged(&lock.ring);
-    match marks::pass_first(&mut lock.ring, GRANT_SEAT, first, waiter.label) {
-        Ok(token) => {
-            lock.holder = Some(Holder {
-                client: waiter.client,
-                token,
-            });
-            told(Answer::Granted(token))
-        }
-        Err(_) => unreachable!(),
-    }
+    let token = marks::pass_first(&mut lock.ring, GRANT_SEAT, first, waiter.label);
+    lock.holder = Some(Holder {
+        client: waiter.client,
+        token,
+    });
+    told(Answer::Granted(token))
 }
 
 /// Puts a client that does not wait into the queue of a lock that is held, once there is room for its grant. The ring
@@ -153,22 +149,18 @@ fn pass_hold(
         result }
     ensures own { result.own ≡ own }
 {
-    match marks::pass_first(&mut lock.ring, GRANT_SEAT, over.survey.first, waiter.label) {
-        Ok(token) => {
-            let holder = Holder {
-                client: waiter.client,
-                token,
-            };
-            queue::take_head(&mut lock.queue);
-            waits.end(waiter.client);
-            lock.holder = Some(holder);
-            Answers {
-                own,
-                ended: Some(over),
-                granted: Some(holder),
-            }
-        }
-        Err(_) => unreachable!(),
+    let token = marks::pass_first(&mut lock.ring, GRANT_SEAT, over.survey.first, waiter.label);
+    let holder = Holder {
+        client: waiter.client,
+        token,
+    };
+    queue::take_head(&mut lock.queue);
+    waits.end(waiter.client);
+    lock.holder = Some(holder);
+    Answers {
+        own,
+        ended: Some(over),
+        granted: Some(holder),
     }
 }
 

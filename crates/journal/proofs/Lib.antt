@@ -1,3 +1,4 @@
+pub mod Lengths
 pub mod Fronts
 pub mod Groupings
 pub mod Placings

@@ -1,11 +1,11 @@
 -- The steps of a salvage.
-use Rattle.std.proofs.Common.{◌≡◌, ℕ, ◌<◌, ◌≤◌, List, length, take, Option, None, Some, Err, refl, sym, subst, arith}
+use Rattle.std.proofs.Common.{◌≡◌, ℕ, ◌<◌, ◌≤◌, List, length, take, Option, None, Some, Err, subst, arith}
 use Rattle.std.proofs.lemmas.List.{take_all}
 use Rattle.text_lines.specs.Texts.{line_of}
 use Rattle.journal.specs.declared.errors.RecoverError.{RecoverError}
 use Rattle.journal.specs.declared.errors.RecoverError.TheVariants.{Truncated, Syntax, Bad, OutOfMemory}
 use Rattle.journal.specs.Recovery.{IsRightRecovery}
-use Rattle.journal.specs.Salvaging.{named_line, IsLineStart, IsBadFrom, AreLeftOut, IsLost, IsRightSalvage, IsFirstRefusal, first_as, lost_as}
+use Rattle.journal.specs.Salvaging.{named_line, IsLineStart, AreLeftOut, IsRightSalvage, IsFirstRefusal, first_as, lost_as}
 
 pub kept_within : (bytes : List ℕ) (kept : ℕ) (bad : Option RecoverError) → AreLeftOut bytes kept bad → kept ≤ length bytes
 kept_within bytes kept None e = omega (arith, e)

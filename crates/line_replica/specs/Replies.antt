@@ -4,6 +4,7 @@ use Rattle.text_lines.specs.Spelling.{spaced, ended}
 use Rattle.disks.specs.Held.{Held}
 use Rattle.line_service.specs.declared.pending.Pending.{Pending}
 use Rattle.line_service.specs.Stands.{AnsweringWith}
+pub use Rattle.line_service.specs.Stands.{IsAdded}
 use Rattle.segment_files.specs.Remarks.{remark_of}
 use Rattle.line_replica.specs.declared.keys.Turn.{Turn}
 use Rattle.line_replica.specs.declared.keys.Turn.TheVariants as turn
@@ -12,7 +13,7 @@ use Rattle.line_replica.specs.declared.numbered.Numbered.{Numbered}
 use Rattle.line_replica.specs.declared.replica.Replica.{Replica}
 use Rattle.line_replica.specs.Keys.{Table, told_of, last_of, with_told, turn_after, first_of, line_to_asker, forgotten_if}
 use Rattle.line_replica.specs.Reading.{Heard, Tagged, Place, Digest, Plain, heard, did_at, is_forget, kept_text}
-use Rattle.line_replica.specs.Running.{with_said, next_of, at_place, place_line}
+use Rattle.line_replica.specs.Running.{RunningView, with_said, next_of, at_place, place_line}
 use Rattle.line_replica.specs.State.{kept_line, forget_line}
 
 -- this is answered, this is kept of keys, this is noted, and nothing else happens
@@ -94,6 +95,12 @@ pub record IsPlaced {S : Type 0} (place : ℕ) (digest text : List ℕ) (old : R
   pub running : new.running ≡ at_place place digest
   pub files : is ≡ was
 
+-- this digest is that of a place, and this is said and noted of it
+abbrev pub IsSetAt : ℕ → List ℕ → List ℕ → RunningView → Pending → Pending → Type 0
+IsSetAt place digest text running before after =
+    (running ≡ at_place place digest)
+    × IsAdded before after text (remark_of (place_line place digest))
+
 -- By what is heard of a line: a plain one is answered inside; a place is answered with the digest
 -- of all that was answered since the last, or takes the digest that is given.
 abbrev pub IsHeard : {S : Type 0} → AnsweringWith S → Heard → Replica S → Option Held → List ℕ
@@ -124,6 +131,12 @@ IsAnsweredOrNot A old was line noted new is =
     ((noted ≡ []) × (new ≡ old) × (is ≡ was))
     ⊎ ((said : List ℕ) × A old was line said noted new is)
 
+-- the same with some notes, and with a disk before and after it
+abbrev pub IsTriedInside : {S D : Type 0} → AnsweringWith S → (D → Option Held) → S → D → List ℕ
+    → S → D → Type 0
+IsTriedInside A holds old was line new is =
+    (noted : List ℕ) × IsAnsweredOrNot A old (holds was) line noted new (holds is)
+
 -- There was no memory for an answer, or to keep it: nothing is said, and no line is answered any
 -- more.
 pub record IsLost {S : Type 0} (A : AnsweringWith S) (old : Replica S) (was : Option Held)
@@ -144,8 +157,3 @@ pub record IsReplied {S : Type 0} (A : AnsweringWith S) (old : Replica S) (was :
   pub before : old.lost ≡ false
   pub answered : IsWhole A old was line said noted new is
       ⊎ IsLost A old was (input_of (heard line) line) said noted new is
-
--- what is pending has grown by an answer and its notes
-abbrev pub IsAdded : Pending → Pending → List ℕ → List ℕ → Type 0
-IsAdded old new said noted =
-    (new.answers.items ≡ old.answers.items ++ said) × (new.notes.items ≡ old.notes.items ++ noted)

@@ -1,8 +1,9 @@
 //! Lines are answered by a replica.
 
-ghost use Rattle.std.specs.Prelude.{◌≡◌, ◌⊎◌, List, ℕ, false, OnOk, OnErr};
+ghost use Rattle.std.specs.Prelude.{◌≡◌, false, OnOk, OnErr};
 ghost use Rattle.line_replica.specs.Reading.{heard};
-ghost use Rattle.line_replica.specs.Replies.{IsReplied, IsHeard, IsAnsweredOrNot, IsAdded, input_of};
+ghost use Rattle.line_replica.specs.Replies.{IsReplied, IsHeard, IsTriedInside, input_of};
+ghost use Rattle.line_service.specs.Stands.{IsAnsweredInto, LeavesFiles};
 
 use crate::reading::{place, place_with_digest, tagged};
 use crate::replica::{Replica, answer_numbered, answer_plain, set_place, tell_place};
@@ -19,19 +20,13 @@ fn answer_heard<S: AnswersLines, D: Disk>(
     pending: &mut Pending,
 ) -> Result<(), AllocError>
     requires { S.is_over replica.old.numbered.inner ≡ false }
-    ensures ok { OnOk result ((said : List ℕ)
-        × (noted : List ℕ)
-        × IsHeard S.is_answered (heard line.now) replica.old (D.holds disk.old) line.now said
-        noted replica.new (D.holds disk.new)
-        × IsAdded pending.old pending.new said noted) }
-    ensures err { OnErr result ((noted : List ℕ)
-        × IsAnsweredOrNot S.is_answered replica.old.numbered.inner (D.holds disk.old)
-        (input_of (heard line.now) line.now) noted replica.new.numbered.inner
-        (D.holds disk.new)) }
+    ensures ok { OnOk result (IsAnsweredInto (IsHeard S.is_answered (heard line.now)) line.now
+        replica.old (D.holds disk.old) replica.new (D.holds disk.new) pending.old pending.new) }
+    ensures err { OnErr result (IsTriedInside S.is_answered D.holds replica.old.numbered.inner
+        disk.old (input_of (heard line.now) line.now) replica.new.numbered.inner disk.new) }
     ensures lost { replica.new.lost ≡ replica.old.lost }
-    ensures unchanged { S.changes_files replica.old.numbered.inner ≡ false
-        → (D.leaves disk.new ≡ D.leaves disk.old)
-        × (S.changes_files replica.new.numbered.inner ≡ false) }
+    ensures unchanged { LeavesFiles S.changes_files D.leaves replica.old.numbered.inner disk.old
+        replica.new.numbered.inner disk.new }
 {
     if line.len() > LINE_LIMIT {
         return answer_plain(replica, disk, line, pending);

@@ -1,9 +1,10 @@
 //! A service with what is kept of keys: what has a number is answered once.
 
-ghost use Rattle.std.specs.Prelude.{◌≡◌, ◌++◌, ◌≤◌, List, ℕ, [], false, length, codes, OnOk, OnErr};
+ghost use Rattle.std.specs.Prelude.{◌≡◌, ◌++◌, ◌≤◌, [], false, length, codes, OnOk, OnErr};
 ghost use Rattle.line_replica.specs.Keys.{line_to_asker};
 ghost use Rattle.line_replica.specs.Reading.{did_at};
-ghost use Rattle.line_replica.specs.Replies.{IsDone, IsAnsweredOnce, IsTagTaken, IsAnsweredOrNot, IsAdded, past_line, turn_of};
+ghost use Rattle.line_replica.specs.Replies.{IsDone, IsAnsweredOnce, IsTagTaken, IsTriedInside, past_line, turn_of};
+ghost use Rattle.line_service.specs.Stands.{IsAnsweredInto, LeavesFiles};
 
 use crate::keys::{Keys, Turn, first_line};
 use crate::reading::{Tag, did, is_forget, is_to_asker, kept_text};
@@ -52,17 +53,12 @@ fn answer_fresh<S: AnswersLines, D: Disk>(
     pending: &mut Pending,
 ) -> Result<(), AllocError>
     requires { S.is_over numbered.old.inner ≡ false }
-    ensures ok { OnOk result ((said : List ℕ)
-        × (noted : List ℕ)
-        × IsDone S.is_answered tag numbered.old (D.holds disk.old) input.now said noted
-        numbered.new (D.holds disk.new)
-        × IsAdded pending.old pending.new said noted) }
-    ensures err { OnErr result ((noted : List ℕ)
-        × IsAnsweredOrNot S.is_answered numbered.old.inner (D.holds disk.old) input.now noted
-        numbered.new.inner (D.holds disk.new)) }
-    ensures unchanged { S.changes_files numbered.old.inner ≡ false
-        → (D.leaves disk.new ≡ D.leaves disk.old)
-        × (S.changes_files numbered.new.inner ≡ false) }
+    ensures ok { OnOk result (IsAnsweredInto (IsDone S.is_answered tag) input.now numbered.old
+        (D.holds disk.old) numbered.new (D.holds disk.new) pending.old pending.new) }
+    ensures err { OnErr result (IsTriedInside S.is_answered D.holds numbered.old.inner disk.old
+        input.now numbered.new.inner disk.new) }
+    ensures unchanged { LeavesFiles S.changes_files D.leaves numbered.old.inner disk.old
+        numbered.new.inner disk.new }
 {
     let place = pending.answers.len();
     match numbered.inner.answer(disk, input, pending) {
@@ -82,17 +78,13 @@ fn answer_once<S: AnswersLines, D: Disk>(
     pending: &mut Pending,
 ) -> Result<(), AllocError>
     requires { S.is_over numbered.old.inner ≡ false }
-    ensures ok { OnOk result ((said : List ℕ)
-        × (noted : List ℕ)
-        × IsAnsweredOnce S.is_answered (turn_of numbered.old.keys tag) tag numbered.old
-        (D.holds disk.old) input.now said noted numbered.new (D.holds disk.new)
-        × IsAdded pending.old pending.new said noted) }
-    ensures err { OnErr result ((noted : List ℕ)
-        × IsAnsweredOrNot S.is_answered numbered.old.inner (D.holds disk.old) input.now noted
-        numbered.new.inner (D.holds disk.new)) }
-    ensures unchanged { S.changes_files numbered.old.inner ≡ false
-        → (D.leaves disk.new ≡ D.leaves disk.old)
-        × (S.changes_files numbered.new.inner ≡ false) }
+    ensures ok { OnOk result (IsAnsweredInto
+        (IsAnsweredOnce S.is_answered (turn_of numbered.old.keys tag) tag) input.now numbered.old
+        (D.holds disk.old) numbered.new (D.holds disk.new) pending.old pending.new) }
+    ensures err { OnErr result (IsTriedInside S.is_answered D.holds numbered.old.inner disk.old
+        input.now numbered.new.inner disk.new) }
+    ensures unchanged { LeavesFiles S.changes_files D.leaves numbered.old.inner disk.old
+        numbered.new.inner disk.new }
 {
     match numbered.keys.turn(tag) {
         Turn::Fresh => answer_fresh(numbered, disk, tag, input, pending),
@@ -110,17 +102,13 @@ pub(crate) fn answer_tagged<S: AnswersLines, D: Disk>(
     pending: &mut Pending,
 ) -> Result<(), AllocError>
     requires { S.is_over numbered.old.inner ≡ false }
-    ensures ok { OnOk result ((said : List ℕ)
-        × (noted : List ℕ)
-        × IsTagTaken S.is_answered (did_at rest.now) tag numbered.old (D.holds disk.old) rest.now
-        said noted numbered.new (D.holds disk.new)
-        × IsAdded pending.old pending.new said noted) }
-    ensures err { OnErr result ((noted : List ℕ)
-        × IsAnsweredOrNot S.is_answered numbered.old.inner (D.holds disk.old) rest.now noted
-        numbered.new.inner (D.holds disk.new)) }
-    ensures unchanged { S.changes_files numbered.old.inner ≡ false
-        → (D.leaves disk.new ≡ D.leaves disk.old)
-        × (S.changes_files numbered.new.inner ≡ false) }
+    ensures ok { OnOk result (IsAnsweredInto (IsTagTaken S.is_answered (did_at rest.now) tag)
+        rest.now numbered.old (D.holds disk.old) numbered.new (D.holds disk.new) pending.old
+        pending.new) }
+    ensures err { OnErr result (IsTriedInside S.is_answered D.holds numbered.old.inner disk.old
+        rest.now numbered.new.inner disk.new) }
+    ensures unchanged { LeavesFiles S.changes_files D.leaves numbered.old.inner disk.old
+        numbered.new.inner disk.new }
 {
     if let Some(text) = did(rest) {
         return numbered.keys.keep(tag, kept_text(text), &mut pending.notes);

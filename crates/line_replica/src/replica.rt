@@ -2,8 +2,8 @@
 
 ghost use Rattle.std.specs.Prelude.{◌≡◌, ◌++◌, List, ℕ, [], false, OnOk, OnErr};
 ghost use Rattle.line_replica.specs.Reading.{did_at};
-ghost use Rattle.line_replica.specs.Replies.{IsPassedOn, IsTagTaken, IsTakenIn, IsPlaced, IsAnsweredOrNot, IsAdded};
-ghost use Rattle.segment_files.specs.Remarks.{remark_of};
+ghost use Rattle.line_replica.specs.Replies.{IsAdded, IsPassedOn, IsSetAt, IsTagTaken, IsTakenIn, IsTriedInside};
+ghost use Rattle.line_service.specs.Stands.{LeavesFiles};
 ghost use Rattle.line_replica.specs.State.{own_lines, remarks_of};
 ghost use Rattle.line_replica.specs.Running.{at_place, next_of, place_line};
 
@@ -37,13 +37,11 @@ pub(crate) fn answer_plain<S: AnswersLines, D: Disk>(
         × IsTakenIn (λ a b. IsPassedOn S.is_answered a (D.holds disk.old) line.now said noted b
         (D.holds disk.new)) said replica.old replica.new
         × IsAdded pending.old pending.new said noted) }
-    ensures err { OnErr result ((noted : List ℕ)
-        × IsAnsweredOrNot S.is_answered replica.old.numbered.inner (D.holds disk.old) line.now
-        noted replica.new.numbered.inner (D.holds disk.new)) }
+    ensures err { OnErr result (IsTriedInside S.is_answered D.holds replica.old.numbered.inner
+        disk.old line.now replica.new.numbered.inner disk.new) }
     ensures lost { replica.new.lost ≡ replica.old.lost }
-    ensures unchanged { S.changes_files replica.old.numbered.inner ≡ false
-        → (D.leaves disk.new ≡ D.leaves disk.old)
-        × (S.changes_files replica.new.numbered.inner ≡ false) }
+    ensures unchanged { LeavesFiles S.changes_files D.leaves replica.old.numbered.inner disk.old
+        replica.new.numbered.inner disk.new }
 {
     let place = pending.answers.len();
     match replica.numbered.inner.answer(disk, line, pending) {
@@ -66,13 +64,11 @@ pub(crate) fn answer_numbered<S: AnswersLines, D: Disk>(
         × IsTakenIn (λ a b. IsTagTaken S.is_answered (did_at rest.now) tag a (D.holds disk.old)
         rest.now said noted b (D.holds disk.new)) said replica.old replica.new
         × IsAdded pending.old pending.new said noted) }
-    ensures err { OnErr result ((noted : List ℕ)
-        × IsAnsweredOrNot S.is_answered replica.old.numbered.inner (D.holds disk.old) rest.now
-        noted replica.new.numbered.inner (D.holds disk.new)) }
+    ensures err { OnErr result (IsTriedInside S.is_answered D.holds replica.old.numbered.inner
+        disk.old rest.now replica.new.numbered.inner disk.new) }
     ensures lost { replica.new.lost ≡ replica.old.lost }
-    ensures unchanged { S.changes_files replica.old.numbered.inner ≡ false
-        → (D.leaves disk.new ≡ D.leaves disk.old)
-        × (S.changes_files replica.new.numbered.inner ≡ false) }
+    ensures unchanged { LeavesFiles S.changes_files D.leaves replica.old.numbered.inner disk.old
+        replica.new.numbered.inner disk.new }
 {
     let place = pending.answers.len();
     match answer_tagged(&mut replica.numbered, disk, tag, rest, pending) {
@@ -87,10 +83,9 @@ pub(crate) fn tell_place<S>(
     place: u64,
     pending: &mut Pending,
 ) -> Result<(), AllocError>
-    ensures ok { OnOk result ((replica.new.running
-        ≡ at_place place (next_of replica.old.running.since))
-        × IsAdded pending.old pending.new (place_line place (next_of replica.old.running.since))
-        (remark_of (place_line place (next_of replica.old.running.since)))) }
+    ensures ok { OnOk result (IsSetAt place (next_of replica.old.running.since)
+        (place_line place (next_of replica.old.running.since)) replica.new.running pending.old
+        pending.new) }
     ensures same { replica.new.numbered ≡ replica.old.numbered }
     ensures lost { replica.new.lost ≡ replica.old.lost }
 {
@@ -108,8 +103,8 @@ pub(crate) fn set_place<S>(
     digest: &[u8],
     pending: &mut Pending,
 ) -> Result<(), AllocError>
-    ensures ok { OnOk result ((replica.new.running ≡ at_place place digest.now)
-        × IsAdded pending.old pending.new [] (remark_of (place_line place digest.now))) }
+    ensures ok { OnOk result
+        (IsSetAt place digest.now [] replica.new.running pending.old pending.new) }
     ensures same { replica.new.numbered ≡ replica.old.numbered }
     ensures lost { replica.new.lost ≡ replica.old.lost }
 {

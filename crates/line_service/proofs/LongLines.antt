@@ -1,5 +1,5 @@
 -- A line that is too long is kept only so far.
-use Rattle.std.proofs.Common.{◌≡◌, ℕ, ◌+◌, ◌-◌, List, [], ◌++◌, length, take, sym, ap, ◌∙◌, append-nil, inl, inr, arith}
+use Rattle.std.proofs.Common.{◌≡◌, ℕ, ◌+◌, ◌-◌, ◌≤◌, List, [], ◌++◌, length, take, sym, ap, ◌∙◌, append-nil, inl, inr, arith}
 use Rattle.std.proofs.Math.Seq.{take-append-add}
 use Rattle.std.proofs.lemmas.Bool.{cases_lt}
 use Rattle.std.proofs.lemmas.List.{take_all, take-append-le, length-take-le}
@@ -22,6 +22,13 @@ kept_piece piece begun line e = go (line_limit + 1) e
           let room : length begun + (n - length begun) ≡ n = omega (arith, l) in
           ap (λ (x : List ℕ). x ++ take (n - length x) piece) whole ∙ (sym (take-append-add begun piece (n - length begun)) ∙ ap (λ (m : ℕ). take m (begun ++ piece)) room)
     ]
+
+-- a whole line that is not too long
+pub whole_piece : (piece begun line : List ℕ) → line ≡ [] → length piece ≤ line_limit → line ≡ cut begun → piece ≡ cut (begun ++ piece)
+whole_piece piece begun line none few e =
+    let size : length line ≡ 0 = ap (λ (x : List ℕ). length x) none in
+    let all : take (line_limit + 1 - length line) piece ≡ piece = take_all (line_limit + 1 - length line) piece (omega (arith, size, few)) in
+    sym (ap (λ (x : List ℕ). x ++ take (line_limit + 1 - length line) piece) none ∙ all) ∙ kept_piece piece begun line e
 
 pub cut_nil : [] ≡ cut []
 unfolding cut

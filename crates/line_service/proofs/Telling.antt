@@ -1,10 +1,11 @@
 -- Lines that are answered, one after the other, and then delivered.
-use Rattle.std.proofs.Common.{◌≡◌, ◌≢◌, ℕ, ◌+◌, ◌-◌, ◌<◌, ◌≤◌, List, [], ◌∷◌, ◌++◌, length, take, get_or, Option, Some, None, Result, Ok, Err, refl, sym, ap, subst, ◌∙◌, inl, inr, ◌⊎◌, append_assoc, length-append, arith}
+use Rattle.std.proofs.Common.{◌≡◌, ◌≢◌, ◌==◌, ℕ, zero, suc, ◌+◌, ◌-◌, ◌<◌, ◌≤◌, List, [], ◌∷◌, ◌++◌, length, take, get_or, Option, Some, None, Result, Ok, Err, refl, sym, ap, subst, ◌∙◌, inl, inr, ◌⊎◌, append_assoc, length-append, arith}
 use Rattle.std.specs.Prelude.{OnOk}
 use Rattle.std.proofs.Math.Seq.{take-append_seam}
 use Rattle.std.proofs.lemmas.List.{append-nil, take_more, take_all}
 use Rattle.std.proofs.lemmas.Bool.{cases_lt}
 use Rattle.std.specs.List.{AllByRecursion}
+use Rattle.memchr.specs.Find.{Nowhere, Passes, is_byte}
 use Rattle.std.specs.Io.KnownBytes.{Appends, Keeps, Consumes}
 use Rattle.text_lines.specs.Writing.{Wrote}
 use Rattle.text_lines.proofs.Writing.{appends_nil, appends_then}
@@ -281,6 +282,15 @@ no_end_next xs i l h n = subst HasNoEnd (sym (take_more xs i 0 l)) (no_end_more 
 -- or one
 pub line_at : (xs : List ℕ) (i : ℕ) → i < length xs → HasNoEnd (take i xs) → get_or xs i 0 ≡ 10 → IsLine (take (i + 1) xs)
 line_at xs i l h e = subst IsLine (sym (take_more xs i 0 l)) (line_ends (take i xs) (get_or xs i 0 ∷ []) h e)
+
+-- as far as a search for one got
+pub no_end_before : (xs : List ℕ) (k : ℕ) → k ≤ length xs → Nowhere (Passes (is_byte 10) xs) 0 k → HasNoEnd (take k xs)
+no_end_before xs zero l h = tt
+no_end_before xs (suc k) l h =
+    let one : k + 1 ≡ suc k = omega arith in
+    let below : k < length xs = omega arith in
+    let before : HasNoEnd (take k xs) = no_end_before xs k (omega arith) (λ j low high. h j low (omega arith)) in
+    subst (λ (m : ℕ). HasNoEnd (take m xs)) one (no_end_next xs k below before (λ e. h k (omega arith) (omega arith) (ap (λ (x : ℕ). x == 10) e)))
 
 pub no_end_all : (xs : List ℕ) (i : ℕ) → length xs ≤ i → HasNoEnd (take i xs) → HasNoEnd xs
 no_end_all xs i l h = subst HasNoEnd (take_all i xs l) h

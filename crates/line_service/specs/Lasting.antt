@@ -1,12 +1,13 @@
 -- What a loss of power, or an end of the process, leaves of a run's segments (this project's own).
-use Rattle.std.specs.Prelude.{◌≡◌, ℕ, ◌+◌, ◌<◌, ◌⊎◌, List, [], ◌∷◌, Option, None, Some, IfSome, Result, MatchResult}
+use Rattle.std.specs.Prelude.{◌≡◌, ℕ, ◌+◌, ◌<◌, ◌⊎◌, Bool, true, List, [], ◌∷◌, Option, None, Some, IfSome, IsSome, Result, MatchResult, string_bytes, ⊤}
 use Rattle.disks.specs.Held.{Held, IsOneFile, bytes_of}
-use Rattle.disks.specs.Lasting.{HasFront}
+use Rattle.disks.specs.Lasting.{BeginsWith, Changes, HasFront, LeavesFront, outlives}
 use Rattle.line_service.specs.SegmentNames.{segment_file}
 use Rattle.segment_files.specs.Spelling.{digest_of}
 use Rattle.line_service.specs.Stands.{AnsweringWith}
 use Rattle.line_service.specs.Segmenting.{Segmenting}
-use Rattle.line_service.specs.Segments.{Moment}
+use Rattle.line_service.specs.Segments.{Moment, moment_at, segment_holds, segment_lasts, AllLastsIn}
+use Rattle.line_service.specs.declared.segments.OpenSegment.{OpenSegment}
 use Rattle.line_service.specs.Service.{Part}
 use Rattle.line_service.specs.Notes.{ToldLinesAreNoted}
 
@@ -64,6 +65,19 @@ pub record EachSegmentLasts {S : Type 0} (A : AnsweringWith S) (G : Segmenting S
         → AreWhole folder a told.noted.parts held
         × HasFront held (segment_file folder told.noted.mid.number) (Some told.journal))
 
+-- the two of a run by an input and a writer, each before and after it
+abbrev pub ToldLinesLastBy : {S I W : Type 0} → AnsweringWith S → Segmenting S → List ℕ
+    → (I → Option (List ℕ)) → (W → Option (List ℕ)) → I → W → S → I → W → Moment S → Option Held
+    → Type 0
+ToldLinesLastBy A G folder remaining outs input out new rest after a left =
+    ToldLinesLast A G folder a new (remaining input) (remaining rest) (outs out) (outs after) left
+
+abbrev pub EachSegmentLastsBy : {S I W : Type 0} → AnsweringWith S → Segmenting S → List ℕ
+    → (I → Option (List ℕ)) → (W → Option (List ℕ)) → I → W → S → I → W → Moment S → Option Held
+    → Type 0
+EachSegmentLastsBy A G folder remaining outs input out new rest after a left =
+    EachSegmentLasts A G folder a new (remaining input) (remaining rest) (outs out) (outs after) left
+
 -- ---- from one call to the next
 
 -- The file of the segment of this number is left with such bytes, if each has one of its own.
@@ -85,8 +99,90 @@ LeavesEarlier folder number None is = is ≡ None
 LeavesEarlier folder number (Some was) None = ⊥
 LeavesEarlier folder number (Some was) (Some is) = KeepsEarlier folder number was is
 
+-- So it is of the bytes of a segment, where the content of files is known and all of it lasts.
+abbrev pub ForLasting : {V : Type 0} → Option Held → (V → Option (List ℕ))
+    → (V → Option (List ℕ)) → OpenSegment V → (List ℕ → Type 0) → Type 0
+ForLasting files contents lasting segment So =
+    IsSome files
+    → (bytes : List ℕ)
+    → segment_holds contents segment ≡ Some bytes → lasting segment.writer.inner ≡ Some bytes
+    → So bytes
+
+-- The segment's file is left with its bytes at its beginning, or the next one is there, after just
+-- them.
+abbrev pub IsSpared : {S V D : Type 0} → Segmenting S → List ℕ → (V → Option (List ℕ))
+    → (V → Option (List ℕ)) → (D → Option Held) → S → D → OpenSegment V → Option Held → Type 0
+IsSpared G folder contents lasting holds service disk segment left =
+    ForLasting (holds disk) contents lasting segment
+    (λ bytes.
+    LeavesSegment G folder (moment_at contents service (holds disk) segment) bytes left)
+
+-- The segment's file is left with its bytes at its beginning, if each has one of its own.
+abbrev pub KeepsFront : {V : Type 0} → List ℕ → Option Held → (V → Option (List ℕ))
+    → (V → Option (List ℕ)) → OpenSegment V → Option Held → Type 0
+KeepsFront folder files contents lasting segment left =
+    ForLasting files contents lasting segment
+    (λ bytes. LeavesFile folder segment.number left (λ has. BeginsWith has (Some bytes)))
+
+-- The file of a segment after which the next one has begun is left whole, if each has one of its
+-- own.
+abbrev pub Remains : {V : Type 0} → List ℕ → Option Held → (V → Option (List ℕ)) → OpenSegment V
+    → OpenSegment V → Option Held → Type 0
+Remains folder files contents segment next left =
+    IsSome files
+    → (bytes : List ℕ)
+    → segment_holds contents segment ≡ Some bytes → next.number ≡ segment.number + 1
+    → LeavesFile folder segment.number left (λ has. has ≡ Some bytes)
+
 -- So it is of each content that may be left after a result; or, where there is none, of this one.
 abbrev pub ForLeft : {R E : Type 0} → Result R E → (R → Option Held → Type 0) → Option Held
     → (Option Held → Type 0) → Type 0
 ForLeft result MayLeave gone So =
     MatchResult result (λ r. (left : Option Held) → MayLeave r left → So left) (λ _. So gone)
+
+-- ---- what is so of a run
+
+-- So it is where files outlive it, the content of files is known, and all of this segment lasts.
+abbrev pub WhereLasting : {V : Type 0} → Bool → Bool → Option Held → (V → Option (List ℕ))
+    → (V → Option (List ℕ)) → OpenSegment V → Type 0 → Type 0
+WhereLasting keeps_written synced files contents lasting segment So =
+    outlives keeps_written synced ≡ true → IsSome files → AllLastsIn contents lasting segment → So
+
+-- So it is there of the moment in that segment, and of whatever a run from it leaves, by what may be
+-- left of the segment that is open in the end.
+abbrev pub LastsAfter : {S V D E : Type 0} → Result (OpenSegment V) E → Bool → Bool
+    → (V → Option (List ℕ)) → (V → Option (List ℕ)) → (D → Option Held) → (D → Option Held) → S → D
+    → OpenSegment V → D → (Option Held → OpenSegment V → Option Held → Type 0)
+    → (Moment S → Option Held → Type 0) → Type 0
+LastsAfter result keeps_written synced contents lasting holds leaves service disk first later
+    MayLeave So =
+    WhereLasting keeps_written synced (holds disk) contents lasting first
+    (ForLeft result (MayLeave (leaves later)) (leaves later)
+    (So (moment_at contents service (holds disk) first)))
+
+-- all of another segment lasts there too
+abbrev pub StaysWhole : {V : Type 0} → Bool → Bool → Option Held → (V → Option (List ℕ))
+    → (V → Option (List ℕ)) → OpenSegment V → OpenSegment V → Type 0
+StaysWhole keeps_written synced files contents lasting first end =
+    WhereLasting keeps_written synced files contents lasting first
+    (AllLastsIn contents lasting end)
+
+-- where it is known what is left, the file of a segment begins with these bytes
+abbrev pub LeavesBytes : {V : Type 0} → OpenSegment V → Option Held → Option (List ℕ) → Type 0
+LeavesBytes segment left bytes =
+    IfSome left (λ held. HasFront held (string_bytes segment.name) bytes)
+
+-- it then begins with what lasts of its writer
+abbrev pub LeavesLasting : {V : Type 0} → (V → Option (List ℕ)) → OpenSegment V → Option Held
+    → Type 0
+LeavesLasting lasting segment left = LeavesBytes segment left (segment_lasts lasting segment)
+
+-- of what was left only the file of a segment is another, which begins with what lasts of its writer
+abbrev pub LeavesOpen : {V : Type 0} → (V → Option (List ℕ)) → Option Held → OpenSegment V
+    → Option Held → Type 0
+LeavesOpen lasting was segment left =
+    LeavesFront was left (string_bytes segment.name) (segment_lasts lasting segment)
+
+-- of what was left only the file of this name is another
+abbrev pub ChangesOneFile : {D : Type 0} → (D → Option Held) → D → D → List ℕ → Type 0
+ChangesOneFile leaves was is name = Changes (leaves was) (leaves is) name (λ _. ⊤)

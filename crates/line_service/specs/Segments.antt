@@ -1,8 +1,10 @@
 -- How a segment ends and the next begins, in files (this project's own).
-use Rattle.std.specs.Prelude.{◌≡◌, ℕ, ◌+◌, ◌≤◌, ◌^◌, true, false, List, Option, None, Some, IfSome, ◌⊎◌, string_bytes}
-use Rattle.disks.specs.Held.{Held, Replaces}
+use Rattle.std.specs.Prelude.{◌≡◌, ℕ, ◌+◌, ◌≤◌, ◌^◌, Bool, true, false, List, Option, None, Some, IfSome, ◌⊎◌, string_bytes}
+use Rattle.disks.specs.Held.{Held, Replaces, bytes_of}
+use Rattle.disks.specs.Lasting.{outlives}
 use Rattle.line_service.specs.SegmentNames.{segment_file}
 use Rattle.sha2.specs.Hashers.{Holds256}
+use Rattle.sha2.specs.declared.Sha256.{Sha256}
 use Rattle.segment_files.specs.Spelling.{digest_of}
 use Rattle.line_service.specs.Digested.{hashed}
 use Rattle.line_service.specs.Loop.{Written, AllLasts}
@@ -11,6 +13,7 @@ use Rattle.line_service.specs.declared.segmented.EndFault.{EndFault}
 use Rattle.line_service.specs.declared.segmented.EndFault.TheVariants as end
 use Rattle.line_service.specs.declared.segments.OpenSegment.{OpenSegment}
 use Rattle.line_service.specs.declared.ending.NextSegment.{NextSegment}
+use Rattle.line_service.specs.declared.ending.Ready.{Ready}
 use Rattle.line_service.specs.Segmenting.{Segmenting}
 
 -- a moment between two lines: the service, the content of files, and the segment that is being
@@ -33,11 +36,30 @@ moment_of service files number journal = record {
 abbrev pub segment_holds : {V : Type 0} → (V → Option (List ℕ)) → OpenSegment V → Option (List ℕ)
 segment_holds contents segment = hashed (contents segment.writer.inner) segment.writer.hasher
 
+-- what lasts of what its writer has
+abbrev pub segment_lasts : {V : Type 0} → (V → Option (List ℕ)) → OpenSegment V → Option (List ℕ)
+segment_lasts lasting segment = lasting segment.writer.inner
+
 -- that is known, and all of it lasts
 abbrev pub AllLastsIn : {V : Type 0} → (V → Option (List ℕ)) → (V → Option (List ℕ))
     → OpenSegment V → Type 0
 AllLastsIn contents lasting segment =
-    AllLasts (segment_holds contents segment) (lasting segment.writer.inner)
+    AllLasts (segment_holds contents segment) (segment_lasts lasting segment)
+
+-- all that its writer has lasts, as far as files outlive it
+abbrev pub IsLasting : {V : Type 0} → Bool → Bool → (V → Option (List ℕ))
+    → (V → Option (List ℕ)) → OpenSegment V → Type 0
+IsLasting keeps_written synced contents lasting segment =
+    outlives keeps_written synced ≡ true
+    → lasting segment.writer.inner ≡ contents segment.writer.inner
+
+-- the same of a segment, if all that the writer of another has lasts
+abbrev pub StaysLasting : {V : Type 0} → Bool → Bool → (V → Option (List ℕ))
+    → (V → Option (List ℕ)) → OpenSegment V → OpenSegment V → Type 0
+StaysLasting keeps_written synced contents lasting was is =
+    outlives keeps_written synced ≡ true
+    → lasting was.writer.inner ≡ contents was.writer.inner
+    → lasting is.writer.inner ≡ contents is.writer.inner
 
 -- the moment in this segment
 abbrev pub moment_at : {S V : Type 0} → (V → Option (List ℕ)) → S → Option Held → OpenSegment V
@@ -53,6 +75,14 @@ written_in contents outs segment out = record {
   out = outs out;
 }
 
+-- the same of what lasts of its writer
+abbrev pub lasting_in : {V W : Type 0} → (V → Option (List ℕ)) → (W → Option (List ℕ))
+    → OpenSegment V → W → Written
+lasting_in lasting outs segment out = record {
+  journal = segment_lasts lasting segment;
+  out = outs out;
+}
+
 -- the service then, with the files
 abbrev pub stand_of : {S : Type 0} → Moment S → Stand S
 stand_of m = stand m.service m.files
@@ -63,6 +93,12 @@ pub record IsBegun (folder : List ℕ) (number : ℕ) (text : List ℕ) (was is 
     (writer : Option (List ℕ)) : Type 0 where
   pub put : Replaces was is (segment_file folder number) (Some text)
   pub journal : IfSome was (λ _. writer ≡ Some text)
+
+-- the same of a segment, with a disk before and after it
+abbrev pub IsBegunAs : {V D : Type 0} → List ℕ → ℕ → List ℕ → (D → Option Held) → D → D
+    → (V → Option (List ℕ)) → OpenSegment V → Type 0
+IsBegunAs folder number text holds was is contents segment =
+    IsBegun folder number text (holds was) (holds is) (segment_holds contents segment)
 
 -- What the disk has where it could not be begun: the files as they were; or its file was put there,
 -- with all of the text.
@@ -78,6 +114,19 @@ pub record HasBegun {S : Type 0} (G : Segmenting S) (folder : List ℕ) (service
   pub number_is : m.number ≡ number
   pub file : IsBegun folder number (G.text service number behind) was m.files m.journal
   pub fits : G.HasText service number behind
+
+-- the same of a segment that this service has begun, with a disk before and after it
+abbrev pub HasBegunAs : {S V D : Type 0} → Segmenting S → List ℕ → S → ℕ → List ℕ
+    → (D → Option Held) → D → D → (V → Option (List ℕ)) → OpenSegment V → Type 0
+HasBegunAs G folder service number behind holds was is contents segment =
+    HasBegun G folder service number behind (holds was)
+    (moment_at contents service (holds is) segment)
+
+-- What the disk has where this service could not begin it.
+abbrev pub HasNotBegun : {S D : Type 0} → Segmenting S → List ℕ → S → ℕ → List ℕ
+    → (D → Option Held) → D → D → Type 0
+HasNotBegun G folder service number behind holds was is =
+    IsFileUnbegun folder number (G.text service number behind) (holds was) (holds is)
 
 -- The segment was due, and its whole file was settled; then the file of the next one was put there,
 -- with the digest of the file before and the next service's text.
@@ -135,6 +184,13 @@ IsReady G folder None a b =
     ⊎ ((G.is_due a.service ≡ true) × HasEnded G folder a b)
 IsReady G folder (Some why) a b = (G.is_due a.service ≡ true) × IsKept G folder why a b
 
+-- the same from one service, disk and segment to those where lines are answered next
+abbrev pub IsReadyAt : {S V D : Type 0} → Segmenting S → List ℕ → (V → Option (List ℕ))
+    → (D → Option Held) → S → D → OpenSegment V → S → D → Ready V → Type 0
+IsReadyAt G folder contents holds service disk segment next later ready =
+    IsReady G folder ready.kept (moment_at contents service (holds disk) segment)
+    (moment_at contents next (holds later) ready.segment)
+
 -- What the disk has where it could neither be ended nor continue: the files as they were; or the
 -- file of the segment is settled; and then perhaps that of the next one was put there.
 abbrev pub IsLeft : {S : Type 0} → Segmenting S → List ℕ → Moment S → Option Held → Type 0
@@ -142,6 +198,20 @@ IsLeft {S} G folder a is =
     (is ≡ a.files)
     ⊎ (Replaces a.files is (segment_file folder a.number) a.journal
     ⊎ ((next : S) × IsPut G folder a next is))
+
+-- the same of a service, disk and segment, and the disk then
+abbrev pub IsLeftAt : {S V D : Type 0} → Segmenting S → List ℕ → (V → Option (List ℕ))
+    → (D → Option Held) → S → D → OpenSegment V → D → Type 0
+IsLeftAt G folder contents holds service disk segment later =
+    IsLeft G folder (moment_at contents service (holds disk) segment) (holds later)
+
+-- The writer of a file that is opened holds what the file does, if that is known, and the hasher has
+-- taken in just that.
+abbrev pub HoldsFile : Option Held → List ℕ → Sha256 → Option (List ℕ) → Type 0
+HoldsFile files name hasher writer =
+    IfSome files
+    (λ held. (bytes : List ℕ) → bytes_of held name ≡ Some bytes → Holds256 hasher bytes
+    → writer ≡ Some bytes)
 
 -- ---- what is made before the file is closed
 

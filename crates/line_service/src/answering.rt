@@ -1,9 +1,9 @@
 //! What answers a line.
 
-ghost use Rattle.std.specs.Prelude.{◌≡◌, ◌++◌, ◌⊎◌, ℕ, List, Option, Bool, true, false, OnOk, OnErr};
+ghost use Rattle.std.specs.Prelude.{◌≡◌, ℕ, List, Option, Bool, true, false, OnOk, OnErr};
 ghost use Rattle.disks.specs.Held.{Held};
 ghost use Rattle.line_service.specs.Answering.{IsByStart};
-ghost use Rattle.line_service.specs.Stands.{by_stand};
+ghost use Rattle.line_service.specs.Stands.{by_stand, IsAnsweredInto, IsSameOrAnswered, LeavesFiles};
 
 use crate::pending::Pending;
 use disks::Disk;
@@ -34,19 +34,11 @@ pub trait AnswersLines {
         pending: &mut Pending,
     ) -> Result<(), AllocError>
         requires { is_over self.old ≡ false }
-        ensures ok { OnOk result ((said : List ℕ)
-            × (noted : List ℕ)
-            × is_answered self.old (D.holds disk.old) line.now said noted self.new
-            (D.holds disk.new)
-            × (pending.new.answers.items ≡ pending.old.answers.items ++ said)
-            × (pending.new.notes.items ≡ pending.old.notes.items ++ noted)) }
-        ensures err { OnErr result (((self.new ≡ self.old) × (D.holds disk.new ≡ D.holds disk.old))
-            ⊎ ((said : List ℕ)
-            × (noted : List ℕ)
-            × is_answered self.old (D.holds disk.old) line.now said noted self.new
-            (D.holds disk.new))) }
-        ensures unchanged { changes_files self.old ≡ false
-            → (D.leaves disk.new ≡ D.leaves disk.old) × (changes_files self.new ≡ false) };
+        ensures ok { OnOk result (IsAnsweredInto is_answered line.now self.old (D.holds disk.old)
+            self.new (D.holds disk.new) pending.old pending.new) }
+        ensures err { OnErr result (IsSameOrAnswered is_answered line.now self.old
+            (D.holds disk.old) self.new (D.holds disk.new)) }
+        ensures unchanged { LeavesFiles changes_files D.leaves self.old disk.old self.new disk.new };
 
     /// Whether no line is answered any more until something else is done.
     fn is_over(&self) -> bool

@@ -1,9 +1,8 @@
 //! The first segment that is written.
 
-ghost use Rattle.std.specs.Prelude.{◌≡◌, ◌<◌, ◌⊎◌, true, IfOk, IfErr, OnErr};
+ghost use Rattle.std.specs.Prelude.{◌≡◌, ◌<◌, ◌⊎◌, IfOk, IfErr, OnErr};
 ghost use Rattle.segment_files.specs.Spelling.{DigestFits};
-ghost use Rattle.line_service.specs.Segments.{HasBegun, IsBegun, IsFileCause, IsFileUnbegun, IsNamed, segment_holds, moment_at};
-ghost use Rattle.disks.specs.Lasting.{outlives};
+ghost use Rattle.line_service.specs.Segments.{HasBegunAs, IsBegunAs, IsFileCause, IsFileUnbegun, IsLasting, IsNamed, HasNotBegun};
 
 use crate::ending::{Beginning, cause_of, open_segment};
 use crate::segment_names::segment_file;
@@ -27,15 +26,15 @@ pub fn begin_file<D: Disk>(
     text: &[u8],
     rules: SegmentRules<'_>,
 ) -> Result<OpenSegment<D::Grown>, EndFault>
-    ensures begun { IfOk result (λ segment. IsBegun rules.entry.folder.now number text.now
-        (D.holds disk.old) (D.holds disk.new) (segment_holds D.Grown.contents segment)) }
+    ensures begun { IfOk result (IsBegunAs rules.entry.folder.now number text.now D.holds disk.old
+        disk.new D.Grown.contents) }
     ensures number { IfOk result (λ segment. segment.number ≡ number) }
     ensures named { IfOk result (λ segment. IsNamed rules.entry.folder.now segment) }
     ensures err { IfErr result (λ e. IsFileCause e) }
     ensures left { OnErr result (IsFileUnbegun rules.entry.folder.now number text.now
         (D.holds disk.old) (D.holds disk.new)) }
-    ensures lasts { IfOk result (λ segment. outlives D.keeps_written rules.entry.synced ≡ true
-        → D.Grown.lasting segment.writer.inner ≡ D.Grown.contents segment.writer.inner) }
+    ensures lasts { IfOk result (IsLasting D.keeps_written rules.entry.synced D.Grown.contents
+        D.Grown.lasting) }
 {
     let Ok(name) = segment_file(alloc, rules.folder, number) else {
         return Err(EndFault::OutOfMemory);
@@ -67,16 +66,15 @@ pub fn begin_segment<S: Segmented, D: Disk>(
 ) -> Result<OpenSegment<D::Grown>, EndFault>
     requires number { 0 < number }
     requires digits { DigestFits behind }
-    ensures ok { IfOk result (λ segment. HasBegun S.segmenting rules.entry.folder.now service.now
-        number behind (D.holds disk.old)
-        (moment_at D.Grown.contents service.now (D.holds disk.new) segment)) }
+    ensures ok { IfOk result (HasBegunAs S.segmenting rules.entry.folder.now service.now number
+        behind D.holds disk.old disk.new D.Grown.contents) }
     ensures named { IfOk result (λ segment. IsNamed rules.entry.folder.now segment) }
     ensures err { IfErr result
         (λ e. S.segmenting.HasNoText service.now e ⊎ IsFileCause e) }
-    ensures left { OnErr result (IsFileUnbegun rules.entry.folder.now number
-        (S.segmenting.text service.now number behind) (D.holds disk.old) (D.holds disk.new)) }
-    ensures lasts { IfOk result (λ segment. outlives D.keeps_written rules.entry.synced ≡ true
-        → D.Grown.lasting segment.writer.inner ≡ D.Grown.contents segment.writer.inner) }
+    ensures left { OnErr result (HasNotBegun S.segmenting rules.entry.folder.now service.now number
+        behind D.holds disk.old disk.new) }
+    ensures lasts { IfOk result (IsLasting D.keeps_written rules.entry.synced D.Grown.contents
+        D.Grown.lasting) }
 {
     let text = match service.text(alloc, number, behind) {
         Ok(text) => text,

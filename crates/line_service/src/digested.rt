@@ -42,8 +42,8 @@ impl<W: Grow> Grow for Digested<W> {
 impl<W: Grow> Digested<W> {
     /// The writer, with a hasher that has taken in what it holds.
     pub fn new(inner: W, hasher: Sha256) -> Digested<W>
-        ensures known { (bytes : List ℕ) → W.contents inner ≡ Some bytes → Holds256 hasher bytes
-            → hashed (W.contents result.inner) result.hasher ≡ Some bytes }
+        ensures known { (all : List ℕ) → W.contents inner ≡ Some all → Holds256 hasher all
+            → hashed (W.contents result.inner) result.hasher ≡ Some all }
         ensures inner { result.inner ≡ inner }
     {
         Digested { inner, hasher }
@@ -51,9 +51,9 @@ impl<W: Grow> Digested<W> {
 
     /// The digest of what the writer holds.
     pub fn digest(&self) -> Result<[u8; DIGEST_DIGITS], AllocError>
-        ensures value { IfOk result (λ digits. (bytes : List ℕ)
-            → hashed (W.contents self.now.inner) self.now.hasher ≡ Some bytes
-            → digits ≡ digest_of bytes) }
+        ensures value { IfOk result (λ digits. (all : List ℕ)
+            → hashed (W.contents self.now.inner) self.now.hasher ≡ Some all
+            → digits ≡ digest_of all) }
         ensures fits { IfOk result (λ digits. DigestFits digits) }
     {
         let hasher = self.hasher.clone()?;

@@ -1,14 +1,14 @@
 //! A segment that is due is ended, and the next one begun.
 
-ghost use Rattle.std.specs.Prelude.{◌≡◌, ◌+◌, ◌<◌, ℕ, List, true, false, IfOk, IfErr, IfSome, OnOk, OnErr, IsSome, Some, string_bytes};
+ghost use Rattle.std.specs.Prelude.{◌≡◌, ℕ, List, true, false, IfOk, IfErr, OnOk, OnErr, IsSome, Some, string_bytes};
 ghost use Rattle.std.specs.Io.KnownBytes.{Keeps};
-ghost use Rattle.disks.specs.Held.{Replaces, bytes_of};
-ghost use Rattle.disks.specs.Lasting.{bytes_in, BeginsWith, Leaves, MayLeave, LeavesFront, outlives};
+ghost use Rattle.disks.specs.Held.{Replaces};
+ghost use Rattle.disks.specs.Lasting.{bytes_in, Leaves, MayLeave};
 ghost use Rattle.sha2.specs.Hashers.{Holds256};
 ghost use Rattle.line_service.specs.declared.faults.LoopFault.TheVariants as fault;
 ghost use Rattle.line_service.specs.Digested.{hashed};
-ghost use Rattle.line_service.specs.Segments.{IsPrepared, IsUnprepared, IsFileCause, IsNamed, IsReady, IsLeft, segment_holds, moment_at};
-ghost use Rattle.line_service.specs.Lasting.{LeavesSegment, LeavesFile, LeavesEarlier};
+ghost use Rattle.line_service.specs.Segments.{HoldsFile, IsPrepared, IsUnprepared, IsFileCause, IsLasting, IsNamed, IsReadyAt, IsLeftAt, StaysLasting, segment_holds};
+ghost use Rattle.line_service.specs.Lasting.{IsSpared, KeepsFront, LeavesEarlier, LeavesOpen, Remains};
 
 use crate::digested::Digested;
 use crate::faults::LoopFault;
@@ -106,9 +106,9 @@ impl Contents for Beginning<'_> {
 fn settle<D: Disk>(disk: &mut D, writer: Digested<D::Grown>, name: &str) -> Result<Sha256, D::Grown>
     ensures ok { IfOk result (λ hasher. Replaces (D.holds disk.old) (D.holds disk.new) name.now
         (hashed (D.Grown.contents writer.inner) writer.hasher)) }
-    ensures hasher { IfOk result (λ hasher. (bytes : List ℕ)
-        → hashed (D.Grown.contents writer.inner) writer.hasher ≡ Some bytes
-        → Holds256 hasher bytes) }
+    ensures hasher { IfOk result (λ hasher. (all : List ℕ)
+        → hashed (D.Grown.contents writer.inner) writer.hasher ≡ Some all
+        → Holds256 hasher all) }
     ensures kept { OnErr result (D.holds disk.new ≡ D.holds disk.old) }
     ensures lasts { OnOk result (Leaves (D.leaves disk.old) (D.leaves disk.new) name.now
         (D.Grown.contents writer.inner)) }
@@ -145,8 +145,8 @@ pub fn close_segment<D: Disk>(disk: &mut D, segment: OpenSegment<D::Grown>) -> R
     ensures kept { OnErr result (D.holds disk.new ≡ D.holds disk.old) }
     ensures lasts { OnOk result (Leaves (D.leaves disk.old) (D.leaves disk.new)
         (string_bytes segment.name) (D.Grown.contents segment.writer.inner)) }
-    ensures left { OnErr result (LeavesFront (D.leaves disk.old) (D.leaves disk.new)
-        (string_bytes segment.name) (D.Grown.lasting segment.writer.inner)) }
+    ensures left { OnErr result (LeavesOpen D.Grown.lasting (D.leaves disk.old) segment
+        (D.leaves disk.new)) }
 {
     let OpenSegment { name, writer, .. } = segment;
     match settle(disk, writer, name.as_str()) {
@@ -161,8 +161,7 @@ pub fn close_segment<D: Disk>(disk: &mut D, segment: OpenSegment<D::Grown>) -> R
 /// Lets the file of a segment go as it is.
 pub fn abandon_segment<D: Disk>(disk: &mut D, segment: OpenSegment<D::Grown>)
     ensures kept { D.holds disk.new ≡ D.holds disk.old }
-    ensures left { LeavesFront (D.leaves disk.old) (D.leaves disk.new) (string_bytes segment.name)
-        (D.Grown.lasting segment.writer.inner) }
+    ensures left { LeavesOpen D.Grown.lasting (D.leaves disk.old) segment (D.leaves disk.new) }
 {
     let OpenSegment { name, writer, .. } = segment;
     let Digested { inner, .. } = writer;
@@ -183,13 +182,12 @@ pub fn open_segment<D: Disk>(
 ) -> Result<OpenSegment<D::Grown>, LoopFault>
     ensures ok { IfOk result (λ segment. (segment.number ≡ number)
         × (string_bytes segment.name ≡ string_bytes name)) }
-    ensures known { IfOk result (λ segment. IfSome (D.holds disk.old) (λ held. (bytes : List ℕ)
-        → bytes_of held (string_bytes name) ≡ Some bytes → Holds256 hasher bytes
-        → segment_holds D.Grown.contents segment ≡ Some bytes)) }
+    ensures known { IfOk result (λ segment. HoldsFile (D.holds disk.old) (string_bytes name) hasher
+        (segment_holds D.Grown.contents segment)) }
     ensures kept { D.holds disk.new ≡ D.holds disk.old }
     ensures err { IfErr result (λ e. e ≡ fault.Journal) }
-    ensures lasts { IfOk result (λ segment. outlives D.keeps_written synced ≡ true
-        → D.Grown.lasting segment.writer.inner ≡ D.Grown.contents segment.writer.inner) }
+    ensures lasts { IfOk result (IsLasting D.keeps_written synced D.Grown.contents
+        D.Grown.lasting) }
     ensures left { MayLeave (D.leaves disk.old) (D.leaves disk.new) (string_bytes name)
         (bytes_in (D.holds disk.old) (string_bytes name)) }
 {
@@ -219,34 +217,24 @@ fn change<S: Segmented, D: Disk>(
         (segment_holds D.Grown.contents segment) rules.folder.now next }
     requires open { S.is_over next.service ≡ false }
     requires files { S.changes_files next.service ≡ S.changes_files service.old }
-    ensures ok { IfOk result (λ ready. IsReady S.segmenting rules.entry.folder.now ready.kept
-        (moment_at D.Grown.contents service.old (D.holds disk.old) segment)
-        (moment_at D.Grown.contents service.new (D.holds disk.new) ready.segment)) }
+    ensures ok { IfOk result (IsReadyAt S.segmenting rules.entry.folder.now D.Grown.contents
+        D.holds service.old disk.old segment service.new disk.new) }
     ensures open { OnOk result (S.is_over service.new ≡ false) }
     ensures files { S.changes_files service.new ≡ S.changes_files service.old }
     ensures named { IfOk result (λ ready. IsNamed rules.entry.folder.now ready.segment) }
     ensures err { IfErr result (λ e. (e ≡ fault.Journal) × (service.new ≡ service.old)) }
-    ensures left { OnErr result (IsLeft S.segmenting rules.entry.folder.now
-        (moment_at D.Grown.contents service.old (D.holds disk.old) segment) (D.holds disk.new)) }
-    ensures lasts { IfOk result (λ ready. outlives D.keeps_written rules.entry.synced ≡ true
-        → D.Grown.lasting segment.writer.inner ≡ D.Grown.contents segment.writer.inner
-        → D.Grown.lasting ready.segment.writer.inner
-        ≡ D.Grown.contents ready.segment.writer.inner) }
-    ensures spared { OnErr result (IsSome (D.holds disk.old) → (bytes : List ℕ)
-        → segment_holds D.Grown.contents segment ≡ Some bytes
-        → D.Grown.lasting segment.writer.inner ≡ Some bytes → LeavesSegment S.segmenting
-        rules.entry.folder.now (moment_at D.Grown.contents service.old (D.holds disk.old) segment)
-        bytes (D.leaves disk.new)) }
+    ensures left { OnErr result (IsLeftAt S.segmenting rules.entry.folder.now D.Grown.contents
+        D.holds service.old disk.old segment disk.new) }
+    ensures lasts { IfOk result (λ ready. StaysLasting D.keeps_written rules.entry.synced
+        D.Grown.contents D.Grown.lasting segment ready.segment) }
+    ensures spared { OnErr result (IsSpared S.segmenting rules.entry.folder.now D.Grown.contents
+        D.Grown.lasting D.holds service.old disk.old segment (D.leaves disk.new)) }
     ensures earlier { IsSome (D.holds disk.old) → LeavesEarlier rules.entry.folder.now segment.number
         (D.leaves disk.old) (D.leaves disk.new) }
-    ensures ended { IfOk result (λ ready. IsSome (D.holds disk.old)
-        → (bytes : List ℕ) → segment_holds D.Grown.contents segment ≡ Some bytes
-        → ready.segment.number ≡ segment.number + 1 → LeavesFile rules.entry.folder.now
-        segment.number (D.leaves disk.new) (λ has. has ≡ Some bytes)) }
-    ensures front { OnErr result (IsSome (D.holds disk.old) → (bytes : List ℕ)
-        → segment_holds D.Grown.contents segment ≡ Some bytes
-        → D.Grown.lasting segment.writer.inner ≡ Some bytes → LeavesFile rules.entry.folder.now
-        segment.number (D.leaves disk.new) (λ has. BeginsWith has (Some bytes))) }
+    ensures ended { IfOk result (λ ready. Remains rules.entry.folder.now (D.holds disk.old)
+        D.Grown.contents segment ready.segment (D.leaves disk.new)) }
+    ensures front { OnErr result (KeepsFront rules.entry.folder.now (D.holds disk.old)
+        D.Grown.contents D.Grown.lasting segment (D.leaves disk.new)) }
 {
     let OpenSegment {
         number,
@@ -302,34 +290,24 @@ pub(crate) fn make_ready<S: Segmented, D: Disk>(
     rules: SegmentRules<'_>,
 ) -> Result<Ready<D::Grown>, LoopFault>
     requires { IsNamed rules.folder.now segment }
-    ensures ok { IfOk result (λ ready. IsReady S.segmenting rules.entry.folder.now ready.kept
-        (moment_at D.Grown.contents service.old (D.holds disk.old) segment)
-        (moment_at D.Grown.contents service.new (D.holds disk.new) ready.segment)) }
+    ensures ok { IfOk result (IsReadyAt S.segmenting rules.entry.folder.now D.Grown.contents
+        D.holds service.old disk.old segment service.new disk.new) }
     ensures open { OnOk result (S.is_over service.new ≡ false) }
     ensures files { S.changes_files service.new ≡ S.changes_files service.old }
     ensures named { IfOk result (λ ready. IsNamed rules.entry.folder.now ready.segment) }
     ensures err { IfErr result (λ e. (e ≡ fault.Journal) × (service.new ≡ service.old)) }
-    ensures left { OnErr result (IsLeft S.segmenting rules.entry.folder.now
-        (moment_at D.Grown.contents service.old (D.holds disk.old) segment) (D.holds disk.new)) }
-    ensures lasts { IfOk result (λ ready. outlives D.keeps_written rules.entry.synced ≡ true
-        → D.Grown.lasting segment.writer.inner ≡ D.Grown.contents segment.writer.inner
-        → D.Grown.lasting ready.segment.writer.inner
-        ≡ D.Grown.contents ready.segment.writer.inner) }
-    ensures spared { OnErr result (IsSome (D.holds disk.old) → (bytes : List ℕ)
-        → segment_holds D.Grown.contents segment ≡ Some bytes
-        → D.Grown.lasting segment.writer.inner ≡ Some bytes → LeavesSegment S.segmenting
-        rules.entry.folder.now (moment_at D.Grown.contents service.old (D.holds disk.old) segment)
-        bytes (D.leaves disk.new)) }
+    ensures left { OnErr result (IsLeftAt S.segmenting rules.entry.folder.now D.Grown.contents
+        D.holds service.old disk.old segment disk.new) }
+    ensures lasts { IfOk result (λ ready. StaysLasting D.keeps_written rules.entry.synced
+        D.Grown.contents D.Grown.lasting segment ready.segment) }
+    ensures spared { OnErr result (IsSpared S.segmenting rules.entry.folder.now D.Grown.contents
+        D.Grown.lasting D.holds service.old disk.old segment (D.leaves disk.new)) }
     ensures earlier { IsSome (D.holds disk.old) → LeavesEarlier rules.entry.folder.now segment.number
         (D.leaves disk.old) (D.leaves disk.new) }
-    ensures ended { IfOk result (λ ready. IsSome (D.holds disk.old)
-        → (bytes : List ℕ) → segment_holds D.Grown.contents segment ≡ Some bytes
-        → ready.segment.number ≡ segment.number + 1 → LeavesFile rules.entry.folder.now
-        segment.number (D.leaves disk.new) (λ has. has ≡ Some bytes)) }
-    ensures front { OnErr result (IsSome (D.holds disk.old) → (bytes : List ℕ)
-        → segment_holds D.Grown.contents segment ≡ Some bytes
-        → D.Grown.lasting segment.writer.inner ≡ Some bytes → LeavesFile rules.entry.folder.now
-        segment.number (D.leaves disk.new) (λ has. BeginsWith has (Some bytes))) }
+    ensures ended { IfOk result (λ ready. Remains rules.entry.folder.now (D.holds disk.old)
+        D.Grown.contents segment ready.segment (D.leaves disk.new)) }
+    ensures front { OnErr result (KeepsFront rules.entry.folder.now (D.holds disk.old)
+        D.Grown.contents D.Grown.lasting segment (D.leaves disk.new)) }
 {
     if !service.is_due() {
         return Ok(Ready {

@@ -1,10 +1,9 @@
 //! Parts of the lines: each is served until the input has ended, or until no line is answered any more.
 
-ghost use Rattle.std.specs.Prelude.{◌≡◌, ◌≢◌, ℕ, List, [], ◌++◌, false, OnOk, OnErr, IfOk, IfErr, MatchResult, is_some};
+ghost use Rattle.std.specs.Prelude.{◌≡◌, ◌≢◌, [], false, OnOk, OnErr, IfOk, IfErr, is_some};
 ghost use Rattle.line_service.specs.declared.faults.LoopFault.TheVariants as fault;
-ghost use Rattle.line_service.specs.Answering.{HasLineBegun};
-ghost use Rattle.line_service.specs.Loop.{ServesPart, IsEnding, ServesSomeOf, ServesBlock, ServesIn, written_by, AllLasts, IsPartFault, written_to};
-ghost use Rattle.line_service.specs.Stands.{Stand, by_stand, stand};
+ghost use Rattle.line_service.specs.Loop.{ServesBlock, FromBegun, ServesPartBy, ServesSomeBy, ServesIn, IsEnding, IsPartFault, LastsOn, written_by, written_to};
+ghost use Rattle.line_service.specs.Stands.{by_stand, stand, LeavesFiles};
 
 use crate::answering::AnswersLines;
 use crate::faults::{Ending, LoopFault};
@@ -44,10 +43,9 @@ fn serve_block<S: AnswersLines, D: Disk, J: Grow, W: Write>(
         (written_to J.lasting W.contents journal.old out.old)
         (written_to J.lasting W.contents journal.new out.new) }
     ensures whole { OnOk result
-        (AllLasts (written_by J.contents journal.old) (written_by J.lasting journal.old)
-        → AllLasts (written_by J.contents journal.new) (written_by J.lasting journal.new)) }
-    ensures unchanged { S.changes_files service.old ≡ false
-        → (D.leaves disk.new ≡ D.leaves disk.old) × (S.changes_files service.new ≡ false) }
+        (LastsOn (written_by J.contents) (written_by J.lasting) journal.old journal.new) }
+    ensures unchanged { LeavesFiles S.changes_files D.leaves service.old disk.old service.new
+        disk.new }
 {
     let taken = match take_bytes(service, disk, line, unread.bytes(), pending) {
         Ok(taken) => taken,
@@ -85,35 +83,31 @@ pub fn serve_part<S: AnswersLines, D: Disk, I: Read, J: Grow, W: Write>(
     out: &mut W,
 ) -> Result<Ending, LoopFault>
     requires { S.is_over service.old ≡ false }
-    ensures ok { IfOk result (λ ending. (begun : List ℕ) → HasLineBegun begun line.old.items
-        → ServesPart ending (by_stand S.is_answered) (stand service.old (D.holds disk.old))
-        (stand service.new (D.holds disk.new)) begun unread.old unread.new line.new.items
-        (I.remaining input.old) (I.remaining input.new)
+    ensures ok { IfOk result (λ ending. FromBegun line.old.items (λ begun. ServesPartBy ending
+        S.is_answered D.holds I.remaining service.old disk.old begun unread.old input.old
+        service.new disk.new line.new.items unread.new input.new
         (written_to J.contents W.contents journal.old out.old)
-        (written_to J.contents W.contents journal.new out.new)) }
+        (written_to J.contents W.contents journal.new out.new))) }
     ensures ends { IfOk result (λ ending. IsEnding ending (S.is_over service.new) once unread.new
         (I.remaining input.new)) }
-    ensures err { OnErr result ((begun : List ℕ) → HasLineBegun begun line.old.items
-        → ServesSomeOf (by_stand S.is_answered) (stand service.old (D.holds disk.old))
-        (stand service.new (D.holds disk.new)) begun unread.old (I.remaining input.old)
-        (I.remaining input.new) (written_to J.contents W.contents journal.old out.old)
-        (written_to J.contents W.contents journal.new out.new)) }
+    ensures err { OnErr result (FromBegun line.old.items (λ begun. ServesSomeBy S.is_answered
+        D.holds I.remaining service.old disk.old begun unread.old input.old service.new disk.new
+        input.new (written_to J.contents W.contents journal.old out.old)
+        (written_to J.contents W.contents journal.new out.new))) }
     ensures long { IfErr result (λ e.
         IsPartFault e (I.remaining input.old) (I.remaining input.new)) }
     ensures kept { is_some journal.new ≡ is_some journal.old }
 
     // The same of the bytes that last: whenever the power or the process ends, the journal has the notes of each delivered line.
-    ensures lasts { (begun : List ℕ) → HasLineBegun begun line.old.items
-        → ServesIn result (by_stand S.is_answered) (stand service.old (D.holds disk.old))
-        (stand service.new (D.holds disk.new)) begun unread.old unread.new line.new.items
-        (I.remaining input.old) (I.remaining input.new)
+    ensures lasts { FromBegun line.old.items (λ begun. ServesIn result (by_stand S.is_answered)
+        (stand service.old (D.holds disk.old)) (stand service.new (D.holds disk.new)) begun
+        unread.old unread.new line.new.items (I.remaining input.old) (I.remaining input.new)
         (written_to J.lasting W.contents journal.old out.old)
-        (written_to J.lasting W.contents journal.new out.new) }
+        (written_to J.lasting W.contents journal.new out.new)) }
     ensures whole { OnOk result
-        (AllLasts (written_by J.contents journal.old) (written_by J.lasting journal.old)
-        → AllLasts (written_by J.contents journal.new) (written_by J.lasting journal.new)) }
-    ensures unchanged { S.changes_files service.old ≡ false
-        → (D.leaves disk.new ≡ D.leaves disk.old) × (S.changes_files service.new ≡ false) }
+        (LastsOn (written_by J.contents) (written_by J.lasting) journal.old journal.new) }
+    ensures unchanged { LeavesFiles S.changes_files D.leaves service.old disk.old service.new
+        disk.new }
 {
     let mut pending = Pending {
         answers: Vec::new(alloc),

@@ -4,8 +4,8 @@ ghost use Rattle.std.specs.Prelude.{◌≡◌, ◌≢◌, ℕ, List, [], OnOk, I
 ghost use Rattle.std.specs.Io.KnownBytes.{Appends};
 ghost use Rattle.text_lines.specs.Writing.{Wrote};
 ghost use Rattle.line_service.specs.declared.faults.LoopFault.TheVariants as fault;
-ghost use Rattle.line_service.specs.Loop.{Written, GoesOn, Tells, written_by, AllLasts, written_to};
-ghost use Rattle.line_service.specs.Stands.{Stand, by_stand};
+ghost use Rattle.line_service.specs.Loop.{Delivers, LastsOn, written_by};
+ghost use Rattle.line_service.specs.Stands.{by_stand};
 
 use crate::answering::AnswersLines;
 use crate::faults::LoopFault;
@@ -39,8 +39,7 @@ fn add_notes<J: Grow>(journal: &mut J, bytes: &[u8]) -> bool
         → Appends (J.lasting journal.old) (J.lasting journal.new) bytes.now }
     ensures lasts_part { (left : List ℕ)
         × Wrote (J.lasting journal.old) (J.lasting journal.new) bytes.now left }
-    ensures whole { IsTrue result → AllLasts (J.contents journal.old) (J.lasting journal.old)
-        → AllLasts (J.contents journal.new) (J.lasting journal.new) }
+    ensures whole { IsTrue result → LastsOn J.contents J.lasting journal.old journal.new }
 {
     if bytes.is_empty() {
         return true;
@@ -59,8 +58,7 @@ fn put_notes<J: Grow>(journal: &mut Option<J>, bytes: &[u8]) -> bool
     ensures lasts_part { (left : List ℕ)
         × Wrote (written_by J.lasting journal.old) (written_by J.lasting journal.new) bytes.now left }
     ensures whole { IsTrue result
-        → AllLasts (written_by J.contents journal.old) (written_by J.lasting journal.old)
-        → AllLasts (written_by J.contents journal.new) (written_by J.lasting journal.new) }
+        → LastsOn (written_by J.contents) (written_by J.lasting) journal.old journal.new }
     ensures kept { is_some journal.new ≡ is_some journal.old }
 {
     match journal {
@@ -78,19 +76,12 @@ pub(crate) fn put_pending<S: AnswersLines, J: Grow, W: Write>(
     ensures known { IfErr result (λ e. e ≢ fault.TooLong) }
     ensures kept { is_some journal.new ≡ is_some journal.old }
     ensures left { OnOk result ((pending.new.answers.items ≡ []) × (pending.new.notes.items ≡ [])) }
-    ensures told { (old new : Stand S) (before : Written) (bytes line : List ℕ)
-        → GoesOn (by_stand S.is_answered) old before
-        (written_to J.contents W.contents journal.old out.old) bytes new line pending.old
-        → Tells result (by_stand S.is_answered) old before
-        (written_to J.contents W.contents journal.new out.new) bytes new line }
-    ensures lasts { (old new : Stand S) (before : Written) (bytes line : List ℕ)
-        → GoesOn (by_stand S.is_answered) old before
-        (written_to J.lasting W.contents journal.old out.old) bytes new line pending.old
-        → Tells result (by_stand S.is_answered) old before
-        (written_to J.lasting W.contents journal.new out.new) bytes new line }
+    ensures told { Delivers result (by_stand S.is_answered) J.contents W.contents pending.old
+        journal.old out.old journal.new out.new }
+    ensures lasts { Delivers result (by_stand S.is_answered) J.lasting W.contents pending.old
+        journal.old out.old journal.new out.new }
     ensures whole { OnOk result
-        (AllLasts (written_by J.contents journal.old) (written_by J.lasting journal.old)
-        → AllLasts (written_by J.contents journal.new) (written_by J.lasting journal.new)) }
+        (LastsOn (written_by J.contents) (written_by J.lasting) journal.old journal.new) }
 {
     if !put_notes(journal, pending.notes.as_slice()) {
         return Err(LoopFault::Journal);

@@ -1,15 +1,13 @@
 //! Lines that are served in segments.
 
-ghost use Rattle.std.specs.Prelude.{◌≡◌, ℕ, List, Option, true, false, IfOk, IfErr, IfSome, IsSome, OnOk, OnErr, is_some, string_bytes, ⊤};
-ghost use Rattle.disks.specs.Lasting.{Changes, HasFront, LeavesFront, outlives};
-ghost use Rattle.line_service.specs.Answering.{HasLineBegun};
-ghost use Rattle.line_service.specs.Stands.{by_stand, stand};
+ghost use Rattle.std.specs.Prelude.{◌≡◌, ℕ, List, Option, false, IfOk, IfErr, OnOk, OnErr, is_some, string_bytes};
+ghost use Rattle.line_service.specs.Stands.{LeavesFiles};
 ghost use Rattle.line_service.specs.declared.faults.LoopFault.{LoopFault};
-ghost use Rattle.line_service.specs.Loop.{ServesPart, IsEnding, ServesSomeOf, IsPartFault};
-ghost use Rattle.line_service.specs.Segments.{IsNamed, segment_holds, AllLastsIn, written_in, moment_at};
+ghost use Rattle.line_service.specs.Loop.{FromBegun, ServesPartBy, ServesSomeBy, IsEnding, IsPartFault, LastsOn, written};
+ghost use Rattle.line_service.specs.Segments.{IsNamed, segment_holds, segment_lasts, written_in, lasting_in, moment_at};
 ghost use Rattle.line_service.specs.Service.{told_of, ServesSegments, ServesSomeSegments, IsFaultOf};
 ghost use Rattle.line_service.specs.Notes.{ToldLinesAreNoted, ForJournal};
-ghost use Rattle.line_service.specs.Lasting.{ToldLinesLast, EachSegmentLasts, ForLeft};
+ghost use Rattle.line_service.specs.Lasting.{ChangesOneFile, EachSegmentLastsBy, LastsAfter, LeavesBytes, LeavesLasting, LeavesOpen, StaysWhole, ToldLinesLastBy};
 
 use crate::answering::AnswersLines;
 use crate::digested::Digested;
@@ -53,43 +51,35 @@ fn serve_in<S: AnswersLines, D: Disk, I: Read, W: Write>(
     out: &mut W,
 ) -> Result<PartEnd<D::Grown>, LoopFault>
     requires { S.is_over service.old ≡ false }
-    ensures ok { IfOk result (λ end. (begun : List ℕ) → HasLineBegun begun line.old.items
-        → ServesPart end.ending (by_stand S.is_answered) (stand service.old (D.holds disk.old))
-        (stand service.new (D.holds disk.new)) begun unread.old unread.new line.new.items
-        (I.remaining input.old) (I.remaining input.new)
+    ensures ok { IfOk result (λ end. FromBegun line.old.items (λ begun. ServesPartBy end.ending
+        S.is_answered D.holds I.remaining service.old disk.old begun unread.old input.old
+        service.new disk.new line.new.items unread.new input.new
         (written_in D.Grown.contents W.contents ready.segment out.old)
-        (written_in D.Grown.contents W.contents end.segment out.new)) }
+        (written_in D.Grown.contents W.contents end.segment out.new))) }
     ensures ends { IfOk result (λ end. IsEnding end.ending (S.is_over service.new)
         (is_some ready.kept) unread.new (I.remaining input.new)) }
     ensures same { IfOk result (λ end. (end.segment.number ≡ ready.segment.number)
         × (string_bytes end.segment.name ≡ string_bytes ready.segment.name)) }
-    ensures err { OnErr result ((begun : List ℕ) → HasLineBegun begun line.old.items
-        → (journal : Option (List ℕ)) × ServesSomeOf (by_stand S.is_answered)
-        (stand service.old (D.holds disk.old)) (stand service.new (D.holds disk.new)) begun
-        unread.old (I.remaining input.old) (I.remaining input.new)
+    ensures err { OnErr result (FromBegun line.old.items (λ begun. (journal : Option (List ℕ))
+        × ServesSomeBy S.is_answered D.holds I.remaining service.old disk.old begun unread.old
+        input.old service.new disk.new input.new
         (written_in D.Grown.contents W.contents ready.segment out.old)
-        (record { journal = journal; out = W.contents out.new })) }
+        (written journal (W.contents out.new)))) }
     ensures long { IfErr result (λ e.
         IsPartFault e (I.remaining input.old) (I.remaining input.new)) }
     ensures told { IfErr result (λ e. (why : LoopFault) × (e ≡ told_of why ready.kept)) }
-    ensures whole { IfOk result (λ end. AllLastsIn D.Grown.contents D.Grown.lasting ready.segment
-        → AllLastsIn D.Grown.contents D.Grown.lasting end.segment) }
-    ensures spared { OnErr result ((begun : List ℕ) → HasLineBegun begun line.old.items
-        → (journal : Option (List ℕ))
-        × ServesSomeOf (by_stand S.is_answered) (stand service.old (D.holds disk.old))
-        (stand service.new (D.holds disk.new)) begun unread.old (I.remaining input.old)
-        (I.remaining input.new)
-        (record {
-          journal = D.Grown.lasting ready.segment.writer.inner;
-          out = W.contents out.old;
-        })
-        (record { journal = journal; out = W.contents out.new })
-        × IfSome (D.leaves disk.new)
-        (λ held. HasFront held (string_bytes ready.segment.name) journal)) }
-    ensures unchanged { OnOk result (S.changes_files service.old ≡ false
-        → (D.leaves disk.new ≡ D.leaves disk.old) × (S.changes_files service.new ≡ false)) }
-    ensures others { OnErr result (S.changes_files service.old ≡ false → Changes
-        (D.leaves disk.old) (D.leaves disk.new) (string_bytes ready.segment.name) (λ _. ⊤)) }
+    ensures whole { IfOk result (λ end. LastsOn (segment_holds D.Grown.contents)
+        (segment_lasts D.Grown.lasting) ready.segment end.segment) }
+    ensures spared { OnErr result (FromBegun line.old.items (λ begun. (journal : Option (List ℕ))
+        × ServesSomeBy S.is_answered D.holds I.remaining service.old disk.old begun unread.old
+        input.old service.new disk.new input.new
+        (lasting_in D.Grown.lasting W.contents ready.segment out.old)
+        (written journal (W.contents out.new))
+        × LeavesBytes ready.segment (D.leaves disk.new) journal)) }
+    ensures unchanged { OnOk result (LeavesFiles S.changes_files D.leaves service.old disk.old
+        service.new disk.new) }
+    ensures others { OnErr result (S.changes_files service.old ≡ false
+        → ChangesOneFile D.leaves disk.old disk.new (string_bytes ready.segment.name)) }
 {
     let Ready { segment, kept } = ready;
     let OpenSegment {
@@ -167,34 +157,27 @@ pub fn serve_segments<S: Segmented, D: Disk, I: Read, W: Write>(
     ensures long { IfErr result (λ e.
         IsFaultOf e (I.remaining input.old) (I.remaining input.new)) }
     ensures named { IfOk result (λ end. IsNamed rules.entry.folder.now end) }
-    ensures noted { ForJournal result (λ end. segment_holds D.Grown.contents end)
+    ensures noted { ForJournal result (segment_holds D.Grown.contents)
         (λ journal. ToldLinesAreNoted S.is_answered S.segmenting rules.entry.folder.now
         (moment_at D.Grown.contents service.old (D.holds disk.old) first) service.new
         (I.remaining input.old) (I.remaining input.new) (W.contents out.old) (W.contents out.new)
         journal) }
 
     // Where the content of files is known: what was delivered is there whenever the process ends and, with syncs, the power fails.
-    ensures lasts { outlives D.keeps_written rules.entry.synced ≡ true → IsSome (D.holds disk.old)
-        → AllLastsIn D.Grown.contents D.Grown.lasting first → ForLeft result (λ end left. IfSome
-        left (λ held. HasFront held (string_bytes end.name) (D.Grown.lasting end.writer.inner)))
-        (D.leaves disk.new) (λ left. ToldLinesLast S.is_answered S.segmenting rules.entry.folder.now
-        (moment_at D.Grown.contents service.old (D.holds disk.old) first) service.new
-        (I.remaining input.old) (I.remaining input.new) (W.contents out.old) (W.contents out.new)
-        left) }
-    ensures whole { IfOk result (λ end. outlives D.keeps_written rules.entry.synced ≡ true
-        → IsSome (D.holds disk.old) → AllLastsIn D.Grown.contents D.Grown.lasting first
-        → AllLastsIn D.Grown.contents D.Grown.lasting end) }
+    ensures lasts { LastsAfter result D.keeps_written rules.entry.synced D.Grown.contents
+        D.Grown.lasting D.holds D.leaves service.old disk.old first disk.new
+        (λ _. LeavesLasting D.Grown.lasting)
+        (ToldLinesLastBy S.is_answered S.segmenting rules.entry.folder.now I.remaining W.contents
+        input.old out.old service.new input.new out.new) }
+    ensures whole { IfOk result (λ end. StaysWhole D.keeps_written rules.entry.synced
+        (D.holds disk.old) D.Grown.contents D.Grown.lasting first end) }
 
     // Where answers change no file, the segments before the last are there too, whole.
-    ensures earlier { S.changes_files service.old ≡ false
-        → outlives D.keeps_written rules.entry.synced ≡ true
-        → IsSome (D.holds disk.old) → AllLastsIn D.Grown.contents D.Grown.lasting first
-        → ForLeft result (λ end left. LeavesFront (D.leaves disk.new) left (string_bytes end.name)
-        (D.Grown.lasting end.writer.inner)) (D.leaves disk.new) (λ left. EachSegmentLasts
-        S.is_answered S.segmenting rules.entry.folder.now
-        (moment_at D.Grown.contents service.old (D.holds disk.old) first) service.new
-        (I.remaining input.old) (I.remaining input.new) (W.contents out.old) (W.contents out.new)
-        left) }
+    ensures earlier { S.changes_files service.old ≡ false → LastsAfter result D.keeps_written
+        rules.entry.synced D.Grown.contents D.Grown.lasting D.holds D.leaves service.old disk.old
+        first disk.new (LeavesOpen D.Grown.lasting)
+        (EachSegmentLastsBy S.is_answered S.segmenting rules.entry.folder.now I.remaining
+        W.contents input.old out.old service.new input.new out.new) }
 {
     let mut segment = first;
     let mut line = Vec::new(alloc);

@@ -1,14 +1,15 @@
 //! Bytes that are taken, line by line.
 
-ghost use Rattle.std.specs.Prelude.{◌≡◌, ◌<◌, ◌≤◌, ◌+◌, ◌-◌, ℕ, List, ◌++◌, length, take, true, false, OnOk, IfOk, MatchResult};
+ghost use Rattle.std.specs.Prelude.{◌≡◌, ◌<◌, ◌≤◌, ◌+◌, ◌-◌, ℕ, List, [], ◌++◌, length, take, true, false, OnOk, IfOk};
 ghost use Rattle.text_lines.specs.Limits.{line_limit};
 ghost use Rattle.line_service.specs.Answering.{IsLine, HasNoEnd, cut};
-ghost use Rattle.line_service.specs.Loop.{Written, GoesOn, Serves, Stops};
-ghost use Rattle.line_service.specs.Stands.{Stand, by_stand, stand};
+ghost use Rattle.line_service.specs.Loop.{ServesPiece, ServesFirst};
+ghost use Rattle.line_service.specs.Stands.{LeavesFiles};
 
 use crate::answering::AnswersLines;
 use crate::pending::Pending;
 use disks::Disk;
+use memchr::memchr;
 use std::alloc::AllocError;
 use text_lines::LINE_LIMIT;
 
@@ -41,16 +42,27 @@ fn split_line(bytes: &[u8]) -> (&[u8], bool, &[u8])
     ensures line { result.1 ≡ true → IsLine result.0.now }
     ensures none { result.1 ≡ false → HasNoEnd result.0.now }
 {
-    for (i, byte) in bytes.iter().enumerate() {
-        if *byte == b'\n' {
-            let (line, rest) = bytes.split_at(i + 1);
-            return (line, true, rest);
+    match memchr(b'\n', bytes) {
+        Some(place) => {
+            let (line, rest) = bytes.split_at(place + 1);
+            (line, true, rest)
         }
+        None => (bytes, false, &[]),
     }
-    (bytes, false, &[])
 }
 
-/// Takes a piece of a line more: it is kept, and if it ends the line, that is answered. Says whether it is over.
+/// Whether a piece is a whole line that is not too long, of which nothing was kept before.
+fn is_whole(line: &[u8], piece: &[u8], ends: bool) -> bool
+    ensures { result ≡ true → (ends ≡ true) × (line.now ≡ []) × (length piece.now ≤ line_limit) }
+{
+    match line {
+        [] => ends && piece.len() <= LINE_LIMIT,
+        [_, ..] => false,
+    }
+}
+
+/// Takes a piece of a line more: it is kept, and if it ends the line, that is answered. A whole line is answered where it is, with
+/// no copy. Says whether it is over.
 fn take_piece<S: AnswersLines, D: Disk>(
     service: &mut S,
     disk: &mut D,
@@ -63,14 +75,15 @@ fn take_piece<S: AnswersLines, D: Disk>(
     requires line { ends ≡ true → IsLine piece.now }
     requires none { ends ≡ false → HasNoEnd piece.now }
     ensures over { IfOk result (λ over. over ≡ S.is_over service.new) }
-    ensures serves { (old : Stand S) (before after : Written) (bytes : List ℕ)
-        → GoesOn (by_stand S.is_answered) old before after bytes
-        (stand service.old (D.holds disk.old)) line.old.items pending.old
-        → Serves result (by_stand S.is_answered) old before after (bytes ++ piece.now)
-        (stand service.new (D.holds disk.new)) line.new.items pending.new }
-    ensures unchanged { S.changes_files service.old ≡ false
-        → (D.leaves disk.new ≡ D.leaves disk.old) × (S.changes_files service.new ≡ false) }
+    ensures serves { ServesPiece result S.is_answered D.holds service.old disk.old line.old.items
+        pending.old piece.now service.new disk.new line.new.items pending.new }
+    ensures unchanged { LeavesFiles S.changes_files D.leaves service.old disk.old service.new
+        disk.new }
 {
+    if is_whole(line.as_slice(), piece, ends) {
+        service.answer(disk, piece, pending)?;
+        return Ok(service.is_over());
+    }
     keep(line, piece)?;
     if !ends {
         return Ok(false);
@@ -99,16 +112,10 @@ pub(crate) fn take_bytes<S: AnswersLines, D: Disk>(
     ensures over { IfOk result (λ t. t.over ≡ S.is_over service.new) }
     ensures count { IfOk result
         (λ t. (t.count ≤ length block.now) × (t.over ≡ false → t.count ≡ length block.now)) }
-    ensures serves { (old : Stand S) (before after : Written) (bytes : List ℕ)
-        → GoesOn (by_stand S.is_answered) old before after bytes
-        (stand service.old (D.holds disk.old)) line.old.items pending.old
-        → MatchResult result (λ t. GoesOn (by_stand S.is_answered) old before after
-        (bytes ++ take t.count block.now) (stand service.new (D.holds disk.new))
-        line.new.items pending.new)
-        (λ _. Stops (by_stand S.is_answered) old before after (bytes ++ block.now)
-        (stand service.new (D.holds disk.new))) }
-    ensures unchanged { S.changes_files service.old ≡ false
-        → (D.leaves disk.new ≡ D.leaves disk.old) × (S.changes_files service.new ≡ false) }
+    ensures serves { ServesFirst result (λ t. t.count) S.is_answered D.holds service.old disk.old
+        line.old.items pending.old block.now service.new disk.new line.new.items pending.new }
+    ensures unchanged { LeavesFiles S.changes_files D.leaves service.old disk.old service.new
+        disk.new }
 {
     let mut rest = block;
     while !rest.is_empty() {

@@ -1,8 +1,9 @@
 //! What was read of an input and is not taken yet.
 
 ghost use Rattle.std.specs.Prelude.{◌≡◌, ◌≤◌, [], length, drop, IfOk, IfErr};
-ghost use Rattle.std.specs.Io.KnownBytes.{Consumes, IsAtEnd, Keeps};
+ghost use Rattle.std.specs.Io.KnownBytes.{Keeps};
 ghost use Rattle.line_service.specs.declared.faults.LoopFault.TheVariants as fault;
+ghost use Rattle.line_service.specs.Loop.{IsFilled};
 
 use crate::faults::LoopFault;
 use std::io::Read;
@@ -58,10 +59,8 @@ impl Unread {
 
     /// Reads a block, and says how many bytes it has: none only at the input's end.
     pub(crate) fn fill<I: Read>(&mut self, input: &mut I) -> Result<usize, LoopFault>
-        ensures ok { IfOk result (λ count.
-            Consumes (I.remaining input.old) (I.remaining input.new) self.new
-            × (length self.new ≡ count)
-            × (count ≡ 0 → IsAtEnd (I.remaining input.new))) }
+        ensures ok { IfOk result
+            (λ count. IsFilled count self.new (I.remaining input.old) (I.remaining input.new)) }
         ensures err { IfErr result (λ e. (e ≡ fault.Read)
             × Keeps (I.remaining input.old) (I.remaining input.new)) }
     {

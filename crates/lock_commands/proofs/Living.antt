@@ -3,6 +3,7 @@ use Rattle.std.proofs.Common.{◌≡◌, ℕ, false, List, ◌++◌, Option, sym
 use Rattle.disks.specs.Held.{Held}
 use Rattle.saved_history.specs.Spelling.{Fits}
 use Rattle.held_locks.specs.Kept.{LockView, AreKept}
+use Rattle.lock_protocol.specs.Names.{Names}
 use Rattle.line_service.specs.Notes.{ToldLinesAreNoted}
 use Rattle.line_service.specs.Segments.{Moment, HasBegun}
 use Rattle.folder_of_locks.specs.Folders.{Place}
@@ -23,7 +24,7 @@ use Rattle.lock_commands.specs.Life.{IsLived}
 abbrev pub BeginIfTheyFit : List LockView → Type 0
 BeginIfTheyFit locks = (entries : List (ℕ × ℕ)) → AreKept locks entries → Fits (content_of locks) → HaveBegun locks
 
-pub has_started : (words : LocksWords) (start : Place) (files : Option Held) (first : Moment Service) (service : Service) → BeginsWith words start.locks service → HasBegun by_segments (folder_of words) service start.number start.behind files first → ((entries : List (ℕ × ℕ)) × AreKept start.locks entries) → BeginIfTheyFit start.locks →
+pub has_started : (words : LocksWords) (start : Place) (files : Option Held) (first : Moment Service) (service : Service) → BeginsWith words start.names start.locks service → HasBegun by_segments (folder_of words) service start.number start.behind files first → ((entries : List (ℕ × ℕ)) × AreKept start.locks entries) → BeginIfTheyFit start.locks →
     HasStarted words start files first
 has_started words start files first service begins begun kept begin = record {
   service = service;
@@ -35,6 +36,9 @@ has_started words start files first service begins begun kept begin = record {
 module _ (words : LocksWords) (start : Place) (files : Option Held) (first : Moment Service) (h : HasStarted words start files first) where
   locks_are : (inside first.service).segment.locks ≡ start.locks
   locks_are = ap (λ (s : Service). (inside s).segment.locks) h.begun.service_is ∙ h.begins.inside.segment.locks_are
+
+  names_are : (inside first.service).segment.names ≡ start.names
+  names_are = ap (λ (s : Service). (inside s).segment.names) h.begun.service_is ∙ h.begins.inside.segment.names_are
 
   terms_are : (inside first.service).terms ≡ terms_of words
   terms_are = ap (λ (s : Service). (inside s).terms) h.begun.service_is ∙ h.begins.inside.terms
@@ -58,6 +62,7 @@ module _ (words : LocksWords) (start : Place) (files : Option Held) (first : Mom
     first = first;
     started = h;
     locks = locks_are;
+    names = names_are;
     fits = fits;
     end = end;
     journal = journal;

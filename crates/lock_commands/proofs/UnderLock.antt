@@ -5,7 +5,7 @@ use Rattle.disks.specs.Held.{Held, Replaces}
 use Rattle.line_service.specs.SegmentNames.{segment_file}
 use Rattle.line_service.specs.Answering.{Answers}
 use Rattle.line_service.specs.Stands.{Stand, stand, by_stand}
-use Rattle.held_locks.specs.declared.handing.Handover.{Handover}
+use Rattle.folder_of_locks.specs.Holders.{Hold}
 use Rattle.folder_of_locks.specs.Lists.{Listed, file_text}
 use Rattle.folder_of_locks.specs.Folders.{Place, AreStarted, IsListSaved, locks_file}
 use Rattle.lock_service.specs.Serving.{IsServed}
@@ -94,7 +94,7 @@ saved_locked folder None locks before after same l = same_locked before after fo
 saved_locked folder (Some word) locks before after put l = put_locked before after folder (locks_file folder) (file_text locks) put l
 
 -- the first segment has begun
-begun_stands : (words : LocksWords) (holders : List Handover) (start : Place) (before there listed : Option Held) → IsLocked before there (folder_of words) → AreStarted (folder_of words) (list_of words) holders there listed start → IsSome before
+begun_stands : (words : LocksWords) (holders : List Hold) (start : Place) (before there listed : Option Held) → IsLocked before there (folder_of words) → AreStarted (folder_of words) (list_of words) holders there listed start → IsSome before
     → (first : Moment Service) → HasStarted words start listed first → Stands first.files first.journal (folder_of words)
 begun_stands words holders start before there listed locked started some first begun =
     let folder = folder_of words in
@@ -103,7 +103,7 @@ begun_stands words holders start before there listed locked started some first b
     let text = by_segments.text begun.service start.number start.behind in
     (put_locked listed first.files folder (segment_file folder start.number) text file.put held, text, if_held listed folder (first.journal ≡ Some text) held file.journal)
 
-pub under_lock : (words : LocksWords) (holders : List Handover) (start : Place) (end : Service) (before there listed after : Option Held) (was is old new : Option (List ℕ)) → IsLocked before there (folder_of words) → AreStarted (folder_of words) (list_of words) holders there listed start
+pub under_lock : (words : LocksWords) (holders : List Hold) (start : Place) (end : Service) (before there listed after : Option Held) (was is old new : Option (List ℕ)) → IsLocked before there (folder_of words) → AreStarted (folder_of words) (list_of words) holders there listed start
     → (run : IsRun words start end listed after was is old new) → IsSome before → AreUnderLock (folder_of words) run.served.parts
 under_lock words holders start end before there listed after was is old new locked started run some =
     parts_locked (folder_of words) run.first run.last run.served.parts run.served.served
@@ -111,14 +111,14 @@ under_lock words holders start end before there listed after was is old new lock
 
 -- ---- when it ends
 
-pub still_locked : (words : LocksWords) (holders : List Handover) (start : Place) (end : Service) (before there listed after : Option Held) (was is old new : Option (List ℕ)) → IsLocked before there (folder_of words) → AreStarted (folder_of words) (list_of words) holders there listed start
+pub still_locked : (words : LocksWords) (holders : List Hold) (start : Place) (end : Service) (before there listed after : Option Held) (was is old new : Option (List ℕ)) → IsLocked before there (folder_of words) → AreStarted (folder_of words) (list_of words) holders there listed start
     → IsRun words start end listed after was is old new → IsSome before → StandsLocked after (folder_of words)
 still_locked words holders start end before there listed after was is old new locked started run some =
     let folder = folder_of words in
     let last = parts_stand folder run.first run.last run.served.parts run.served.served (begun_stands words holders start before there listed locked started some run.first run.started) in
     settled_locked run.last.files after folder (segment_file folder run.last.number) last.1 run.last.journal last.2 run.settled last.0
 
-pub refused_locked : (words : LocksWords) (holders : List Handover) (start : Place) (before there listed after : Option Held) (was is old new : Option (List ℕ)) (e : ToolError) → IsLocked before there (folder_of words) → AreStarted (folder_of words) (list_of words) holders there listed start
+pub refused_locked : (words : LocksWords) (holders : List Hold) (start : Place) (before there listed after : Option Held) (was is old new : Option (List ℕ)) (e : ToolError) → IsLocked before there (folder_of words) → AreStarted (folder_of words) (list_of words) holders there listed start
     → IsSome before → IsRunRefused words start listed after was is old new e → StaysLocked words after was is old new
 refused_locked words holders start before there listed after was is old new e locked started some (inl h) = inl h.0
 refused_locked words holders start before there listed after was is old new e locked started some (inr (first, begun, inl broken)) =

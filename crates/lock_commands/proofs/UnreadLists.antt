@@ -16,7 +16,7 @@ use Rattle.saved_history.specs.declared.saved.SavedRing.{SavedRing}
 use Rattle.folder_of_locks.specs.declared.locks.ListError.{ListError}
 use Rattle.folder_of_locks.specs.declared.locks.ListError.TheVariants as list
 use Rattle.folder_of_locks.specs.Lists.{Listed, IsWordFault}
-use Rattle.held_locks.specs.declared.handing.Handover.{Handover}
+use Rattle.folder_of_locks.specs.Holders.{Hold}
 use Rattle.folder_of_locks.specs.declared.faults.StartFault.{StartFault}
 use Rattle.folder_of_locks.specs.declared.faults.StartFault.TheVariants as start
 use Rattle.folder_of_locks.specs.Folders.{Place, IsFileRefusal, IsListless, IsPlaceFault, IsHandingFault, IsStartRefusal, AreUnstarted}
@@ -57,7 +57,7 @@ of_place files folder (Some r) ls e (inl (inl h)) = h
 of_place files folder (Some r) ls e (inl (inr (bytes, held, h))) = h
 of_place files folder (Some r) ls e (inr (segment, last, h)) = of_rings segment.head.bases.items segment.saved.rings.items ls e h
 
-of_handing : (files : Option Held) (folder : List ℕ) (range : Option SegmentNumbers) (ls : List Listed) (holders : List Handover) (e : ListError) → IsHandingFault files folder range ls holders (start.Word e) → ⊥
+of_handing : (files : Option Held) (folder : List ℕ) (range : Option SegmentNumbers) (ls : List Listed) (holders : List Hold) (e : ListError) → IsHandingFault files folder range ls holders (start.Word e) → ⊥
 of_handing files folder range ls holders e (inl h) = of_place files folder range ls e h
 of_handing files folder range ls holders e (inr (found, stands, h)) = h
 
@@ -73,7 +73,7 @@ of_file files folder e (inr (inr (bytes, held, h))) = h
 no_fault : (word : List ℕ) → IsListIf (Some word) → IsWordFault word list.Syntax → ⊥
 no_fault word (locks, list) fault = fault locks list.1.some list.0
 
-of_start : (files : Option Held) (folder : List ℕ) (has : Bool) (range : Option SegmentNumbers) (word : Option (List ℕ)) (holders : List Handover) → IsListIf word →
+of_start : (files : Option Held) (folder : List ℕ) (has : Bool) (range : Option SegmentNumbers) (word : Option (List ℕ)) (holders : List Hold) → IsListIf word →
     IsStartRefusal files folder has range word holders (start.Word list.Syntax) → ⊥
 of_start files folder has range word holders listed (inl (none, h)) = of_listless range word list.Syntax h
 of_start files folder has range word holders listed (inr (inl (there, h))) = of_file files folder list.Syntax h
@@ -83,7 +83,7 @@ of_start files folder has range word holders listed (inr (inr (inr (inr (inl (ls
 of_start files folder has range word holders listed (inr (inr (inr (inr (inr (inl h)))))) = false≢true (sym (ap is_word h))
 of_start files folder has range word holders listed (inr (inr (inr (inr (inr (inr h)))))) = false≢true (sym (ap is_word h))
 
-of_word : (files : Option Held) (folder : List ℕ) (word : Option (List ℕ)) (holders : List Handover) → IsListIf word → AreUnstarted files folder word holders (start.Word list.Syntax) → ⊥
+of_word : (files : Option Held) (folder : List ℕ) (word : Option (List ℕ)) (holders : List Hold) → IsListIf word → AreUnstarted files folder word holders (start.Word list.Syntax) → ⊥
 of_word files folder word holders listed (inl h) = false≢true (sym (ap is_word h))
 of_word files folder word holders listed (inr (entries, lists, inl (error, same, right))) = false≢true (sym (ap is_word same))
 of_word files folder word holders listed (inr (entries, lists, inr (range, right, h))) =
@@ -98,7 +98,7 @@ of_names folder (names.Irregular n) h = h
 of_names folder (names.Missing n) h = h
 of_names folder names.OutOfMemory h = h
 
-of_list : (files : Option Held) (folder : List ℕ) (word : Option (List ℕ)) (holders : List Handover) (error : ListError) → IsListIf word → AreUnstarted files folder word holders (start.Word error) →
+of_list : (files : Option Held) (folder : List ℕ) (word : Option (List ℕ)) (holders : List Hold) (error : ListError) → IsListIf word → AreUnstarted files folder word holders (start.Word error) →
     tool.BadList ≡ fault_of_list error → ⊥
 of_list files folder word holders list.Syntax listed refused h = of_word files folder word holders listed refused
 of_list files folder word holders list.Many listed refused h = false≢true (sym (ap is_list h))
@@ -106,7 +106,7 @@ of_list files folder word holders (list.Size place cause) listed refused h = fal
 of_list files folder word holders (list.Twice place) listed refused h = false≢true (sym (ap is_list h))
 of_list files folder word holders list.OutOfMemory listed refused h = false≢true (sym (ap is_list h))
 
-of_fault : (files : Option Held) (folder : List ℕ) (file : List ℕ) (word : Option (List ℕ)) (holders : List Handover) (why : StartFault) → IsListIf word → AreUnstarted files folder word holders why →
+of_fault : (files : Option Held) (folder : List ℕ) (file : List ℕ) (word : Option (List ℕ)) (holders : List Hold) (why : StartFault) → IsListIf word → AreUnstarted files folder word holders why →
     IsStartName folder file why tool.BadList → ⊥
 of_fault files folder file word holders (start.Folder error) listed refused h = of_names folder error h
 of_fault files folder file word holders (start.Word error) listed refused h = of_list files folder word holders error listed refused h
@@ -148,10 +148,10 @@ of_run words place before after was is old new (inl (unserved, h)) = of_unbegun 
 of_run words place before after was is old new (inr (first, started, inl h)) = of_loop (folder_of words) h.why h.named
 of_run words place before after was is old new (inr (first, started, inr (last, served, kept, h))) = of_loop (folder_of words) loop.Journal h
 
-of_unstarted : (words : LocksWords) (holders : List Handover) (there after : Option Held) → IsListIf (list_of words) → IsStartRefused words holders there after tool.BadList → ⊥
+of_unstarted : (words : LocksWords) (holders : List Hold) (there after : Option Held) → IsListIf (list_of words) → IsStartRefused words holders there after tool.BadList → ⊥
 of_unstarted words holders there after listed (same, h) = of_fault there (folder_of words) (name_of (holders_word words)) (list_of words) holders h.0 listed h.1 h.2
 
-of_folder : (words : LocksWords) (holders : List Handover) (before after : Option Held) (was is old new : Option (List ℕ)) → IsListIf (list_of words) →
+of_folder : (words : LocksWords) (holders : List Hold) (before after : Option Held) (was is old new : Option (List ℕ)) → IsListIf (list_of words) →
     IsRefusedIn words holders before after was is old new tool.BadList → ⊥
 of_folder words holders before after was is old new listed (inl (unserved, left, h)) = h
 of_folder words holders before after was is old new listed (inr (there, locked, inl (unserved, h))) = of_unstarted words holders there after listed h
@@ -163,7 +163,7 @@ of_holders files (Some name) (inl (inl h)) = h
 of_holders files (Some name) (inl (inr (from, left, opens, h))) = h
 of_holders files (Some name) (inr (bytes, held, h)) = h
 
-of_locks : (words : LocksWords) (holders : List Handover) (was is : World) → IsListIf (list_of words) → IsRefusedWith words holders was is tool.BadList → ⊥
+of_locks : (words : LocksWords) (holders : List Hold) (was is : World) → IsListIf (list_of words) → IsRefusedWith words holders was is tool.BadList → ⊥
 of_locks words holders was is listed (inl (silent, h)) = of_folder words holders was.files is.files was.input is.input was.out is.out listed h
 of_locks words holders was is listed (inr (end, served, h)) = h
 

@@ -2,8 +2,7 @@
 use Rattle.std.specs.Prelude.{◌≡◌, ℕ, List, [], Option, None, Some, ◌⊎◌}
 use Rattle.std.specs.Option.{option_map}
 use Rattle.disks.specs.Held.{Held, IsHeld}
-use Rattle.held_locks.specs.declared.handing.Handover.{Handover}
-use Rattle.folder_of_locks.specs.Holders.{AreHolders, IsBadLine}
+use Rattle.folder_of_locks.specs.Holders.{Hold, AreHolders, IsBadLine}
 use Rattle.tool_parts.specs.declared.requests.LocksWords.{LocksWords}
 use Rattle.tool_parts.specs.Named.{IsFileRefusal}
 use Rattle.tool_parts.specs.declared.faults.ToolError.{ToolError}
@@ -19,7 +18,7 @@ name_of None = []
 name_of (Some name) = name
 
 -- the holds that are handed over are those of its lines; there are none if no file is named
-abbrev pub AreHoldersOf : Option Held → Option (List ℕ) → List Handover → Type 0
+abbrev pub AreHoldersOf : Option Held → Option (List ℕ) → List Hold → Type 0
 AreHoldersOf files None holders = holders ≡ []
 AreHoldersOf files (Some file) holders =
     (bytes : List ℕ) × IsHeld files file bytes × AreHolders bytes holders

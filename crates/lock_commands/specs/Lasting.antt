@@ -1,7 +1,7 @@
 -- What a loss of power, or an end of the process, leaves of a folder's locks (this project's own).
 use Rattle.std.specs.Prelude.{ℕ, ◌⊎◌, List, Option}
 use Rattle.disks.specs.Held.{Held}
-use Rattle.held_locks.specs.declared.handing.Handover.{Handover}
+use Rattle.folder_of_locks.specs.Holders.{Hold}
 use Rattle.folder_of_locks.specs.Folders.{Place, AreStarted}
 use Rattle.line_service.specs.Segments.{Moment}
 use Rattle.line_service.specs.Lasting.{EachSegmentLasts}
@@ -26,7 +26,7 @@ RunLasts words start files was is old new left =
 
 -- In a folder, with these holders: no line was served; or the folder was locked, the locks started,
 -- and what was delivered lasts.
-abbrev pub FolderLasts : LocksWords → List Handover → Option Held → Option (List ℕ)
+abbrev pub FolderLasts : LocksWords → List Hold → Option Held → Option (List ℕ)
     → Option (List ℕ) → Option (List ℕ) → Option (List ℕ) → Option Held → Type 0
 FolderLasts words holders before was is old new left =
     IsUnserved was is old new
@@ -43,6 +43,6 @@ FolderLasts words holders before was is old new left =
 abbrev pub ToldLocksLast : LocksWords → World → World → Option Held → Type 0
 ToldLocksLast words was is left =
     IsUnserved was.input is.input was.out is.out
-    ⊎ ((holders : List Handover)
+    ⊎ ((holders : List Hold)
     × AreHoldersOf was.files (holders_word words) holders
     × FolderLasts words holders was.files was.input is.input was.out is.out left)

@@ -1,7 +1,7 @@
 -- What a run of `locks` reported, as part of a life of locks (this project's own).
 use Rattle.std.specs.Prelude.{◌≡◌, false, ◌⊎◌, List, [], ◌++◌, ℕ, Option}
 use Rattle.disks.specs.Held.{Held}
-use Rattle.held_locks.specs.declared.handing.Handover.{Handover}
+use Rattle.folder_of_locks.specs.Holders.{Hold}
 use Rattle.folder_of_locks.specs.Folders.{Place, AreStarted}
 use Rattle.line_service.specs.Segments.{Moment, IsPut}
 use Rattle.line_service.specs.Service.{all_said}
@@ -15,7 +15,8 @@ use Rattle.lock_commands.specs.Locks.{folder_of, list_of, HasStarted}
 
 -- A run from where the locks start, wherever it ended: of the lines that were reported, in parts,
 -- the output has a prefix of what was said, and nothing else. If no answer was lost up to the last
--- of them, they are stages of a life of locks, which begins with the locks that start: a `Run` of
+-- of them, they are stages of a life of locks, which begins with the locks that start, by their
+-- names: a `Run` of
 -- `specs/OneLife.antt` of `lock_service`, once it is known what was left of it; also where the run ended
 -- when the file of the next segment had been put there.
 pub record IsLived (words : LocksWords) (start : Place) (files : Option Held)
@@ -23,6 +24,7 @@ pub record IsLived (words : LocksWords) (start : Place) (files : Option Held)
   pub first : Moment Service
   pub started : HasStarted words start files first
   pub locks : (inside first.service).segment.locks ≡ start.locks
+  pub names : (inside first.service).segment.names ≡ start.names
   pub fits : by_segments.HasText first.service first.number start.behind
   pub end : Service
   pub journal : Option (List ℕ)
@@ -44,7 +46,7 @@ RunLives words start files was is old new =
 
 -- In a folder, with these holders: nothing was reported; or the folder was locked, the locks
 -- started, and from there it was so.
-abbrev pub FolderLives : LocksWords → List Handover → Option Held → Option (List ℕ)
+abbrev pub FolderLives : LocksWords → List Hold → Option Held → Option (List ℕ)
     → Option (List ℕ) → Option (List ℕ) → Option (List ℕ) → Type 0
 FolderLives words holders before was is old new =
     IsUnserved was is old new
@@ -60,6 +62,6 @@ FolderLives words holders before was is old new =
 abbrev pub ToldLocksLive : LocksWords → World → World → Type 0
 ToldLocksLive words was is =
     IsUnserved was.input is.input was.out is.out
-    ⊎ ((holders : List Handover)
+    ⊎ ((holders : List Hold)
     × AreHoldersOf was.files (holders_word words) holders
     × FolderLives words holders was.files was.input is.input was.out is.out)

@@ -7,8 +7,9 @@ use Rattle.disks.specs.Held.{Held, Replaces}
 use Rattle.line_service.specs.SegmentNames.{segment_file}
 use Rattle.line_service.specs.declared.faults.LoopFault.{LoopFault}
 use Rattle.line_service.specs.declared.faults.LoopFault.TheVariants as loop
-use Rattle.held_locks.specs.declared.handing.Handover.{Handover}
+use Rattle.folder_of_locks.specs.Holders.{Hold}
 use Rattle.held_locks.specs.Kept.{LockView}
+use Rattle.lock_protocol.specs.Names.{Names}
 use Rattle.folder_of_locks.specs.declared.faults.StartFault.{StartFault}
 use Rattle.folder_of_locks.specs.Folders.{Place, AreStarted, AreUnstarted}
 use Rattle.lock_service.specs.declared.service.LockService.{LockService}
@@ -52,16 +53,17 @@ terms_of words = record {
   strict = words.strict;
 }
 
--- the service inside begins with these locks
-pub record BeginsInside (words : LocksWords) (locks : List LockView) (s : LockService) : Type 0
-  where
-    pub segment : IsStart (most_lines words) locks s.segment
-    pub terms : s.terms ≡ terms_of words
-    pub stage_is : s.stage ≡ stage_after stage.Open (is_past (terms_of words) s.segment)
+-- the service inside begins with these locks, which have these names
+pub record BeginsInside (words : LocksWords) (names : Names) (locks : List LockView)
+    (s : LockService) : Type 0 where
+  pub segment : IsStart (most_lines words) names locks s.segment
+  pub terms : s.terms ≡ terms_of words
+  pub stage_is : s.stage ≡ stage_after stage.Open (is_past (terms_of words) s.segment)
 
--- the service begins with these locks, with no key, before the first place
-pub record BeginsWith (words : LocksWords) (locks : List LockView) (s : Service) : Type 0 where
-  pub inside : BeginsInside words locks s.inner.numbered.inner
+-- the service begins with these locks, by these names, with no key, before the first place
+pub record BeginsWith (words : LocksWords) (names : Names) (locks : List LockView)
+    (s : Service) : Type 0 where
+  pub inside : BeginsInside words names locks s.inner.numbered.inner
   pub keys : s.inner.numbered.keys ≡ []
   pub running : s.inner.running ≡ at_place 0 []
   pub whole : s.inner.lost ≡ false
@@ -71,7 +73,7 @@ pub record BeginsWith (words : LocksWords) (locks : List LockView) (s : Service)
 pub record HasStarted (words : LocksWords) (start : Place) (files : Option Held)
     (first : Moment Service) : Type 0 where
   pub service : Service
-  pub begins : BeginsWith words start.locks service
+  pub begins : BeginsWith words start.names start.locks service
   pub begun : HasBegun by_segments (folder_of words) service start.number start.behind files first
   pub locks : HaveBegun start.locks
 
@@ -93,7 +95,7 @@ AreUnderLock folder parts =
 
 -- The folder was locked, the locks started with these holders, and all lines were served from there.
 -- Where the content of files is known, it is locked as long as lines are served.
-pub record IsServedIn (words : LocksWords) (holders : List Handover) (end : Service)
+pub record IsServedIn (words : LocksWords) (holders : List Hold) (end : Service)
     (before after : Option Held) (was is old new : Option (List ℕ)) : Type 0 where
   pub there : Option Held
   pub locked : IsLocked before there (folder_of words)
@@ -111,7 +113,7 @@ StaysLocked words after was is old new =
 
 -- All lines were served so, and the sums over the locks are reported on standard error.
 pub record IsLocksAnswer (words : LocksWords) (was is : World) : Type 0 where
-  pub holders : List Handover
+  pub holders : List Hold
   pub given : AreHoldersOf was.files (holders_word words) holders
   pub end : Service
   pub served : IsServedIn words holders end was.files is.files was.input is.input was.out is.out
@@ -125,7 +127,7 @@ abbrev pub IsUnbegun : LocksWords → Place → Option Held → Option Held → 
 IsUnbegun words start before after e =
     ((after ≡ before) × (e ≡ tool.OutOfMemory))
     ⊎ ((service : Service)
-    × BeginsWith words start.locks service
+    × BeginsWith words start.names start.locks service
     × IsFileUnbegun (folder_of words) start.number
     (by_segments.text service start.number start.behind) before after
     × ((why : EndFault) × IsBeginName (folder_of words) why e))
@@ -163,7 +165,7 @@ IsRunRefused words start before after was is old new e =
     ⊎ IsUnsettled words first after was is old new e))
 
 -- the locks of the folder do not start, and only the lock of the folder was made
-abbrev pub IsStartRefused : LocksWords → List Handover → Option Held → Option Held → ToolError
+abbrev pub IsStartRefused : LocksWords → List Hold → Option Held → Option Held → ToolError
     → Type 0
 IsStartRefused words holders there after e =
     (after ≡ there)
@@ -173,7 +175,7 @@ IsStartRefused words holders there after e =
 
 -- The folder is not to be had, or its locks do not start, and no line is read; or they are not
 -- served to the end.
-abbrev pub IsRefusedIn : LocksWords → List Handover → Option Held → Option Held
+abbrev pub IsRefusedIn : LocksWords → List Hold → Option Held → Option Held
     → Option (List ℕ) → Option (List ℕ) → Option (List ℕ) → Option (List ℕ) → ToolError → Type 0
 IsRefusedIn words holders before after was is old new e =
     (IsUnserved was is old new
@@ -189,7 +191,7 @@ IsRefusedIn words holders before after was is old new e =
 
 -- with these holders: those of the folder, and those while lines are served, where nothing is
 -- written to standard error; and, when all lines have been served, those of the sums
-abbrev pub IsRefusedWith : LocksWords → List Handover → World → World → ToolError → Type 0
+abbrev pub IsRefusedWith : LocksWords → List Hold → World → World → ToolError → Type 0
 IsRefusedWith words holders was is e =
     ((is.err ≡ was.err)
     × IsRefusedIn words holders was.files is.files was.input is.input was.out is.out e)
@@ -204,6 +206,6 @@ IsLocksRefusal words was is e =
     ((is ≡ was) × IsNoListFor (list_of words) e)
     ⊎ (IsListIf (list_of words)
     × (((is ≡ was) × HasNoHolders was.files (holders_word words) e)
-    ⊎ ((holders : List Handover)
+    ⊎ ((holders : List Hold)
     × AreHoldersOf was.files (holders_word words) holders
     × IsRefusedWith words holders was is e)))

@@ -1,13 +1,12 @@
 //! The file that says who gets the open holds.
 
-ghost use Rattle.std.specs.Prelude.{◌≡◌, IfOk, IfErr};
+ghost use Rattle.std.specs.Prelude.{◌≡◌, IfOk, IfErr, map};
 ghost use Rattle.std.specs.Option.{option_map};
 ghost use Rattle.lock_commands.specs.HoldersFile.{name_of, AreHoldersOf, IsNoHolders, HasNoHolders};
-ghost use Rattle.folder_of_locks.specs.Holders.{AreHolders};
+ghost use Rattle.folder_of_locks.specs.Holders.{AreHolders, hold_of};
 
 use disks::Disk;
-use folder_of_locks::{HoldersError, read_holders};
-use held_locks::Handover;
+use folder_of_locks::{HoldersError, NamedHold, read_holders};
 use std::alloc::Global;
 use tool_parts::faults::ToolError;
 use tool_parts::reading::read_file;
@@ -27,8 +26,8 @@ fn holders_in<'a>(
     alloc: Global,
     file: &'a str,
     bytes: &[u8],
-) -> Result<Vec<Handover>, ToolError<'a>>
-    ensures ok { IfOk result (λ holders. AreHolders bytes.now holders.items) }
+) -> Result<Vec<NamedHold>, ToolError<'a>>
+    ensures ok { IfOk result (λ holders. AreHolders bytes.now (map hold_of holders.items)) }
     ensures err { IfErr result (λ e. IsNoHolders file.now bytes.now e) }
 {
     match read_holders(alloc, bytes) {
@@ -43,9 +42,9 @@ pub(crate) fn holders_of<'a, D: Disk>(
     alloc: Global,
     disk: &D,
     file: Option<&'a str>,
-) -> Result<Vec<Handover>, ToolError<'a>>
+) -> Result<Vec<NamedHold>, ToolError<'a>>
     ensures ok { IfOk result (λ holders. AreHoldersOf (D.holds disk.now)
-        (option_map (λ w. w.now) file.entry) holders.items) }
+        (option_map (λ w. w.now) file.entry) (map hold_of holders.items)) }
     ensures err { IfErr result (λ e. HasNoHolders (D.holds disk.now)
         (option_map (λ w. w.now) file.entry) e) }
 {

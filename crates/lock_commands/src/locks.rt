@@ -1,12 +1,13 @@
 //! `locks`: the locks of a folder answer the lines of standard input, with a journal in the folder's segments.
 
-ghost use Rattle.std.specs.Prelude.{◌≡◌, ◌<◌, ℕ, List, true, false, OnOk, IfOk, IfErr, IsSome};
+ghost use Rattle.std.specs.Prelude.{◌≡◌, ◌<◌, ℕ, List, true, false, OnOk, IfOk, IfErr, IsSome, map};
 ghost use Rattle.std.specs.Option.{option_map};
 ghost use Rattle.saved_history.specs.Spelling.{Fits};
 ghost use Rattle.segment_files.specs.Spelling.{DigestFits};
 ghost use Rattle.held_locks.specs.Kept.{AreKept};
 ghost use Rattle.lock_service.specs.Segments.{content_of};
 ghost use Rattle.folder_of_locks.specs.Folders.{place_of};
+ghost use Rattle.folder_of_locks.specs.Holders.{hold_of};
 ghost use Rattle.tool_parts.specs.Worlds.{world};
 ghost use Rattle.lock_commands.specs.Refusals.{IsListIf, IsNoListFor};
 ghost use Rattle.lock_commands.specs.Locks.{terms_of, BeginsWith, IsRun, IsServedIn, StaysLocked, IsLocksAnswer, IsRunRefused, IsRefusedIn, IsLocksRefusal};
@@ -19,10 +20,11 @@ use crate::holders::{holders_of, name_of};
 use crate::refusals::{begin_refusal, list_refusal, serving_refusal, start_refusal};
 use crate::totals::tell_totals;
 use disks::Disk;
-use folder_of_locks::{Start, read_list_word, start_locks};
-use held_locks::{Handover, Locks};
+use folder_of_locks::{NamedHold, Start, read_list_word, start_locks};
+use held_locks::Locks;
 use line_replica::{Replica, Restorable};
 use line_service::{SegmentRules, begin_segment, close_segment, serve_segments};
+use lock_protocol::LockNames;
 use lock_service::{LockService, Terms};
 use std::alloc::Global;
 use std::io::{Read, Write};
@@ -42,16 +44,18 @@ fn terms_of(words: &LocksWords<'_>) -> Terms
     }
 }
 
-/// The service as it begins with these locks: a replica without a key, whose state is answered where it is asked for.
+/// The service as it begins with these locks, by these names: a replica without a key, whose state is answered where it is asked
+/// for.
 fn service_of(
     alloc: Global,
     locks: Locks,
+    names: LockNames,
     words: &LocksWords<'_>,
 ) -> Result<Restorable<Replica<LockService>>, ToolError<'static>>
-    ensures ok { IfOk result (λ service. BeginsWith words.now locks service) }
+    ensures ok { IfOk result (λ service. BeginsWith words.now names locks service) }
     ensures err { IfErr result (λ e. e ≡ ToolError.OutOfMemory) }
 {
-    match LockService::new(alloc, locks, terms_of(words)) {
+    match LockService::new(alloc, locks, names, terms_of(words)) {
         Ok(service) => Ok(Restorable::new(Replica::new(alloc, service))),
         Err(_) => Err(ToolError::OutOfMemory),
     }
@@ -86,6 +90,7 @@ fn serve_from<'a, D: Disk, I: Read, W: Write>(
 {
     let Start {
         locks,
+        names,
         number,
         behind,
     } = start;
@@ -94,7 +99,7 @@ fn serve_from<'a, D: Disk, I: Read, W: Write>(
         folder: words.journal,
         synced: words.synced,
     };
-    let mut service = match service_of(alloc, locks, words) {
+    let mut service = match service_of(alloc, locks, names, words) {
         Ok(service) => service,
         Err(fault) => return Err(fault),
     };
@@ -117,25 +122,25 @@ fn run_in_folder<'a, D: Disk, I: Read, W: Write>(
     alloc: Global,
     disk: &mut D,
     words: &LocksWords<'a>,
-    holders: &[Handover],
+    holders: &[NamedHold],
     input: &mut I,
     out: &mut W,
 ) -> Result<Restorable<Replica<LockService>>, ToolError<'a>>
     ensures ok { IfOk result (λ end.
-        IsServedIn words.now holders.now end (D.holds disk.old) (D.holds disk.new)
+        IsServedIn words.now (map hold_of holders.now) end (D.holds disk.old) (D.holds disk.new)
         (I.remaining input.old) (I.remaining input.new) (W.contents out.old)
         (W.contents out.new)) }
     ensures err { IfErr result (λ e.
-        IsRefusedIn words.now holders.now (D.holds disk.old) (D.holds disk.new)
+        IsRefusedIn words.now (map hold_of holders.now) (D.holds disk.old) (D.holds disk.new)
         (I.remaining input.old) (I.remaining input.new) (W.contents out.old)
         (W.contents out.new) e) }
     ensures lasts { outlives D.keeps_written words.now.synced ≡ true → IsSome (D.holds disk.old)
-        → FolderLasts words.now holders.now (D.holds disk.old) (I.remaining input.old)
+        → FolderLasts words.now (map hold_of holders.now) (D.holds disk.old) (I.remaining input.old)
         (I.remaining input.new) (W.contents out.old) (W.contents out.new) (D.leaves disk.new) }
     ensures held { IsSome (D.holds disk.old) → StaysLocked words.now (D.holds disk.new)
         (I.remaining input.old) (I.remaining input.new) (W.contents out.old) (W.contents out.new) }
     ensures life { words.now.faults ≡ false
-        → FolderLives words.now holders.now (D.holds disk.old) (I.remaining input.old)
+        → FolderLives words.now (map hold_of holders.now) (D.holds disk.old) (I.remaining input.old)
         (I.remaining input.new) (W.contents out.old) (W.contents out.new) }
 {
     match lock_folder(alloc, disk, words.journal) {

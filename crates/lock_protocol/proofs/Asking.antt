@@ -6,11 +6,14 @@ use Rattle.text_lines.proofs.Basics.{ok_is}
 use Rattle.text_lines.specs.LongNumbers.{number_spaced, number_ended, in_64_bits, order_at}
 use Rattle.text_lines.proofs.Spellings.{Any, Hears, both_hear, order_hears}
 use Rattle.text_lines.proofs.Commands.{Kind, Takes, kind_takes, kind_again, or_takes, none_takes, after_takes, line_takes, line_again}
-use Rattle.lock_protocol.specs.Asks.{Ask, acquire, try, release, cancel, leave, corrupt, stats, ask_text, heard}
+use Rattle.lock_protocol.specs.Names.{IsName, name_spaced, name_ended}
+use Rattle.lock_protocol.specs.NameReading.{name_at}
+use Rattle.lock_protocol.specs.Asks.{Ask, acquire, try, release, cancel, leave, corrupt, stats, ask_text, HasName, heard}
 use Rattle.lock_protocol.specs.Readers.{acquire_of, acquire_at, try_of, try_at, release_of, release_at, cancel_of, cancel_at, corrupt_of, corrupt_at, c_at, leave_of, leave_at, stats_of, stats_at, ask_at}
+use Rattle.lock_protocol.proofs.ReadNames.{name_hears}
 
 abbrev asks : Kind
-asks = record { C = Ask; Has = λ _. Unit {0}; line = ask_text; heard = heard }
+asks = record { C = Ask; Has = HasName; line = ask_text; heard = heard }
 
 abbrev TakesAsk : List ℕ → Reader (Option Ask) → Type 0
 TakesAsk before at = Takes asks before at
@@ -23,6 +26,12 @@ one = order_hears 32 (omega arith)
 last : Hears in_64_bits Any number_ended (order_at 10)
 last = order_hears 10 (omega arith)
 
+lock : Hears (λ (n : List ℕ). n) IsName name_spaced (name_at 32)
+lock = name_hears 32 refl
+
+last_lock : Hears (λ (n : List ℕ). n) IsName name_ended (name_at 10)
+last_lock = name_hears 10 refl
+
 none : Hears (λ (u : Unit {0}). u) (λ _. Unit {0}) (λ _. []) nothing_at
 none = record { takes = takes; again = λ a rest f. refl }
   where
@@ -31,43 +40,43 @@ none = record { takes = takes; again = λ a rest f. refl }
 
 acquire_takes : TakesAsk [] acquire_at
 unfolding acquire_at
-acquire_takes = kind_takes asks (both_hear one last) acquire_of (codes "acquire ") [] (λ p. acquire p.0 p.1) (λ p f. tt) (λ p. refl) (λ p. refl)
+acquire_takes = kind_takes asks (both_hear lock last) acquire_of (codes "acquire ") [] (λ p. acquire p.0 p.1) (λ p f. f.0) (λ p. refl) (λ p. refl)
 
-acquire_again : (lock order : ℕ) (rest : List ℕ) → acquire_at (ask_text (acquire lock order) ++ rest) ≡ Ok (heard (acquire lock order), rest)
+acquire_again : (name : List ℕ) (order : ℕ) (rest : List ℕ) → IsName name → acquire_at (ask_text (acquire name order) ++ rest) ≡ Ok (heard (acquire name order), rest)
 unfolding acquire_at
-acquire_again lock order rest = kind_again asks (both_hear one last) acquire_of (codes "acquire ") (lock, order) rest (tt, tt)
+acquire_again name order rest is = kind_again asks (both_hear lock last) acquire_of (codes "acquire ") (name, order) rest (is, tt)
 
 try_takes : TakesAsk [] try_at
 unfolding try_at
-try_takes = kind_takes asks (both_hear one last) try_of (codes "try ") [] (λ p. try p.0 p.1) (λ p f. tt) (λ p. refl) (λ p. refl)
+try_takes = kind_takes asks (both_hear lock last) try_of (codes "try ") [] (λ p. try p.0 p.1) (λ p f. f.0) (λ p. refl) (λ p. refl)
 
-try_again : (lock order : ℕ) (rest : List ℕ) → try_at (ask_text (try lock order) ++ rest) ≡ Ok (heard (try lock order), rest)
+try_again : (name : List ℕ) (order : ℕ) (rest : List ℕ) → IsName name → try_at (ask_text (try name order) ++ rest) ≡ Ok (heard (try name order), rest)
 unfolding try_at
-try_again lock order rest = kind_again asks (both_hear one last) try_of (codes "try ") (lock, order) rest (tt, tt)
+try_again name order rest is = kind_again asks (both_hear lock last) try_of (codes "try ") (name, order) rest (is, tt)
 
 release_takes : TakesAsk [] release_at
 unfolding release_at
-release_takes = kind_takes asks (both_hear one last) release_of (codes "release ") [] (λ p. release p.0 p.1) (λ p f. tt) (λ p. refl) (λ p. refl)
+release_takes = kind_takes asks (both_hear lock last) release_of (codes "release ") [] (λ p. release p.0 p.1) (λ p f. f.0) (λ p. refl) (λ p. refl)
 
-release_again : (lock token : ℕ) (rest : List ℕ) → release_at (ask_text (release lock token) ++ rest) ≡ Ok (heard (release lock token), rest)
+release_again : (name : List ℕ) (token : ℕ) (rest : List ℕ) → IsName name → release_at (ask_text (release name token) ++ rest) ≡ Ok (heard (release name token), rest)
 unfolding release_at
-release_again lock token rest = kind_again asks (both_hear one last) release_of (codes "release ") (lock, token) rest (tt, tt)
+release_again name token rest is = kind_again asks (both_hear lock last) release_of (codes "release ") (name, token) rest (is, tt)
 
 cancel_takes : TakesAsk (codes "c") cancel_at
 unfolding cancel_at
-cancel_takes = kind_takes asks last cancel_of (codes "ancel ") (codes "c") (λ n. cancel n) (λ n f. tt) (λ n. refl) (λ n. refl)
+cancel_takes = kind_takes asks last_lock cancel_of (codes "ancel ") (codes "c") (λ n. cancel n) (λ n f. f) (λ n. refl) (λ n. refl)
 
-cancel_again : (lock : ℕ) (rest : List ℕ) → c_at (ask_text (cancel lock) ++ rest) ≡ Ok (heard (cancel lock), rest)
+cancel_again : (name rest : List ℕ) → IsName name → c_at (ask_text (cancel name) ++ rest) ≡ Ok (heard (cancel name), rest)
 unfolding c_at cancel_at word_at
-cancel_again lock rest = kind_again asks last cancel_of (codes "ancel ") lock rest tt
+cancel_again name rest is = kind_again asks last_lock cancel_of (codes "ancel ") name rest is
 
 corrupt_takes : TakesAsk (codes "c") corrupt_at
 unfolding corrupt_at
-corrupt_takes = kind_takes asks (both_hear one (both_hear one last)) corrupt_of (codes "orrupt ") (codes "c") (λ p. corrupt p.0 p.1.0 p.1.1) (λ p f. tt) (λ p. refl) (λ p. refl)
+corrupt_takes = kind_takes asks (both_hear lock (both_hear one last)) corrupt_of (codes "orrupt ") (codes "c") (λ p. corrupt p.0 p.1.0 p.1.1) (λ p f. f.0) (λ p. refl) (λ p. refl)
 
-corrupt_again : (lock machine value : ℕ) (rest : List ℕ) → c_at (ask_text (corrupt lock machine value) ++ rest) ≡ Ok (heard (corrupt lock machine value), rest)
+corrupt_again : (name : List ℕ) (machine value : ℕ) (rest : List ℕ) → IsName name → c_at (ask_text (corrupt name machine value) ++ rest) ≡ Ok (heard (corrupt name machine value), rest)
 unfolding c_at corrupt_at word_at
-corrupt_again lock machine value rest = kind_again asks (both_hear one (both_hear one last)) corrupt_of (codes "orrupt ") (lock, (machine, value)) rest (tt, (tt, tt))
+corrupt_again name machine value rest is = kind_again asks (both_hear lock (both_hear one last)) corrupt_of (codes "orrupt ") (name, (machine, value)) rest (is, (tt, tt))
 
 leave_takes : TakesAsk [] leave_at
 unfolding leave_at
@@ -79,11 +88,11 @@ leave_again rest = kind_again asks none leave_of (codes "leave\n") tt rest tt
 
 stats_takes : TakesAsk [] stats_at
 unfolding stats_at
-stats_takes = kind_takes asks last stats_of (codes "stats ") [] (λ n. stats n) (λ n f. tt) (λ n. refl) (λ n. refl)
+stats_takes = kind_takes asks last_lock stats_of (codes "stats ") [] (λ n. stats n) (λ n f. f) (λ n. refl) (λ n. refl)
 
-stats_again : (lock : ℕ) (rest : List ℕ) → stats_at (ask_text (stats lock) ++ rest) ≡ Ok (heard (stats lock), rest)
+stats_again : (name rest : List ℕ) → IsName name → stats_at (ask_text (stats name) ++ rest) ≡ Ok (heard (stats name), rest)
 unfolding stats_at
-stats_again lock rest = kind_again asks last stats_of (codes "stats ") lock rest tt
+stats_again name rest is = kind_again asks last_lock stats_of (codes "stats ") name rest is
 
 -- ---- all of them
 
@@ -97,20 +106,20 @@ ask_takes =
     or_takes asks [] 97 acquire_at _ acquire_takes (or_takes asks [] 116 try_at _ try_takes (or_takes asks [] 114 release_at _ release_takes (or_takes asks [] 99 c_at _ c_takes
     (or_takes asks [] 108 leave_at _ leave_takes (or_takes asks [] 115 stats_at none_at stats_takes (none_takes asks []))))))
 
-ask_again : (a : Ask) (rest : List ℕ) → Unit {0} → ask_at (ask_text a ++ rest) ≡ Ok (heard a, rest)
+ask_again : (a : Ask) (rest : List ℕ) → HasName a → ask_at (ask_text a ++ rest) ≡ Ok (heard a, rest)
 unfolding ask_at
-ask_again (acquire lock order) rest u = acquire_again lock order rest
-ask_again (try lock order) rest u = try_again lock order rest
-ask_again (release lock token) rest u = release_again lock token rest
-ask_again (cancel lock) rest u = cancel_again lock rest
+ask_again (acquire name order) rest is = acquire_again name order rest is
+ask_again (try name order) rest is = try_again name order rest is
+ask_again (release name token) rest is = release_again name token rest is
+ask_again (cancel name) rest is = cancel_again name rest is
 ask_again leave rest u = leave_again rest
-ask_again (corrupt lock machine value) rest u = corrupt_again lock machine value rest
-ask_again (stats lock) rest u = stats_again lock rest
+ask_again (corrupt name machine value) rest is = corrupt_again name machine value rest is
+ask_again (stats name) rest is = stats_again name rest is
 
 -- ---- whole
 
-pub whole_takes : (text : List ℕ) (b : Option Ask) → whole_at ask_at text ≡ Ok b → (a : Ask) × (text ≡ ask_text a) × (heard a ≡ b)
-whole_takes text b e = let t = line_takes asks ask_at ask_takes text b e in (t.0, t.1.1, t.2)
+pub whole_takes : (text : List ℕ) (b : Option Ask) → whole_at ask_at text ≡ Ok b → (a : Ask) × HasName a × (text ≡ ask_text a) × (heard a ≡ b)
+whole_takes text b e = let t = line_takes asks ask_at ask_takes text b e in (t.0, t.1.0, t.1.1, t.2)
 
-pub whole_again : (a : Ask) (text : List ℕ) → text ≡ ask_text a → whole_at ask_at text ≡ Ok (heard a)
-whole_again a text e = line_again asks ask_at ask_again a text (tt, e)
+pub whole_again : (a : Ask) (text : List ℕ) → HasName a → text ≡ ask_text a → whole_at ask_at text ≡ Ok (heard a)
+whole_again a text is e = line_again asks ask_at ask_again a text (is, e)

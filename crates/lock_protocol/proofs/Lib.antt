@@ -1,3 +1,5 @@
+pub mod ReadNames
+pub mod NameTables
 pub mod Asking
 pub mod Fronts
 pub mod Whole

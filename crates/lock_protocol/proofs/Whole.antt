@@ -7,12 +7,10 @@ use Rattle.text_lines.specs.Reading.{whole_at}
 use Rattle.text_lines.proofs.Basics.{ok_is}
 use Rattle.text_lines.specs.LongNumbers.{number_spaced, in_64_bits, order_at}
 use Rattle.text_lines.proofs.LongDecimals.{in_some, in_none}
-use Rattle.lock_protocol.specs.declared.inputs.Ask.{Ask as Read}
-use Rattle.lock_protocol.specs.declared.inputs.Ask.TheVariants as reads
-use Rattle.lock_protocol.specs.declared.inputs.Input.{Input}
-use Rattle.lock_protocol.specs.declared.inputs.Input.TheVariants as input
 use Rattle.lock_protocol.specs.declared.inputs.Fault.TheVariants as fault
-use Rattle.lock_protocol.specs.Asks.{Ask, acquire, try, release, cancel, leave, corrupt, stats, ask_text, of_one, of_two, of_three, heard, seen}
+use Rattle.lock_protocol.specs.Asks.{Ask, acquire, try, release, cancel, leave, corrupt, stats, ask_text, of_one, of_two, HasName, heard}
+use Rattle.lock_protocol.specs.Views.{Input}
+use Rattle.lock_protocol.specs.Views as input
 use Rattle.text_lines.specs.Limits.{line_limit}
 use Rattle.lock_protocol.specs.Inputs.{front_of, IsFront, IsOf, IsInput, input_line, IsReadAs, OneReading, OneLineEach}
 use Rattle.lock_protocol.specs.Readers.{ask_at, IsAskedAs, IsUnread}
@@ -33,20 +31,14 @@ two_is make x y b e = elim (cases_lt x (2 ^ 64)) [
   | inr ge ↦ absurd (some_not_none (of_two make (in_64_bits x) (in_64_bits y)) b e (ap (λ (o : Option ℕ). of_two make o (in_64_bits y)) (in_none x ge)))
 ]
 
-three_is : (make : ℕ → ℕ → ℕ → Ask) (x y z : ℕ) (b : Ask) → of_three make (in_64_bits x) (in_64_bits y) (in_64_bits z) ≡ Some b → make x y z ≡ b
-three_is make x y z b e = elim (cases_lt x (2 ^ 64)) [
-  | inl lt ↦ two_is (make x) y z b (sym (ap (λ (o : Option ℕ). of_three make o (in_64_bits y) (in_64_bits z)) (in_some x lt)) ∙ e)
-  | inr ge ↦ absurd (some_not_none (of_three make (in_64_bits x) (in_64_bits y) (in_64_bits z)) b e (ap (λ (o : Option ℕ). of_three make o (in_64_bits y) (in_64_bits z)) (in_none x ge)))
-]
-
 heard_is : (a b : Ask) → heard a ≡ Some b → a ≡ b
-heard_is (acquire lock order) b e = two_is acquire lock order b e
-heard_is (try lock order) b e = two_is try lock order b e
-heard_is (release lock token) b e = two_is release lock token b e
-heard_is (cancel lock) b e = one_is cancel lock b e
+heard_is (acquire name order) b e = one_is (acquire name) order b e
+heard_is (try name order) b e = one_is (try name) order b e
+heard_is (release name token) b e = one_is (release name) token b e
+heard_is (cancel name) b e = some_is (cancel name) b e
 heard_is leave b e = some_is leave b e
-heard_is (corrupt lock machine value) b e = three_is corrupt lock machine value b e
-heard_is (stats lock) b e = one_is stats lock b e
+heard_is (corrupt name machine value) b e = two_is (corrupt name) machine value b e
+heard_is (stats name) b e = some_is (stats name) b e
 
 -- ---- the whole line
 
@@ -64,17 +56,17 @@ rest_is line c rest ask e is =
 
 pub asked_whole : (line : List ℕ) (c : ℕ) (rest : List ℕ) (i : Input) → length line ≤ line_limit → order_at 32 line ≡ Ok (Some c, rest) → IsAskedAs c rest i → IsReadAs line i
 asked_whole line c rest (input.Asked d ask) short e (same, read) =
-    let t = whole_takes rest (Some (seen ask)) read in
-    let is : t.0 ≡ seen ask = heard_is t.0 (seen ask) t.2 in
-    let whole : line ≡ input_line c (seen ask) = (spaced_some line c rest e).1 ∙ ap (λ (u : List ℕ). number_spaced c ++ u) (t.1 ∙ ap ask_text is) in
-    let heard_whole : heard (seen ask) ≡ Some (seen ask) = subst (λ (a : Ask). heard a ≡ Some (seen ask)) is t.2 in
-    subst (λ (x : ℕ). IsOf x line × IsInput x (seen ask) line × (heard (seen ask) ≡ Some (seen ask))) (sym same) (of_spaced line c rest short e, record { is = whole; short = short }, heard_whole)
+    let t = whole_takes rest (Some ask) read in
+    let is : t.0 ≡ ask = heard_is t.0 ask t.3 in
+    let whole : line ≡ input_line c ask = (spaced_some line c rest e).1 ∙ ap (λ (u : List ℕ). number_spaced c ++ u) (t.2 ∙ ap ask_text is) in
+    let heard_whole : heard ask ≡ Some ask = subst (λ (a : Ask). heard a ≡ Some ask) is t.3 in
+    subst (λ (x : ℕ). IsOf x line × IsInput x ask line × (heard ask ≡ Some ask)) (sym same) (of_spaced line c rest short e, record { is = whole; named = subst HasName is t.1; short = short }, heard_whole)
 asked_whole line c rest (input.Refused d fault.Number) short e (same, read) =
     let t = whole_takes rest None read in
-    let whole : line ≡ input_line c t.0 = (spaced_some line c rest e).1 ∙ ap (λ (u : List ℕ). number_spaced c ++ u) t.1 in
-    subst (λ (x : ℕ). IsOf x line × ((ask : Ask) × IsInput x ask line × (heard ask ≡ None))) (sym same) (of_spaced line c rest short e, (t.0, record { is = whole; short = short }, t.2))
+    let whole : line ≡ input_line c t.0 = (spaced_some line c rest e).1 ∙ ap (λ (u : List ℕ). number_spaced c ++ u) t.2 in
+    subst (λ (x : ℕ). IsOf x line × ((ask : Ask) × IsInput x ask line × (heard ask ≡ None))) (sym same) (of_spaced line c rest short e, (t.0, record { is = whole; named = t.1; short = short }, t.3))
 asked_whole line c rest (input.Refused d fault.Syntax) short e (same, (f, read)) =
-    let none : (ask : Ask) → IsInput c ask line → ⊥ = λ ask is. ok_not_err (whole_at ask_at rest) (heard ask) f (whole_again ask rest (rest_is line c rest ask e is)) read in
+    let none : (ask : Ask) → IsInput c ask line → ⊥ = λ ask is. ok_not_err (whole_at ask_at rest) (heard ask) f (whole_again ask rest is.named (rest_is line c rest ask e is)) read in
     subst (λ (x : ℕ). IsOf x line × ((ask : Ask) → IsInput x ask line → ⊥)) (sym same) (of_spaced line c rest short e, none)
 asked_whole line c rest input.Nobody short e n = absurd n
 
@@ -101,46 +93,27 @@ unread_long line input.Nobody long u = λ c of. u c of.bits of.front
 
 -- ---- one reading
 
-abbrev back : Ask → Read
-back (acquire lock order) = reads.Acquire lock order
-back (try lock order) = reads.Try lock order
-back (release lock token) = reads.Release lock token
-back (cancel lock) = reads.Cancel lock
-back leave = reads.Leave
-back (corrupt lock machine value) = reads.Corrupt lock machine value
-back (stats lock) = reads.Stats lock
-
-back_is : (r : Read) → back (seen r) ≡ r
-back_is (reads.Acquire lock order) = refl
-back_is (reads.Try lock order) = refl
-back_is (reads.Release lock token) = refl
-back_is (reads.Cancel lock) = refl
-back_is reads.Leave = refl
-back_is (reads.Corrupt lock machine value) = refl
-back_is (reads.Stats lock) = refl
-
 -- what is heard of a line of a connection
 same_heard : (line : List ℕ) (c d : ℕ) (a b : Ask) → c ≡ d → c < 2 ^ 64 → IsInput c a line → IsInput d b line → heard a ≡ heard b
 same_heard line c d a b same lt p q =
     let first = spaced_reads line c (ask_text a) lt p.is in
     let rest = rest_is line c (ask_text a) b first (subst (λ (x : ℕ). IsInput x b line) (sym same) q) in
-    ok_is (heard a) (heard b) (sym (whole_again a (ask_text a) refl) ∙ whole_again b (ask_text a) rest)
+    ok_is (heard a) (heard b) (sym (whole_again a (ask_text a) p.named refl) ∙ whole_again b (ask_text a) q.named rest)
 
-asked_asked : (line : List ℕ) (c d : ℕ) (x y : Read) → IsReadAs line (input.Asked c x) → IsReadAs line (input.Asked d y) → ◌≡◌ {A = Input} (input.Asked c x) (input.Asked d y)
+asked_asked : (line : List ℕ) (c d : ℕ) (x y : Ask) → IsReadAs line (input.Asked c x) → IsReadAs line (input.Asked d y) → ◌≡◌ {A = Input} (input.Asked c x) (input.Asked d y)
 asked_asked line c d x y p q =
     let same = one_client c d line p.0 q.0 in
-    let both = same_heard line c d (seen x) (seen y) same p.0.bits p.1 q.1 in
-    let ask : seen x ≡ seen y = some_is (seen x) (seen y) (sym p.2 ∙ both ∙ q.2) in
-    let read : x ≡ y = sym (back_is x) ∙ ap back ask ∙ back_is y in
-    λ i. input.Asked (same i) (read i)
+    let both = same_heard line c d x y same p.0.bits p.1 q.1 in
+    let ask : x ≡ y = some_is x y (sym p.2 ∙ both ∙ q.2) in
+    λ i. input.Asked (same i) (ask i)
 
-asked_number : (line : List ℕ) (c d : ℕ) (x : Read) → IsReadAs line (input.Asked c x) → IsReadAs line (input.Refused d fault.Number) → ⊥
+asked_number : (line : List ℕ) (c d : ℕ) (x : Ask) → IsReadAs line (input.Asked c x) → IsReadAs line (input.Refused d fault.Number) → ⊥
 asked_number line c d x p q =
     let same = one_client c d line p.0 q.0 in
-    some_not_none (heard (seen x)) (seen x) p.2 (same_heard line c d (seen x) q.1.0 same p.0.bits p.1 q.1.1 ∙ q.1.2)
+    some_not_none (heard x) x p.2 (same_heard line c d x q.1.0 same p.0.bits p.1 q.1.1 ∙ q.1.2)
 
-asked_syntax : (line : List ℕ) (c d : ℕ) (x : Read) → IsReadAs line (input.Asked c x) → IsReadAs line (input.Refused d fault.Syntax) → ⊥
-asked_syntax line c d x p q = q.1 (seen x) (subst (λ (z : ℕ). IsInput z (seen x) line) (one_client c d line p.0 q.0) p.1)
+asked_syntax : (line : List ℕ) (c d : ℕ) (x : Ask) → IsReadAs line (input.Asked c x) → IsReadAs line (input.Refused d fault.Syntax) → ⊥
+asked_syntax line c d x p q = q.1 x (subst (λ (z : ℕ). IsInput z x line) (one_client c d line p.0 q.0) p.1)
 
 number_syntax : (line : List ℕ) (c d : ℕ) → IsReadAs line (input.Refused c fault.Number) → IsReadAs line (input.Refused d fault.Syntax) → ⊥
 number_syntax line c d p q = q.1 p.1.0 (subst (λ (z : ℕ). IsInput z p.1.0 line) (one_client c d line p.0 q.0) p.1.1)
@@ -164,13 +137,13 @@ one_reading line input.Nobody (input.Refused d fault.Syntax) p q = absurd (p d q
 one_reading line input.Nobody input.Nobody p q = refl
 
 pub one_line_each : OneLineEach
-one_line_each c d a b cs ds fits fits2 e =
+one_line_each c d a b cs ds named named2 fits fits2 e =
     let one = spaced_reads (input_line c a) c (ask_text a) cs refl in
     let two = spaced_reads (input_line c a) d (ask_text b) ds e in
     let both = ok_is (Some c, ask_text a) (Some d, ask_text b) (sym one ∙ two) in
     let client : c ≡ d = some_is c d (ap (λ (z : Option ℕ × List ℕ). z.0) both) in
     let text : ask_text a ≡ ask_text b = ap (λ (z : Option ℕ × List ℕ). z.1) both in
-    let heard_both : heard a ≡ heard b = ok_is (heard a) (heard b) (sym (whole_again a (ask_text a) refl) ∙ whole_again b (ask_text a) text) in
+    let heard_both : heard a ≡ heard b = ok_is (heard a) (heard b) (sym (whole_again a (ask_text a) named refl) ∙ whole_again b (ask_text a) named2 text) in
     (client, some_is a b (sym fits ∙ heard_both ∙ fits2))
 
 -- ---- a line that is too long is read as its start is

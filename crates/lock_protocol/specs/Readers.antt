@@ -4,11 +4,19 @@ use Rattle.std.specs.Prelude.{◌≡◌, ℕ, ◌<◌, ◌^◌, List, [], ◌∷
 use Rattle.text_lines.specs.declared.fault.Fault.{Fault as Stop}
 use Rattle.text_lines.specs.Reading.{Reader, nothing_at, after_at, ◌then◌, as_at, branch, choice_at, whole_at}
 use Rattle.text_lines.specs.LongNumbers.{order_at}
-use Rattle.lock_protocol.specs.declared.inputs.Input.{Input}
-use Rattle.lock_protocol.specs.declared.inputs.Input.TheVariants as input
 use Rattle.lock_protocol.specs.declared.inputs.Fault.TheVariants as fault
 use Rattle.lock_protocol.specs.Inputs.{IsFront}
-use Rattle.lock_protocol.specs.Asks.{Ask, seen, acquire, try, release, cancel, leave, corrupt, stats, of_one, of_two, of_three}
+use Rattle.lock_protocol.specs.Asks.{Ask, acquire, try, release, cancel, leave, corrupt, stats, of_one, of_two}
+use Rattle.lock_protocol.specs.NameReading.{name_at}
+use Rattle.lock_protocol.specs.Views.{Input}
+use Rattle.lock_protocol.specs.Views as input
+
+-- a lock's name before other words, and the last of a line
+abbrev pub lock : Reader (List ℕ)
+lock = name_at 32
+
+abbrev pub last_lock : Reader (List ℕ)
+last_lock = name_at 10
 
 -- one number after another, and the last of a line
 abbrev pub number : Reader (Option ℕ)
@@ -17,35 +25,35 @@ number = order_at 32
 abbrev pub last : Reader (Option ℕ)
 last = order_at 10
 
-abbrev pub acquire_of : Option ℕ × Option ℕ → Option Ask
-acquire_of (lock, label) = of_two acquire lock label
+abbrev pub acquire_of : List ℕ × Option ℕ → Option Ask
+acquire_of (name, label) = of_one (acquire name) label
 
 unfoldable pub acquire_at : Reader (Option Ask)
-acquire_at = as_at acquire_of (after_at (codes "acquire ") (number then last))
+acquire_at = as_at acquire_of (after_at (codes "acquire ") (lock then last))
 
-abbrev pub try_of : Option ℕ × Option ℕ → Option Ask
-try_of (lock, label) = of_two try lock label
+abbrev pub try_of : List ℕ × Option ℕ → Option Ask
+try_of (name, label) = of_one (try name) label
 
 unfoldable pub try_at : Reader (Option Ask)
-try_at = as_at try_of (after_at (codes "try ") (number then last))
+try_at = as_at try_of (after_at (codes "try ") (lock then last))
 
-abbrev pub release_of : Option ℕ × Option ℕ → Option Ask
-release_of (lock, token) = of_two release lock token
+abbrev pub release_of : List ℕ × Option ℕ → Option Ask
+release_of (name, token) = of_one (release name) token
 
 unfoldable pub release_at : Reader (Option Ask)
-release_at = as_at release_of (after_at (codes "release ") (number then last))
+release_at = as_at release_of (after_at (codes "release ") (lock then last))
 
-abbrev pub cancel_of : Option ℕ → Option Ask
-cancel_of lock = of_one cancel lock
+abbrev pub cancel_of : List ℕ → Option Ask
+cancel_of name = Some (cancel name)
 
 unfoldable pub cancel_at : Reader (Option Ask)
-cancel_at = as_at cancel_of (after_at (codes "ancel ") last)
+cancel_at = as_at cancel_of (after_at (codes "ancel ") last_lock)
 
-abbrev pub corrupt_of : Option ℕ × (Option ℕ × Option ℕ) → Option Ask
-corrupt_of (lock, (machine, value)) = of_three corrupt lock machine value
+abbrev pub corrupt_of : List ℕ × (Option ℕ × Option ℕ) → Option Ask
+corrupt_of (name, (machine, value)) = of_two (corrupt name) machine value
 
 unfoldable pub corrupt_at : Reader (Option Ask)
-corrupt_at = as_at corrupt_of (after_at (codes "orrupt ") (number then number then last))
+corrupt_at = as_at corrupt_of (after_at (codes "orrupt ") (lock then number then last))
 
 -- an ask that begins with a c
 unfoldable pub c_at : Reader (Option Ask)
@@ -57,11 +65,11 @@ leave_of u = Some leave
 unfoldable pub leave_at : Reader (Option Ask)
 leave_at = as_at leave_of (after_at (codes "leave\n") nothing_at)
 
-abbrev pub stats_of : Option ℕ → Option Ask
-stats_of lock = of_one stats lock
+abbrev pub stats_of : List ℕ → Option Ask
+stats_of name = Some (stats name)
 
 unfoldable pub stats_at : Reader (Option Ask)
-stats_at = as_at stats_of (after_at (codes "stats ") last)
+stats_at = as_at stats_of (after_at (codes "stats ") last_lock)
 
 -- the ask that comes
 unfoldable pub ask_at : Reader (Option Ask)
@@ -79,7 +87,7 @@ ask_at =
 -- what is read of the rest of a line, after the number of the client and a space
 abbrev pub IsAskedAs : ℕ → List ℕ → Input → Type 0
 IsAskedAs client rest (input.Asked c ask) =
-    (c ≡ client) × (whole_at ask_at rest ≡ Ok (Some (seen ask)))
+    (c ≡ client) × (whole_at ask_at rest ≡ Ok (Some ask))
 IsAskedAs client rest (input.Refused c fault.Number) =
     (c ≡ client) × (whole_at ask_at rest ≡ Ok None)
 IsAskedAs client rest (input.Refused c fault.Syntax) =

@@ -1,9 +1,10 @@
 //! The answers, as lines.
 
-ghost use Rattle.std.specs.Prelude.{◌≡◌, ◌≤◌, ◌+◌, ◌++◌, List, ℕ, codes, length, OnOk, OnErr};
+ghost use Rattle.std.specs.Prelude.{◌≡◌, ◌≤◌, ◌+◌, ◌++◌, ◌∷◌, [], List, ℕ, length, OnOk, OnErr};
 ghost use Rattle.std.specs.Fmt.{decimal};
 ghost use Rattle.text_lines.specs.Spelling.{spaced, ended};
 ghost use Rattle.held_locks.specs.declared.answers.Answer.TheVariants as answer;
+ghost use Rattle.lock_protocol.specs.Names.{name_spaced, name_ended};
 ghost use Rattle.lock_protocol.specs.Answers.{refusal_text, holder_text, answer_text, answer_line, denial_text, denial_line};
 
 use held_locks::{Answer, Holder, Refusal, Stats};
@@ -21,18 +22,7 @@ pub enum Denial {
     Off,
 }
 
-/// Puts the word before a line, as [`text_lines::put_word`] does. If the word is known, no loop is left.
-#[inline(always)]
-fn put_front(line: &mut Line, word: &[u8])
-    requires { length line.old + length word.now ≤ 128 }
-    ensures { line.new ≡ word.now ++ line.old }
-{
-    for i in 0..word.len() {
-        line.byte(word[word.len() - 1 - i]);
-    }
-}
-
-/// Puts the number's decimal before a line. Most locks and clients have a number of one digit.
+/// Puts the number's decimal before a line. Most clients have a number of one digit.
 #[inline(always)]
 fn put_decimal(line: &mut Line, number: u64)
     requires { length line.old ≤ 108 }
@@ -58,38 +48,6 @@ fn words(client: u64, text: &[u8]) -> Line
     line
 }
 
-/// The line of a word and a lock, for a client.
-fn of_lock(client: u64, word: &[u8], lock: u32) -> Line
-    requires { length word.now ≤ 64 }
-    ensures { result ≡ spaced client ++ (word.now ++ ended lock) }
-{
-    let mut line = Line::new();
-    line.byte(b'\n');
-    line.number(lock as u64);
-    put_word(&mut line, word);
-    line.byte(b' ');
-    line.number(client);
-    line
-}
-
-/// The line of a refusal.
-fn refusal_line(client: u64, lock: u32, why: Refusal) -> Line
-    ensures { result ≡ spaced client ++ refusal_text lock why }
-{
-    match why {
-        Refusal::Lock => words(client, b"refused lock\n"),
-        Refusal::Holds => of_lock(client, b"refused holds ", lock),
-        Refusal::Waits => of_lock(client, b"refused waits ", lock),
-        Refusal::Circle => of_lock(client, b"refused circle ", lock),
-        Refusal::Holder => of_lock(client, b"refused holder ", lock),
-        Refusal::Waiter => of_lock(client, b"refused waiter ", lock),
-        Refusal::Machine => of_lock(client, b"refused machine ", lock),
-        Refusal::Value => of_lock(client, b"refused value ", lock),
-        Refusal::Full => of_lock(client, b"refused full ", lock),
-        Refusal::Memory => of_lock(client, b"refused memory ", lock),
-    }
-}
-
 /// The end of a line: the holder of a lock.
 fn holder_end(holder: Option<Holder>) -> Line
     ensures is { result ≡ holder_text holder }
@@ -112,31 +70,31 @@ fn holder_end(holder: Option<Holder>) -> Line
     line
 }
 
-/// The end of a line: how many wait for a lock, how many passes were granted, and who holds it.
+/// The end of a line, after the name: all that there is to say of a lock.
 fn stats_end(stats: Stats) -> Line
-    ensures { result ≡ spaced stats.waiters ++ (spaced stats.passes ++ holder_text stats.holder) }
+    ensures { result ≡ 32 ∷ (spaced stats.machines
+        ++ (spaced stats.waiters ++ (spaced stats.passes ++ holder_text stats.holder))) }
 {
     let mut line = holder_end(stats.holder);
     line.byte(b' ');
     line.number(stats.passes);
     line.byte(b' ');
     line.number(stats.waiters);
+    line.byte(b' ');
+    line.number(stats.machines as u64);
+    line.byte(b' ');
     line
 }
 
-/// The start of a line: the lock, and how many machines it has.
-fn stats_start(client: u64, lock: u32, machines: u32) -> Line
-    ensures { (rest : List ℕ) → result ++ rest ≡ spaced client
-        ++ (codes "stats " ++ (spaced lock ++ (spaced machines ++ rest))) }
+/// The end of a line, after the name: a number.
+#[inline(always)]
+fn number_end(number: u64) -> Line
+    ensures { result ≡ 32 ∷ ended number }
 {
     let mut line = Line::new();
+    line.byte(b'\n');
+    line.number(number);
     line.byte(b' ');
-    line.number(machines as u64);
-    line.byte(b' ');
-    line.number(lock as u64);
-    put_word(&mut line, b"stats ");
-    line.byte(b' ');
-    line.number(client);
     line
 }
 
@@ -149,66 +107,52 @@ fn put(text: &mut Vec<u8>, line: &Line) -> Result<(), AllocError>
     text.extend_from_slice(line.as_bytes())
 }
 
-/// Adds the line of a word and a lock, for a client.
+/// Adds the number's decimal to a text.
 #[inline(always)]
-fn put_of_lock(text: &mut Vec<u8>, client: u64, word: &[u8], lock: u32) -> Result<(), AllocError>
-    requires { length word.now ≤ 64 }
-    ensures ok { OnOk result
-        (text.new.items ≡ text.old.items ++ (spaced client ++ (word.now ++ ended lock))) }
+fn put_number(text: &mut Vec<u8>, number: u64) -> Result<(), AllocError>
+    ensures ok { OnOk result (text.new.items ≡ text.old.items ++ decimal number) }
     ensures err { OnErr result (text.new.items ≡ text.old.items) }
 {
     let mut line = Line::new();
-    line.byte(b'\n');
-    put_decimal(&mut line, lock as u64);
-    put_front(&mut line, word);
-    line.byte(b' ');
-    put_decimal(&mut line, client);
+    put_decimal(&mut line, number);
     put(text, &line)
 }
 
-/// Adds the line of a word, a lock and a number, for a client.
+/// Adds the parts of a line: the client, a word between spaces, a name, and what comes after it. The text may have some of them
+/// if memory is short.
 #[inline(always)]
-fn put_of_number(
+fn put_parts(
     text: &mut Vec<u8>,
     client: u64,
     word: &[u8],
-    lock: u32,
-    number: u64,
+    name: &[u8],
+    end: &[u8],
 ) -> Result<(), AllocError>
-    requires { length word.now ≤ 32 }
-    ensures ok { OnOk result (text.new.items ≡ text.old.items
-        ++ (spaced client ++ (word.now ++ (spaced lock ++ ended number)))) }
-    ensures err { OnErr result (text.new.items ≡ text.old.items) }
+    ensures ok { OnOk result (text.new.items
+        ≡ text.old.items ++ (decimal client ++ (word.now ++ (name.now ++ end.now)))) }
+    ensures err { OnErr result ((more : List ℕ) × (text.new.items ≡ text.old.items ++ more)) }
 {
-    let mut line = Line::new();
-    line.byte(b'\n');
-    line.number(number);
-    line.byte(b' ');
-    put_decimal(&mut line, lock as u64);
-    put_front(&mut line, word);
-    line.byte(b' ');
-    put_decimal(&mut line, client);
-    put(text, &line)
+    put_number(text, client)?;
+    text.extend_from_slice(word)?;
+    text.extend_from_slice(name)?;
+    text.extend_from_slice(end)
 }
 
-/// Adds the line of a refusal.
-fn put_refusal(text: &mut Vec<u8>, client: u64, lock: u32, why: Refusal) -> Result<(), AllocError>
-    ensures ok { OnOk result
-        (text.new.items ≡ text.old.items ++ (spaced client ++ refusal_text lock why)) }
-    ensures err { OnErr result (text.new.items ≡ text.old.items) }
-{
-    put(text, &refusal_line(client, lock, why))
-}
-
-/// Adds the line that says all of a lock.
-fn put_stats(text: &mut Vec<u8>, client: u64, lock: u32, stats: Stats) -> Result<(), AllocError>
-    ensures ok { OnOk result
-        (text.new.items ≡ text.old.items ++ answer_line client lock (answer.Stats stats)) }
+/// Adds the line of a word, a name and what comes after it, for a client.
+#[inline(always)]
+fn put_named(
+    text: &mut Vec<u8>,
+    client: u64,
+    word: &[u8],
+    name: &[u8],
+    end: &[u8],
+) -> Result<(), AllocError>
+    ensures ok { OnOk result (text.new.items
+        ≡ text.old.items ++ (decimal client ++ (word.now ++ (name.now ++ end.now)))) }
     ensures err { OnErr result (text.new.items ≡ text.old.items) }
 {
     let before = text.len();
-    put(text, &stats_start(client, lock, stats.machines))?;
-    match put(text, &stats_end(stats)) {
+    match put_parts(text, client, word, name, end) {
         Ok(()) => Ok(()),
         Err(error) => {
             text.truncate(before);
@@ -217,7 +161,71 @@ fn put_stats(text: &mut Vec<u8>, client: u64, lock: u32, stats: Stats) -> Result
     }
 }
 
-/// Adds the line of an answer to a client about a lock.
+/// Adds the line of a word and a lock, for a client.
+#[inline(always)]
+fn put_of_lock(text: &mut Vec<u8>, client: u64, word: &[u8], name: &[u8]) -> Result<(), AllocError>
+    ensures ok { OnOk result (text.new.items
+        ≡ text.old.items ++ (decimal client ++ (word.now ++ name_ended name.now))) }
+    ensures err { OnErr result (text.new.items ≡ text.old.items) }
+{
+    put_named(text, client, word, name, b"\n")
+}
+
+/// Adds the line of a word, a lock and a number, for a client.
+#[inline(always)]
+fn put_of_number(
+    text: &mut Vec<u8>,
+    client: u64,
+    word: &[u8],
+    name: &[u8],
+    number: u64,
+) -> Result<(), AllocError>
+    ensures ok { OnOk result (text.new.items ≡ text.old.items
+        ++ (decimal client ++ (word.now ++ (name_spaced name.now ++ ended number)))) }
+    ensures err { OnErr result (text.new.items ≡ text.old.items) }
+{
+    put_named(text, client, word, name, number_end(number).as_bytes())
+}
+
+/// Adds the line of a refusal, of which this is the word.
+fn put_refused(text: &mut Vec<u8>, client: u64, word: &[u8], name: &[u8]) -> Result<(), AllocError>
+    ensures ok { OnOk result (text.new.items
+        ≡ text.old.items ++ (decimal client ++ (word.now ++ name_ended name.now))) }
+    ensures err { OnErr result (text.new.items ≡ text.old.items) }
+{
+    put_of_lock(text, client, word, name)
+}
+
+/// Adds the line of a refusal.
+fn put_refusal(text: &mut Vec<u8>, client: u64, name: &[u8], why: Refusal) -> Result<(), AllocError>
+    ensures ok { OnOk result
+        (text.new.items ≡ text.old.items ++ (spaced client ++ refusal_text name.now why)) }
+    ensures err { OnErr result (text.new.items ≡ text.old.items) }
+{
+    match why {
+        Refusal::Lock => put_refused(text, client, b" refused lock ", name),
+        Refusal::Holds => put_refused(text, client, b" refused holds ", name),
+        Refusal::Waits => put_refused(text, client, b" refused waits ", name),
+        Refusal::Circle => put_refused(text, client, b" refused circle ", name),
+        Refusal::Holder => put_refused(text, client, b" refused holder ", name),
+        Refusal::Waiter => put_refused(text, client, b" refused waiter ", name),
+        Refusal::Machine => put_refused(text, client, b" refused machine ", name),
+        Refusal::Value => put_refused(text, client, b" refused value ", name),
+        Refusal::Full => put_refused(text, client, b" refused full ", name),
+        Refusal::Memory => put_refused(text, client, b" refused memory ", name),
+    }
+}
+
+/// Adds the line that says all of a lock.
+fn put_stats(text: &mut Vec<u8>, client: u64, name: &[u8], stats: Stats) -> Result<(), AllocError>
+    ensures ok { OnOk result (text.new.items
+        ≡ text.old.items ++ answer_line client name.now (answer.Stats stats)) }
+    ensures err { OnErr result (text.new.items ≡ text.old.items) }
+{
+    put_named(text, client, b" stats ", name, stats_end(stats).as_bytes())
+}
+
+/// Adds the line of an answer to a client about the lock of this name.
 ///
 /// # Errors
 ///
@@ -225,21 +233,22 @@ fn put_stats(text: &mut Vec<u8>, client: u64, lock: u32, stats: Stats) -> Result
 pub fn put_answer(
     text: &mut Vec<u8>,
     client: u64,
-    lock: u32,
+    name: &[u8],
     answer: Answer,
 ) -> Result<(), AllocError>
-    ensures ok { OnOk result (text.new.items ≡ text.old.items ++ answer_line client lock answer) }
+    ensures ok { OnOk result
+        (text.new.items ≡ text.old.items ++ answer_line client name.now answer) }
     ensures err { OnErr result (text.new.items ≡ text.old.items) }
 {
     match answer {
-        Answer::Granted(token) => put_of_number(text, client, b"granted ", lock, token),
-        Answer::Waiting(before) => put_of_number(text, client, b"waiting ", lock, before),
-        Answer::Busy => put_of_lock(text, client, b"busy ", lock),
-        Answer::Released => put_of_lock(text, client, b"released ", lock),
-        Answer::Cancelled => put_of_lock(text, client, b"cancelled ", lock),
-        Answer::Corrupted(old) => put_of_number(text, client, b"corrupted ", lock, old as u64),
-        Answer::Stats(stats) => put_stats(text, client, lock, stats),
-        Answer::Refused(why) => put_refusal(text, client, lock, why),
+        Answer::Granted(token) => put_of_number(text, client, b" granted ", name, token),
+        Answer::Waiting(before) => put_of_number(text, client, b" waiting ", name, before),
+        Answer::Busy => put_of_lock(text, client, b" busy ", name),
+        Answer::Released => put_of_lock(text, client, b" released ", name),
+        Answer::Cancelled => put_of_lock(text, client, b" cancelled ", name),
+        Answer::Corrupted(old) => put_of_number(text, client, b" corrupted ", name, old as u64),
+        Answer::Stats(stats) => put_stats(text, client, name, stats),
+        Answer::Refused(why) => put_refusal(text, client, name, why),
     }
 }
 

@@ -8,77 +8,76 @@ ghost use Rattle.text_lines.specs.Exact.{Returns};
 ghost use Rattle.lock_protocol.specs.Asks.{seen};
 ghost use Rattle.text_lines.specs.declared.fault.Fault.{Fault as Stop};
 ghost use Rattle.text_lines.specs.LongNumbers.{order_at};
+ghost use Rattle.lock_protocol.specs.Views.{input_of};
 ghost use Rattle.lock_protocol.specs.Inputs.{front_of, IsFront, IsReadAs};
 ghost use Rattle.lock_protocol.specs.Readers.{IsAskedAs, IsUnread};
 ghost use Rattle.lock_protocol.specs.Readers.{acquire_at, try_at, release_at, cancel_at, corrupt_at, c_at, leave_at, stats_at, ask_at};
 
 use crate::inputs::{Ask, Fault as InputFault, Input};
+use crate::name_reading::lock_name;
 use text_lines::{Fault, LINE_LIMIT, fixed_word, number};
 
 #[tactic(auto, unfolding(crate::specs::Readers::acquire_at))]
-fn acquire(bytes: &[u8]) -> Result<(Option<Ask>, &[u8]), Fault>
+fn acquire(bytes: &[u8]) -> Result<(Option<Ask<'_>>, &[u8]), Fault>
     ensures { Returns (λ x. (option_map seen x.0, x.1.now)) result (acquire_at bytes.now) }
 {
     let rest = fixed_word(bytes, b"acquire ")?;
-    let (lock, rest) = number(rest, b' ')?;
+    let (name, rest) = lock_name(rest, b' ')?;
     let (label, rest) = number(rest, b'\n')?;
-    let (Some(lock), Some(label)) = (lock, label) else {
+    let Some(label) = label else {
         return Ok((None, rest));
     };
-    Ok((Some(Ask::Acquire { lock, label }), rest))
+    Ok((Some(Ask::Acquire { name, label }), rest))
 }
 
 #[tactic(auto, unfolding(crate::specs::Readers::try_at))]
-fn try_acquire(bytes: &[u8]) -> Result<(Option<Ask>, &[u8]), Fault>
+fn try_acquire(bytes: &[u8]) -> Result<(Option<Ask<'_>>, &[u8]), Fault>
     ensures { Returns (λ x. (option_map seen x.0, x.1.now)) result (try_at bytes.now) }
 {
     let rest = fixed_word(bytes, b"try ")?;
-    let (lock, rest) = number(rest, b' ')?;
+    let (name, rest) = lock_name(rest, b' ')?;
     let (label, rest) = number(rest, b'\n')?;
-    let (Some(lock), Some(label)) = (lock, label) else {
+    let Some(label) = label else {
         return Ok((None, rest));
     };
-    Ok((Some(Ask::Try { lock, label }), rest))
+    Ok((Some(Ask::Try { name, label }), rest))
 }
 
 #[tactic(auto, unfolding(crate::specs::Readers::release_at))]
-fn release(bytes: &[u8]) -> Result<(Option<Ask>, &[u8]), Fault>
+fn release(bytes: &[u8]) -> Result<(Option<Ask<'_>>, &[u8]), Fault>
     ensures { Returns (λ x. (option_map seen x.0, x.1.now)) result (release_at bytes.now) }
 {
     let rest = fixed_word(bytes, b"release ")?;
-    let (lock, rest) = number(rest, b' ')?;
+    let (name, rest) = lock_name(rest, b' ')?;
     let (token, rest) = number(rest, b'\n')?;
-    let (Some(lock), Some(token)) = (lock, token) else {
+    let Some(token) = token else {
         return Ok((None, rest));
     };
-    Ok((Some(Ask::Release { lock, token }), rest))
+    Ok((Some(Ask::Release { name, token }), rest))
 }
 
 #[tactic(auto, unfolding(crate::specs::Readers::cancel_at))]
-fn cancel(bytes: &[u8]) -> Result<(Option<Ask>, &[u8]), Fault>
+fn cancel(bytes: &[u8]) -> Result<(Option<Ask<'_>>, &[u8]), Fault>
     ensures { Returns (λ x. (option_map seen x.0, x.1.now)) result (cancel_at bytes.now) }
 {
     let rest = fixed_word(bytes, b"ancel ")?;
-    let (lock, rest) = number(rest, b'\n')?;
-    let Some(lock) = lock else {
-        return Ok((None, rest));
-    };
-    Ok((Some(Ask::Cancel { lock }), rest))
+    let (name, rest) = lock_name(rest, b'\n')?;
+    Ok((Some(Ask::Cancel { name }), rest))
 }
 
 #[tactic(auto, unfolding(crate::specs::Readers::corrupt_at))]
-fn corrupt(bytes: &[u8]) -> Result<(Option<Ask>, &[u8]), Fault>
+fn corrupt(bytes: &[u8]) -> Result<(Option<Ask<'_>>, &[u8]), Fault>
     ensures { Returns (λ x. (option_map seen x.0, x.1.now)) result (corrupt_at bytes.now) }
 {
     let rest = fixed_word(bytes, b"orrupt ")?;
-    let (lock, rest) = number(rest, b' ')?;
+    let (name, rest) = lock_name(rest, b' ')?;
     let (machine, rest) = number(rest, b' ')?;
     let (value, rest) = number(rest, b'\n')?;
-    let (Some(lock), Some(machine), Some(value)) = (lock, machine, value) else {
+    let (Some(machine), Some(value)) = (machine, value) else {
         return Ok((None, rest));
     };
     let ask = Ask::Corrupt {
-        lock,
+        name,
         machine,
         value,
     };
@@ -86,7 +85,7 @@ fn corrupt(bytes: &[u8]) -> Result<(Option<Ask>, &[u8]), Fault>
 }
 
 #[tactic(auto, unfolding(crate::specs::Readers::c_at))]
-fn begins_with_c(bytes: &[u8]) -> Result<(Option<Ask>, &[u8]), Fault>
+fn begins_with_c(bytes: &[u8]) -> Result<(Option<Ask<'_>>, &[u8]), Fault>
     ensures { Returns (λ x. (option_map seen x.0, x.1.now)) result (c_at bytes.now) }
 {
     let rest = fixed_word(bytes, b"c")?;
@@ -99,7 +98,7 @@ fn begins_with_c(bytes: &[u8]) -> Result<(Option<Ask>, &[u8]), Fault>
 }
 
 #[tactic(auto, unfolding(crate::specs::Readers::leave_at))]
-fn leave(bytes: &[u8]) -> Result<(Option<Ask>, &[u8]), Fault>
+fn leave(bytes: &[u8]) -> Result<(Option<Ask<'_>>, &[u8]), Fault>
     ensures { Returns (λ x. (option_map seen x.0, x.1.now)) result (leave_at bytes.now) }
 {
     let rest = fixed_word(bytes, b"leave\n")?;
@@ -107,19 +106,16 @@ fn leave(bytes: &[u8]) -> Result<(Option<Ask>, &[u8]), Fault>
 }
 
 #[tactic(auto, unfolding(crate::specs::Readers::stats_at))]
-fn stats(bytes: &[u8]) -> Result<(Option<Ask>, &[u8]), Fault>
+fn stats(bytes: &[u8]) -> Result<(Option<Ask<'_>>, &[u8]), Fault>
     ensures { Returns (λ x. (option_map seen x.0, x.1.now)) result (stats_at bytes.now) }
 {
     let rest = fixed_word(bytes, b"stats ")?;
-    let (lock, rest) = number(rest, b'\n')?;
-    let Some(lock) = lock else {
-        return Ok((None, rest));
-    };
-    Ok((Some(Ask::Stats { lock }), rest))
+    let (name, rest) = lock_name(rest, b'\n')?;
+    Ok((Some(Ask::Stats { name }), rest))
 }
 
 #[tactic(auto, unfolding(crate::specs::Readers::ask_at))]
-fn front_ask(bytes: &[u8]) -> Result<(Option<Ask>, &[u8]), Fault>
+fn front_ask(bytes: &[u8]) -> Result<(Option<Ask<'_>>, &[u8]), Fault>
     ensures { Returns (λ x. (option_map seen x.0, x.1.now)) result (ask_at bytes.now) }
 {
     match bytes {
@@ -136,7 +132,7 @@ fn front_ask(bytes: &[u8]) -> Result<(Option<Ask>, &[u8]), Fault>
 
 /// What is heard of the ask that these bytes are.
 #[tactic(auto, unfolding(text_lines::specs::Reading::whole_at))]
-fn whole_ask(bytes: &[u8]) -> Result<Option<Ask>, Fault>
+fn whole_ask(bytes: &[u8]) -> Result<Option<Ask<'_>>, Fault>
     ensures { Returns (λ c. option_map seen c) result (whole_at ask_at bytes.now) }
 {
     let (ask, rest) = front_ask(bytes)?;
@@ -147,8 +143,8 @@ fn whole_ask(bytes: &[u8]) -> Result<Option<Ask>, Fault>
 }
 
 /// What a client asks by the rest of its line.
-fn asked(client: u64, rest: &[u8]) -> Input
-    ensures { IsAskedAs client rest.now result }
+fn asked(client: u64, rest: &[u8]) -> Input<'_>
+    ensures { IsAskedAs client rest.now (input_of result) }
 {
     match whole_ask(rest) {
         Ok(Some(ask)) => Input::Asked { client, ask },
@@ -178,8 +174,8 @@ fn connection(bytes: &[u8]) -> Option<u64>
 }
 
 /// A line that asks nothing, of the connection whose number its front begins with.
-fn unread(front: &[u8]) -> Input
-    ensures { IsUnread front.now result }
+fn unread(front: &[u8]) -> Input<'_>
+    ensures { IsUnread front.now (input_of result) }
 {
     match connection(front) {
         Some(client) => Input::Refused {
@@ -199,8 +195,8 @@ fn front(line: &[u8]) -> &[u8]
 }
 
 /// What is read of a line, which has its LF.
-pub fn read_input(line: &[u8]) -> Input
-    ensures { IsReadAs line.now result }
+pub fn read_input(line: &[u8]) -> Input<'_>
+    ensures { IsReadAs line.now (input_of result) }
 {
     if line.len() > LINE_LIMIT {
         return unread(front(line));

@@ -1,7 +1,7 @@
 -- A line that is answered leaves locks that are kept.
 use Rattle.std.proofs.Common.{◌≡◌, ℕ, List, Option, refl, inl, inr, ◌⊎◌}
 use Rattle.disks.specs.Held.{Held}
-use Rattle.lock_protocol.specs.declared.inputs.Input.{Input}
+use Rattle.lock_protocol.specs.Views.{Input}
 use Rattle.lock_protocol.specs.Inputs.{IsReadAs}
 use Rattle.lock_service.specs.declared.service.LockService.{LockService}
 use Rattle.lock_service.specs.Serving.{AnswersInput, IsKept, IsServed}

@@ -20,6 +20,7 @@ use Rattle.held_locks.specs.Grants.{advanced}
 use Rattle.held_locks.specs.Locks.{Ask, Acquire, Try, Release, Cancel, Leave, Corrupt, Stats, Mark, Survey, Turn, told, called, first_pass, granted, ended, dropped, faulted, joined, acquired, acquire_refusal, tried, tried_of, try_refusal, turn}
 use Rattle.held_locks.specs.Promises.{number_of, events_of}
 use Rattle.held_locks.proofs.Rings.{grant_number}
+use Rattle.lock_protocol.specs.Names.{Names, name_of, lock_named}
 use Rattle.lock_protocol.specs.declared.answers.Denial.{Denial}
 use Rattle.lock_protocol.specs.Answers.{answer_line, denial_line}
 use Rattle.lock_service.specs.Noting.{lines_about}
@@ -144,9 +145,9 @@ turn_in was is a c t es (Leaves line e) g h s ends =
 -- ---- among all rings
 
 -- the answers of a text, each of which is in the rings
-pub record AreToldIn (was is : List Standing) (said : List ℕ) : Type 0 where
+pub record AreToldIn (names : Names) (was is : List Standing) (said : List ℕ) : Type 0 where
   pub tellings : List Telling
-  pub text : IsText said tellings
+  pub text : IsText names said tellings
   pub each : AllByRecursion (λ (t : Telling). IsToldIn was is t.lock t.said) tellings
 
 abbrev pub telling_of : ℕ → ℕ × Answer → Telling
@@ -155,9 +156,9 @@ telling_of lock a = record { client = a.0; lock = lock; said = a.1 }
 abbrev pub tellings_of : ℕ → List (ℕ × Answer) → List Telling
 tellings_of lock answers = map (telling_of lock) answers
 
-pub lines_are : (lock : ℕ) (answers : List (ℕ × Answer)) → lines_about lock answers ≡ text_of (tellings_of lock answers)
-lines_are lock [] = refl
-lines_are lock ((c, a) ∷ answers) = ap (λ (x : List ℕ). answer_line c lock a ++ x) (lines_are lock answers)
+pub lines_are : (names : Names) (lock : ℕ) (answers : List (ℕ × Answer)) → lines_about names lock answers ≡ text_of names (tellings_of lock answers)
+lines_are names lock [] = refl
+lines_are names lock ((c, a) ∷ answers) = ap (λ (x : List ℕ). answer_line c (name_of names lock) a ++ x) (lines_are names lock answers)
 
 one_in : (was is : List Standing) (old new : Standing) (lock : ℕ) (a : Answer) → slice_get was lock ≡ Some old → slice_get is lock ≡ Some new → IsShownIn old new a → IsToldIn was is lock a
 one_in was is old new lock (answer.Granted token) e f s = record { old = old; new = new; there = e; here = f; grant = s }
@@ -184,18 +185,21 @@ quiet_told was is lock (answer.Stats s) q = tt
 quiet_told was is lock (answer.Refused why) q = tt
 
 -- an answer that reports no hold, whatever the rings
-pub told_quiet : (was is : List Standing) (lock c : ℕ) (a : Answer) (answers : List (ℕ × Answer)) → is_quiet a ≡ true → answers ≡ (c, a) ∷ [] → AreToldIn was is (lines_about lock answers)
-told_quiet was is lock c a answers q e = record {
+pub told_quiet : (names : Names) (was is : List Standing) (lock c : ℕ) (a : Answer) (answers : List (ℕ × Answer)) → is_quiet a ≡ true → answers ≡ (c, a) ∷ [] → AreToldIn names was is (lines_about names lock answers)
+told_quiet names was is lock c a answers q e = record {
   tellings = tellings_of lock ((c, a) ∷ []);
-  text = inl (ap (λ (x : List (ℕ × Answer)). lines_about lock x) e ∙ lines_are lock ((c, a) ∷ []));
+  text = inl (ap (λ (x : List (ℕ × Answer)). lines_about names lock x) e ∙ lines_are names lock ((c, a) ∷ []));
   each = (quiet_told was is lock a q, tt);
 }
 
-pub told_one : (was is : List Standing) (old new : Standing) (lock : ℕ) (answers : List (ℕ × Answer)) → slice_get was lock ≡ Some old → slice_get is lock ≡ Some new → AreShownIn old new answers → AreToldIn was is (lines_about lock answers)
-told_one was is old new lock answers e f s = record { tellings = tellings_of lock answers; text = inl (lines_are lock answers); each = all_in was is old new lock answers e f s }
+pub told_one : (names : Names) (was is : List Standing) (old new : Standing) (lock : ℕ) (answers : List (ℕ × Answer)) → slice_get was lock ≡ Some old → slice_get is lock ≡ Some new → AreShownIn old new answers → AreToldIn names was is (lines_about names lock answers)
+told_one names was is old new lock answers e f s = record { tellings = tellings_of lock answers; text = inl (lines_are names lock answers); each = all_in was is old new lock answers e f s }
 
-pub told_denied : (was is : List Standing) (client : ℕ) (why : Denial) (said : List ℕ) → said ≡ denial_line client why → AreToldIn was is said
-told_denied was is client why said e = record { tellings = []; text = inr (refl, (client, why, e)); each = tt }
+pub told_denied : (names : Names) (was is : List Standing) (client : ℕ) (why : Denial) (said : List ℕ) → said ≡ denial_line client why → AreToldIn names was is said
+told_denied names was is client why said e = record { tellings = []; text = inr (refl, inl (client, why, e)); each = tt }
 
-pub told_nobody : (was is : List Standing) (said : List ℕ) → said ≡ [] → AreToldIn was is said
-told_nobody was is said e = record { tellings = []; text = inl e; each = tt }
+pub told_unknown : (names : Names) (was is : List Standing) (client : ℕ) (name said : List ℕ) → lock_named names name ≡ None → said ≡ answer_line client name (answer.Refused refusal.Lock) → AreToldIn names was is said
+told_unknown names was is client name said none e = record { tellings = []; text = inr (refl, inr (client, name, none, e)); each = tt }
+
+pub told_nobody : (names : Names) (was is : List Standing) (said : List ℕ) → said ≡ [] → AreToldIn names was is said
+told_nobody names was is said e = record { tellings = []; text = inl e; each = tt }

@@ -19,28 +19,29 @@ use Rattle.held_locks.proofs.Right.{right_stays}
 use Rattle.held_locks.proofs.Shown.{locks_append}
 use Rattle.held_locks.proofs.Standing.{get_set_same}
 use Rattle.held_locks.proofs.AllLeft.{there_is}
-use Rattle.text_lines.specs.LongNumbers.{in_32_bits}
 use Rattle.lock_protocol.specs.Asks as asks
-use Rattle.lock_protocol.specs.Asks.{seen, heard}
+use Rattle.lock_protocol.specs.Asks.{heard}
 use Rattle.lock_protocol.specs.Inputs.{IsReadAs}
 use Rattle.lock_protocol.specs.declared.answers.Denial.TheVariants as denial
-use Rattle.lock_protocol.specs.declared.inputs.Ask.{Ask as Read}
-use Rattle.lock_protocol.specs.declared.inputs.Input.{Input as LineInput}
-use Rattle.lock_protocol.specs.declared.inputs.Input.TheVariants as input
+use Rattle.lock_protocol.specs.Names.{Names, lock_named}
+use Rattle.lock_protocol.specs.Views.{Input as LineInput}
+use Rattle.lock_protocol.specs.Views as input
 use Rattle.line_service.specs.Answering.{Answers as Answered}
 use Rattle.lock_service.specs.declared.service.Terms.{Terms}
 use Rattle.lock_service.specs.Asking.{one_ask, is_off}
 use Rattle.lock_service.specs.Counting.{SegmentView}
-use Rattle.lock_service.specs.Noting.{events_at, events_from, end_line, note_about, note_of_left, notes_of_left, lines_about}
-use Rattle.lock_service.specs.Serving.{IsTold, IsAnsweredIf, IsInputAnswered, IsLineAnswered, denial_of}
+use Rattle.held_locks.specs.Asked.{IsAnswerTo, events_at}
+use Rattle.lock_service.specs.Noting.{events_from, end_line, note_about, note_of_left, notes_of_left, lines_about}
+use Rattle.lock_service.specs.Serving.{IsToldOfNamed, IsTold, IsAnsweredIf, IsInputAnswered, IsLineAnswered, denial_of}
 use Rattle.lock_service.specs.Life.{IsNoAnswer, AreHeard}
 use Rattle.lock_service.proofs.Chains.{chain_right, chain_many}
 use Rattle.lock_service.proofs.Marks.{IsSmallAsk}
 use Rattle.lock_service.proofs.Following.{Followed, some_is, none_is, step_is, also_there, lock_there, as_many, step_many}
 use Rattle.lock_service.proofs.LockLines.{AreBounded, IsNotedSo, AreLeftSo, all_past, order_small, stays, left_lock, left_note, left_so, left_many, noted_line}
 use Rattle.lock_service.proofs.Longer.{bounded_all}
-use Rattle.lock_service.proofs.Inputs.{IsHeardSo, AreHeardSo, none_taken, done, lack_so, left_so as left_heard, heard_line, heard_lines}
+use Rattle.lock_service.proofs.Inputs.{IsHeardSo, AreHeardSo, none_taken, done, lack_so, unknown_so, left_so as left_heard, heard_line, heard_lines}
 use Rattle.lock_service.proofs.GivenUp.{same_lists}
+use Rattle.lock_service.proofs.SameNames.{names_stay}
 use Rattle.lock_service.proofs.Cutting.{IsCutSo, IsNoFault, cut_empty, cut_then, cut_behind, cut_turn, within_first}
 
 -- ---- one lock is asked
@@ -197,85 +198,95 @@ module _ (rings : List Standing) (old new : List LockView) (few : length rings <
 -- ---- a line
 
 -- the inputs of a line, and what was kept of them
-pub record IsLineCut (rings : List Standing) (ls new : List Lock) (line said bytes : List ℕ) : Type 0 where
-  pub taken : IsHeardSo ls new line said
+pub record IsLineCut (names : Names) (rings : List Standing) (ls new : List Lock) (line said bytes : List ℕ) : Type 0 where
+  pub taken : IsHeardSo names ls new line said
   pub cut : IsCutSo rings ls taken.inputs bytes
 
 module _ (rings : List Standing) (old new : SegmentView) (few : length rings < 2 ^ 32) (f : Followed rings old.locks) (most : AreBounded new.locks) (line bytes lost : List ℕ) where
-  line_quiet : (said noted : List ℕ) → IsNoAnswer line said → new ≡ old → noted ≡ [] → bytes ++ lost ≡ noted → IsLineCut rings (locks_of old.locks) (locks_of new.locks) line said bytes
+  line_quiet : (said noted : List ℕ) → IsNoAnswer old.names line said → new ≡ old → noted ≡ [] → bytes ++ lost ≡ noted → IsLineCut old.names rings (locks_of old.locks) (locks_of new.locks) line said bytes
   line_quiet said noted n same none e = record {
     taken = none_taken old new line said n same;
     cut = cut_empty rings old.locks [] bytes lost f (e ∙ none);
   }
 
-  module _ (client : ℕ) (ask : Read) (read : IsReadAs line (input.Asked client ask)) (said : List ℕ) where
-    line_done : (i : ℕ) (a : Ask) (r : Answers) → one_ask (seen ask) ≡ Some (i, a) → said ≡ lines_about i (answers_of client r) → IsSmallAsk a → IsNoFault a → IsDone old.locks new.locks client i a r → bytes ++ lost ≡ note_about i old.locks new.locks r.ended →
-        IsLineCut rings (locks_of old.locks) (locks_of new.locks) line said bytes
-    line_done i a r q says small plain d e = record {
-      taken = done old new line client ask read i a r said q says d;
+  module _ (client : ℕ) (ask : asks.Ask) (read : IsReadAs line (input.Asked client ask)) (said : List ℕ) where
+    line_done : (name : List ℕ) (i : ℕ) (a : Ask) (r : Answers) → one_ask ask ≡ Some (name, a) → lock_named old.names name ≡ Some i → said ≡ lines_about old.names i (answers_of client r) → IsSmallAsk a → IsNoFault a → IsDone old.locks new.locks client i a r →
+        bytes ++ lost ≡ note_about i old.locks new.locks r.ended → IsLineCut old.names rings (locks_of old.locks) (locks_of new.locks) line said bytes
+    line_done name i a r q there says small plain d e = record {
+      taken = done old new line client ask read name i a r said q there says d;
       cut = cut_done rings old.locks new.locks few f most client i a r d small plain bytes lost e;
     }
 
-    line_answer : (i : ℕ) (a : Ask) (r : Answers) → one_ask (seen ask) ≡ Some (i, a) → said ≡ lines_about i (answers_of client r) → IsSmallAsk a → IsNoFault a → IsAnswer old.locks new.locks client i a r → bytes ++ lost ≡ note_about i old.locks new.locks r.ended →
-        IsLineCut rings (locks_of old.locks) (locks_of new.locks) line said bytes
-    line_answer i a r q says small plain (inl d) e = line_done i a r q says small plain d e
-    line_answer i a r q says small plain (inr w) e = record {
+    line_answer : (name : List ℕ) (i : ℕ) (a : Ask) (r : Answers) → one_ask ask ≡ Some (name, a) → lock_named old.names name ≡ Some i → said ≡ lines_about old.names i (answers_of client r) → IsSmallAsk a → IsNoFault a → IsAnswer old.locks new.locks client i a r →
+        bytes ++ lost ≡ note_about i old.locks new.locks r.ended → IsLineCut old.names rings (locks_of old.locks) (locks_of new.locks) line said bytes
+    line_answer name i a r q there says small plain (inl d) e = line_done name i a r q there says small plain d e
+    line_answer name i a r q there says small plain (inr w) e = record {
       taken = lack_so old new line client ask read i a r said says w;
       cut = cut_empty rings old.locks [] bytes lost f (e ∙ lack_notes rings old.locks new.locks few f most client i a r w);
     }
 
-    line_of : (strict : Bool) (a : asks.Ask) (noted : List ℕ) → seen ask ≡ a → heard a ≡ Some a → is_off false a ≡ false → bytes ++ lost ≡ noted → IsTold strict true client (one_ask a) old said noted new → IsLineCut rings (locks_of old.locks) (locks_of new.locks) line said bytes
-    line_of strict (asks.acquire lock order) noted q h plain e t =
-        line_answer (in_32_bits lock) (Acquire order) t.answers (ap one_ask q) t.says (order_small asks.acquire lock order (asks.acquire lock order) h) (λ i v p. cc) t.done (e ∙ t.notes)
-    line_of strict (asks.try lock order) noted q h plain e t =
-        line_answer (in_32_bits lock) (Try order) t.answers (ap one_ask q) t.says (order_small asks.try lock order (asks.try lock order) h) (λ i v p. cc) t.done (e ∙ t.notes)
-    line_of strict (asks.release lock token) noted q h plain e t = line_done (in_32_bits lock) (Release token) t.answers (ap one_ask q) t.says tt (λ i v p. cc) t.done (e ∙ t.notes)
-    line_of strict (asks.cancel lock) noted q h plain e t = line_done (in_32_bits lock) Cancel t.answers (ap one_ask q) t.says tt (λ i v p. cc) t.done (e ∙ t.notes)
+    -- no lock has the name
+    line_unknown : (name : List ℕ) (a : Ask) (strict : Bool) (noted : List ℕ) → one_ask ask ≡ Some (name, a) → lock_named old.names name ≡ None → bytes ++ lost ≡ noted → IsToldOfNamed None strict true client name a old said noted new → IsLineCut old.names rings (locks_of old.locks) (locks_of new.locks) line said bytes
+    line_unknown name a strict noted q none e t = line_quiet said noted (unknown_so old new line client ask read name a said q none t.says) t.leaves t.notes e
+
+    may_want : (name : List ℕ) (o : Option ℕ) (a : Ask) (strict : Bool) (noted : List ℕ) → ((i : ℕ) (r : Answers) → IsAnswerTo old.locks new.locks client i a r → IsAnswer old.locks new.locks client i a r) → one_ask ask ≡ Some (name, a) → lock_named old.names name ≡ o → IsSmallAsk a → IsNoFault a →
+        bytes ++ lost ≡ noted → IsToldOfNamed o strict true client name a old said noted new → IsLineCut old.names rings (locks_of old.locks) (locks_of new.locks) line said bytes
+    may_want name None a strict noted is_so q there small plain e t = line_unknown name a strict noted q there e t
+    may_want name (Some i) a strict noted is_so q there small plain e t = line_answer name i a t.answers q there t.says small plain (is_so i t.answers t.done) (e ∙ t.notes)
+
+    line_of : (strict : Bool) (a : asks.Ask) (noted : List ℕ) → ask ≡ a → heard a ≡ Some a → is_off false a ≡ false → bytes ++ lost ≡ noted → IsTold strict true client (one_ask a) old said noted new → IsLineCut old.names rings (locks_of old.locks) (locks_of new.locks) line said bytes
+    line_of strict (asks.acquire name order) noted q h plain e t =
+        may_want name (lock_named old.names name) (Acquire order) strict noted (λ i r d. d) (ap one_ask q) refl (order_small (asks.acquire name) order (asks.acquire name order) h) (λ i v p. cc) e t
+    line_of strict (asks.try name order) noted q h plain e t =
+        may_want name (lock_named old.names name) (Try order) strict noted (λ i r d. d) (ap one_ask q) refl (order_small (asks.try name) order (asks.try name order) h) (λ i v p. cc) e t
+    line_of strict (asks.release name token) noted q h plain e t = may_want name (lock_named old.names name) (Release token) strict noted (λ i r d. inl d) (ap one_ask q) refl tt (λ i v p. cc) e t
+    line_of strict (asks.cancel name) noted q h plain e t = may_want name (lock_named old.names name) Cancel strict noted (λ i r d. inl d) (ap one_ask q) refl tt (λ i v p. cc) e t
     line_of strict asks.leave noted q h plain e t = record {
       taken = left_heard old new line client ask read said noted true (ap one_ask q) t;
       cut = cut_left rings old.locks new.locks few f most client t.left t.done bytes lost (e ∙ t.notes);
     }
-    line_of strict (asks.corrupt lock machine value) noted q h plain e t = absurd (let wrong : true ≡ false = plain in cc)
-    line_of strict (asks.stats lock) noted q h plain e t = line_done (in_32_bits lock) Stats t.answers (ap one_ask q) t.says tt (λ i v p. cc) t.done (e ∙ t.notes)
+    line_of strict (asks.corrupt name machine value) noted q h plain e t = absurd (let wrong : true ≡ false = plain in cc)
+    line_of strict (asks.stats name) noted q h plain e t = may_want name (lock_named old.names name) Stats strict noted (λ i r d. inl d) (ap one_ask q) refl tt (λ i v p. cc) e t
 
-    line_if : (off : Bool) (terms : Terms) (noted : List ℕ) → terms.noting ≡ true → terms.faults ≡ false → is_off terms.faults (seen ask) ≡ off → bytes ++ lost ≡ noted → IsAnsweredIf off terms client (seen ask) old said noted new → IsLineCut rings (locks_of old.locks) (locks_of new.locks) line said bytes
+    line_if : (off : Bool) (terms : Terms) (noted : List ℕ) → terms.noting ≡ true → terms.faults ≡ false → is_off terms.faults ask ≡ off → bytes ++ lost ≡ noted → IsAnsweredIf off terms client ask old said noted new → IsLineCut old.names rings (locks_of old.locks) (locks_of new.locks) line said bytes
     line_if true terms noted noting faults o e t = line_quiet said noted (inr (inl (client, denial.Off, t.says))) t.leaves t.notes e
     line_if false terms noted noting faults o e t =
-        line_of terms.strict (seen ask) noted refl read.2 (subst (λ (b : Bool). is_off b (seen ask) ≡ false) faults o) e (subst (λ (b : Bool). IsTold terms.strict b client (one_ask (seen ask)) old said noted new) noting t)
+        line_of terms.strict ask noted refl read.2 (subst (λ (b : Bool). is_off b ask ≡ false) faults o) e (subst (λ (b : Bool). IsTold terms.strict b client (one_ask ask) old said noted new) noting t)
 
-  line_input : (terms : Terms) (i : LineInput) (said noted : List ℕ) → terms.noting ≡ true → terms.faults ≡ false → IsReadAs line i → bytes ++ lost ≡ noted → IsInputAnswered terms i old said noted new → IsLineCut rings (locks_of old.locks) (locks_of new.locks) line said bytes
-  line_input terms (input.Asked client ask) said noted noting faults r e t = line_if client ask r said (is_off terms.faults (seen ask)) terms noted noting faults refl e t
+  line_input : (terms : Terms) (i : LineInput) (said noted : List ℕ) → terms.noting ≡ true → terms.faults ≡ false → IsReadAs line i → bytes ++ lost ≡ noted → IsInputAnswered terms i old said noted new → IsLineCut old.names rings (locks_of old.locks) (locks_of new.locks) line said bytes
+  line_input terms (input.Asked client ask) said noted noting faults r e t = line_if client ask r said (is_off terms.faults ask) terms noted noting faults refl e t
   line_input terms (input.Refused client why) said noted noting faults r e t = line_quiet said noted (inr (inl (client, denial_of why, t.says))) t.leaves t.notes e
   line_input terms input.Nobody said noted noting faults r e t = line_quiet said noted (inl (r, t.says)) t.leaves t.notes e
 
 -- ---- lines
 
-pub record AreCutSo (rings : List Standing) (ls new : List Lock) (lines : List (List ℕ)) (said bytes : List ℕ) : Type 0 where
-  pub taken : AreHeardSo ls new lines said
+pub record AreCutSo (names : Names) (rings : List Standing) (ls new : List Lock) (lines : List (List ℕ)) (said bytes : List ℕ) : Type 0 where
+  pub taken : AreHeardSo names ls new lines said
   pub cut : IsCutSo rings ls taken.inputs bytes
 
-abbrev joined : (ls mid new : List Lock) (line : List ℕ) (lines : List (List ℕ)) (said first later : List ℕ) → said ≡ first ++ later → IsHeardSo ls mid line first → AreHeardSo mid new lines later → AreHeardSo ls new (line ∷ lines) said
-joined ls mid new line lines said first later e h more = record {
+abbrev joined : (names : Names) (ls mid new : List Lock) (line : List ℕ) (lines : List (List ℕ)) (said first later : List ℕ) → said ≡ first ++ later → IsHeardSo names ls mid line first → AreHeardSo names mid new lines later → AreHeardSo names ls new (line ∷ lines) said
+joined names ls mid new line lines said first later e h more = record {
   inputs = h.inputs ++ more.inputs;
-  heard = (first, later, h.inputs, more.inputs, h.heard, e, refl, subst (λ (x : List Lock). AreHeard x lines later more.inputs) h.locks more.heard);
+  heard = (first, later, h.inputs, more.inputs, h.heard, e, refl, subst (λ (x : List Lock). AreHeard names x lines later more.inputs) h.locks more.heard);
   locks = more.locks ∙ (ap (λ (x : List Lock). locks_after x more.inputs) h.locks ∙ sym (locks_append ls h.inputs more.inputs));
 }
 
 pub cut_lines : (terms : Terms) (rings : List Standing) (old new : SegmentView) (lines : List (List ℕ)) (said noted : List ℕ) → length rings < 2 ^ 32 → Followed rings old.locks → terms.noting ≡ true → terms.faults ≡ false → Answered (IsLineAnswered terms) old lines said noted new → AreBounded new.locks →
-    (bytes lost : List ℕ) → bytes ++ lost ≡ noted → AreCutSo rings (locks_of old.locks) (locks_of new.locks) lines said bytes
+    (bytes lost : List ℕ) → bytes ++ lost ≡ noted → AreCutSo old.names rings (locks_of old.locks) (locks_of new.locks) lines said bytes
 cut_lines terms rings old new [] said noted few f noting faults a most bytes lost e = record {
   taken = record { inputs = []; heard = (a.0, refl); locks = ap (λ (s : SegmentView). locks_of s.locks) a.2 };
   cut = cut_empty rings old.locks [] bytes lost f (e ∙ a.1);
 }
 cut_lines terms rings old new (line ∷ lines) said noted few f noting faults a most bytes lost e =
     let mid : SegmentView = a.0 in
+    let named : mid.names ≡ old.names = names_stay terms old mid line a.1 a.3 a.5 in
     let within : AreBounded mid.locks = bounded_all terms mid new lines a.2 a.4 a.8 most in
     let both : bytes ++ lost ≡ a.3 ++ a.4 = e ∙ a.7 in
     elim (cases_lt (length bytes) (length a.3)) [
       | inl lt ↦
           let one = line_input rings old mid few f within line bytes (drop (length bytes) a.3) terms a.5.0 a.1 a.3 noting faults a.5.1 (within_first bytes lost a.3 a.4 both (omega (arith, lt))) a.5.2 in
-          let more = heard_lines terms mid new lines a.2 a.4 a.8 in record {
-            taken = joined (locks_of old.locks) (locks_of mid.locks) (locks_of new.locks) line lines said a.1 a.2 a.6 one.taken more;
+          let more : AreHeardSo old.names (locks_of mid.locks) (locks_of new.locks) lines a.2 = subst (λ (x : Names). AreHeardSo x (locks_of mid.locks) (locks_of new.locks) lines a.2) named (heard_lines terms mid new lines a.2 a.4 a.8) in record {
+            taken = joined old.names (locks_of old.locks) (locks_of mid.locks) (locks_of new.locks) line lines said a.1 a.2 a.6 one.taken more;
             cut = cut_then rings (locks_of old.locks) one.taken.inputs more.inputs bytes one.cut;
           }
       | inr le ↦
@@ -283,8 +294,9 @@ cut_lines terms rings old new (line ∷ lines) said noted few f noting faults a 
           let n = (noted_line rings old mid few f within terms line a.1 a.3 noting a.5).noted in
           let h = heard_line old mid line terms a.1 a.3 a.5 in
           let size : length n.behind ≡ length rings = chain_many rings n.behind n.calls n.chain in
-          let more = cut_lines terms n.behind mid new lines a.2 a.4 (omega (arith, few, size)) n.followed noting faults a.8 most rest lost (after_head bytes lost a.3 a.4 both le) in record {
-            taken = joined (locks_of old.locks) (locks_of mid.locks) (locks_of new.locks) line lines said a.1 a.2 a.6 h more.taken;
+          let more : AreCutSo old.names n.behind (locks_of mid.locks) (locks_of new.locks) lines a.2 rest =
+          subst (λ (x : Names). AreCutSo x n.behind (locks_of mid.locks) (locks_of new.locks) lines a.2 rest) named (cut_lines terms n.behind mid new lines a.2 a.4 (omega (arith, few, size)) n.followed noting faults a.8 most rest lost (after_head bytes lost a.3 a.4 both le)) in record {
+            taken = joined old.names (locks_of old.locks) (locks_of mid.locks) (locks_of new.locks) line lines said a.1 a.2 a.6 h more.taken;
             cut = cut_behind rings (locks_of old.locks) mid.locks h.inputs more.taken.inputs a.3 rest bytes n h.locks more.cut (split bytes lost a.3 a.4 both le);
           }
     ]

@@ -6,10 +6,10 @@ use Rattle.held_locks.specs.declared.answers.Answer.{Answer}
 use Rattle.held_locks.specs.declared.answers.HoldEnd.{HoldEnd}
 use Rattle.held_locks.specs.declared.answers.Left.{Left}
 use Rattle.held_locks.specs.Locks.{Ask}
-use Rattle.lock_protocol.specs.declared.inputs.Input.{Input}
-use Rattle.lock_protocol.specs.declared.inputs.Input.TheVariants as input
+use Rattle.lock_protocol.specs.Views.{Input}
+use Rattle.lock_protocol.specs.Views as input
 use Rattle.lock_protocol.specs.Asks as asks
-use Rattle.lock_protocol.specs.Asks.{seen}
+use Rattle.lock_protocol.specs.Names.{Names, lock_named}
 use Rattle.lock_protocol.proofs.Whole.{one_reading}
 use Rattle.line_service.specs.Stands.{stand}
 use Rattle.lock_service.specs.declared.service.LockService.{LockService}
@@ -19,8 +19,9 @@ use Rattle.lock_service.specs.Asking.{one_ask, is_off}
 use Rattle.lock_service.specs.Noting.{lines_about, note_about, lines_of_left, notes_of_left}
 use Rattle.lock_service.specs.Due.{has_short}
 use Rattle.lock_service.specs.Counting.{SegmentView, IsCounted, count_about, count_of_all}
-use Rattle.lock_service.specs.Serving.{IsSaid, IsToldOf, IsToldOfLeave, IsTold, IsAnsweredIf, IsInputAnswered, IsLineAnswered, IsServed, is_past, stage_after}
-use Rattle.lock_service.proofs.Short.{asked_long}
+use Rattle.lock_service.specs.Serving.{IsSaid, IsToldOf, IsToldOfLeave, IsToldOfNamed, IsTold, IsAnsweredIf, IsInputAnswered, IsLineAnswered, IsServed, is_past, stage_after}
+use Rattle.held_locks.specs.Kept.{answers_of}
+use Rattle.held_locks.proofs.Asking.{asked_long}
 use Rattle.lock_service.specs.Equal.{AreEqualLocks, AreEqualSegments, AreEqual, EqualLinesGiveEqualAnswers}
 use Rattle.lock_service.proofs.EqualLocks.{short_equal, note_equal, count_equal, notes_left_equal, count_left_equal, done_alike, asked_done, left_alike}
 
@@ -29,6 +30,7 @@ use Rattle.lock_service.proofs.EqualLocks.{short_equal, note_equal, count_equal,
 counted_alike : (a b c d : SegmentView) (m n : ℕ) → AreEqualSegments a b → AreEqualLocks c.locks d.locks → n ≡ m → IsCounted a c m → IsCounted b d n → AreEqualSegments c d
 counted_alike a b c d m n e f same p q = record {
   locks = f;
+  names = q.names ∙ e.names ∙ sym p.names;
   remaining = q.remaining ∙ ap (λ (x : ℕ). x - n) e.remaining ∙ ap (λ (x : ℕ). a.remaining - x) same ∙ sym p.remaining;
   short = q.short ∙ ap (λ (x : Bool). x || has_short d.locks) e.short ∙ ap (λ (x : Bool). a.short || x) (short_equal c.locks d.locks f) ∙ sym p.short;
 }
@@ -58,7 +60,7 @@ module _ (a b c d : SegmentView) (e : AreEqualSegments a b) (said noted told kep
       ap (λ (x : Option HoldEnd). note_about i b.locks d.locks x) r.ended ∙ note_equal a.locks b.locks c.locks d.locks e.locks r.locks i p.answers.ended in
       let count : count_about i b.locks d.locks q.answers.ended ≡ count_about i a.locks c.locks p.answers.ended =
       ap (λ (x : Option HoldEnd). count_about i b.locks d.locks x) r.ended ∙ count_equal a.locks b.locks c.locks d.locks e.locks r.locks i p.answers.ended in record {
-        said_is = q.says ∙ ap (λ (x : List (ℕ × Answer)). lines_about i x) r.answers ∙ sym p.says;
+        said_is = q.says ∙ ap (λ (x : List (ℕ × Answer)). lines_about b.names i x) r.answers ∙ ap (λ (x : Names). lines_about x i (answers_of client p.answers)) e.names ∙ sym p.says;
         noted_is = q.notes ∙ ap (λ (x : List ℕ). cond noting x []) note ∙ sym p.notes;
         segment = counted_alike a b c d (count_about i a.locks c.locks p.answers.ended) (count_about i b.locks d.locks q.answers.ended) e r.locks count p.counted q.counted;
       }
@@ -68,14 +70,20 @@ module _ (a b c d : SegmentView) (e : AreEqualSegments a b) (said noted told kep
       let r = left_alike a.locks b.locks c.locks d.locks client p.left q.left e.locks p.done q.done in
       let note : notes_of_left d.locks q.left ≡ notes_of_left c.locks p.left = ap (λ (x : List Left). notes_of_left d.locks x) r.1 ∙ notes_left_equal c.locks d.locks r.0 p.left in
       let count : count_of_all d.locks q.left ≡ count_of_all c.locks p.left = ap (λ (x : List Left). count_of_all d.locks x) r.1 ∙ count_left_equal c.locks d.locks r.0 p.left in record {
-        said_is = q.says ∙ ap (λ (x : List Left). lines_of_left x) r.1 ∙ sym p.says;
+        said_is = q.says ∙ ap (λ (x : List Left). lines_of_left b.names x) r.1 ∙ ap (λ (x : Names). lines_of_left x p.left) e.names ∙ sym p.says;
         noted_is = q.notes ∙ ap (λ (x : List ℕ). cond noting x []) note ∙ sym p.notes;
         segment = counted_alike a b c d (count_of_all c.locks p.left) (count_of_all d.locks q.left) e r.0 count p.counted q.counted;
       }
 
-  asked_alike : (noting : Bool) (client : ℕ) (x : Option (ℕ × Ask)) → IsTold true noting client x a said noted c → IsTold true noting client x b told kept d → AreAlike
+  named_alike : (o : Option ℕ) (noting : Bool) (client : ℕ) (name : List ℕ) (ask : Ask) → IsToldOfNamed o true noting client name ask a said noted c → IsToldOfNamed o true noting client name ask b told kept d → AreAlike
+  named_alike None noting client name ask p q = said_alike _ p q
+  named_alike (Some i) noting client name ask p q = told_alike noting client i ask p q
+
+  asked_alike : (noting : Bool) (client : ℕ) (x : Option (List ℕ × Ask)) → IsTold true noting client x a said noted c → IsTold true noting client x b told kept d → AreAlike
   asked_alike noting client None p q = leave_alike noting client p q
-  asked_alike noting client (Some (i, ask)) p q = told_alike noting client i ask p q
+  asked_alike noting client (Some (name, ask)) p q =
+      let same : lock_named b.names name ≡ lock_named a.names name = ap (λ (x : Names). lock_named x name) e.names in
+      named_alike (lock_named a.names name) noting client name ask p (subst (λ (o : Option ℕ). IsToldOfNamed o true noting client name ask b told kept d) same q)
 
   if_alike : (off : Bool) (terms : Terms) (client : ℕ) (ask : asks.Ask) → terms.strict ≡ true → IsAnsweredIf off terms client ask a said noted c → IsAnsweredIf off terms client ask b told kept d → AreAlike
   if_alike true terms client ask strict p q = said_alike _ p q
@@ -83,7 +91,7 @@ module _ (a b c d : SegmentView) (e : AreEqualSegments a b) (said noted told kep
       asked_alike terms.noting client (one_ask ask) (subst (λ (x : Bool). IsTold x terms.noting client (one_ask ask) a said noted c) strict p) (subst (λ (x : Bool). IsTold x terms.noting client (one_ask ask) b told kept d) strict q)
 
   input_alike : (terms : Terms) (i : Input) → terms.strict ≡ true → IsInputAnswered terms i a said noted c → IsInputAnswered terms i b told kept d → AreAlike
-  input_alike terms (input.Asked client ask) strict p q = if_alike (is_off terms.faults (seen ask)) terms client (seen ask) strict p q
+  input_alike terms (input.Asked client ask) strict p q = if_alike (is_off terms.faults ask) terms client ask strict p q
   input_alike terms (input.Refused client why) strict p q = said_alike _ p q
   input_alike terms input.Nobody strict p q = said_alike _ p q
 

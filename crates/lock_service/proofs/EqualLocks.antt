@@ -13,11 +13,13 @@ use Rattle.held_locks.specs.Queues.{Lock}
 use Rattle.held_locks.specs.Locks.{Ask, Leave, Mark, Call, Survey, Asked, Turn, turn, step}
 use Rattle.held_locks.specs.Promises.{locks_after, leaves}
 use Rattle.held_locks.specs.Kept.{LockView, lock_of, locks_of, ended_in, ended_at, answers_of, IsDone, IsLack, IsAnswer, IsLeft, AreMade, left_by, left_at, left_of}
-use Rattle.lock_service.specs.Asking.{IsAnswerTo, is_lack}
-use Rattle.lock_service.specs.Noting.{events_at, events_from, end_line, note_about, note_of_left, notes_of_left}
+use Rattle.held_locks.specs.Asked.{IsAnswerTo, events_at}
+use Rattle.lock_service.specs.Asking.{is_lack}
+use Rattle.lock_service.specs.Noting.{events_from, end_line, note_about, note_of_left, notes_of_left}
 use Rattle.lock_service.specs.Due.{is_short, has_short}
 use Rattle.lock_service.specs.Counting.{count_about, count_of_left, count_of_all}
-use Rattle.lock_service.proofs.Short.{short_like, as_answer, left_long}
+use Rattle.held_locks.proofs.Asking.{as_answer}
+use Rattle.lock_service.proofs.Short.{short_like, left_long}
 use Rattle.lock_service.specs.Equal.{AreEqualLocks}
 use Rattle.lock_service.proofs.Following.{some_is, none_is, also_there, lock_there}
 use Rattle.lock_service.proofs.EqualRings.{made_same}

@@ -108,6 +108,7 @@ equal_segments a b c d number behind e p q =
       record {
         segment = record {
           locks = locks;
+          names = q.names ∙ e.segment.names ∙ sym p.names;
           remaining = q.remaining ∙ ap (λ (x : Terms). limit_of x.limit) e.terms ∙ sym p.remaining;
           short = q.short ∙ sym p.short;
         };

@@ -13,8 +13,9 @@ use Rattle.held_locks.specs.Queues.{Lock, stands, without, is_held_by, is_held_w
 use Rattle.held_locks.specs.Locks.{Ask, Acquire, Try, Release, Cancel, Leave, Corrupt, Stats, acquired, joined, tried, tried_of, ended, told, dropped, faulted, turn, step_at}
 use Rattle.ring_model.specs.History.{State}
 use Rattle.held_locks.specs.Kept.{LockView, locks_of, own_answer, other_grant, IsDone, IsAnswer}
-use Rattle.lock_service.specs.Asking.{IsAnswerTo, is_lack}
-use Rattle.lock_service.proofs.Short.{as_answer}
+use Rattle.held_locks.specs.Asked.{IsAnswerTo}
+use Rattle.lock_service.specs.Asking.{is_lack}
+use Rattle.held_locks.proofs.Asking.{as_answer}
 
 -- ---- the machine never answers so
 

@@ -39,10 +39,10 @@ use Rattle.held_locks.specs.Locks.{Call}
 use Rattle.held_locks.specs.Promises.{open_after}
 use Rattle.held_locks.specs.Opened.{open_in, holder_after, ended_before}
 use Rattle.held_locks.specs.Kept.{LockView, IsKeptRing}
-use Rattle.held_locks.specs.Handed.{AreHanded}
+use Rattle.folder_of_locks.specs.Holders.{AreHandedBy}
 use Rattle.folder_of_locks.specs.Lists.{Listed}
 use Rattle.folder_of_locks.specs.Rings.{IsRingOf, AreBegun}
-use Rattle.folder_of_locks.specs.Folders.{Place, StandsAt}
+use Rattle.folder_of_locks.specs.Folders.{Found, StandsAt}
 use Rattle.lock_service.specs.Segments.{rings_of}
 use Rattle.lock_service.specs.Recovered.{AreMadeOf}
 use Rattle.lock_service.specs.Life.{AreFound}
@@ -143,7 +143,7 @@ new_behind bs ss ls vs n size rings b = all_behind vs n IsNew is_new
         (k.2.queue, k.2.holder ∙ ap (λ (t : Option ℕ). holder_after t) (none_open k.0 fresh.history))
 
 -- locks start there, before a hold is handed over
-record IsThere (number : ℕ) (behind : List ℕ) (start : List LockView) (kept : List ℕ) (p : Place) : Type 0 where
+record IsThere (number : ℕ) (behind : List ℕ) (start : List LockView) (kept : List ℕ) (p : Found) : Type 0 where
   pub number_is : p.number ≡ number
   pub behind_is : p.behind ≡ behind
   pub locks : List LockView
@@ -189,7 +189,7 @@ module _ (held : Held) (folder : List ℕ) (number : ℕ) (behind : List ℕ) (s
         let m = told_stay h j told more s k.fits right lines journal t.0 in
         (m.0, one_rest h h rest (told ++ m.0) k.fits k.fits (sym is ∙ (sym t.1 ∙ (m.1 ∙ append_assoc (head_text h) told m.0))))
 
-  starts_there : (entries : List FolderEntry) → ListsNames held folder (names_of entries) → (range : Option SegmentNumbers) → IsRightNumbers entries (Ok range) → (locks : List Listed) (p : Place) → StandsAt (Some held) folder range locks p →
+  starts_there : (entries : List FolderEntry) → ListsNames held folder (names_of entries) → (range : Option SegmentNumbers) → IsRightNumbers entries (Ok range) → (locks : List Listed) (p : Found) → StandsAt (Some held) folder range locks p →
       IsThere number behind start kept p
   starts_there entries l None right locks p s = absurd (none (sym (has_it (names_of entries) l) ∙ right.1 number is_number))
     where
@@ -257,7 +257,7 @@ kept_segments_start held folder number behind start kept word holders after p k 
       added = t.added;
       found = t.found;
       new = t.new;
-      handed = subst (λ (vs : List LockView). AreHanded vs holders p.locks) t.all stands.handed;
+      handed = subst (λ (vs : List LockView). AreHandedBy p.names vs holders p.locks) t.all stands.handed;
     }
 
 -- ---- locks that are found

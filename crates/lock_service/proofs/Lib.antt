@@ -8,12 +8,14 @@ pub mod Counts
 pub mod StateLines
 pub mod Fitting
 pub mod Answered
+mod ToldInputs
 pub mod Shadows
 pub mod Chains
 pub mod Marks
 pub mod Answering
 pub mod Following
 pub mod LockLines
+pub mod ShortLeft
 pub mod Longer
 pub mod Recovering
 pub mod Restarting
@@ -38,6 +40,7 @@ pub mod StateStays
 pub mod WholeTexts
 pub mod WithoutRemarks
 pub mod RemarksBack
+pub mod SameNames
 pub mod Inputs
 pub mod GivenUp
 pub mod Cutting

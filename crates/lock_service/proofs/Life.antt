@@ -25,6 +25,8 @@ use Rattle.lock_service.proofs.LockLines.{AreBounded, IsNotedSo}
 use Rattle.lock_service.proofs.Longer.{bounded_all, noted_lines}
 use Rattle.lock_service.proofs.Recovering.{begun_right, begun_few, followed_begun, kept_bounded, recovered_of}
 use Rattle.lock_service.proofs.Restarting.{locks_back, return_all}
+use Rattle.lock_protocol.specs.Names.{Names}
+use Rattle.lock_service.proofs.SameNames.{all_names_stay}
 use Rattle.lock_service.proofs.Inputs.{heard_lines}
 use Rattle.lock_service.proofs.Cutting.{cut_behind}
 use Rattle.lock_service.proofs.CutLines.{cut_lines}
@@ -64,6 +66,7 @@ module _ (s : Stage) (k : IsStage s) where
       let after : extra ++ lost ≡ k.notes = append_cancel_left (head ++ k.noted) (extra ++ lost) k.notes
       (sym (append_assoc (head ++ k.noted) extra lost) ∙ (ap (λ (u : List ℕ). u ++ lost) (sym k.has_told.1) ∙ (sym k.no_more.1 ∙ sym (append_assoc head k.noted k.notes)))) in
       let h = heard_lines s.terms s.start s.mid s.told k.said k.noted k.answered.answers in
+      let named : s.mid.names ≡ s.start.names = all_names_stay s.terms s.start s.mid s.told k.said k.noted k.answered.answers in
       let c = cut_lines s.terms one.notes.behind s.mid s.end s.untold k.unsaid k.notes few_after one.notes.followed k.more.noting k.plain k.more.answers most extra lost after in
       let w = cut_behind rings ls s.mid.locks h.inputs c.taken.inputs k.noted extra (k.noted ++ extra) one.notes h.locks c.cut refl in
       let n : IsNotedSo rings w.locks w.notes = w.noted in
@@ -79,7 +82,7 @@ module _ (s : Stage) (k : IsStage s) where
           kept = c.cut.kept;
           told_so = h.heard;
           out_is = k.out_is;
-          untold_so = subst (λ (x : List Lock). AreHeard x s.untold k.unsaid c.taken.inputs) h.locks c.taken.heard;
+          untold_so = subst (λ (x : Names). AreHeard x (locks_after ls h.inputs) s.untold k.unsaid c.taken.inputs) named (subst (λ (x : List Lock). AreHeard s.mid.names x s.untold k.unsaid c.taken.inputs) h.locks c.taken.heard);
           kept_so = c.cut.kept_so;
           inputs = refl;
         };
@@ -105,7 +108,7 @@ module _ (s : Stage) (k : IsStage s) where
           kept = [];
           told_so = h.heard;
           out_is = k.out_is;
-          untold_so = subst (λ (x : List (List ℕ)). AreHeard (locks_after ls h.inputs) x [] []) (sym none) (refl, refl);
+          untold_so = subst (λ (x : List (List ℕ)). AreHeard s.start.names (locks_after ls h.inputs) x [] []) (sym none) (refl, refl);
           kept_so = inl ([], refl);
           inputs = sym (append-nil h.inputs);
         },

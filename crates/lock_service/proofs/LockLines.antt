@@ -39,22 +39,24 @@ use Rattle.held_locks.proofs.Standing.{get_set_same, get_set_other}
 use Rattle.held_locks.proofs.AllLeft.{there_is}
 use Rattle.ring_service.proofs.RecordedBlocks.{set_there}
 use Rattle.lock_protocol.specs.Asks as asks
-use Rattle.lock_protocol.specs.Asks.{seen, heard, of_one, of_two}
+use Rattle.lock_protocol.specs.Asks.{heard, of_one}
+use Rattle.lock_protocol.specs.Names.{Names, lock_named, name_of}
 use Rattle.lock_protocol.specs.Inputs.{IsReadAs}
 use Rattle.lock_protocol.specs.Answers.{answer_line, denial_line}
 use Rattle.lock_protocol.specs.declared.answers.Denial.{Denial}
 use Rattle.lock_protocol.specs.declared.answers.Denial.TheVariants as denial
-use Rattle.lock_protocol.specs.declared.inputs.Input.{Input}
-use Rattle.lock_protocol.specs.declared.inputs.Input.TheVariants as input
+use Rattle.lock_protocol.specs.Views.{Input}
+use Rattle.lock_protocol.specs.Views as input
 use Rattle.lock_service.specs.declared.service.Terms.{Terms}
-use Rattle.lock_service.specs.Asking.{one_ask, is_off, IsAnswerTo}
+use Rattle.held_locks.specs.Asked.{IsAnswerTo, events_at}
+use Rattle.lock_service.specs.Asking.{one_ask, is_off}
 use Rattle.lock_service.specs.Counting.{SegmentView}
-use Rattle.lock_service.specs.Serving.{IsSaid, IsToldOf, IsTold, IsAnsweredIf, IsInputAnswered, IsLineAnswered, denial_of}
-use Rattle.lock_service.specs.Noting.{events_at, events_from, end_line, note_about, note_of_left, notes_of_left, lines_about, line_of_left, lines_of_left}
+use Rattle.lock_service.specs.Serving.{IsSaid, IsToldOf, IsToldOfNamed, IsTold, IsAnsweredIf, IsInputAnswered, IsLineAnswered, denial_of}
+use Rattle.lock_service.specs.Noting.{events_from, end_line, note_about, note_of_left, notes_of_left, lines_about, line_of_left, lines_of_left}
 use Rattle.lock_service.specs.Told.{IsToldIn, Telling, text_of}
 use Rattle.lock_service.proofs.Chains.{Chain, chain_append, chain_right, chain_many}
 use Rattle.lock_service.proofs.Marks.{IsSmallAsk}
-use Rattle.lock_service.proofs.Answering.{AreShownIn, AreToldIn, tellings_of, lines_are, all_in, told_quiet, told_one, told_denied, told_nobody}
+use Rattle.lock_service.proofs.Answering.{AreShownIn, AreToldIn, tellings_of, lines_are, all_in, told_quiet, told_one, told_denied, told_unknown, told_nobody}
 use Rattle.lock_service.proofs.Following.{Follows, Followed, some_is, none_is, step_is, turned_so, follows_same, also_there, lock_there, as_many, step_many}
 
 -- no ring has more events than a segment may
@@ -70,9 +72,9 @@ pub record IsNotedSo (rings : List Standing) (new : List LockView) (noted : List
   pub lines : noted ≡ lines_of calls
 
 -- and the answers that are said are in the rings
-pub record IsLineSo (rings : List Standing) (new : List LockView) (said notes : List ℕ) : Type 0 where
+pub record IsLineSo (names : Names) (rings : List Standing) (new : List LockView) (said notes : List ℕ) : Type 0 where
   pub noted : IsNotedSo rings new notes
-  pub told : AreToldIn rings noted.behind said
+  pub told : AreToldIn names rings noted.behind said
 
 -- nothing is noted, and the locks are the same, room aside
 pub record AreSame (old new : List LockView) : Type 0 where
@@ -114,14 +116,14 @@ all_past i xs m e = ap (λ (k : ℕ). event_lines i (drop k xs)) (sym e) ∙ end
     end [] = refl
     end (y ∷ ys) = end ys
 
-module _ (rings : List Standing) (old new : List LockView) (few : length rings < 2 ^ 32) (f : Followed rings old) (most : AreBounded new) (c i : ℕ) (ask : Ask) where
+module _ (names : Names) (rings : List Standing) (old new : List LockView) (few : length rings < 2 ^ 32) (f : Followed rings old) (most : AreBounded new) (c i : ℕ) (ask : Ask) where
   abbrev ls : List Lock
   ls = locks_of old
 
   abbrev marks : List Mark
   marks = (step ls (Asked c i ask)).marks
 
-  noted_none : (r : Answers) → IsDone old new c i ask r → slice_get old i ≡ None → IsLineSo rings new (lines_about i (answers_of c r)) (note_about i old new r.ended)
+  noted_none : (r : Answers) → IsDone old new c i ask r → slice_get old i ≡ None → IsLineSo names rings new (lines_about names i (answers_of c r)) (note_about i old new r.ended)
   noted_none r d none =
       let gone : slice_get ls i ≡ None = slice_get-map lock_of old i ∙ ap (λ (x : Option LockView). option_map lock_of x) none in
       let s : step ls (Asked c i ask) ≡ step_at ls c i ask None = ap (λ (x : Option Lock). step_at ls c i ask x) gone in
@@ -139,16 +141,16 @@ module _ (rings : List Standing) (old new : List LockView) (few : length rings <
           | inr q ↦ subst (λ (x : LockView). IsSameEndless v.ring x.ring) (some_is v w (sym e ∙ (sym (d.others j q) ∙ g))) (same_itself v.ring)
         ];
       }) in
-      subst (λ (x : List ℕ). IsLineSo rings new (lines_about i (answers_of c r)) x) (sym note) (record {
+      subst (λ (x : List ℕ). IsLineSo names rings new (lines_about names i (answers_of c r)) x) (sym note) (record {
         noted = unchanged;
-        told = told_quiet rings unchanged.behind i c (answer.Refused refusal.Lock) (answers_of c r) refl (d.answers ∙ ap (λ (x : Step). x.answers) s);
+        told = told_quiet names rings unchanged.behind i c (answer.Refused refusal.Lock) (answers_of c r) refl (d.answers ∙ ap (λ (x : Step). x.answers) s);
       })
     where
       go : (o : Option LockView) → slice_get new i ≡ o → length new ≡ length old → o ≡ None
       go None e n = refl
       go (Some w) e n = let v = also_there new old i w n e in absurd (none_is v.0 (sym none ∙ v.1))
 
-  noted_one : (v : LockView) (r : Answers) → IsDone old new c i ask r → slice_get old i ≡ Some v → IsSmallAsk ask → IsLineSo rings new (lines_about i (answers_of c r)) (note_about i old new r.ended)
+  noted_one : (v : LockView) (r : Answers) → IsDone old new c i ask r → slice_get old i ≡ Some v → IsSmallAsk ask → IsLineSo names rings new (lines_about names i (answers_of c r)) (note_about i old new r.ended)
   noted_one v r d at small =
       let here : slice_get ls i ≡ Some (lock_of v) = lock_there old i v at in
       let s : step ls (Asked c i ask) ≡ step_at ls c i ask (Some (lock_of v)) = step_is ls i c ask (lock_of v) here in
@@ -193,21 +195,21 @@ module _ (rings : List Standing) (old new : List LockView) (few : length rings <
         lines = note;
       } in record {
         noted = noted_;
-        told = told_one rings (slice_set rings i t.behind) k.0 t.behind i (answers_of c r) k.1 (set_there rings i k.0 t.behind k.1) (subst (λ (x : List (ℕ × Answer)). AreShownIn k.0 t.behind x) (sym said) t.tells);
+        told = told_one names rings (slice_set rings i t.behind) k.0 t.behind i (answers_of c r) k.1 (set_there rings i k.0 t.behind k.1) (subst (λ (x : List (ℕ × Answer)). AreShownIn k.0 t.behind x) (sym said) t.tells);
       }
 
-  noted_done : (r : Answers) → IsDone old new c i ask r → IsSmallAsk ask → IsLineSo rings new (lines_about i (answers_of c r)) (note_about i old new r.ended)
+  noted_done : (r : Answers) → IsDone old new c i ask r → IsSmallAsk ask → IsLineSo names rings new (lines_about names i (answers_of c r)) (note_about i old new r.ended)
   noted_done r d small = go (slice_get old i) refl
     where
-      go : (o : Option LockView) → slice_get old i ≡ o → IsLineSo rings new (lines_about i (answers_of c r)) (note_about i old new r.ended)
+      go : (o : Option LockView) → slice_get old i ≡ o → IsLineSo names rings new (lines_about names i (answers_of c r)) (note_about i old new r.ended)
       go None e = noted_none r d e
       go (Some v) e = noted_one v r d e small
 
-  noted_lack : (r : Answers) → IsLack old new i ask r → IsLineSo rings new (lines_about i (answers_of c r)) (note_about i old new r.ended)
+  noted_lack : (r : Answers) → IsLack old new i ask r → IsLineSo names rings new (lines_about names i (answers_of c r)) (note_about i old new r.ended)
   noted_lack r d =
       let note : note_about i old new r.ended ≡ [] = ap (λ (x : Option HoldEnd). end_line i x ++ events_from i (events_at (slice_get old i)) (slice_get new i)) d.none.0 ∙ go (slice_get old i) (slice_get new i) refl refl in
       let unchanged : IsNotedSo rings new [] = nothing_new rings old new f still in
-      subst (λ (x : List ℕ). IsLineSo rings new (lines_about i (answers_of c r)) x) (sym note) (record { noted = unchanged; told = wanted unchanged.behind d.why })
+      subst (λ (x : List ℕ). IsLineSo names rings new (lines_about names i (answers_of c r)) x) (sym note) (record { noted = unchanged; told = wanted unchanged.behind d.why })
     where
       still : AreSame old new
       still = subst (λ (vs : List LockView). AreSame old vs) (sym d.same) (itself old)
@@ -215,9 +217,9 @@ module _ (rings : List Standing) (old new : List LockView) (few : length rings <
       only : (why : Refusal) → r.own ≡ Some (answer.Refused why) → answers_of c r ≡ (c, answer.Refused why) ∷ []
       only why e = ap (λ (x : Option Answer). own_answer c x ++ other_grant r.granted) e ∙ ap (λ (x : Option Holder). (c, answer.Refused why) ∷ other_grant x) d.none.1
 
-      wanted : (behind : List Standing) → ((r.own ≡ Some (answer.Refused refusal.Full)) × IsFull old i ask) ⊎ (r.own ≡ Some (answer.Refused refusal.Memory)) → AreToldIn rings behind (lines_about i (answers_of c r))
-      wanted behind (inl w) = told_quiet rings behind i c (answer.Refused refusal.Full) (answers_of c r) refl (only refusal.Full w.0)
-      wanted behind (inr w) = told_quiet rings behind i c (answer.Refused refusal.Memory) (answers_of c r) refl (only refusal.Memory w)
+      wanted : (behind : List Standing) → ((r.own ≡ Some (answer.Refused refusal.Full)) × IsFull old i ask) ⊎ (r.own ≡ Some (answer.Refused refusal.Memory)) → AreToldIn names rings behind (lines_about names i (answers_of c r))
+      wanted behind (inl w) = told_quiet names rings behind i c (answer.Refused refusal.Full) (answers_of c r) refl (only refusal.Full w.0)
+      wanted behind (inr w) = told_quiet names rings behind i c (answer.Refused refusal.Memory) (answers_of c r) refl (only refusal.Memory w)
 
       n : length new ≡ length old
       n = ap (λ (vs : List LockView). length vs) d.same
@@ -227,19 +229,19 @@ module _ (rings : List Standing) (old new : List LockView) (few : length rings <
       go None (Some w) e g = let v = also_there new old i w n g in absurd (none_is v.0 (sym e ∙ v.1))
       go (Some v) (Some w) e g = all_past i w.ring.ring.book.history (length v.ring.ring.book.history) (ap (λ (b : BookView ℕ). length b.history) (still.each i v w e g).ring.book)
 
-  noted_answer : (r : Answers) → IsAnswer old new c i ask r → IsSmallAsk ask → IsLineSo rings new (lines_about i (answers_of c r)) (note_about i old new r.ended)
+  noted_answer : (r : Answers) → IsAnswer old new c i ask r → IsSmallAsk ask → IsLineSo names rings new (lines_about names i (answers_of c r)) (note_about i old new r.ended)
   noted_answer r (inl d) small = noted_done r d small
   noted_answer r (inr d) small = noted_lack r d
 
 -- an ask is answered
-pub noted_ask : (rings : List Standing) (old new : List LockView) → length rings < 2 ^ 32 → Followed rings old → AreBounded new → (c i : ℕ) (ask : Ask) (r : Answers) → IsAnswerTo old new c i ask r → IsSmallAsk ask → IsLineSo rings new (lines_about i (answers_of c r)) (note_about i old new r.ended)
-noted_ask rings old new few f most c i (Acquire order) r d small = noted_answer rings old new few f most c i (Acquire order) r d small
-noted_ask rings old new few f most c i (Try order) r d small = noted_answer rings old new few f most c i (Try order) r d small
-noted_ask rings old new few f most c i (Corrupt machine value) r d small = noted_answer rings old new few f most c i (Corrupt machine value) r d small
-noted_ask rings old new few f most c i (Release token) r d small = noted_done rings old new few f most c i (Release token) r d small
-noted_ask rings old new few f most c i Cancel r d small = noted_done rings old new few f most c i Cancel r d small
-noted_ask rings old new few f most c i Leave r d small = noted_done rings old new few f most c i Leave r d small
-noted_ask rings old new few f most c i Stats r d small = noted_done rings old new few f most c i Stats r d small
+pub noted_ask : (names : Names) (rings : List Standing) (old new : List LockView) → length rings < 2 ^ 32 → Followed rings old → AreBounded new → (c i : ℕ) (ask : Ask) (r : Answers) → IsAnswerTo old new c i ask r → IsSmallAsk ask → IsLineSo names rings new (lines_about names i (answers_of c r)) (note_about i old new r.ended)
+noted_ask names rings old new few f most c i (Acquire order) r d small = noted_answer names rings old new few f most c i (Acquire order) r d small
+noted_ask names rings old new few f most c i (Try order) r d small = noted_answer names rings old new few f most c i (Try order) r d small
+noted_ask names rings old new few f most c i (Corrupt machine value) r d small = noted_answer names rings old new few f most c i (Corrupt machine value) r d small
+noted_ask names rings old new few f most c i (Release token) r d small = noted_done names rings old new few f most c i (Release token) r d small
+noted_ask names rings old new few f most c i Cancel r d small = noted_done names rings old new few f most c i Cancel r d small
+noted_ask names rings old new few f most c i Leave r d small = noted_done names rings old new few f most c i Leave r d small
+noted_ask names rings old new few f most c i Stats r d small = noted_done names rings old new few f most c i Stats r d small
 
 -- ---- a client leaves all locks
 
@@ -316,34 +318,34 @@ told_still was is n lock s (a ∷ answers) ne all = (one a.1 all.0, told_still w
     one (answer.Refused why) t = tt
 
 -- what a leave says
-record AreLinesOf (rings behind : List Standing) (left : List Left) : Type 0 where
+record AreLinesOf (names : Names) (rings behind : List Standing) (left : List Left) : Type 0 where
   pub tellings : List Telling
-  pub text : lines_of_left left ≡ text_of tellings
+  pub text : lines_of_left names left ≡ text_of names tellings
   pub each : AllByRecursion (λ (t : Telling). IsToldIn rings behind t.lock t.said) tellings
 
 all_both : (P : Telling → Type 0) (xs ys : List Telling) → AllByRecursion P xs → AllByRecursion P ys → AllByRecursion P (xs ++ ys)
 all_both P [] ys a b = b
 all_both P (x ∷ xs) ys a b = (a.0, all_both P xs ys a.1 b)
 
-lines_then : (rings behind : List Standing) (xs ys : List Left) → AreLinesOf rings behind xs → AreLinesOf rings behind ys → AreLinesOf rings behind (xs ++ ys)
-lines_then rings behind xs ys a b = record {
+lines_then : (names : Names) (rings behind : List Standing) (xs ys : List Left) → AreLinesOf names rings behind xs → AreLinesOf names rings behind ys → AreLinesOf names rings behind (xs ++ ys)
+lines_then names rings behind xs ys a b = record {
   tellings = a.tellings ++ b.tellings;
-  text = flat_map-append line_of_left xs ys ∙ (ap (λ (x : List ℕ). x ++ lines_of_left ys) a.text ∙ (ap (λ (x : List ℕ). text_of a.tellings ++ x) b.text ∙ sym (flat_map-append (λ (t : Telling). answer_line t.client t.lock t.said) a.tellings b.tellings)));
+  text = flat_map-append (line_of_left names) xs ys ∙ (ap (λ (x : List ℕ). x ++ lines_of_left names ys) a.text ∙ (ap (λ (x : List ℕ). text_of names a.tellings ++ x) b.text ∙ sym (flat_map-append (λ (t : Telling). answer_line t.client (name_of names t.lock) t.said) a.tellings b.tellings)));
   each = all_both (λ (t : Telling). IsToldIn rings behind t.lock t.said) a.tellings b.tellings a.each b.each;
 }
 
 -- of one lock
-said_of : (rings behind : List Standing) (c n : ℕ) (v : LockView) → AllByRecursion (λ (t : Telling). IsToldIn rings behind t.lock t.said) (tellings_of n (turn [] (lock_of v) c Leave).answers) → AreLinesOf rings behind (left_at c n (Some v))
-said_of rings behind c n v all = go (is_held_by c v.holder) all
+said_of : (names : Names) (rings behind : List Standing) (c n : ℕ) (v : LockView) → AllByRecursion (λ (t : Telling). IsToldIn rings behind t.lock t.said) (tellings_of n (turn [] (lock_of v) c Leave).answers) → AreLinesOf names rings behind (left_at c n (Some v))
+said_of names rings behind c n v all = go (is_held_by c v.holder) all
   where
     grants : (a : State ℕ) (line : List Waiter) → other_grant (advanced a line).lock.holder ≡ (advanced a line).answers
     grants a [] = refl
     grants a (w ∷ line) = refl
 
-    go : (b : Bool) → AllByRecursion (λ (t : Telling). IsToldIn rings behind t.lock t.said) (tellings_of n (left_turn c v b).answers) → AreLinesOf rings behind (left_by n (ended_in v.ring (left_turn c v b).marks) (left_turn c v b).lock.holder)
+    go : (b : Bool) → AllByRecursion (λ (t : Telling). IsToldIn rings behind t.lock t.said) (tellings_of n (left_turn c v b).answers) → AreLinesOf names rings behind (left_by n (ended_in v.ring (left_turn c v b).marks) (left_turn c v b).lock.holder)
     go true all = record {
       tellings = tellings_of n (left_turn c v true).answers;
-      text = append-nil (lines_about n (other_grant (left_turn c v true).lock.holder)) ∙ (ap (λ (x : List (ℕ × Answer)). lines_about n x) (grants (state_of v.ring) (without c v.queue)) ∙ lines_are n (left_turn c v true).answers);
+      text = append-nil (lines_about names n (other_grant (left_turn c v true).lock.holder)) ∙ (ap (λ (x : List (ℕ × Answer)). lines_about names n x) (grants (state_of v.ring) (without c v.queue)) ∙ lines_are names n (left_turn c v true).answers);
       each = all;
     }
     go false all = record { tellings = []; text = refl; each = tt }
@@ -401,23 +403,23 @@ module _ (rings : List Standing) (old new : List LockView) (few : length rings <
       left_one n v.0 w.0 v.1 w.1 (omega (arith, l)) (left_so n (omega (arith, l)))
 
   -- what is said of the first of them
-  said_first : (behind : List Standing) (n : ℕ) → n ≤ length old →
+  said_first : (names : Names) (behind : List Standing) (n : ℕ) → n ≤ length old →
       ((j : ℕ) (v : LockView) → j < n → slice_get old j ≡ Some v → AllByRecursion (λ (t : Telling). IsToldIn rings behind t.lock t.said) (tellings_of j (turn [] (lock_of v) c Leave).answers)) →
-      AreLinesOf rings behind (left_of c old n)
-  said_first behind zero l tells = record { tellings = []; text = refl; each = tt }
-  said_first behind (suc n) l tells =
+      AreLinesOf names rings behind (left_of c old n)
+  said_first names behind zero l tells = record { tellings = []; text = refl; each = tt }
+  said_first names behind (suc n) l tells =
       let v = there_is old n (omega (arith, l)) in
-      let before = said_first behind n (omega (arith, l)) (λ j x lt e. tells j x (omega (arith, lt)) e) in
-      let one = said_of rings behind c n v.0 (tells n v.0 (omega arith) v.1) in
-      subst (λ (x : Option LockView). AreLinesOf rings behind (left_of c old n ++ left_at c n x)) (sym v.1) (lines_then rings behind (left_of c old n) (left_at c n (Some v.0)) before one)
+      let before = said_first names behind n (omega (arith, l)) (λ j x lt e. tells j x (omega (arith, lt)) e) in
+      let one = said_of names rings behind c n v.0 (tells n v.0 (omega arith) v.1) in
+      subst (λ (x : Option LockView). AreLinesOf names rings behind (left_of c old n ++ left_at c n x)) (sym v.1) (lines_then names rings behind (left_of c old n) (left_at c n (Some v.0)) before one)
 
-  pub noted_left : IsLineSo rings new (lines_of_left said) (notes_of_left new said)
-  noted_left =
+  pub noted_left : (names : Names) → IsLineSo names rings new (lines_of_left names said) (notes_of_left new said)
+  noted_left names =
       let a = left_so (length old) (omega arith) in
       let size : length a.behind ≡ length rings = chain_many rings a.behind a.calls a.chain in
       let many = f.many in
       let n = old_new in
-      let first = said_first a.behind (length old) (omega arith) a.tells in
+      let first = said_first names a.behind (length old) (omega arith) a.tells in
       let noted_ : IsNotedSo rings new (notes_of_left new said) = record {
         calls = a.calls;
         behind = a.behind;
@@ -431,55 +433,53 @@ module _ (rings : List Standing) (old new : List LockView) (few : length rings <
         lines = ap (λ (x : List Left). notes_of_left new x) d.told ∙ a.lines;
       } in record {
         noted = noted_;
-        told = record { tellings = first.tellings; text = inl (ap (λ (x : List Left). lines_of_left x) d.told ∙ first.text); each = first.each };
+        told = record { tellings = first.tellings; text = inl (ap (λ (x : List Left). lines_of_left names x) d.told ∙ first.text); each = first.each };
       }
 
 -- ---- a line
 
-pub order_small : (make : ℕ → ℕ → asks.Ask) (lock order : ℕ) (x : asks.Ask) → of_two make (in_64_bits lock) (in_64_bits order) ≡ Some x → order < 2 ^ 64
-order_small make lock order x e = go (nat_lt order (2 ^ 64)) refl e
+pub order_small : (make : ℕ → asks.Ask) (order : ℕ) (x : asks.Ask) → of_one make (in_64_bits order) ≡ Some x → order < 2 ^ 64
+order_small make order x e = go (nat_lt order (2 ^ 64)) refl e
   where
-    nothing : (o : Option ℕ) → of_two make o None ≡ Some x → ⊥
-    nothing None e = none_is x e
-    nothing (Some a) e = none_is x e
-
-    go : (b : Bool) → nat_lt order (2 ^ 64) ≡ b → of_two make (in_64_bits lock) (if b then Some order else None) ≡ Some x → order < 2 ^ 64
+    go : (b : Bool) → nat_lt order (2 ^ 64) ≡ b → of_one make (if b then Some order else None) ≡ Some x → order < 2 ^ 64
     go true t e = ltb-true order (2 ^ 64) t
-    go false t e = absurd (nothing (in_64_bits lock) e)
+    go false t e = absurd (none_is x e)
 
 module _ (rings : List Standing) (old new : SegmentView) (few : length rings < 2 ^ 32) (f : Followed rings old.locks) (most : AreBounded new.locks) where
   unchanged : (noted : List ℕ) → noted ≡ [] → new ≡ old → IsNotedSo rings new.locks noted
   unchanged noted n e = subst (λ (x : List ℕ). IsNotedSo rings new.locks x) (sym n) (subst (λ (x : SegmentView). IsNotedSo rings x.locks []) (sym e) (nothing_new rings old.locks old.locks f (itself old.locks)))
 
-  noted_denied : (client : ℕ) (why : Denial) (said noted : List ℕ) → IsSaid (denial_line client why) old said noted new → IsLineSo rings new.locks said noted
-  noted_denied client why said noted s = let n = unchanged noted s.notes s.leaves in record { noted = n; told = told_denied rings n.behind client why said s.says }
+  noted_denied : (client : ℕ) (why : Denial) (said noted : List ℕ) → IsSaid (denial_line client why) old said noted new → IsLineSo old.names rings new.locks said noted
+  noted_denied client why said noted s = let n = unchanged noted s.notes s.leaves in record { noted = n; told = told_denied old.names rings n.behind client why said s.says }
 
-  noted_told : (strict : Bool) (c i : ℕ) (ask : Ask) (said noted : List ℕ) → IsSmallAsk ask → IsToldOf strict true c i ask old said noted new → IsLineSo rings new.locks said noted
+  noted_told : (strict : Bool) (c i : ℕ) (ask : Ask) (said noted : List ℕ) → IsSmallAsk ask → IsToldOf strict true c i ask old said noted new → IsLineSo old.names rings new.locks said noted
   noted_told strict c i ask said noted small t =
-      subst (λ (x : List ℕ). IsLineSo rings new.locks x noted) (sym t.says)
-      (subst (λ (x : List ℕ). IsLineSo rings new.locks (lines_about i (answers_of c t.answers)) x) (sym t.notes) (noted_ask rings old.locks new.locks few f most c i ask t.answers t.done small))
+      subst (λ (x : List ℕ). IsLineSo old.names rings new.locks x noted) (sym t.says)
+      (subst (λ (x : List ℕ). IsLineSo old.names rings new.locks (lines_about old.names i (answers_of c t.answers)) x) (sym t.notes) (noted_ask old.names rings old.locks new.locks few f most c i ask t.answers t.done small))
 
-  noted_of : (strict : Bool) (c : ℕ) (a : asks.Ask) (said noted : List ℕ) → heard a ≡ Some a → IsTold strict true c (one_ask a) old said noted new → IsLineSo rings new.locks said noted
-  noted_of strict c (asks.acquire lock order) said noted h t = noted_told strict c (in_32_bits lock) (Acquire order) said noted (order_small asks.acquire lock order (asks.acquire lock order) h) t
-  noted_of strict c (asks.try lock order) said noted h t = noted_told strict c (in_32_bits lock) (Try order) said noted (order_small asks.try lock order (asks.try lock order) h) t
-  noted_of strict c (asks.release lock token) said noted h t = noted_told strict c (in_32_bits lock) (Release token) said noted tt t
-  noted_of strict c (asks.cancel lock) said noted h t = noted_told strict c (in_32_bits lock) Cancel said noted tt t
+  noted_named : (o : Option ℕ) (strict : Bool) (c : ℕ) (name : List ℕ) (ask : Ask) (said noted : List ℕ) → lock_named old.names name ≡ o → IsSmallAsk ask → IsToldOfNamed o strict true c name ask old said noted new → IsLineSo old.names rings new.locks said noted
+  noted_named None strict c name ask said noted e small t = let n = unchanged noted t.notes t.leaves in record { noted = n; told = told_unknown old.names rings n.behind c name said e t.says }
+  noted_named (Some i) strict c name ask said noted e small t = noted_told strict c i ask said noted small t
+
+  noted_of : (strict : Bool) (c : ℕ) (a : asks.Ask) (said noted : List ℕ) → heard a ≡ Some a → IsTold strict true c (one_ask a) old said noted new → IsLineSo old.names rings new.locks said noted
+  noted_of strict c (asks.acquire name order) said noted h t = noted_named (lock_named old.names name) strict c name (Acquire order) said noted refl (order_small (asks.acquire name) order (asks.acquire name order) h) t
+  noted_of strict c (asks.try name order) said noted h t = noted_named (lock_named old.names name) strict c name (Try order) said noted refl (order_small (asks.try name) order (asks.try name order) h) t
+  noted_of strict c (asks.release name token) said noted h t = noted_named (lock_named old.names name) strict c name (Release token) said noted refl tt t
+  noted_of strict c (asks.cancel name) said noted h t = noted_named (lock_named old.names name) strict c name Cancel said noted refl tt t
   noted_of strict c asks.leave said noted h t =
-      subst (λ (x : List ℕ). IsLineSo rings new.locks x noted) (sym t.says)
-      (subst (λ (x : List ℕ). IsLineSo rings new.locks (lines_of_left t.left) x) (sym t.notes) (noted_left rings old.locks new.locks few f most c t.left t.done))
-  noted_of strict c (asks.corrupt lock machine value) said noted h t = noted_told strict c (in_32_bits lock) (Corrupt (in_32_bits machine) (in_32_bits value)) said noted tt t
-  noted_of strict c (asks.stats lock) said noted h t = noted_told strict c (in_32_bits lock) Stats said noted tt t
+      subst (λ (x : List ℕ). IsLineSo old.names rings new.locks x noted) (sym t.says)
+      (subst (λ (x : List ℕ). IsLineSo old.names rings new.locks (lines_of_left old.names t.left) x) (sym t.notes) (noted_left rings old.locks new.locks few f most c t.left t.done old.names))
+  noted_of strict c (asks.corrupt name machine value) said noted h t = noted_named (lock_named old.names name) strict c name (Corrupt (in_32_bits machine) (in_32_bits value)) said noted refl tt t
+  noted_of strict c (asks.stats name) said noted h t = noted_named (lock_named old.names name) strict c name Stats said noted refl tt t
 
-  noted_if : (off : Bool) (terms : Terms) (c : ℕ) (a : asks.Ask) (said noted : List ℕ) → terms.noting ≡ true → heard a ≡ Some a → IsAnsweredIf off terms c a old said noted new → IsLineSo rings new.locks said noted
+  noted_if : (off : Bool) (terms : Terms) (c : ℕ) (a : asks.Ask) (said noted : List ℕ) → terms.noting ≡ true → heard a ≡ Some a → IsAnsweredIf off terms c a old said noted new → IsLineSo old.names rings new.locks said noted
   noted_if true terms c a said noted noting h t = noted_denied c denial.Off said noted t
   noted_if false terms c a said noted noting h t = noted_of terms.strict c a said noted h (subst (λ (b : Bool). IsTold terms.strict b c (one_ask a) old said noted new) noting t)
 
-  noted_input : (terms : Terms) (line : List ℕ) (i : Input) (said noted : List ℕ) → terms.noting ≡ true → IsReadAs line i → IsInputAnswered terms i old said noted new → IsLineSo rings new.locks said noted
-  noted_input terms line (input.Asked c ask) said noted noting r t =
-      let off : Bool = is_off terms.faults (seen ask) in
-      noted_if off terms c (seen ask) said noted noting r.2 t
+  noted_input : (terms : Terms) (line : List ℕ) (i : Input) (said noted : List ℕ) → terms.noting ≡ true → IsReadAs line i → IsInputAnswered terms i old said noted new → IsLineSo old.names rings new.locks said noted
+  noted_input terms line (input.Asked c ask) said noted noting r t = noted_if (is_off terms.faults ask) terms c ask said noted noting r.2 t
   noted_input terms line (input.Refused c why) said noted noting r t = noted_denied c (denial_of why) said noted t
-  noted_input terms line input.Nobody said noted noting r t = let n = unchanged noted t.notes t.leaves in record { noted = n; told = told_nobody rings n.behind said t.says }
+  noted_input terms line input.Nobody said noted noting r t = let n = unchanged noted t.notes t.leaves in record { noted = n; told = told_nobody old.names rings n.behind said t.says }
 
-  pub noted_line : (terms : Terms) (line said noted : List ℕ) → terms.noting ≡ true → IsLineAnswered terms old line said noted new → IsLineSo rings new.locks said noted
+  pub noted_line : (terms : Terms) (line said noted : List ℕ) → terms.noting ≡ true → IsLineAnswered terms old line said noted new → IsLineSo old.names rings new.locks said noted
   noted_line terms line said noted noting a = noted_input terms line a.0 said noted noting a.1 a.2

@@ -11,16 +11,17 @@ use Rattle.held_locks.specs.Locks.{Ask, Acquire, Try, Release, Cancel, Leave, Co
 use Rattle.held_locks.specs.Promises.{locks_after, leaves}
 use Rattle.held_locks.specs.Kept.{LockView, lock_of, locks_of, IsDone, IsAnswer, IsLeft}
 use Rattle.lock_protocol.specs.Asks as asks
-use Rattle.lock_protocol.specs.Asks.{seen}
-use Rattle.lock_protocol.specs.declared.inputs.Input.{Input}
-use Rattle.lock_protocol.specs.declared.inputs.Input.TheVariants as input
+use Rattle.lock_protocol.specs.Names.{lock_named}
+use Rattle.lock_protocol.specs.Views.{Input}
+use Rattle.lock_protocol.specs.Views as input
 use Rattle.line_service.specs.Answering.{Answers as Answered}
 use Rattle.line_service.specs.Stands.{Stand, by_stand, stand}
 use Rattle.lock_service.specs.declared.service.LockService.{LockService}
 use Rattle.lock_service.specs.declared.service.Terms.{Terms}
-use Rattle.lock_service.specs.Asking.{one_ask, is_off, IsAnswerTo}
+use Rattle.held_locks.specs.Asked.{IsAnswerTo}
+use Rattle.lock_service.specs.Asking.{one_ask, is_off}
 use Rattle.lock_service.specs.Counting.{SegmentView}
-use Rattle.lock_service.specs.Serving.{IsTold, IsAnsweredIf, IsInputAnswered, IsServed, IsLineAnswered}
+use Rattle.lock_service.specs.Serving.{IsToldOfNamed, IsTold, IsAnsweredIf, IsInputAnswered, IsServed, IsLineAnswered}
 use Rattle.lock_service.specs.Begun.{ServedLinesAreAnswered, AnsweredLinesFollow}
 use Rattle.lock_service.specs.Told.{AreOf, AreLinesIn}
 use Rattle.lock_service.proofs.Chains.{chain_append, chain_many, chain_grown}
@@ -76,16 +77,20 @@ module _ (old new : SegmentView) where
   longer_kept : new ≡ old → AreLonger old.locks new.locks
   longer_kept e = longer_itself old.locks new.locks (ap (λ (s : SegmentView). s.locks) e)
 
-  longer_told : (strict noting : Bool) (c : ℕ) (x : Option (ℕ × Ask)) (said noted : List ℕ) → IsTold strict noting c x old said noted new → AreLonger old.locks new.locks
+  longer_named : (o : Option ℕ) (strict noting : Bool) (c : ℕ) (name : List ℕ) (ask : Ask) (said noted : List ℕ) → IsToldOfNamed o strict noting c name ask old said noted new → AreLonger old.locks new.locks
+  longer_named None strict noting c name ask said noted t = longer_kept t.leaves
+  longer_named (Some i) strict noting c name ask said noted t = longer_ask old.locks new.locks c i ask t.answers t.done
+
+  longer_told : (strict noting : Bool) (c : ℕ) (x : Option (List ℕ × Ask)) (said noted : List ℕ) → IsTold strict noting c x old said noted new → AreLonger old.locks new.locks
   longer_told strict noting c None said noted t = longer_left old.locks new.locks c t.left t.done
-  longer_told strict noting c (Some (i, ask)) said noted t = longer_ask old.locks new.locks c i ask t.answers t.done
+  longer_told strict noting c (Some (name, ask)) said noted t = longer_named (lock_named old.names name) strict noting c name ask said noted t
 
   longer_if : (off : Bool) (terms : Terms) (c : ℕ) (a : asks.Ask) (said noted : List ℕ) → IsAnsweredIf off terms c a old said noted new → AreLonger old.locks new.locks
   longer_if true terms c a said noted t = longer_kept t.leaves
   longer_if false terms c a said noted t = longer_told terms.strict terms.noting c (one_ask a) said noted t
 
   longer_input : (terms : Terms) (i : Input) (said noted : List ℕ) → IsInputAnswered terms i old said noted new → AreLonger old.locks new.locks
-  longer_input terms (input.Asked c ask) said noted t = longer_if (is_off terms.faults (seen ask)) terms c (seen ask) said noted t
+  longer_input terms (input.Asked c ask) said noted t = longer_if (is_off terms.faults ask) terms c ask said noted t
   longer_input terms (input.Refused c why) said noted t = longer_kept t.leaves
   longer_input terms input.Nobody said noted t = longer_kept t.leaves
 

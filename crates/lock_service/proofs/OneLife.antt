@@ -3,9 +3,10 @@ use Rattle.std.proofs.Common.{◌≡◌, ℕ, List, [], ◌∷◌, ◌++◌, ref
 use Rattle.held_locks.specs.Queues.{Lock}
 use Rattle.held_locks.specs.Locks.{Input, Restart}
 use Rattle.held_locks.specs.Promises.{AreRight, locks_after}
-use Rattle.held_locks.specs.declared.handing.Handover.{Handover}
+use Rattle.lock_protocol.specs.Names.{Names}
+use Rattle.folder_of_locks.specs.Holders.{Hold, handover, IsHandedBy, AreHandedBy}
 use Rattle.held_locks.specs.Kept.{LockView, lock_of, locks_of}
-use Rattle.held_locks.specs.Handed.{handed, IsHanded, AreHanded}
+use Rattle.held_locks.specs.Handed.{handed}
 use Rattle.held_locks.proofs.Shown.{locks_append}
 use Rattle.std.specs.List.{AllByRecursion}
 use Rattle.std.proofs.lemmas.List.{map-set, map-append}
@@ -15,7 +16,7 @@ use Rattle.lock_service.specs.Life.{Stage, IsLockRun, behind, IsLockLife, AreFou
 use Rattle.lock_service.specs.Remarked.{begun_with_remarks}
 use Rattle.lock_service.specs.Runs.{inside, EndWith, IsRun}
 use Rattle.lock_service.specs.Started.{IsNew}
-use Rattle.lock_service.specs.OneLife.{Run, locks_at_start, IsHandedOver, AreHandedOver, AreNew, AreRuns, AreOneLife, RunsAreOneLife}
+use Rattle.lock_service.specs.OneLife.{Run, locks_at_start, names_of_run, IsHandedOver, AreHandedOver, AreNew, AreRuns, AreOneLife, RunsAreOneLife}
 use Rattle.lock_service.proofs.Following.{lock_there}
 use Rattle.lock_service.proofs.Life.{run_so, passed_on, runs_are_a_life}
 use Rattle.lock_service.proofs.RunsGoOn.{behind_both, runs_go_on}
@@ -51,18 +52,20 @@ life_so s (next ∷ more) ls last journal e k ends =
 
 -- ---- holds that are handed over, and new locks
 
-one_over : (old new : List LockView) (h : Handover) → IsHanded old new h → IsHandedOver (locks_of old) (locks_of new) h
-one_over old new h is = record {
+one_over : (names : Names) (old new : List LockView) (h : Hold) → IsHandedBy names old new h → IsHandedOver names (locks_of old) (locks_of new) h
+one_over names old new h (at, named, is) = record {
+  at = at;
+  named = named;
   lock = lock_of is.lock;
-  there = lock_there old h.lock is.lock is.there;
+  there = lock_there old at is.lock is.there;
   held = is.held.held;
   free = is.held.free;
-  new_is = ap (λ (vs : List LockView). locks_of vs) is.new_is ∙ map-set lock_of old h.lock (handed is.lock h);
+  new_is = ap (λ (vs : List LockView). locks_of vs) is.new_is ∙ map-set lock_of old at (handed is.lock (handover h at));
 }
 
-all_over : (old : List LockView) (hs : List Handover) (new : List LockView) → AreHanded old hs new → AreHandedOver (locks_of old) hs (locks_of new)
-all_over old [] new same = ap (λ (vs : List LockView). locks_of vs) same
-all_over old (h ∷ hs) new (mid, is, are) = (locks_of mid, one_over old mid h is, all_over mid hs new are)
+all_over : (names : Names) (old : List LockView) (hs : List Hold) (new : List LockView) → AreHandedBy names old hs new → AreHandedOver names (locks_of old) hs (locks_of new)
+all_over names old [] new same = ap (λ (vs : List LockView). locks_of vs) same
+all_over names old (h ∷ hs) new (mid, is, are) = (locks_of mid, one_over names old mid h is, all_over names mid hs new are)
 
 all_new : (vs : List LockView) → AllByRecursion IsNew vs → AreNew (locks_of vs)
 all_new [] all = tt
@@ -91,9 +94,10 @@ go folder r (next ∷ more) ls e runs =
     let added : List Lock = locks_of x.4 in
     let both : locks_of (x.3 ++ x.4) ≡ locks_after ls (l.inputs ++ Restart ∷ []) ++ added =
     map-append lock_of x.3 x.4 ∙ ap (λ (u : List Lock). u ++ added) (l.found x.3 x.5) in
-    let over : AreHandedOver (locks_after ls (l.inputs ++ Restart ∷ []) ++ added) next.holders given =
-    subst (λ (u : List Lock). AreHandedOver u next.holders given) both
-    (subst (λ (vs : List LockView). AreHandedOver (locks_of (x.3 ++ x.4)) next.holders (locks_of vs)) (sym s.begins) (all_over (x.3 ++ x.4) next.holders s.place.locks x.7)) in
+    let by_name : AreHandedBy (names_of_run next) (x.3 ++ x.4) next.holders s.place.locks = subst (λ (n : Names). AreHandedBy n (x.3 ++ x.4) next.holders s.place.locks) (sym s.named) x.7 in
+    let over : AreHandedOver (names_of_run next) (locks_after ls (l.inputs ++ Restart ∷ []) ++ added) next.holders given =
+    subst (λ (u : List Lock). AreHandedOver (names_of_run next) u next.holders given) both
+    (subst (λ (vs : List LockView). AreHandedOver (names_of_run next) (locks_of (x.3 ++ x.4)) next.holders (locks_of vs)) (sym s.begins) (all_over (names_of_run next) (x.3 ++ x.4) next.holders s.place.locks by_name)) in
     let m = go folder next more given refl runs.1 in
     (l.inputs ++ Restart ∷ m.0, (l.inputs, m.0, added, given, record { first = x.0; more = x.1; run = x.2; life = l.life }, refl, all_new x.4 x.6, over, m.1))
 

@@ -13,7 +13,8 @@ use Rattle.held_locks.specs.Promises.{locks_after, leaves}
 use Rattle.held_locks.specs.Kept.{LockView, lock_of, locks_of, IsDone, IsLack, IsAnswer, IsLeft}
 use Rattle.ring_model.specs.Limits.{event_limit, machine_limit}
 use Rattle.std.specs.Prelude.{nat_lt, ◌+◌}
-use Rattle.lock_service.specs.Asking.{IsAnswerTo}
+use Rattle.held_locks.specs.Asked.{IsAnswerTo}
+use Rattle.held_locks.proofs.Asking.{as_answer, after_long, views_long}
 use Rattle.lock_service.specs.Due.{is_short, is_short_at, has_short}
 use Rattle.lock_service.specs.Counting.{IsWatched}
 
@@ -22,7 +23,7 @@ none_at [] i e = refl
 none_at (v ∷ vs) zero e = (or_parts (is_short v) (has_short vs) e).0
 none_at (v ∷ vs) (suc i) e = none_at vs i (or_parts (is_short v) (has_short vs) e).1
 
-none_all : (vs : List LockView) → ((i : ℕ) → is_short_at (slice_get vs i) ≡ false) → has_short vs ≡ false
+pub none_all : (vs : List LockView) → ((i : ℕ) → is_short_at (slice_get vs i) ≡ false) → has_short vs ≡ false
 none_all [] f = refl
 none_all (v ∷ vs) f = or_from (is_short v) (has_short vs) (f 0) (none_all vs (λ i. f (suc i)))
 
@@ -60,16 +61,6 @@ answer_still : (old new : List LockView) (c i : ℕ) (ask : Ask) (r : Answers) �
 answer_still old new c i ask r (inl d) j n = done_still old new c i ask r d j n
 answer_still old new c i ask r (inr w) j n = lack_still old new i ask r w j
 
--- each answer is one that may be a refusal for lack of room or memory
-pub as_answer : (old new : List LockView) (c i : ℕ) (ask : Ask) (r : Answers) → IsAnswerTo old new c i ask r → IsAnswer old new c i ask r
-as_answer old new c i (Acquire order) r a = a
-as_answer old new c i (Try order) r a = a
-as_answer old new c i (Release token) r a = inl a
-as_answer old new c i Cancel r a = inl a
-as_answer old new c i Leave r a = inl a
-as_answer old new c i (Corrupt machine value) r a = a
-as_answer old new c i Stats r a = inl a
-
 pub short_after : (old new : List LockView) (c i : ℕ) (ask : Ask) (r : Answers) (short : Bool) → IsAnswerTo old new c i ask r → IsWatched old short → (short || is_short_at (slice_get new i)) ≡ (short || has_short new)
 short_after old new c i ask r true a w = refl
 short_after old new c i ask r false a w =
@@ -79,28 +70,6 @@ pub watched_after : (new : List LockView) (short now : Bool) → now ≡ (short 
 watched_after new short now e = λ f. (or_parts short (has_short new) (sym e ∙ f)).1
 
 -- ---- as many locks as before
-
-step_long : (ls : List Lock) (i : Input) → length (step ls i).locks ≡ length ls
-step_long ls (Asked c i ask) = go (slice_get ls i)
-  where
-    go : (x : Option Lock) → length (step_at ls c i ask x).locks ≡ length ls
-    go None = refl
-    go (Some l) = length-set ls i _
-step_long ls Restart = length-map ls restarted
-
-after_long : (ls : List Lock) (is : List Input) → length (locks_after ls is) ≡ length ls
-after_long ls [] = refl
-after_long ls (i ∷ is) = after_long (step ls i).locks is ∙ step_long ls i
-
-views_long : (old new : List LockView) (ls : List Lock) → locks_of new ≡ ls → length ls ≡ length (locks_of old) → length new ≡ length old
-views_long old new ls e n = sym (length-map new lock_of) ∙ ap (λ (x : List Lock). length x) e ∙ n ∙ length-map old lock_of
-
-answer_long : (old new : List LockView) (c i : ℕ) (ask : Ask) (r : Answers) → IsAnswer old new c i ask r → length new ≡ length old
-answer_long old new c i ask r (inl d) = views_long old new _ d.locks (step_long (locks_of old) (Asked c i ask))
-answer_long old new c i ask r (inr w) = ap (λ (vs : List LockView). length vs) w.same
-
-pub asked_long : (old new : List LockView) (c i : ℕ) (ask : Ask) (r : Answers) → IsAnswerTo old new c i ask r → length new ≡ length old
-asked_long old new c i ask r a = answer_long old new c i ask r (as_answer old new c i ask r a)
 
 pub left_long : (old new : List LockView) (c : ℕ) (said : List _) → IsLeft old new c said → length new ≡ length old
 left_long old new c said l = views_long old new _ l.locks (after_long (locks_of old) (leaves c (length old)))

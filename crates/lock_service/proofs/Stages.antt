@@ -30,6 +30,7 @@ use Rattle.lock_service.specs.Remarked.{begun_with_remarks}
 use Rattle.lock_service.specs.Life.{Stage, IsStage, AreFound, Follows, AreStages}
 use Rattle.lock_service.specs.Around.{AreToldAround, AreToldAfter}
 use Rattle.lock_service.specs.Runs.{Service, answering, by_segments, inside, IsPlain, others_of, lines_in, told_of, said_of, EndWith, IsWholeJournal, PartsAreStages, RunsFollow}
+use Rattle.lock_service.proofs.SameNames.{all_names_stay}
 use Rattle.lock_service.proofs.CutRemarks.{without_cut}
 use Rattle.lock_service.proofs.WholeTexts.{of_both}
 use Rattle.lock_service.proofs.WholeEnds.{noted_journal}
@@ -269,6 +270,8 @@ module _ (first : Moment Service) (before : List ℕ) where
         let n : Numbers = numbers_of start.inner.numbered.keys in
         let next = e.file.follows in
         let are_next : AreNext (inside a.service).segment.locks (inside f.service).segment.locks = next.0.locks in
+        let named : (inside f.service).segment.names ≡ (inside start).segment.names =
+        next.0.names ∙ all_names_stay (inside start).terms (inside start).segment (inside a.service).segment (given n lines) sf.told sf.inside_noted sf.answered.answers in
         let next_kept = next_all (inside a.service).segment.locks (inside f.service).segment.locks g.kept.0 g.kept.0 g.kept.1 are_next refl in
         let terms : (inside f.service).terms ≡ (inside start).terms = next.0.terms ∙ sf.terms in
         let numbers : numbers_of f.service.inner.numbered.keys ≡ numbers_all n lines = ap (λ (k : Table). numbers_of k) next.1.keys ∙ sf.numbers in
@@ -334,7 +337,7 @@ module _ (first : Moment Service) (before : List ℕ) where
                 let given_later : told_of (r.one ∷ r.more) ≡ given (numbers_all n lines) (others_of (lines_in ps)) = r.told ∙ ap (λ (m : Numbers). given m (others_of (lines_in ps))) numbers in record {
                   one = s;
                   more = r.one ∷ r.more;
-                  stages = (is_stage, (refl, subst (λ (v : SegmentView). AreNext (inside a.service).segment.locks v.locks) (sym r.begins) are_next), r.stages);
+                  stages = (is_stage, (refl, subst (λ (v : SegmentView). AreNext (inside a.service).segment.locks v.locks) (sym r.begins) are_next, ap (λ (v : SegmentView). v.names) r.begins ∙ named), r.stages);
                   begins = refl;
                   ends = (refl, r.ends);
                   told = ap (λ (u : List (List ℕ)). given n lines ++ u) given_later ∙ sym (given_then n lines (others_of (lines_in ps)));

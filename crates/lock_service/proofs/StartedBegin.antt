@@ -4,13 +4,13 @@ use Rattle.disks.specs.Held.{Held}
 use Rattle.line_service.specs.declared.segment_numbers.SegmentNumbers.{SegmentNumbers}
 use Rattle.ring_model.specs.declared.bases.Base.{Base}
 use Rattle.saved_history.specs.declared.saved.SavedRing.{SavedRing}
-use Rattle.held_locks.specs.declared.handing.Handover.{Handover}
-use Rattle.held_locks.specs.Handed.{AreHanded}
+use Rattle.lock_protocol.specs.Names.{Names}
+use Rattle.folder_of_locks.specs.Holders.{Hold, handover, AreHandedBy}
 use Rattle.held_locks.specs.Kept.{LockView}
 use Rattle.held_locks.specs.Opened.{open_in, holder_after}
 use Rattle.folder_of_locks.specs.Lists.{Listed}
 use Rattle.folder_of_locks.specs.Rings.{AreBegun}
-use Rattle.folder_of_locks.specs.Folders.{Place, StandsAt}
+use Rattle.folder_of_locks.specs.Folders.{Found, StandsAt}
 use Rattle.lock_service.specs.Begun.{IsBegun}
 use Rattle.lock_service.specs.Started.{StartedLocksBegin}
 use Rattle.lock_service.proofs.Following.{also_there}
@@ -27,19 +27,19 @@ each_found bs ss ls vs b i v at =
     let k = b.each i l.0 v l.1 at in
     subst (λ (w : LockView). IsBegun w) (sym (lock_is v [] (holder_after (open_in k.0)) k.2.queue k.2.holder)) (added_begins k.0 v.ring k.2.kept k.2.repaired)
 
-each_stands : (files : Option Held) (folder : List ℕ) (range : Option SegmentNumbers) (ls : List Listed) (p : Place) → StandsAt files folder range ls p → EachBegun p.locks
+each_stands : (files : Option Held) (folder : List ℕ) (range : Option SegmentNumbers) (ls : List Listed) (p : Found) → StandsAt files folder range ls p → EachBegun p.locks
 each_stands files folder None ls p s = each_found [] [] ls p.locks s.begun
 each_stands files folder (Some r) ls p s = each_found s.segment.head.bases.items s.segment.saved.rings.items ls p.locks s.begun
 
-all_handed : (old : List LockView) (hs : List Handover) (new : List LockView) → AreHanded old hs new → EachBegun old → EachBegun new
-all_handed old [] new same each = subst (λ (vs : List LockView). EachBegun vs) (sym same) each
-all_handed old (h ∷ hs) new (mid, is, are) each = all_handed mid hs new are (each_handed old mid h is each)
+all_handed : (names : Names) (old : List LockView) (hs : List Hold) (new : List LockView) → AreHandedBy names old hs new → EachBegun old → EachBegun new
+all_handed names old [] new same each = subst (λ (vs : List LockView). EachBegun vs) (sym same) each
+all_handed names old (h ∷ hs) new (mid, is, are) each = all_handed names mid hs new are (each_handed old mid (handover h is.0) is.2 each)
 
 pub started_locks_begin : StartedLocksBegin
 started_locks_begin folder word holders before after p entries started kept text =
     let s = started.started.stands in record {
       entries = entries;
       kept = kept;
-      each = all_handed s.found.locks holders p.locks s.handed (each_stands before folder started.range started.started.locks s.found s.stands);
+      each = all_handed p.names s.found.locks holders p.locks s.handed (each_stands before folder started.range started.started.locks s.found s.stands);
       text = text;
     }

@@ -18,20 +18,22 @@ use Rattle.line_replica.specs.State.{own_lines}
 use Rattle.line_replica.proofs.Given.{whole_line, whole_at}
 use Rattle.line_replica.proofs.Hearing.{is_untagged, is_plain}
 use Rattle.held_locks.specs.declared.answers.Waiter.{Waiter}
-use Rattle.held_locks.specs.Kept.{LockView, lock_limit}
+use Rattle.held_locks.specs.Kept.{LockView}
+use Rattle.lock_protocol.specs.Names.{Names, IsName, AreNames, name_spaced, name_of}
+use Rattle.lock_protocol.proofs.NameTables.{name_there}
 use Rattle.lock_service.specs.declared.service.LockService.{LockService}
 use Rattle.lock_service.specs.Serving.{IsServed}
 use Rattle.lock_service.specs.State.{holds_from, wait_line, wait_lines, waits_from}
 use Rattle.lock_service.specs.KeysBack.{IsFresh}
-use Rattle.lock_service.specs.WaitersBack.{IsOfBits, holders_of, waiters_of, waiting_from}
-use Rattle.lock_service.specs.StateBack.{locks_in, HoldsAreFirst, StateComesBack}
+use Rattle.lock_service.specs.WaitersBack.{IsOfBits, HaveState, holders_of, waiters_of, waiting_from}
+use Rattle.lock_service.specs.StateBack.{locks_in, names_in, HoldsAreFirst, StateComesBack}
 use Rattle.lock_service.proofs.KeyLines.{same_text, number_reads}
 use Rattle.lock_service.proofs.KeysBack.{keys_come_back}
 use Rattle.lock_service.proofs.WaitersBack.{waiters_come_back}
 use Rattle.lock_service.proofs.WaitingLines.{short}
 
 pub holds_are_first : HoldsAreFirst
-holds_are_first r = append_assoc (holds_from 0 (locks_in r)) (waits_from 0 (locks_in r)) (own_lines r)
+holds_are_first r = append_assoc (holds_from (names_in r) 0 (locks_in r)) (waits_from (names_in r) 0 (locks_in r)) (own_lines r)
 
 -- ---- the line of a client that waits is a plain one
 
@@ -60,16 +62,16 @@ no_number : (client : ℕ) (rest : List ℕ) → client < 2 ^ 64 → tagged_at (
 unfolding tagged_at order_at decimal_at
 no_number client rest lt = ap with_key (number_reads client (codes "acquire " ++ rest) lt)
 
-wait_plain : (k : ℕ) (w : Waiter) → k < lock_limit → IsOfBits w → heard (wait_line k w) ≡ Plain
-wait_plain k w lt bits =
-    let line = wait_line k w in
+wait_plain : (name : List ℕ) (w : Waiter) → IsName name → IsOfBits w → heard (wait_line name w) ≡ Plain
+wait_plain name w is_name bits =
+    let line = wait_line name w in
     let b = begins_more (number_text w.client) 32 (numeral_begins w.client) in
-    let back = codes "acquire " ++ (spaced k ++ ended w.label) in
+    let back = codes "acquire " ++ (name_spaced name ++ ended w.label) in
     let is : line ≡ b.digit ∷ (b.rest ++ back) = ap (λ (u : List ℕ). (u ++ 32 ∷ []) ++ back) (same_text w.client bits.0) ∙ ap (λ (u : List ℕ). u ++ back) b.is in
     let place : place_at line ≡ None = ap place_at is ∙ no_place b.digit (b.rest ++ back) b.low in
     let digest : digest_at line ≡ None = ap digest_at is ∙ no_digest b.digit (b.rest ++ back) b.low in
-    let tag : tagged_at line ≡ None = no_number w.client (spaced k ++ ended w.label) bits.0 in
-    sym (is_plain line (sym place) (sym digest) ∙ is_untagged line (short k w lt bits) (sym tag))
+    let tag : tagged_at line ≡ None = no_number w.client (name_spaced name ++ ended w.label) bits.0 in
+    sym (is_plain line (sym place) (sym digest) ∙ is_untagged line (short name w is_name bits) (sym tag))
 
 abbrev ArePlain : List (List ℕ) → Type 0
 ArePlain lines = AllByRecursion (λ (line : List ℕ). heard line ≡ Plain) lines
@@ -78,13 +80,14 @@ plain_then : (xs ys : List (List ℕ)) → ArePlain xs → ArePlain ys → ArePl
 plain_then [] ys a b = b
 plain_then (x ∷ xs) ys a b = (a.0, plain_then xs ys a.1 b)
 
-line_plain : (k : ℕ) (line : List Waiter) → k < lock_limit → AllByRecursion IsOfBits line → ArePlain (wait_lines k line)
-line_plain k [] lt bits = tt
-line_plain k (w ∷ line) lt bits = (wait_plain k w lt bits.0, line_plain k line lt bits.1)
+line_plain : (name : List ℕ) (line : List Waiter) → IsName name → AllByRecursion IsOfBits line → ArePlain (wait_lines name line)
+line_plain name [] is bits = tt
+line_plain name (w ∷ line) is bits = (wait_plain name w is bits.0, line_plain name line is bits.1)
 
-waits_plain : (vs : List LockView) (k : ℕ) → k + length vs ≤ lock_limit → AllByRecursion (λ (v : LockView). AllByRecursion IsOfBits v.queue) vs → ArePlain (waits_from k vs)
-waits_plain [] k few bits = tt
-waits_plain (v ∷ vs) k few bits = plain_then (wait_lines k v.queue) (waits_from (k + 1) vs) (line_plain k v.queue (omega (arith, few)) bits.0) (waits_plain vs (k + 1) (omega (arith, few)) bits.1)
+waits_plain : (names : Names) → AreNames names → (vs : List LockView) (k : ℕ) → k + length vs ≤ length names → AllByRecursion (λ (v : LockView). AllByRecursion IsOfBits v.queue) vs → ArePlain (waits_from names k vs)
+waits_plain names are [] k few bits = tt
+waits_plain names are (v ∷ vs) k few bits =
+    plain_then (wait_lines (name_of names k) v.queue) (waits_from names (k + 1) vs) (line_plain (name_of names k) v.queue (name_there names k are (omega (arith, few))).0 bits.0) (waits_plain names are vs (k + 1) (omega (arith, few)) bits.1)
 
 -- ---- plain lines are answered inside, before the first place
 
@@ -141,18 +144,23 @@ module _ {S : Type 0} (A : AnsweringWith S) where
       }
 
 pub state_comes_back : StateComesBack
-state_comes_back source old new was is said noted sound state fresh strict holds a whole =
+state_comes_back source old new was is said noted sound state fresh strict named holds a whole =
     let vs = locks_in source in
-    let few = state.few in
-    let q = inside IsServed (waits_from 0 vs) (own_lines source) old new was is said noted (waits_plain vs 0 (omega (arith, few)) state.bits) fresh.running a whole in
+    let names = names_in source in
+    let many = state.each in
+    let q = inside IsServed (waits_from names 0 vs) (own_lines source) old new was is said noted (waits_plain names state.named vs 0 (omega (arith, many)) state.bits) fresh.running a whole in
     let begun : IsFresh q.mid = record { keys = q.keys ∙ fresh.keys; running = q.running } in
-    let w = waiters_come_back vs old.numbered.inner q.mid.numbered.inner was q.between q.first q.note strict state holds q.inner in
+    let has : HaveState (names_in old) vs = subst (λ (x : Names). HaveState x vs) (sym named) state in
+    let inner : Answers (by_stand IsServed) (stand old.numbered.inner was) (waits_from (names_in old) 0 vs) q.first q.note (stand q.mid.numbered.inner q.between) =
+    subst (λ (x : Names). Answers (by_stand IsServed) (stand old.numbered.inner was) (waits_from x 0 vs) q.first q.note (stand q.mid.numbered.inner q.between)) (sym named) q.inner in
+    let w = waiters_come_back vs old.numbered.inner q.mid.numbered.inner was q.between q.first q.note strict has holds inner in
+    let first : q.first ≡ waiting_from names 0 vs = w.0.says ∙ ap (λ (x : Names). waiting_from x 0 vs) named in
     let k = keys_come_back IsServed source q.mid new q.between is q.later q.notes sound begun q.rest whole in
     let same : locks_in new ≡ locks_in q.mid = ap (λ (s : LockService). s.segment.locks) k.inner in
     record {
       inside = [];
       locks = record {
-        says = q.says ∙ ap (λ (u : List ℕ). u ++ q.later) w.0.says ∙ ap (λ (u : List ℕ). waiting_from 0 vs ++ u) k.says ∙ append-nil (waiting_from 0 vs);
+        says = q.says ∙ ap (λ (u : List ℕ). u ++ q.later) first ∙ ap (λ (u : List ℕ). waiting_from names 0 vs ++ u) k.says ∙ append-nil (waiting_from names 0 vs);
         notes = refl;
         waiters = subst (λ (u : List LockView). waiters_of u ≡ waiters_of vs) (sym same) w.0.waiters;
         holders = subst (λ (u : List LockView). holders_of u ≡ holders_of vs) (sym same) w.0.holders;

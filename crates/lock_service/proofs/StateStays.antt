@@ -2,10 +2,8 @@
 use Rattle.std.proofs.Common.{◌≡◌, ℕ, zero, suc, ◌<◌, ◌^◌, Bool, true, false, cond, not, List, [], ◌∷◌, length, Option, Some, None, inl, inr, refl, ap, sym, subst, ◌∙◌, arith}
 use Rattle.std.specs.Prelude.{slice_get, ◌==◌}
 use Rattle.std.specs.List.{AllByRecursion}
-use Rattle.std.proofs.lemmas.Bool.{cases_lt}
 use Rattle.std.proofs.lemmas.List.{length-map}
-use Rattle.text_lines.specs.LongNumbers.{in_64_bits, in_32_bits}
-use Rattle.text_lines.proofs.LongDecimals.{in_none}
+use Rattle.text_lines.specs.LongNumbers.{in_32_bits}
 use Rattle.ring_model.specs.History.{State}
 use Rattle.held_locks.specs.declared.answers.Answer.{Answer}
 use Rattle.held_locks.specs.declared.answers.Answers.{Answers}
@@ -18,19 +16,22 @@ use Rattle.held_locks.specs.Kept.{LockView, lock_of, locks_of, IsAnswer}
 use Rattle.held_locks.proofs.Moves.{waiter, IsEnd, Released, Left, Move, Stays, Waits, Gets, Ends, Drops, Faults, move_of}
 use Rattle.held_locks.proofs.Right.{right_step, right_stays}
 use Rattle.held_locks.proofs.Standing.{get_set}
-use Rattle.lock_protocol.specs.declared.inputs.Input.{Input as Read}
-use Rattle.lock_protocol.specs.declared.inputs.Input.TheVariants as input
+use Rattle.lock_protocol.specs.Names.{Names, lock_named}
+use Rattle.lock_protocol.specs.Views.{Input as Read}
+use Rattle.lock_protocol.specs.Views as input
 use Rattle.lock_protocol.specs.Asks as asks
-use Rattle.lock_protocol.specs.Asks.{seen, heard, of_two}
+use Rattle.lock_protocol.specs.Asks.{heard}
 use Rattle.lock_protocol.specs.Inputs.{IsReadAs}
 use Rattle.lock_service.specs.declared.service.Terms.{Terms}
-use Rattle.lock_service.specs.Asking.{one_ask, is_off, IsAnswerTo}
+use Rattle.held_locks.specs.Asked.{IsAnswerTo}
+use Rattle.lock_service.specs.Asking.{one_ask, is_off}
 use Rattle.lock_service.specs.Counting.{SegmentView}
-use Rattle.lock_service.specs.Serving.{IsToldOf, IsTold, IsAnsweredIf, IsInputAnswered}
+use Rattle.lock_service.specs.Serving.{IsToldOf, IsToldOfNamed, IsTold, IsAnsweredIf, IsInputAnswered}
 use Rattle.lock_service.specs.WaitersBack.{IsOfBits, HaveState, HavingStateStays}
 use Rattle.lock_service.proofs.Following.{some_is, also_there, lock_there, as_many, step_many}
 use Rattle.lock_service.proofs.KeysBack.{all_push}
-use Rattle.lock_service.proofs.LockLines.{left_many}
+use Rattle.lock_service.proofs.LockLines.{left_many, order_small}
+use Rattle.lock_service.proofs.SameNames.{names_stay}
 
 -- ---- one lock
 
@@ -115,18 +116,20 @@ all_in vs all i l at =
 
 -- ---- a line
 
-stays_by : (old new : List LockView) (ls : List Lock) → HaveState old → locks_of new ≡ ls → AreRight ls → length ls ≡ length (locks_of old) → AllOfBits ls → HaveState new
-stays_by old new ls state e fair n all = record {
+stays_by : (names : Names) (old new : List LockView) (ls : List Lock) → HaveState names old → locks_of new ≡ ls → AreRight ls → length ls ≡ length (locks_of old) → AllOfBits ls → HaveState names new
+stays_by names old new ls state e fair n all = record {
   right = subst (λ (x : List Lock). AreRight x) (sym e) fair;
+  named = state.named;
+  each = state.each ∙ sym (as_many old new ls e n);
   few = (let many = as_many old new ls e n in let few = state.few in omega (arith, many, few));
   bits = all_from (λ (v : LockView). AreOfBits v.queue) new (λ i v at. all i (lock_of v) (ap (λ (x : List Lock). slice_get x i) (sym e) ∙ lock_there new i v at));
 }
 
-answer_stays : (old new : List LockView) (c i : ℕ) (ask : Ask) (r : Answers) → Brings c ask → HaveState old → IsAnswer old new c i ask r → HaveState new
-answer_stays old new c i ask r b state (inl d) =
-    stays_by old new (step (locks_of old) (Asked c i ask)).locks state d.locks (right_step (locks_of old) (Asked c i ask) state.right) (step_many (locks_of old) c i ask)
+answer_stays : (names : Names) (old new : List LockView) (c i : ℕ) (ask : Ask) (r : Answers) → Brings c ask → HaveState names old → IsAnswer old new c i ask r → HaveState names new
+answer_stays names old new c i ask r b state (inl d) =
+    stays_by names old new (step (locks_of old) (Asked c i ask)).locks state d.locks (right_step (locks_of old) (Asked c i ask) state.right) (step_many (locks_of old) c i ask)
     (bits_step (locks_of old) c i ask b (all_in old state.bits))
-answer_stays old new c i ask r b state (inr w) = subst (λ (x : List LockView). HaveState x) (sym w.same) state
+answer_stays names old new c i ask r b state (inr w) = subst (λ (x : List LockView). HaveState names x) (sym w.same) state
 
 as_answer : (old new : List LockView) (c i : ℕ) (ask : Ask) (r : Answers) → IsAnswerTo old new c i ask r → IsAnswer old new c i ask r
 as_answer old new c i (Acquire order) r a = a
@@ -137,49 +140,44 @@ as_answer old new c i Cancel r a = inl a
 as_answer old new c i Leave r a = inl a
 as_answer old new c i Stats r a = inl a
 
-leave_stays : (old new : List LockView) (c : ℕ) → HaveState old → locks_of new ≡ locks_after (locks_of old) (leaves c (length old)) → HaveState new
-leave_stays old new c state e =
-    stays_by old new (locks_after (locks_of old) (leaves c (length old))) state e (right_stays (locks_of old) (leaves c (length old)) state.right) (left_many (locks_of old) c (length old))
+leave_stays : (names : Names) (old new : List LockView) (c : ℕ) → HaveState names old → locks_of new ≡ locks_after (locks_of old) (leaves c (length old)) → HaveState names new
+leave_stays names old new c state e =
+    stays_by names old new (locks_after (locks_of old) (leaves c (length old))) state e (right_stays (locks_of old) (leaves c (length old)) state.right) (left_many (locks_of old) c (length old))
     (bits_after c (leaves c (length old)) (locks_of old) (are_leaves c (length old)) (all_in old state.bits))
-
-no_order : (lock : Option ℕ) (x : asks.Ask) → of_two asks.acquire lock None ≡ Some x → ⊥
-no_order None x e = cc
-no_order (Some a) x e = cc
-
-order_small : (lock order : ℕ) → heard (asks.acquire lock order) ≡ Some (asks.acquire lock order) → order < 2 ^ 64
-order_small lock order e = elim (cases_lt order (2 ^ 64)) [
-  | inl lt ↦ lt
-  | inr ge ↦ absurd (no_order (in_64_bits lock) (asks.acquire lock order) (ap (λ (o : Option ℕ). of_two asks.acquire (in_64_bits lock) o) (sym (in_none order ge)) ∙ e))
-]
 
 asked_of : (order n : ℕ) → ◌≡◌ {A = Ask} (Acquire order) (Acquire n) → order ≡ n
 asked_of order n e = cc
 
-module _ (old new : SegmentView) (said noted : List ℕ) (state : HaveState old.locks) where
-  told : (strict noting : Bool) (c i : ℕ) (ask : Ask) → Brings c ask → IsToldOf strict noting c i ask old said noted new → HaveState new.locks
-  told strict noting c i ask b t = answer_stays old.locks new.locks c i ask t.answers b state (as_answer old.locks new.locks c i ask t.answers t.done)
+module _ (old new : SegmentView) (said noted : List ℕ) (state : HaveState old.names old.locks) where
+  told : (strict noting : Bool) (c i : ℕ) (ask : Ask) → Brings c ask → IsToldOf strict noting c i ask old said noted new → HaveState old.names new.locks
+  told strict noting c i ask b t = answer_stays old.names old.locks new.locks c i ask t.answers b state (as_answer old.locks new.locks c i ask t.answers t.done)
 
-  asked : (strict noting : Bool) (c : ℕ) (a : asks.Ask) → c < 2 ^ 64 → heard a ≡ Some a → IsTold strict noting c (one_ask a) old said noted new → HaveState new.locks
-  asked strict noting c (asks.acquire lock order) lt h t =
-      told strict noting c (in_32_bits lock) (Acquire order) (λ n e. (lt, subst (λ (x : ℕ). x < 2 ^ 64) (asked_of order n e) (order_small lock order h))) t
-  asked strict noting c (asks.try lock order) lt h t = told strict noting c (in_32_bits lock) (Try order) (λ n e. absurd cc) t
-  asked strict noting c (asks.release lock token) lt h t = told strict noting c (in_32_bits lock) (Release token) (λ n e. absurd cc) t
-  asked strict noting c (asks.cancel lock) lt h t = told strict noting c (in_32_bits lock) Cancel (λ n e. absurd cc) t
-  asked strict noting c asks.leave lt h t = leave_stays old.locks new.locks c state t.done.locks
-  asked strict noting c (asks.corrupt lock machine value) lt h t = told strict noting c (in_32_bits lock) (Corrupt (in_32_bits machine) (in_32_bits value)) (λ n e. absurd cc) t
-  asked strict noting c (asks.stats lock) lt h t = told strict noting c (in_32_bits lock) Stats (λ n e. absurd cc) t
+  same : new ≡ old → HaveState old.names new.locks
+  same e = subst (λ (x : SegmentView). HaveState old.names x.locks) (sym e) state
 
-  same : new ≡ old → HaveState new.locks
-  same e = subst (λ (x : SegmentView). HaveState x.locks) (sym e) state
+  named : (o : Option ℕ) (strict noting : Bool) (c : ℕ) (name : List ℕ) (ask : Ask) → Brings c ask → IsToldOfNamed o strict noting c name ask old said noted new → HaveState old.names new.locks
+  named None strict noting c name ask b t = same t.leaves
+  named (Some i) strict noting c name ask b t = told strict noting c i ask b t
 
-  asked_if : (off : Bool) (terms : Terms) (c : ℕ) (a : asks.Ask) → c < 2 ^ 64 → heard a ≡ Some a → IsAnsweredIf off terms c a old said noted new → HaveState new.locks
+  asked : (strict noting : Bool) (c : ℕ) (a : asks.Ask) → c < 2 ^ 64 → heard a ≡ Some a → IsTold strict noting c (one_ask a) old said noted new → HaveState old.names new.locks
+  asked strict noting c (asks.acquire name order) lt h t =
+      named (lock_named old.names name) strict noting c name (Acquire order) (λ n e. (lt, subst (λ (x : ℕ). x < 2 ^ 64) (asked_of order n e) (order_small (asks.acquire name) order (asks.acquire name order) h))) t
+  asked strict noting c (asks.try name order) lt h t = named (lock_named old.names name) strict noting c name (Try order) (λ n e. absurd cc) t
+  asked strict noting c (asks.release name token) lt h t = named (lock_named old.names name) strict noting c name (Release token) (λ n e. absurd cc) t
+  asked strict noting c (asks.cancel name) lt h t = named (lock_named old.names name) strict noting c name Cancel (λ n e. absurd cc) t
+  asked strict noting c asks.leave lt h t = leave_stays old.names old.locks new.locks c state t.done.locks
+  asked strict noting c (asks.corrupt name machine value) lt h t = named (lock_named old.names name) strict noting c name (Corrupt (in_32_bits machine) (in_32_bits value)) (λ n e. absurd cc) t
+  asked strict noting c (asks.stats name) lt h t = named (lock_named old.names name) strict noting c name Stats (λ n e. absurd cc) t
+
+  asked_if : (off : Bool) (terms : Terms) (c : ℕ) (a : asks.Ask) → c < 2 ^ 64 → heard a ≡ Some a → IsAnsweredIf off terms c a old said noted new → HaveState old.names new.locks
   asked_if true terms c a lt h t = same t.leaves
   asked_if false terms c a lt h t = asked terms.strict terms.noting c a lt h t
 
-  by_input : (terms : Terms) (line : List ℕ) (i : Read) → IsReadAs line i → IsInputAnswered terms i old said noted new → HaveState new.locks
-  by_input terms line (input.Asked c ask) r t = asked_if (is_off terms.faults (seen ask)) terms c (seen ask) r.0.bits r.2 t
+  by_input : (terms : Terms) (line : List ℕ) (i : Read) → IsReadAs line i → IsInputAnswered terms i old said noted new → HaveState old.names new.locks
+  by_input terms line (input.Asked c ask) r t = asked_if (is_off terms.faults ask) terms c ask r.0.bits r.2 t
   by_input terms line (input.Refused c why) r t = same t.leaves
   by_input terms line input.Nobody r t = same t.leaves
 
 pub having_state_stays : HavingStateStays
-having_state_stays terms old new line said noted state a = by_input old new said noted state terms line a.0 a.1 a.2
+having_state_stays terms old new line said noted state a =
+    subst (λ (x : Names). HaveState x new.locks) (sym (names_stay terms old new line said noted a)) (by_input old new said noted state terms line a.0 a.1 a.2)

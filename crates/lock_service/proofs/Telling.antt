@@ -38,3 +38,14 @@ put_leaves (Err e) IsSo same old new said noted so added = (said, noted, so)
 
 pub answered_leaves : (e : Untold) (IsSo : List ℕ → List ℕ → Type 0) (same : Type 0) (old new : Pending) → e ≡ untold.Answered → Leaves (Err e) IsSo same old new → (said : List ℕ) × (noted : List ℕ) × IsSo said noted
 answered_leaves e IsSo same old new q l = subst (λ (x : Untold). Leaves (Err x) IsSo same old new) q l
+
+-- it is only said, and nothing is noted
+pub said_leaves : {E : Type 0} (r : Result (Unit {0}) E) (result : Result (Unit {0}) Untold) (IsSo : List ℕ → List ℕ → Type 0) (same : Type 0) (old new : Pending) (said : List ℕ) → result ≡ put r → IsSo said [] → OnOk r (new.answers.items ≡ old.answers.items ++ said) → new.notes.items ≡ old.notes.items → Leaves result IsSo same old new
+said_leaves r result IsSo same old new said e so told notes =
+    subst (λ (x : Result (Unit {0}) Untold). Leaves x IsSo same old new) (sym e)
+    (put_leaves r IsSo same old new said [] so (on_ok r _ _ told (λ t. (t, notes ∙ sym (append-nil old.notes.items)))))
+
+pub leaves_weaker : (r : Result (Unit {0}) Untold) (P Q : List ℕ → List ℕ → Type 0) (same : Type 0) (old new : Pending) → ((said noted : List ℕ) → P said noted → Q said noted) → Leaves r P same old new → Leaves r Q same old new
+leaves_weaker (Ok u) P Q same old new f l = (l.0, l.1, f l.0 l.1 l.2, l.3)
+leaves_weaker (Err untold.Answered) P Q same old new f l = (l.0, l.1, f l.0 l.1 l.2)
+leaves_weaker (Err untold.Unanswered) P Q same old new f l = l

@@ -19,25 +19,28 @@ use Rattle.held_locks.specs.declared.answers.Waiter.{Waiter}
 use Rattle.held_locks.specs.Queues.{Lock, stands}
 use Rattle.held_locks.specs.Locks.{Acquire, Asked, Mark, Step, Turn, step}
 use Rattle.held_locks.specs.Promises.{AreRight}
-use Rattle.held_locks.specs.Kept.{LockView, lock_of, locks_of, lock_limit, IsDone, AreMade, ended_at}
+use Rattle.held_locks.specs.Kept.{LockView, lock_of, locks_of, IsDone, AreMade, ended_at, answers_of}
 use Rattle.held_locks.proofs.Right.{right_step}
 use Rattle.held_locks.proofs.Standing.{get_set, stands_append}
-use Rattle.lock_protocol.specs.declared.inputs.Ask.TheVariants as reads
-use Rattle.lock_protocol.specs.declared.inputs.Input.{Input}
-use Rattle.lock_protocol.specs.declared.inputs.Input.TheVariants as input
+use Rattle.lock_protocol.specs.Names.{Names, IsName, lock_named, name_of}
+use Rattle.lock_protocol.specs.Asks.{acquire}
+use Rattle.lock_protocol.specs.Views.{Input}
+use Rattle.lock_protocol.specs.Views as input
+use Rattle.lock_protocol.proofs.NameTables.{name_there}
 use Rattle.lock_protocol.specs.Answers.{answer_line}
 use Rattle.lock_protocol.proofs.Whole.{one_reading}
 use Rattle.lock_service.specs.declared.service.LockService.{LockService}
 use Rattle.lock_service.specs.declared.service.Terms.{Terms}
 use Rattle.lock_service.specs.Asking.{is_lack}
-use Rattle.lock_service.specs.Noting.{lines_about, note_about, events_at, events_from}
-use Rattle.lock_service.specs.Serving.{IsToldOf, IsInputAnswered, IsServed}
+use Rattle.held_locks.specs.Asked.{events_at}
+use Rattle.lock_service.specs.Noting.{lines_about, note_about, events_from}
+use Rattle.lock_service.specs.Serving.{IsToldOf, IsToldOfNamed, IsInputAnswered, IsServed}
 use Rattle.lock_service.specs.State.{wait_line, wait_lines, waits_from}
 use Rattle.lock_service.specs.WaitersBack.{holders_of, waiters_of, IsOfBits, HaveState, HaveTheHolds, waiting_lines, waiting_from, WaitersComeBack}
 use Rattle.lock_service.proofs.EqualLocks.{asked_done}
 use Rattle.lock_service.proofs.Following.{some_is, step_is, also_there, lock_there, as_many, step_many}
 use Rattle.lock_service.proofs.Rejoining.{ArePart, waits_again}
-use Rattle.lock_service.proofs.WaitingLines.{same_lock, reads_wait}
+use Rattle.lock_service.proofs.WaitingLines.{reads_wait}
 
 -- ---- locks of which the first have all who waited, one has a part, and the others nobody
 
@@ -143,29 +146,32 @@ nothing : (b : Bool) → cond {A = List ℕ} b [] [] ≡ []
 nothing true = refl
 nothing false = refl
 
-module _ (vs : List LockView) (state : HaveState vs) where
+module _ (names : Names) (vs : List LockView) (state : HaveState names vs) where
   record IsWaiting (k : ℕ) (front : List Waiter) (w : Waiter) (was : Option Held) (said noted : List ℕ) (new : LockService) (is : Option Held) : Type 0 where
     pub partly : Partly (locks_of vs) k (front ++ w ∷ []) (locks_of new.segment.locks)
     pub fair : AreRight (locks_of new.segment.locks)
     pub strict : new.terms.strict ≡ true
-    pub says : said ≡ answer_line w.client k (answer.Waiting (length front))
+    pub named : new.segment.names ≡ names
+    pub says : said ≡ answer_line w.client (name_of names k) (answer.Waiting (length front))
     pub notes : noted ≡ []
     pub files : is ≡ was
 
-  module _ (k : ℕ) (v : LockView) (at : slice_get (locks_of vs) k ≡ Some (lock_of v)) (lt : k < lock_limit) where
-    told_of : (w : Waiter) (old new : LockService) (was is : Option Held) (said noted : List ℕ) → IsOfBits w → IsServed old was (wait_line k w) said noted new is → IsToldOf old.terms.strict old.terms.noting w.client k (Acquire w.label) old.segment said noted new.segment
-    told_of w old new was is said noted bits s =
+  module _ (k : ℕ) (v : LockView) (at : slice_get (locks_of vs) k ≡ Some (lock_of v)) (is_name : IsName (name_of names k)) (found : lock_named names (name_of names k) ≡ Some k) where
+    told_of : (w : Waiter) (old new : LockService) (was is : Option Held) (said noted : List ℕ) → IsOfBits w → old.segment.names ≡ names → IsServed old was (wait_line (name_of names k) w) said noted new is → IsToldOf old.terms.strict old.terms.noting w.client k (Acquire w.label) old.segment said noted new.segment
+    told_of w old new was is said noted bits named s =
         let a = s.answered in
-        let read : a.0 ≡ input.Asked w.client (reads.Acquire k w.label) = one_reading (wait_line k w) a.0 (input.Asked w.client (reads.Acquire k w.label)) a.1 (reads_wait k w lt bits) in
-        let told : IsInputAnswered old.terms (input.Asked w.client (reads.Acquire k w.label)) old.segment said noted new.segment = subst (λ (i : Input). IsInputAnswered old.terms i old.segment said noted new.segment) read a.2 in
-        subst (λ (j : ℕ). IsToldOf old.terms.strict old.terms.noting w.client j (Acquire w.label) old.segment said noted new.segment) (same_lock k lt) told
+        let name : List ℕ = name_of names k in
+        let read : a.0 ≡ input.Asked w.client (acquire name w.label) = one_reading (wait_line name w) a.0 (input.Asked w.client (acquire name w.label)) a.1 (reads_wait name w is_name bits) in
+        let told : IsInputAnswered old.terms (input.Asked w.client (acquire name w.label)) old.segment said noted new.segment = subst (λ (i : Input). IsInputAnswered old.terms i old.segment said noted new.segment) read a.2 in
+        let there : lock_named old.segment.names name ≡ Some k = ap (λ (x : Names). lock_named x name) named ∙ found in
+        subst (λ (o : Option ℕ). IsToldOfNamed o old.terms.strict old.terms.noting w.client name (Acquire w.label) old.segment said noted new.segment) there told
 
-    waits_on : (front back : List Waiter) (w : Waiter) (old new : LockService) (was is : Option Held) (said noted : List ℕ) → IsOfBits w → v.queue ≡ front ++ w ∷ back → old.terms.strict ≡ true → AreRight (locks_of old.segment.locks) → Partly (locks_of vs) k front (locks_of old.segment.locks) →
-        IsServed old was (wait_line k w) said noted new is → IsWaiting k front w was said noted new is
-    waits_on front back w old new was is said noted bits line strict fair p s =
+    waits_on : (front back : List Waiter) (w : Waiter) (old new : LockService) (was is : Option Held) (said noted : List ℕ) → IsOfBits w → v.queue ≡ front ++ w ∷ back → old.terms.strict ≡ true → old.segment.names ≡ names → AreRight (locks_of old.segment.locks) → Partly (locks_of vs) k front (locks_of old.segment.locks) →
+        IsServed old was (wait_line (name_of names k) w) said noted new is → IsWaiting k front w was said noted new is
+    waits_on front back w old new was is said noted bits line strict named fair p s =
         let a = old.segment.locks in
         let b = new.segment.locks in
-        let t = told_of w old new was is said noted bits s in
+        let t = told_of w old new was is said noted bits named s in
         let done : IsDone a b w.client k (Acquire w.label) t.answers = asked_done a b w.client k (Acquire w.label) t.answers t.done (subst (λ (x : Bool). (x && is_lack t.answers.own) ≡ false) strict t.given) in
         let there = also_there (locks_of vs) (locks_of a) k (lock_of v) (sym p.many) at in
         let m = there.0 in
@@ -182,8 +188,9 @@ module _ (vs : List LockView) (state : HaveState vs) where
           partly = subst (λ (ms : List Lock). Partly (locks_of vs) k (front ++ w ∷ []) ms) (sym (done.locks ∙ ap (λ (x : Step). x.locks) e)) (one_more (locks_of vs) (locks_of a) k front w m there.1 p);
           fair = subst (λ (ms : List Lock). AreRight ms) (sym done.locks) (right_step (locks_of a) (Asked w.client k (Acquire w.label)) fair);
           strict = ap (λ (x : Terms). x.strict) s.terms ∙ strict;
-          says = t.says ∙ ap (λ (x : List (ℕ × Answer)). lines_about k x) (done.answers ∙ ap (λ (x : Step). x.answers) e)
-              ∙ append-nil (answer_line w.client k (answer.Waiting (length m.queue))) ∙ ap (λ (u : List Waiter). answer_line w.client k (answer.Waiting (length u))) front_is;
+          named = t.counted.names ∙ named;
+          says = t.says ∙ ap (λ (x : Names). lines_about x k (answers_of w.client t.answers)) named ∙ ap (λ (x : List (ℕ × Answer)). lines_about names k x) (done.answers ∙ ap (λ (x : Step). x.answers) e)
+              ∙ append-nil (answer_line w.client (name_of names k) (answer.Waiting (length m.queue))) ∙ ap (λ (u : List Waiter). answer_line w.client (name_of names k) (answer.Waiting (length u))) front_is;
           notes = t.notes ∙ ap (λ (u : List ℕ). cond old.terms.noting u []) (no_note k a b x.0 y.0 t.answers.ended x.1 y.1 none same) ∙ nothing old.terms.noting;
           files = s.files;
         }
@@ -196,45 +203,48 @@ module _ (vs : List LockView) (state : HaveState vs) where
       pub partly : Partly (locks_of vs) k front (locks_of mid.segment.locks)
       pub fair : AreRight (locks_of mid.segment.locks)
       pub strict : mid.terms.strict ≡ true
+      pub named : mid.segment.names ≡ names
       pub later : List ℕ
       pub says : said ≡ text ++ later
       pub files : between ≡ was
       pub rest : Answers (by_stand IsServed) (stand mid between) more later noted (stand new is)
 
     went_on : (front full : List Waiter) (w : Waiter) (text : List ℕ) (more : List (List ℕ)) (mid new : LockService) (was between is : Option Held) (first later said note notes noted : List ℕ) → IsWaiting k front w was first note mid between →
-        said ≡ first ++ later → noted ≡ note ++ notes → Went full text more between later notes new is → Went full (answer_line w.client k (answer.Waiting (length front)) ++ text) more was said noted new is
+        said ≡ first ++ later → noted ≡ note ++ notes → Went full text more between later notes new is → Went full (answer_line w.client (name_of names k) (answer.Waiting (length front)) ++ text) more was said noted new is
     went_on front full w text more mid new was between is first later said note notes noted one p q g =
-        let line = answer_line w.client k (answer.Waiting (length front)) in
+        let line = answer_line w.client (name_of names k) (answer.Waiting (length front)) in
         record {
           mid = g.mid;
           between = g.between;
           partly = g.partly;
           fair = g.fair;
           strict = g.strict;
+          named = g.named;
           later = g.later;
           says = p ∙ ap (λ (u : List ℕ). u ++ later) one.says ∙ ap (λ (u : List ℕ). line ++ u) g.says ∙ sym (append_assoc line text g.later);
           files = g.files ∙ one.files;
           rest = subst (λ (u : List ℕ). Answers (by_stand IsServed) (stand g.mid g.between) more g.later u (stand new is)) (sym (q ∙ ap (λ (u : List ℕ). u ++ notes) one.notes)) g.rest;
         }
 
-    of_lock : (back front : List Waiter) (more : List (List ℕ)) (old new : LockService) (was is : Option Held) (said noted : List ℕ) → AllByRecursion IsOfBits back → v.queue ≡ front ++ back → old.terms.strict ≡ true → AreRight (locks_of old.segment.locks) →
-        Partly (locks_of vs) k front (locks_of old.segment.locks) → Answers (by_stand IsServed) (stand old was) (wait_lines k back ++ more) said noted (stand new is) → Went v.queue (waiting_lines k (length front) back) more was said noted new is
-    of_lock [] front more old new was is said noted bits line strict fair p a = record {
+    of_lock : (back front : List Waiter) (more : List (List ℕ)) (old new : LockService) (was is : Option Held) (said noted : List ℕ) → AllByRecursion IsOfBits back → v.queue ≡ front ++ back → old.terms.strict ≡ true → old.segment.names ≡ names → AreRight (locks_of old.segment.locks) →
+        Partly (locks_of vs) k front (locks_of old.segment.locks) → Answers (by_stand IsServed) (stand old was) (wait_lines (name_of names k) back ++ more) said noted (stand new is) → Went v.queue (waiting_lines (name_of names k) (length front) back) more was said noted new is
+    of_lock [] front more old new was is said noted bits line strict named fair p a = record {
       mid = old;
       between = was;
       partly = subst (λ (u : List Waiter). Partly (locks_of vs) k u (locks_of old.segment.locks)) (sym (line ∙ append-nil front)) p;
       fair = fair;
       strict = strict;
+      named = named;
       later = said;
       says = refl;
       files = refl;
       rest = a;
     }
-    of_lock (w ∷ back) front more old new was is said noted bits line strict fair p a =
-        let one = waits_on front back w old a.0.service was a.0.files a.1 a.3 bits.0 line strict fair p a.5 in
-        let g = of_lock back (front ++ w ∷ []) more a.0.service new a.0.files is a.2 a.4 bits.1 (line ∙ sym (append_assoc front (w ∷ []) back)) one.strict one.fair one.partly a.8 in
-        let all = went_on front v.queue w (waiting_lines k (length (front ++ w ∷ [])) back) more a.0.service new was a.0.files is a.1 a.2 said a.3 a.4 noted one a.6 a.7 g in
-        subst (λ (n : ℕ). Went v.queue (answer_line w.client k (answer.Waiting (length front)) ++ waiting_lines k n back) more was said noted new is) (length-append front (w ∷ [])) all
+    of_lock (w ∷ back) front more old new was is said noted bits line strict named fair p a =
+        let one = waits_on front back w old a.0.service was a.0.files a.1 a.3 bits.0 line strict named fair p a.5 in
+        let g = of_lock back (front ++ w ∷ []) more a.0.service new a.0.files is a.2 a.4 bits.1 (line ∙ sym (append_assoc front (w ∷ []) back)) one.strict one.named one.fair one.partly a.8 in
+        let all = went_on front v.queue w (waiting_lines (name_of names k) (length (front ++ w ∷ [])) back) more a.0.service new was a.0.files is a.1 a.2 said a.3 a.4 noted one a.6 a.7 g in
+        subst (λ (n : ℕ). Went v.queue (answer_line w.client (name_of names k) (answer.Waiting (length front)) ++ waiting_lines (name_of names k) n back) more was said noted new is) (length-append front (w ∷ [])) all
 
   -- ---- all locks
 
@@ -245,25 +255,26 @@ module _ (vs : List LockView) (state : HaveState vs) where
     pub files : is ≡ was
 
   of_all : (us : List LockView) (k : ℕ) (old new : LockService) (was is : Option Held) (said noted : List ℕ) → ((i : ℕ) (v : LockView) → slice_get us i ≡ Some v → slice_get (locks_of vs) (k + i) ≡ Some (lock_of v)) →
-      k + length us ≤ lock_limit → AllByRecursion (λ (v : LockView). AllByRecursion IsOfBits v.queue) us → old.terms.strict ≡ true → AreRight (locks_of old.segment.locks) →
-      Partly (locks_of vs) k [] (locks_of old.segment.locks) → Answers (by_stand IsServed) (stand old was) (waits_from k us) said noted (stand new is) → AllWait (k + length us) (waiting_from k us) was said noted new is
-  of_all [] k old new was is said noted at few bits strict fair p a = record {
+      k + length us ≤ length names → AllByRecursion (λ (v : LockView). AllByRecursion IsOfBits v.queue) us → old.terms.strict ≡ true → old.segment.names ≡ names → AreRight (locks_of old.segment.locks) →
+      Partly (locks_of vs) k [] (locks_of old.segment.locks) → Answers (by_stand IsServed) (stand old was) (waits_from names k us) said noted (stand new is) → AllWait (k + length us) (waiting_from names k us) was said noted new is
+  of_all [] k old new was is said noted at few bits strict named fair p a = record {
     partly = subst (λ (n : ℕ). Partly (locks_of vs) n [] (locks_of new.segment.locks)) (let e : k ≡ k + 0 = omega arith in e)
         (subst (λ (s : Stand LockService). Partly (locks_of vs) k [] (locks_of s.service.segment.locks)) (sym a.2) p);
     says = a.0;
     notes = a.1;
     files = ap (λ (s : Stand LockService). s.files) a.2;
   }
-  of_all (v ∷ us) k old new was is said noted at few bits strict fair p a =
-      let lt : k < lock_limit = omega (arith, few) in
+  of_all (v ∷ us) k old new was is said noted at few bits strict named fair p a =
+      let lt : k < length names = omega (arith, few) in
+      let name = name_there names k state.named lt in
       let here : slice_get (locks_of vs) k ≡ Some (lock_of v) = ap (λ (n : ℕ). slice_get (locks_of vs) n) (let e : k ≡ k + 0 = omega arith in e) ∙ at 0 v refl in
-      let g = of_lock k v here lt v.queue [] (waits_from (k + 1) us) old new was is said noted bits.0 refl strict fair p a in
+      let g = of_lock k v here name.0 name.1 v.queue [] (waits_from names (k + 1) us) old new was is said noted bits.0 refl strict named fair p a in
       let on = one_on (locks_of vs) (locks_of g.mid.segment.locks) k (lock_of v) here g.partly in
       let there : (i : ℕ) (u : LockView) → slice_get us i ≡ Some u → slice_get (locks_of vs) (k + 1 + i) ≡ Some (lock_of u) = λ i u e. ap (λ (n : ℕ). slice_get (locks_of vs) n) (let q : k + 1 + i ≡ k + suc i = omega arith in q) ∙ at (suc i) u e in
-      let w = of_all us (k + 1) g.mid new g.between is g.later noted there (omega (arith, few)) bits.1 g.strict g.fair on g.rest in
+      let w = of_all us (k + 1) g.mid new g.between is g.later noted there (omega (arith, few)) bits.1 g.strict g.named g.fair on g.rest in
       record {
         partly = subst (λ (n : ℕ). Partly (locks_of vs) n [] (locks_of new.segment.locks)) (let q : k + 1 + length us ≡ k + suc (length us) = omega arith in q) w.partly;
-        says = g.says ∙ ap (λ (u : List ℕ). waiting_lines k 0 v.queue ++ u) w.says;
+        says = g.says ∙ ap (λ (u : List ℕ). waiting_lines (name_of names k) 0 v.queue ++ u) w.says;
         notes = w.notes;
         files = w.files ∙ g.files;
       }
@@ -324,7 +335,7 @@ ends vs now n le p =
 pub waiters_come_back : WaitersComeBack
 waiters_come_back vs old new was is said noted strict state holds a =
     let there : (i : ℕ) (v : LockView) → slice_get vs i ≡ Some v → slice_get (locks_of vs) (0 + i) ≡ Some (lock_of v) = λ i v e. ap (λ (n : ℕ). slice_get (locks_of vs) n) (let q : 0 + i ≡ i = omega arith in q) ∙ lock_there vs i v e in
-    let few = state.few in
-    let w = of_all vs state vs 0 old new was is said noted there (omega (arith, few)) state.bits strict holds.right (begins vs old.segment.locks holds) a in
+    let many = state.each in
+    let w = of_all old.segment.names vs state vs 0 old new was is said noted there (omega (arith, many)) state.bits strict refl holds.right (begins vs old.segment.locks holds) a in
     let e = ends vs new.segment.locks (0 + length vs) (omega arith) w.partly in
     (record { says = w.says; notes = w.notes; waiters = e.0; holders = e.1 }, w.files)

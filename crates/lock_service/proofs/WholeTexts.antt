@@ -30,17 +30,18 @@ use Rattle.held_locks.specs.Kept.{LockView}
 use Rattle.held_locks.specs.Locks.{Ask}
 use Rattle.lock_protocol.specs.declared.answers.Denial.{Denial}
 use Rattle.lock_protocol.specs.declared.answers.Denial.TheVariants as denial
-use Rattle.lock_protocol.specs.declared.inputs.Input.{Input}
-use Rattle.lock_protocol.specs.declared.inputs.Input.TheVariants as input
+use Rattle.lock_protocol.specs.Views.{Input}
+use Rattle.lock_protocol.specs.Views as input
 use Rattle.lock_protocol.specs.Asks as lines
-use Rattle.lock_protocol.specs.Asks.{seen}
+use Rattle.lock_protocol.specs.Names.{Names, name_spaced, name_ended, name_of, lock_named}
 use Rattle.lock_protocol.specs.Answers.{refusal_text, holder_text, answer_text, answer_line, denial_line}
 use Rattle.lock_service.specs.declared.service.LockService.{LockService}
 use Rattle.lock_service.specs.declared.service.Terms.{Terms}
 use Rattle.lock_service.specs.Asking.{one_ask, is_off}
 use Rattle.lock_service.specs.Counting.{SegmentView}
-use Rattle.lock_service.specs.Noting.{lines_about, events_at, events_from, end_line, note_about, line_of_left, note_of_left, notes_of_left}
-use Rattle.lock_service.specs.Serving.{IsTold, IsAnsweredIf, IsInputAnswered, IsServed}
+use Rattle.held_locks.specs.Asked.{events_at}
+use Rattle.lock_service.specs.Noting.{lines_about, events_from, end_line, note_about, line_of_left, note_of_left, notes_of_left}
+use Rattle.lock_service.specs.Serving.{IsToldOfNamed, IsTold, IsAnsweredIf, IsInputAnswered, IsServed}
 use Rattle.line_replica.specs.Keys.{first_line}
 use Rattle.lock_service.proofs.LineParts.{line_more}
 
@@ -60,36 +61,42 @@ of_each line each (a ∷ all) = of_both (line a) (flat_map line all) (each a) (o
 
 -- ---- what is answered
 
-refusal_ends : (lock : ℕ) (r : Refusal) → IsEnded (refusal_text lock r)
-refusal_ends lock refusal.Lock = (codes "refused lock", refl)
-refusal_ends lock refusal.Holds = ends_after (codes "refused holds ") (ended lock) (number_ends lock)
-refusal_ends lock refusal.Waits = ends_after (codes "refused waits ") (ended lock) (number_ends lock)
-refusal_ends lock refusal.Circle = ends_after (codes "refused circle ") (ended lock) (number_ends lock)
-refusal_ends lock refusal.Holder = ends_after (codes "refused holder ") (ended lock) (number_ends lock)
-refusal_ends lock refusal.Waiter = ends_after (codes "refused waiter ") (ended lock) (number_ends lock)
-refusal_ends lock refusal.Machine = ends_after (codes "refused machine ") (ended lock) (number_ends lock)
-refusal_ends lock refusal.Value = ends_after (codes "refused value ") (ended lock) (number_ends lock)
-refusal_ends lock refusal.Full = ends_after (codes "refused full ") (ended lock) (number_ends lock)
-refusal_ends lock refusal.Memory = ends_after (codes "refused memory ") (ended lock) (number_ends lock)
+name_ends : (name : List ℕ) → IsEnded (name_ended name)
+name_ends name = (name, refl)
+
+refusal_ends : (name : List ℕ) (r : Refusal) → IsEnded (refusal_text name r)
+refusal_ends name refusal.Lock = ends_after (codes "refused lock ") (name_ended name) (name_ends name)
+refusal_ends name refusal.Holds = ends_after (codes "refused holds ") (name_ended name) (name_ends name)
+refusal_ends name refusal.Waits = ends_after (codes "refused waits ") (name_ended name) (name_ends name)
+refusal_ends name refusal.Circle = ends_after (codes "refused circle ") (name_ended name) (name_ends name)
+refusal_ends name refusal.Holder = ends_after (codes "refused holder ") (name_ended name) (name_ends name)
+refusal_ends name refusal.Waiter = ends_after (codes "refused waiter ") (name_ended name) (name_ends name)
+refusal_ends name refusal.Machine = ends_after (codes "refused machine ") (name_ended name) (name_ends name)
+refusal_ends name refusal.Value = ends_after (codes "refused value ") (name_ended name) (name_ends name)
+refusal_ends name refusal.Full = ends_after (codes "refused full ") (name_ended name) (name_ends name)
+refusal_ends name refusal.Memory = ends_after (codes "refused memory ") (name_ended name) (name_ends name)
 
 holder_ends : (h : Option Holder) → IsEnded (holder_text h)
 holder_ends None = (codes "0 0", refl)
 holder_ends (Some h) = ends_after (spaced h.client) (ended h.token) (number_ends h.token)
 
-answer_ends : (lock : ℕ) (a : Answer) → IsEnded (answer_text lock a)
-answer_ends lock (answer.Granted token) = ends_after (codes "granted ") _ (ends_after (spaced lock) (ended token) (number_ends token))
-answer_ends lock (answer.Waiting before) = ends_after (codes "waiting ") _ (ends_after (spaced lock) (ended before) (number_ends before))
-answer_ends lock answer.Busy = ends_after (codes "busy ") (ended lock) (number_ends lock)
-answer_ends lock answer.Released = ends_after (codes "released ") (ended lock) (number_ends lock)
-answer_ends lock answer.Cancelled = ends_after (codes "cancelled ") (ended lock) (number_ends lock)
-answer_ends lock (answer.Corrupted old) = ends_after (codes "corrupted ") _ (ends_after (spaced lock) (ended old) (number_ends old))
-answer_ends lock (answer.Stats s) =
-    ends_after (codes "stats ") _ (ends_after (spaced lock) _ (ends_after (spaced s.machines) _ (ends_after (spaced s.waiters) _ (ends_after (spaced s.passes) (holder_text s.holder) (holder_ends s.holder)))))
-answer_ends lock (answer.Refused why) = refusal_ends lock why
+answer_ends : (name : List ℕ) (a : Answer) → IsEnded (answer_text name a)
+answer_ends name (answer.Granted token) = ends_after (codes "granted ") _ (ends_after (name_spaced name) (ended token) (number_ends token))
+answer_ends name (answer.Waiting before) = ends_after (codes "waiting ") _ (ends_after (name_spaced name) (ended before) (number_ends before))
+answer_ends name answer.Busy = ends_after (codes "busy ") (name_ended name) (name_ends name)
+answer_ends name answer.Released = ends_after (codes "released ") (name_ended name) (name_ends name)
+answer_ends name answer.Cancelled = ends_after (codes "cancelled ") (name_ended name) (name_ends name)
+answer_ends name (answer.Corrupted old) = ends_after (codes "corrupted ") _ (ends_after (name_spaced name) (ended old) (number_ends old))
+answer_ends name (answer.Stats s) =
+    ends_after (codes "stats ") _ (ends_after (name_spaced name) _ (ends_after (spaced s.machines) _ (ends_after (spaced s.waiters) _ (ends_after (spaced s.passes) (holder_text s.holder) (holder_ends s.holder)))))
+answer_ends name (answer.Refused why) = refusal_ends name why
 
-about_lines : (lock : ℕ) (all : List (ℕ × Answer)) → AreLines (lines_about lock all)
-about_lines lock [] = inl refl
-about_lines lock ((c, a) ∷ all) = of_both (answer_line c lock a) (lines_about lock all) (inr (ends_after (spaced c) (answer_text lock a) (answer_ends lock a))) (about_lines lock all)
+line_ends : (c : ℕ) (name : List ℕ) (a : Answer) → IsEnded (answer_line c name a)
+line_ends c name a = ends_after (spaced c) (answer_text name a) (answer_ends name a)
+
+about_lines : (names : Names) (lock : ℕ) (all : List (ℕ × Answer)) → AreLines (lines_about names lock all)
+about_lines names lock [] = inl refl
+about_lines names lock ((c, a) ∷ all) = of_both (answer_line c (name_of names lock) a) (lines_about names lock all) (inr (line_ends c (name_of names lock) a)) (about_lines names lock all)
 
 denial_ends : (client : ℕ) (why : Denial) → IsEnded (denial_line client why)
 denial_ends client denial.Syntax = ends_after (spaced client) (codes "refused syntax\n") (codes "refused syntax", refl)
@@ -139,16 +146,20 @@ module _ (old new : SegmentView) (said noted : List ℕ) where
   are : (text note : List ℕ) → said ≡ text → noted ≡ note → AreLines text → AreLines note → AreOfLines said noted
   are text note e f p q = record { told = subst (λ (u : List ℕ). AreLines u) (sym e) p; notes = subst (λ (u : List ℕ). AreLines u) (sym f) q }
 
-  of_told : (strict noting : Bool) (client : ℕ) (x : Option (ℕ × Ask)) → IsTold strict noting client x old said noted new → AreOfLines said noted
-  of_told strict noting client None t = are _ _ t.says t.notes (of_each line_of_left (λ l. about_lines l.lock _) t.left) (noted_if noting (notes_of_left new.locks t.left) (of_each (note_of_left new.locks) (λ l. note_lines l.lock l.ended.survey.position (Some l.ended) (slice_get new.locks l.lock)) t.left))
-  of_told strict noting client (Some (lock, ask)) t = are _ _ t.says t.notes (about_lines lock _) (noted_if noting (note_about lock old.locks new.locks t.answers.ended) (note_lines lock (events_at (slice_get old.locks lock)) t.answers.ended (slice_get new.locks lock)))
+  of_named : (o : Option ℕ) (strict noting : Bool) (client : ℕ) (name : List ℕ) (ask : Ask) → IsToldOfNamed o strict noting client name ask old said noted new → AreOfLines said noted
+  of_named None strict noting client name ask t = are _ _ t.says t.notes (inr (line_ends client name (answer.Refused refusal.Lock))) (inl refl)
+  of_named (Some lock) strict noting client name ask t = are _ _ t.says t.notes (about_lines old.names lock _) (noted_if noting (note_about lock old.locks new.locks t.answers.ended) (note_lines lock (events_at (slice_get old.locks lock)) t.answers.ended (slice_get new.locks lock)))
+
+  of_told : (strict noting : Bool) (client : ℕ) (x : Option (List ℕ × Ask)) → IsTold strict noting client x old said noted new → AreOfLines said noted
+  of_told strict noting client None t = are _ _ t.says t.notes (of_each (line_of_left old.names) (λ l. about_lines old.names l.lock _) t.left) (noted_if noting (notes_of_left new.locks t.left) (of_each (note_of_left new.locks) (λ l. note_lines l.lock l.ended.survey.position (Some l.ended) (slice_get new.locks l.lock)) t.left))
+  of_told strict noting client (Some (name, ask)) t = of_named (lock_named old.names name) strict noting client name ask t
 
   of_if : (off : Bool) (terms : Terms) (client : ℕ) (ask : lines.Ask) → IsAnsweredIf off terms client ask old said noted new → AreOfLines said noted
   of_if true terms client ask s = are _ _ s.says s.notes (inr (denial_ends client denial.Off)) (inl refl)
   of_if false terms client ask t = of_told terms.strict terms.noting client (one_ask ask) t
 
   of_input : (terms : Terms) (i : Input) → IsInputAnswered terms i old said noted new → AreOfLines said noted
-  of_input terms (input.Asked client ask) a = of_if (is_off terms.faults (seen ask)) terms client (seen ask) a
+  of_input terms (input.Asked client ask) a = of_if (is_off terms.faults ask) terms client ask a
   of_input terms (input.Refused client why) s = are _ _ s.says s.notes (inr (denial_ends client _)) (inl refl)
   of_input terms input.Nobody s = are _ _ s.says s.notes (inl refl) (inl refl)
 

@@ -1,50 +1,29 @@
 -- What locks hear of a line's ask (this project's own).
-use Rattle.std.specs.Prelude.{ℕ, Bool, true, false, not, List, Option, None, Some}
+use Rattle.std.specs.Prelude.{ℕ, List, Bool, true, false, not, Option, None, Some}
 use Rattle.text_lines.specs.LongNumbers.{in_32_bits}
 use Rattle.held_locks.specs.Locks.{Ask, Acquire, Try, Release, Cancel, Corrupt, Stats}
-use Rattle.held_locks.specs.Kept.{LockView, IsDone, IsAnswer}
 use Rattle.held_locks.specs.declared.answers.Answer.{Answer}
 use Rattle.held_locks.specs.declared.answers.Answer.TheVariants as answer
-use Rattle.held_locks.specs.declared.answers.Answers.{Answers}
 use Rattle.held_locks.specs.declared.answers.Refusal.TheVariants as refusal
 use Rattle.lock_protocol.specs.Asks as lines
-use Rattle.lock_service.specs.declared.asking.OneAsk.{OneAsk}
-use Rattle.lock_service.specs.declared.asking.OneAsk.TheVariants as one
 
--- a lock, and what is asked of it, by the numbers of 32 bits by which locks, machines and values are
--- known: the greatest of these for all that are greater, and none of them has it; nothing where all
--- locks are left
-abbrev pub one_ask : lines.Ask → Option (ℕ × Ask)
-one_ask (lines.acquire lock label) = Some (in_32_bits lock, Acquire label)
-one_ask (lines.try lock label) = Some (in_32_bits lock, Try label)
-one_ask (lines.release lock token) = Some (in_32_bits lock, Release token)
-one_ask (lines.cancel lock) = Some (in_32_bits lock, Cancel)
+-- the name of a lock, and what is asked of it, with the numbers of 32 bits by which machines and
+-- values are known: the greatest of these for all that are greater, and none has it; nothing where
+-- all locks are left
+abbrev pub one_ask : lines.Ask → Option (List ℕ × Ask)
+one_ask (lines.acquire name label) = Some (name, Acquire label)
+one_ask (lines.try name label) = Some (name, Try label)
+one_ask (lines.release name token) = Some (name, Release token)
+one_ask (lines.cancel name) = Some (name, Cancel)
 one_ask lines.leave = None
-one_ask (lines.corrupt lock machine value) =
-    Some (in_32_bits lock, Corrupt (in_32_bits machine) (in_32_bits value))
-one_ask (lines.stats lock) = Some (in_32_bits lock, Stats)
+one_ask (lines.corrupt name machine value) =
+    Some (name, Corrupt (in_32_bits machine) (in_32_bits value))
+one_ask (lines.stats name) = Some (name, Stats)
 
 -- whether it is a fault, where none is permitted
 abbrev pub is_off : Bool → lines.Ask → Bool
-is_off faults (lines.corrupt lock machine value) = not faults
+is_off faults (lines.corrupt name machine value) = not faults
 is_off faults _ = false
-
--- how the lock answers: by its step; an ask that may make events can be refused for lack of room or
--- memory
-abbrev pub IsAnswerTo : List LockView → List LockView → ℕ → ℕ → Ask → Answers → Type 0
-IsAnswerTo old new c i (Acquire label) r = IsAnswer old new c i (Acquire label) r
-IsAnswerTo old new c i (Try label) r = IsAnswer old new c i (Try label) r
-IsAnswerTo old new c i (Corrupt machine value) r = IsAnswer old new c i (Corrupt machine value) r
-IsAnswerTo old new c i ask r = IsDone old new c i ask r
-
--- an ask of one lock, as the code has it
-abbrev pub asked : OneAsk → Ask
-asked (one.Acquire label) = Acquire label
-asked (one.Try label) = Try label
-asked (one.Release token) = Release token
-asked one.Cancel = Cancel
-asked (one.Corrupt machine value) = Corrupt machine value
-asked one.Stats = Stats
 
 -- whether the asker is refused for lack of room or of memory
 abbrev pub is_lack : Option Answer → Bool

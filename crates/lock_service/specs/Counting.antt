@@ -5,14 +5,16 @@ use Rattle.ring_service.specs.Due.{lines_of}
 use Rattle.held_locks.specs.declared.answers.HoldEnd.{HoldEnd}
 use Rattle.held_locks.specs.declared.answers.Left.{Left}
 use Rattle.held_locks.specs.Kept.{LockView}
-use Rattle.lock_service.specs.Noting.{events_at}
+use Rattle.held_locks.specs.Asked.{events_at}
+use Rattle.lock_protocol.specs.Names.{Names}
 use Rattle.lock_service.specs.Due.{has_short}
 use Rattle.lock_service.specs.Segments.{rings_of}
 
--- the locks; what the client that left last held; how many lines more the journal may have until
--- the segment is due; and whether a lock was short after some line
+-- the locks, and their names; what the client that left last held; how many lines more the journal
+-- may have until the segment is due; and whether a lock was short after some line
 pub record SegmentView : Type 0 where
   pub locks : List LockView
+  pub names : Names
   pub left : List Left
   pub remaining : ℕ
   pub short : Bool
@@ -43,14 +45,17 @@ count_of_left new l = 1 + (events_at (slice_get new l.lock) - l.ended.survey.pos
 abbrev pub count_of_all : List LockView → List Left → ℕ
 count_of_all new left = sum_by (count_of_left new) left
 
--- the journal got this number of lines
+-- the journal got this number of lines, and the locks have the same names
 pub record IsCounted (old new : SegmentView) (lines : ℕ) : Type 0 where
+  pub names : new.names ≡ old.names
   pub remaining : new.remaining ≡ old.remaining - lines
   pub short : new.short ≡ (old.short || has_short new.locks)
 
--- the first segment of these locks: its journal may have this number of lines, those with which it
--- begins among them
-pub record IsStart (limit : ℕ) (locks : List LockView) (s : SegmentView) : Type 0 where
-  pub locks_are : s.locks ≡ locks
-  pub remaining : s.remaining ≡ limit - lines_at_start locks
-  pub short : s.short ≡ has_short locks
+-- the first segment of locks of these names: its journal may have this number of lines, those with
+-- which it begins among them
+pub record IsStart (limit : ℕ) (names : Names) (locks : List LockView) (s : SegmentView) : Type 0
+  where
+    pub locks_are : s.locks ≡ locks
+    pub names_are : s.names ≡ names
+    pub remaining : s.remaining ≡ limit - lines_at_start locks
+    pub short : s.short ≡ has_short locks

@@ -1,8 +1,10 @@
 -- When a segment of locks is due to end (this project's own).
 use Rattle.std.specs.Prelude.{◌≡◌, ◌≢◌, ℕ, ◌+◌, nat_lt, Bool, true, false, ◌||◌, ◌==◌, List, [], ◌∷◌, length, slice_get, Option, None, Some, ◌⊎◌}
+use Rattle.std.specs.List.{list_any}
 use Rattle.ring_model.specs.Limits.{machine_limit, event_limit}
 use Rattle.held_locks.specs.declared.answers.Answer.TheVariants as answer
 use Rattle.held_locks.specs.declared.answers.Answers.{Answers}
+use Rattle.held_locks.specs.declared.answers.Left.{Left}
 use Rattle.held_locks.specs.declared.answers.Refusal.{Refusal}
 use Rattle.held_locks.specs.declared.answers.Refusal.TheVariants as refusal
 use Rattle.held_locks.specs.Cuts.{AreNext, HaveNoNext}
@@ -23,6 +25,10 @@ is_short_at (Some v) = is_short v
 abbrev pub has_short : List LockView → Bool
 has_short [] = false
 has_short (v ∷ vs) = is_short v || has_short vs
+
+-- one of the locks of the holds that a client left is short
+abbrev pub has_short_left : List LockView → List Left → Bool
+has_short_left vs left = list_any (λ (l : Left). is_short_at (slice_get vs l.lock)) left
 
 -- The segment is due once its journal may have no more lines, or a lock is short.
 abbrev pub is_due : ℕ → Bool → Bool

@@ -17,9 +17,10 @@ pub record AreEqualLocks (a b : List LockView) : Type 0 where
   pub rings : (i : ℕ) (v w : LockView) → slice_get a i ≡ Some v → slice_get b i ≡ Some w
       → IsSameEndless v.ring w.ring
 
--- the same locks in segments that are as far from their end
+-- the same locks, with the same names, in segments that are as far from their end
 pub record AreEqualSegments (a b : SegmentView) : Type 0 where
   pub locks : AreEqualLocks a.locks b.locks
+  pub names : b.names ≡ a.names
   pub remaining : b.remaining ≡ a.remaining
   pub short : b.short ≡ a.short
 

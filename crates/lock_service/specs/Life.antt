@@ -17,9 +17,9 @@ use Rattle.held_locks.specs.Promises.{AreRight, locks_after, leaves}
 use Rattle.held_locks.specs.Kept.{LockView, locks_of, AreKept}
 use Rattle.held_locks.specs.Cuts.{AreNext}
 use Rattle.lock_protocol.specs.declared.answers.Denial.{Denial}
-use Rattle.lock_protocol.specs.declared.inputs.Ask.{Ask as Read}
-use Rattle.lock_protocol.specs.declared.inputs.Input.TheVariants as input
-use Rattle.lock_protocol.specs.Asks.{seen}
+use Rattle.lock_protocol.specs.Names.{Names, lock_named, name_of}
+use Rattle.lock_protocol.specs.Asks as asks
+use Rattle.lock_protocol.specs.Views as input
 use Rattle.lock_protocol.specs.Inputs.{IsReadAs}
 use Rattle.lock_protocol.specs.Answers.{answer_line, denial_line}
 use Rattle.lock_service.specs.Asking.{one_ask}
@@ -32,10 +32,12 @@ use Rattle.lock_service.specs.Recovered.{AreMadeOf, AreAdded}
 
 -- ---- what lines ask of the machine, and what is answered
 
--- the inputs of an ask: one, or where all locks are left a leave of each
-abbrev pub inputs_of : ℕ → ℕ → Option (ℕ × Ask) → List Input
-inputs_of count client None = leaves client count
-inputs_of count client (Some (lock, ask)) = Asked client lock ask ∷ []
+-- the inputs of an ask: one, of the lock that has the name, or where all locks are left a leave of
+-- each
+abbrev pub AreInputsOf : Names → ℕ → ℕ → Option (List ℕ × Ask) → List Input → Type 0
+AreInputsOf names count client None is = is ≡ leaves client count
+AreInputsOf names count client (Some (name, ask)) is =
+    (lock : ℕ) × (lock_named names name ≡ Some lock) × (is ≡ Asked client lock ask ∷ [])
 
 -- answers about a lock; and all answers of the machine to these inputs, in order
 abbrev pub about : ℕ → List (ℕ × Answer) → List Telling
@@ -49,34 +51,47 @@ tellings ls (Asked c i ask ∷ is) =
 tellings ls (Restart ∷ is) = tellings (step ls Restart).locks is
 
 -- The machine took all that a line asks, and just its answers were said.
-pub record IsTaken (ls : List Lock) (line said : List ℕ) (is : List Input) : Type 0 where
+pub record IsTaken (names : Names) (ls : List Lock) (line said : List ℕ) (is : List Input) :
+    Type 0 where
   pub client : ℕ
-  pub ask : Read
+  pub ask : asks.Ask
   pub read : IsReadAs line (input.Asked client ask)
-  pub inputs : is ≡ inputs_of (length ls) client (one_ask (seen ask))
-  pub says : said ≡ text_of (tellings ls is)
+  pub inputs : AreInputsOf names (length ls) client (one_ask ask) is
+  pub says : said ≡ text_of names (tellings ls is)
 
--- nothing was said of a line of nobody; or a denial, or that a client is refused for lack of room
--- or of memory
-abbrev pub IsNoAnswer : List ℕ → List ℕ → Type 0
-IsNoAnswer line said =
+-- the line asks something of a lock, whose name none has, and that is said
+pub record IsOfNone (names : Names) (line said : List ℕ) : Type 0 where
+  pub client : ℕ
+  pub ask : asks.Ask
+  pub read : IsReadAs line (input.Asked client ask)
+  pub name : List ℕ
+  pub what : Ask
+  pub asks : one_ask ask ≡ Some (name, what)
+  pub none : lock_named names name ≡ None
+  pub says : said ≡ answer_line client name (answer.Refused refusal.Lock)
+
+-- nothing was said of a line of nobody; or a denial, or that no lock has the name, or that a client
+-- is refused for lack of room or of memory
+abbrev pub IsNoAnswer : Names → List ℕ → List ℕ → Type 0
+IsNoAnswer names line said =
     (IsReadAs line input.Nobody × (said ≡ []))
     ⊎ (((client : ℕ) × (why : Denial) × (said ≡ denial_line client why))
+    ⊎ (IsOfNone names line said
     ⊎ ((client lock : ℕ)
     × (why : Refusal)
     × ((why ≡ refusal.Full) ⊎ (why ≡ refusal.Memory))
-    × (said ≡ answer_line client lock (answer.Refused why))))
+    × (said ≡ answer_line client (name_of names lock) (answer.Refused why)))))
 
 -- Lines were answered one after the other: of each the machine took all inputs, or none.
-abbrev pub AreHeard : List Lock → List (List ℕ) → List ℕ → List Input → Type 0
-AreHeard ls [] said is = (said ≡ []) × (is ≡ [])
-AreHeard ls (line ∷ lines) said is =
+abbrev pub AreHeard : Names → List Lock → List (List ℕ) → List ℕ → List Input → Type 0
+AreHeard names ls [] said is = (said ≡ []) × (is ≡ [])
+AreHeard names ls (line ∷ lines) said is =
     (first later : List ℕ)
     × (now next : List Input)
-    × (IsTaken ls line first now ⊎ (IsNoAnswer line first × (now ≡ [])))
+    × (IsTaken names ls line first now ⊎ (IsNoAnswer names line first × (now ≡ [])))
     × (said ≡ first ++ later)
     × (is ≡ now ++ next)
-    × AreHeard (locks_after ls now) lines later next
+    × AreHeard names (locks_after ls now) lines later next
 
 -- ---- one run, or as much of it as is in one segment of the journal
 
@@ -125,9 +140,9 @@ pub record IsLockRun (ls : List Lock) (s : Stage) (is : List Input) : Type 0 whe
   pub asked : List Input
   pub unsaid : List ℕ
   pub kept : List Input
-  pub told_so : AreHeard ls s.told said heard
+  pub told_so : AreHeard s.start.names ls s.told said heard
   pub out_is : IsPrefix s.out said
-  pub untold_so : AreHeard (locks_after ls heard) s.untold unsaid asked
+  pub untold_so : AreHeard s.start.names (locks_after ls heard) s.untold unsaid asked
   pub kept_so : AreKeptOf asked kept
   pub inputs : is ≡ heard ++ kept
 
@@ -175,10 +190,14 @@ pub record AreFound (start : List LockView) (journal : List ℕ) (found : List L
   pub made : AreMadeOf (bases_of (rings_of start)) history.rings rings
   pub added : AreAdded [] rings found
 
--- the next one follows: the run was ended and its locks found again, or its segment ended
+-- the next one follows: the run was ended and its locks found again, or its segment ended, and the
+-- locks have the same names
 abbrev pub Follows : Bool → Stage → Stage → Type 0
 Follows true s next = AreFound s.start.locks s.journal next.start.locks
-Follows false s next = (s.untold ≡ []) × AreNext s.mid.locks next.start.locks
+Follows false s next =
+    (s.untold ≡ [])
+    × AreNext s.mid.locks next.start.locks
+    × (next.start.names ≡ s.start.names)
 
 -- runs, one after the other
 abbrev pub AreStages : Stage → List Stage → Type 0

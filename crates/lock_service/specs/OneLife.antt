@@ -3,7 +3,8 @@ use Rattle.std.specs.Prelude.{◌≡◌, ℕ, List, [], ◌∷◌, ◌++◌, sli
 use Rattle.std.specs.List.{AllByRecursion}
 use Rattle.disks.specs.Held.{Held}
 use Rattle.line_service.specs.Segments.{Moment}
-use Rattle.held_locks.specs.declared.handing.Handover.{Handover}
+use Rattle.lock_protocol.specs.Names.{Names, lock_named}
+use Rattle.folder_of_locks.specs.Holders.{Hold}
 use Rattle.held_locks.specs.Queues.{Lock}
 use Rattle.held_locks.specs.Locks.{Input, Restart}
 use Rattle.held_locks.specs.Promises.{AreRight, locks_after}
@@ -15,7 +16,7 @@ use Rattle.lock_service.specs.Runs.{Service, by_segments, inside, IsInStages, Is
 -- A run over the folder, ended at any moment: the holds that were handed over at its start, what
 -- was reported of it, and what was left of its last segment when the next run started.
 pub record Run (folder : List ℕ) : Type 0 where
-  pub holders : List Handover
+  pub holders : List Hold
   pub from : Moment Service
   pub to : Moment Service
   pub before : List ℕ
@@ -32,6 +33,10 @@ pub record Run (folder : List ℕ) : Type 0 where
 abbrev pub locks_at_start : {folder : List ℕ} → Run folder → List LockView
 locks_at_start r = (inside r.from.service).segment.locks
 
+-- and their names
+abbrev pub names_of_run : {folder : List ℕ} → Run folder → Names
+names_of_run r = (inside r.from.service).segment.names
+
 -- the next run starts of what this one left, with its own holders
 pub record StartsBehind {folder : List ℕ} (r next : Run folder) : Type 0 where
   pub word : Option (List ℕ)
@@ -39,6 +44,7 @@ pub record StartsBehind {folder : List ℕ} (r next : Run folder) : Type 0 where
   pub place : Place
   pub started : AreStarted folder word next.holders (Some r.held) after place
   pub begins : locks_at_start next ≡ place.locks
+  pub named : names_of_run next ≡ place.names
 
 -- runs, each of which starts of what the one before it left
 abbrev pub AreRuns : {folder : List ℕ} → Run folder → List (Run folder) → Type 0
@@ -54,21 +60,23 @@ pub record IsLifeOf {folder : List ℕ} (ls : List Lock) (r : Run folder) (is : 
     pub run : IsTakenAs r.in_stages r.left first more
     pub life : IsLockLife ls first more is
 
--- This open hold of the machine is the client's now, with the same token, and nothing else has
--- changed.
-pub record IsHandedOver (old new : List Lock) (h : Handover) : Type 0 where
+-- This open hold of the machine, of the lock that has the name, is the client's now, with the same
+-- token, and nothing else has changed.
+pub record IsHandedOver (names : Names) (old new : List Lock) (h : Hold) : Type 0 where
+  pub at : ℕ
+  pub named : lock_named names h.name ≡ Some at
   pub lock : Lock
-  pub there : slice_get old h.lock ≡ Some lock
+  pub there : slice_get old at ≡ Some lock
   pub held : lock.holder ≡ Some (record { client = 0; token = h.token })
   pub free : lock.queue ≡ []
-  pub new_is : new ≡ slice_set old h.lock
+  pub new_is : new ≡ slice_set old at
       (record lock { holder = Some (record { client = h.client; token = h.token }) })
 
 -- each of these holds is
-abbrev pub AreHandedOver : List Lock → List Handover → List Lock → Type 0
-AreHandedOver old [] new = new ≡ old
-AreHandedOver old (h ∷ hs) new =
-    (mid : List Lock) × IsHandedOver old mid h × AreHandedOver mid hs new
+abbrev pub AreHandedOver : Names → List Lock → List Hold → List Lock → Type 0
+AreHandedOver names old [] new = new ≡ old
+AreHandedOver names old (h ∷ hs) new =
+    (mid : List Lock) × IsHandedOver names old mid h × AreHandedOver names mid hs new
 
 -- locks that are new: no client waits for one, and none holds it
 abbrev pub AreNew : List Lock → Type 0
@@ -86,7 +94,8 @@ AreOneLife ls r (next ∷ more) is =
     × IsLifeOf ls r now
     × (is ≡ now ++ Restart ∷ later)
     × AreNew added
-    × AreHandedOver (locks_after ls (now ++ Restart ∷ []) ++ added) next.holders handed
+    × AreHandedOver (names_of_run next) (locks_after ls (now ++ Restart ∷ []) ++ added)
+    next.holders handed
     × AreOneLife handed next more later
 
 -- A law: runs over one folder are one list of inputs of the machine of locks, from the locks with

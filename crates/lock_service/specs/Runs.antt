@@ -21,9 +21,8 @@ use Rattle.line_replica.specs.Replies.{IsReplied}
 use Rattle.line_replica.specs.Segmented as around
 use Rattle.line_replica.specs.Restoring as behind
 use Rattle.line_replica.specs.State.{lines_of, is_state, IsRestorable}
-use Rattle.held_locks.specs.declared.handing.Handover.{Handover}
+use Rattle.folder_of_locks.specs.Holders.{Hold, AreHandedBy}
 use Rattle.held_locks.specs.Kept.{LockView}
-use Rattle.held_locks.specs.Handed.{AreHanded}
 use Rattle.folder_of_locks.specs.Folders.{Place, AreStarted}
 use Rattle.lock_service.specs.declared.service.LockService.{LockService}
 use Rattle.lock_service.specs.Counting.{SegmentView}
@@ -163,7 +162,7 @@ RunsFollow =
     → AreFound last.locks journal next.start.locks → AreStages next others
     → AreStages one (more ++ next ∷ others)
 
--- each whole line of these bytes is one of those
+-- the whole lines of these bytes are the first of those, in order
 abbrev pub HasNoLineMore : List ℕ → List ℕ → Type 0
 HasNoLineMore bytes those =
     (lines cut : List ℕ)
@@ -202,7 +201,7 @@ abbrev pub RunsGoOn : Type 0
 RunsGoOn =
     (a b : Moment Service) (before : List ℕ) (lines : List (List ℕ)) (said notes : List ℕ)
     (r : IsInStages a b before lines said notes) (held : Held) (folder left : List ℕ)
-    (word : Option (List ℕ)) (holders : List Handover) (after : Option Held) (p : Place)
+    (word : Option (List ℕ)) (holders : List Hold) (after : Option Held) (p : Place)
     → by_segments.HasText a.service a.number before → IsLeftIn r held folder left
     → AreStarted folder word holders (Some held) after p
     → (first : Stage) × (more : List Stage) × (t : IsTakenAs r left first more)
@@ -210,4 +209,4 @@ RunsGoOn =
     × AreFound (inside r.last).segment.locks
     (without_remarks (begun_with_remarks r.last.inner ++ t.taken)) locks
     × AllByRecursion IsNew added
-    × AreHanded (locks ++ added) holders p.locks
+    × AreHandedBy p.names (locks ++ added) holders p.locks

@@ -25,6 +25,7 @@ is_over _ = false
 -- The next segment has begun. Nothing of the locks has changed, and its journal has had no line.
 pub record IsNext (old new : LockService) : Type 0 where
   pub locks : AreNext old.segment.locks new.segment.locks
+  pub names : new.segment.names ≡ old.segment.names
   pub terms : new.terms ≡ old.terms
   pub remaining : new.segment.remaining ≡ limit_of old.terms.limit
   pub short : new.segment.short ≡ false

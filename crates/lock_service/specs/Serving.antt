@@ -1,24 +1,27 @@
 -- How each line is answered (this project's own).
-use Rattle.std.specs.Prelude.{◌≡◌, ℕ, Bool, true, false, cond, ◌&&◌, if◌then◌else◌, List, [], ◌++◌, Option, None, Some, is_some, Result, Ok, Err}
+use Rattle.std.specs.Prelude.{◌≡◌, ℕ, Bool, true, false, cond, ◌&&◌, if◌then◌else◌, List, [], Option, None, Some, is_some, Result, Ok, Err}
 use Rattle.held_locks.specs.declared.answers.Answers.{Answers}
+use Rattle.held_locks.specs.declared.answers.Answer.TheVariants as answer
+use Rattle.held_locks.specs.declared.answers.Refusal.TheVariants as refusal
 use Rattle.held_locks.specs.declared.answers.Left.{Left}
 use Rattle.held_locks.specs.Locks.{Ask}
 use Rattle.held_locks.specs.Kept.{answers_of, IsLeft, AreKept}
 use Rattle.lock_protocol.specs.declared.answers.Denial.{Denial}
 use Rattle.lock_protocol.specs.declared.answers.Denial.TheVariants as denial
-use Rattle.lock_protocol.specs.declared.inputs.Input.{Input}
-use Rattle.lock_protocol.specs.declared.inputs.Input.TheVariants as input
+use Rattle.lock_protocol.specs.Views.{Input}
+use Rattle.lock_protocol.specs.Views as input
+use Rattle.lock_protocol.specs.Names.{lock_named}
 use Rattle.lock_protocol.specs.declared.inputs.Fault.{Fault}
 use Rattle.lock_protocol.specs.declared.inputs.Fault.TheVariants as fault
 use Rattle.lock_protocol.specs.Asks as lines
-use Rattle.lock_protocol.specs.Asks.{seen}
 use Rattle.lock_protocol.specs.Inputs.{IsReadAs}
-use Rattle.lock_protocol.specs.Answers.{denial_line}
+use Rattle.lock_protocol.specs.Answers.{answer_line, denial_line}
 use Rattle.disks.specs.Held.{Held}
 use Rattle.line_service.specs.declared.pending.Pending.{Pending}
 use Rattle.line_replica.specs.Replies.{IsAdded}
 use Rattle.lock_service.specs.declared.service.LockService.{LockService}
-use Rattle.lock_service.specs.Asking.{one_ask, is_off, IsAnswerTo, is_lack}
+use Rattle.held_locks.specs.Asked.{IsAnswerTo}
+use Rattle.lock_service.specs.Asking.{one_ask, is_off, is_lack}
 use Rattle.lock_service.specs.declared.service.Stage.{Stage}
 use Rattle.lock_service.specs.declared.service.Stage.TheVariants as stage
 use Rattle.lock_service.specs.declared.service.Terms.{Terms}
@@ -43,7 +46,7 @@ pub record IsToldOf (strict noting : Bool) (client lock : ℕ) (ask : Ask) (old 
   pub answers : Answers
   pub done : IsAnswerTo old.locks new.locks client lock ask answers
   pub given : (strict && is_lack answers.own) ≡ false
-  pub says : said ≡ lines_about lock (answers_of client answers)
+  pub says : said ≡ lines_about old.names lock (answers_of client answers)
   pub notes : noted ≡ cond noting (note_about lock old.locks new.locks answers.ended) []
   pub counted : IsCounted old new (count_about lock old.locks new.locks answers.ended)
 
@@ -53,16 +56,26 @@ pub record IsToldOfLeave (noting : Bool) (client : ℕ) (old : SegmentView) (sai
     (new : SegmentView) : Type 0 where
   pub left : List Left
   pub done : IsLeft old.locks new.locks client left
-  pub says : said ≡ lines_of_left left
+  pub says : said ≡ lines_of_left old.names left
   pub notes : noted ≡ cond noting (notes_of_left new.locks left) []
   pub counted : IsCounted old new (count_of_all new.locks left)
 
-abbrev pub IsTold : Bool → Bool → ℕ → Option (ℕ × Ask) → SegmentView → List ℕ → List ℕ
+-- the lock of this number, if there is one, answers; else it is said that no lock has the name, and
+-- nothing happens
+abbrev pub IsToldOfNamed : Option ℕ → Bool → Bool → ℕ → List ℕ → Ask → SegmentView → List ℕ
+    → List ℕ → SegmentView → Type 0
+IsToldOfNamed None strict noting client name ask old said noted new =
+    IsSaid (answer_line client name (answer.Refused refusal.Lock)) old said noted new
+IsToldOfNamed (Some lock) strict noting client name ask old said noted new =
+    IsToldOf strict noting client lock ask old said noted new
+
+-- the lock that has the name answers; or all are left
+abbrev pub IsTold : Bool → Bool → ℕ → Option (List ℕ × Ask) → SegmentView → List ℕ → List ℕ
     → SegmentView → Type 0
 IsTold strict noting client None old said noted new =
     IsToldOfLeave noting client old said noted new
-IsTold strict noting client (Some (lock, ask)) old said noted new =
-    IsToldOf strict noting client lock ask old said noted new
+IsTold strict noting client (Some (name, ask)) old said noted new =
+    IsToldOfNamed (lock_named old.names name) strict noting client name ask old said noted new
 
 -- an ask is answered: a fault that is not permitted is refused
 abbrev pub IsAnsweredIf : Bool → Terms → ℕ → lines.Ask → SegmentView → List ℕ → List ℕ
@@ -80,7 +93,7 @@ denial_of fault.Number = denial.Number
 -- what was read of a line is answered
 abbrev pub IsInputAnswered : Terms → Input → SegmentView → List ℕ → List ℕ → SegmentView → Type 0
 IsInputAnswered terms (input.Asked client ask) old said noted new =
-    IsAnsweredIf (is_off terms.faults (seen ask)) terms client (seen ask) old said noted new
+    IsAnsweredIf (is_off terms.faults ask) terms client ask old said noted new
 IsInputAnswered terms (input.Refused client why) old said noted new =
     IsSaid (denial_line client (denial_of why)) old said noted new
 IsInputAnswered terms input.Nobody old said noted new = IsSaid [] old said noted new

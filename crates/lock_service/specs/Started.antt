@@ -17,8 +17,7 @@ use Rattle.segment_files.specs.Torn.{IsTorn}
 use Rattle.ring_service.specs.Segments.{bases_of}
 use Rattle.ring_service.specs.Recovered.{IsPrefix}
 use Rattle.held_locks.specs.Kept.{LockView, AreKept}
-use Rattle.held_locks.specs.declared.handing.Handover.{Handover}
-use Rattle.held_locks.specs.Handed.{AreHanded}
+use Rattle.folder_of_locks.specs.Holders.{Hold, AreHandedBy}
 use Rattle.folder_of_locks.specs.Lists.{Listed}
 use Rattle.folder_of_locks.specs.Rings.{AreBegun}
 use Rattle.folder_of_locks.specs.Folders.{Place, AreStarted}
@@ -75,7 +74,7 @@ IsNew v = (v.queue ≡ []) × (v.holder ≡ None)
 -- new ones after them. Then each of these open holds was handed to its client. That front has each
 -- right journal which is kept, whatever comes after it.
 pub record StartThere (number : ℕ) (behind : List ℕ) (start : List LockView) (kept : List ℕ)
-    (holders : List Handover) (p : Place) : Type 0 where
+    (holders : List Hold) (p : Place) : Type 0 where
   pub number_is : p.number ≡ number
   pub behind_is : p.behind ≡ behind
   pub front : List ℕ
@@ -88,13 +87,13 @@ pub record StartThere (number : ℕ) (behind : List ℕ) (start : List LockView)
   pub added : List LockView
   pub found : AreFound start (without_remarks front) locks
   pub new : AllByRecursion IsNew added
-  pub handed : AreHanded (locks ++ added) holders p.locks
+  pub handed : AreHandedBy p.names (locks ++ added) holders p.locks
 
 -- A law: what is kept of a folder's last segment starts the next run.
 abbrev pub KeptSegmentsStart : Type 0
 KeptSegmentsStart =
     (held : Held) (folder : List ℕ) (number : ℕ) (behind : List ℕ) (start : List LockView)
-    (kept : List ℕ) (word : Option (List ℕ)) (holders : List Handover) (after : Option Held)
+    (kept : List ℕ) (word : Option (List ℕ)) (holders : List Hold) (after : Option Held)
     (p : Place) → IsKeptLast held folder number behind start kept
     → AreStarted folder word holders (Some held) after p
     → StartThere number behind start kept holders p
@@ -110,7 +109,7 @@ FoundLocksBegin =
 -- among them, and with holds that are handed over.
 abbrev pub StartedLocksBegin : Type 0
 StartedLocksBegin =
-    (folder : List ℕ) (word : Option (List ℕ)) (holders : List Handover)
+    (folder : List ℕ) (word : Option (List ℕ)) (holders : List Hold)
     (before after : Option Held) (p : Place) (entries : List (ℕ × ℕ))
     → AreStarted folder word holders before after p → AreKept p.locks entries
     → Fits (content_of p.locks) → HaveBegun p.locks

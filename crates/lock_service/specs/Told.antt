@@ -1,5 +1,5 @@
 -- What clients were answered about locks, in the rings that a journal records (this project's own).
-use Rattle.std.specs.Prelude.{◌≡◌, ℕ, List, [], ◌∷◌, ◌++◌, slice_get, Some, ◌⊎◌}
+use Rattle.std.specs.Prelude.{◌≡◌, ℕ, List, [], ◌∷◌, ◌++◌, slice_get, None, Some, ◌⊎◌}
 use Rattle.std.specs.List.{AllByRecursion, flat_map}
 use Rattle.ring_model.specs.LockSeats.{grant_seat, release_seat}
 use Rattle.ring_model.specs.declared.events.Event.{Event}
@@ -10,7 +10,9 @@ use Rattle.held_locks.specs.declared.answers.Answer.{Answer}
 use Rattle.held_locks.specs.declared.answers.Answer.TheVariants as answer
 use Rattle.held_locks.specs.Promises.{number_of}
 use Rattle.held_locks.specs.Kept.{LockView}
+use Rattle.held_locks.specs.declared.answers.Refusal.TheVariants as refusal
 use Rattle.lock_protocol.specs.declared.answers.Denial.{Denial}
+use Rattle.lock_protocol.specs.Names.{Names, name_of, lock_named}
 use Rattle.lock_protocol.specs.Answers.{answer_line, denial_line}
 use Rattle.lock_service.specs.declared.service.Terms.{Terms}
 use Rattle.lock_service.specs.Counting.{SegmentView}
@@ -63,20 +65,31 @@ IsToldIn was is lock (answer.Granted token) = HasGrant was is lock token
 IsToldIn was is lock answer.Released = HasRelease was is lock
 IsToldIn was is lock _ = Unit {0}
 
--- an answer about a lock, to a client; and the lines of answers
+-- an answer about a lock, to a client; and the lines of answers, where locks have these names
 pub record Telling : Type 0 where
   pub client : ℕ
   pub lock : ℕ
   pub said : Answer
 
-abbrev pub text_of : List Telling → List ℕ
-text_of ts = flat_map (λ (t : Telling). answer_line t.client t.lock t.said) ts
+abbrev pub text_of : Names → List Telling → List ℕ
+text_of names ts =
+    flat_map (λ (t : Telling). answer_line t.client (name_of names t.lock) t.said) ts
 
--- the text of a line is of these answers; or no lock is asked, and the line is denied or nobody's
-abbrev pub IsText : List ℕ → List Telling → Type 0
-IsText said ts =
-    (said ≡ text_of ts)
-    ⊎ ((ts ≡ []) × ((client : ℕ) × (why : Denial) × (said ≡ denial_line client why)))
+-- it is said that no lock has a name
+abbrev pub IsUnknown : Names → List ℕ → Type 0
+IsUnknown names said =
+    (client : ℕ)
+    × (name : List ℕ)
+    × (lock_named names name ≡ None)
+    × (said ≡ answer_line client name (answer.Refused refusal.Lock))
+
+-- the text of a line is of these answers; or no lock is asked, and the line is denied, of a name
+-- that no lock has, or nobody's
+abbrev pub IsText : Names → List ℕ → List Telling → Type 0
+IsText names said ts =
+    (said ≡ text_of names ts)
+    ⊎ ((ts ≡ [])
+    × (((client : ℕ) × (why : Denial) × (said ≡ denial_line client why)) ⊎ IsUnknown names said))
 
 -- From these locks and rings to those after it the line was answered with this text, and what that
 -- reports is in the rings.
@@ -85,7 +98,7 @@ pub record IsLineIn (terms : Terms) (old : SegmentView) (was : List Standing) (l
   pub note : List ℕ
   pub answered : IsLineAnswered terms old line said note new
   pub tellings : List Telling
-  pub text : IsText said tellings
+  pub text : IsText old.names said tellings
   pub each : AllByRecursion (λ (t : Telling). IsToldIn was is t.lock t.said) tellings
   pub grown : HaveGrown was is
   pub of_locks : AreOf is new.locks

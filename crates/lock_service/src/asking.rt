@@ -4,21 +4,11 @@ ghost use Rattle.std.specs.Prelude.{◌≡◌};
 ghost use Rattle.std.specs.Option.{option_map};
 ghost use Rattle.text_lines.specs.LongNumbers.{in_32_bits};
 ghost use Rattle.lock_protocol.specs.Asks.{seen};
-ghost use Rattle.lock_service.specs.Asking.{one_ask, is_off, asked, IsAnswerTo, is_lack};
+ghost use Rattle.held_locks.specs.Asked.{asked};
+ghost use Rattle.lock_service.specs.Asking.{one_ask, is_off, is_lack};
 
-use held_locks::{Answer, Answers, Locks, Refusal};
+use held_locks::{Answer, OneAsk, Refusal};
 use lock_protocol::Ask;
-
-/// What is asked of one lock.
-#[derive(Clone, Copy)]
-pub(crate) enum OneAsk {
-    Acquire { label: u64 },
-    Try { label: u64 },
-    Release { token: u64 },
-    Cancel,
-    Corrupt { machine: u32, value: u32 },
-    Stats,
-}
 
 /// This number, or the greatest one of 32 bits if it is greater.
 fn narrow(number: u64) -> u32
@@ -32,8 +22,8 @@ fn narrow(number: u64) -> u32
 }
 
 /// Whether this is a fault, where none is permitted.
-pub(crate) fn is_off(faults: bool, ask: Ask) -> bool
-    ensures { result ≡ is_off faults (seen ask) }
+pub(crate) fn is_off(faults: bool, ask: Ask<'_>) -> bool
+    ensures { result ≡ is_off faults (seen ask.entry) }
 {
     match ask {
         Ask::Corrupt { .. } => !faults,
@@ -41,26 +31,26 @@ pub(crate) fn is_off(faults: bool, ask: Ask) -> bool
     }
 }
 
-/// The lock that is asked, and what; none where all are left.
-pub(crate) fn one_ask(ask: Ask) -> Option<(u32, OneAsk)>
-    ensures { option_map (λ x. (x.0, asked x.1)) result ≡ one_ask (seen ask) }
+/// The name of the lock that is asked, and what; none where all are left.
+pub(crate) fn one_ask(ask: Ask<'_>) -> Option<(&[u8], OneAsk)>
+    ensures { option_map (λ x. (x.0.now, asked x.1)) result ≡ one_ask (seen ask.entry) }
 {
     match ask {
-        Ask::Acquire { lock, label } => Some((narrow(lock), OneAsk::Acquire { label })),
-        Ask::Try { lock, label } => Some((narrow(lock), OneAsk::Try { label })),
-        Ask::Release { lock, token } => Some((narrow(lock), OneAsk::Release { token })),
-        Ask::Cancel { lock } => Some((narrow(lock), OneAsk::Cancel)),
+        Ask::Acquire { name, label } => Some((name, OneAsk::Acquire { label })),
+        Ask::Try { name, label } => Some((name, OneAsk::Try { label })),
+        Ask::Release { name, token } => Some((name, OneAsk::Release { token })),
+        Ask::Cancel { name } => Some((name, OneAsk::Cancel)),
         Ask::Leave => None,
         Ask::Corrupt {
-            lock,
+            name,
             machine,
             value,
         } => {
             let machine = narrow(machine);
             let value = narrow(value);
-            Some((narrow(lock), OneAsk::Corrupt { machine, value }))
+            Some((name, OneAsk::Corrupt { machine, value }))
         }
-        Ask::Stats { lock } => Some((narrow(lock), OneAsk::Stats)),
+        Ask::Stats { name } => Some((name, OneAsk::Stats)),
     }
 }
 
@@ -71,19 +61,5 @@ pub(crate) fn is_lack(own: Option<Answer>) -> bool
     match own {
         Some(Answer::Refused(Refusal::Full | Refusal::Memory)) => true,
         _ => false,
-    }
-}
-
-/// Asks one lock.
-pub(crate) fn ask_lock(locks: &mut Locks, client: u64, lock: u32, ask: OneAsk) -> Answers
-    ensures { IsAnswerTo locks.old locks.new client lock (asked ask) result }
-{
-    match ask {
-        OneAsk::Acquire { label } => locks.acquire(client, lock, label),
-        OneAsk::Try { label } => locks.try_acquire(client, lock, label),
-        OneAsk::Release { token } => locks.release(client, lock, token),
-        OneAsk::Cancel => locks.cancel(client, lock),
-        OneAsk::Corrupt { machine, value } => locks.corrupt(client, lock, machine, value),
-        OneAsk::Stats => locks.stats(lock),
     }
 }

@@ -1,9 +1,8 @@
 //! How many lines a journal has.
 
-ghost use Rattle.std.specs.Prelude.{◌≡◌, ◌-◌, ◌<◌, length, slice_get};
+ghost use Rattle.std.specs.Prelude.{◌≡◌, ◌-◌, ◌<◌, length};
 ghost use Rattle.ring_service.specs.Standings.{standing_of};
 ghost use Rattle.ring_service.specs.Due.{lines_in};
-ghost use Rattle.lock_service.specs.Noting.{events_at};
 ghost use Rattle.lock_service.specs.Counting.{lines_at_start, end_count, count_of_all};
 
 use crate::noting::events_at;
@@ -45,11 +44,11 @@ pub(crate) fn after_end(remaining: u64, ended: Option<HoldEnd>) -> u64
     }
 }
 
-/// The same after the events of a lock from a place on.
-pub(crate) fn after_events(remaining: u64, locks: &Locks, lock: u32, place: usize) -> u64
-    ensures { result ≡ remaining - (events_at (slice_get locks.now lock) - place) }
+/// The same after the events from a place on, of a ring that has `events` of them.
+pub(crate) fn after_events(remaining: u64, place: usize, events: usize) -> u64
+    ensures { result ≡ remaining - (events - place) }
 {
-    let more = events_at(locks, lock).saturating_sub(place);
+    let more = events.saturating_sub(place);
     remaining.saturating_sub(more as u64)
 }
 
@@ -60,7 +59,7 @@ pub(crate) fn after_left(remaining: u64, locks: &Locks, left: &[Left]) -> u64
     let mut more = remaining;
     for one in left {
         let place = one.ended.survey.position as usize;
-        more = after_events(more.saturating_sub(1), locks, one.lock, place);
+        more = after_events(more.saturating_sub(1), place, events_at(locks, one.lock));
     }
     more
 }

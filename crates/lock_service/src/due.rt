@@ -1,9 +1,9 @@
 //! When a segment of locks is due to end.
 
 ghost use Rattle.std.specs.Prelude.{◌≡◌, ◌<◌, length, slice_get};
-ghost use Rattle.lock_service.specs.Due.{is_short_at, has_short};
+ghost use Rattle.lock_service.specs.Due.{is_short_at, has_short, has_short_left};
 
-use held_locks::Locks;
+use held_locks::{Left, Locks};
 use ring_model::limits::{EVENT_LIMIT, MACHINE_LIMIT};
 
 /// Whether the segment of a lock has fewer places left for events than an ask may need.
@@ -30,6 +30,18 @@ pub(crate) fn has_short(locks: &Locks) -> bool
     let count = locks.count();
     for lock in 0..count {
         if is_short(locks, lock) {
+            return true;
+        }
+    }
+    false
+}
+
+/// Whether one of the locks of these holds is short.
+pub(crate) fn has_short_left(locks: &Locks, left: &[Left]) -> bool
+    ensures { result ≡ has_short_left locks.now left.now }
+{
+    for one in left {
+        if is_short_at(locks, one.lock) {
             return true;
         }
     }

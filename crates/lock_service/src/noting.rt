@@ -2,10 +2,11 @@
 
 ghost use Rattle.std.specs.Prelude.{◌≡◌, ◌++◌, [], cond, slice_get, OnOk};
 ghost use Rattle.held_locks.specs.Kept.{own_answer, other_grant, answers_of};
-ghost use Rattle.lock_service.specs.Noting.{lines_about, events_at, events_from, end_line, lines_of_left, notes_of_left};
+ghost use Rattle.held_locks.specs.Asked.{events_at};
+ghost use Rattle.lock_service.specs.Noting.{lines_about, events_from, end_line, lines_of_left, notes_of_left};
 
 use held_locks::{Answer, Answers, HoldEnd, Holder, Left, Locks};
-use lock_protocol::put_answer;
+use lock_protocol::{LockNames, put_answer};
 use one_thread_ring::{put_events, put_survey};
 use std::alloc::AllocError;
 
@@ -92,11 +93,20 @@ pub(crate) fn note_if(
 }
 
 /// Adds the line to the client that is granted a lock, if there is one.
-fn tell_grant(text: &mut Vec<u8>, lock: u32, granted: Option<Holder>) -> Result<(), AllocError>
-    ensures { OnOk result (text.new.items ≡ text.old.items ++ lines_about lock (other_grant granted)) }
+fn tell_grant(
+    text: &mut Vec<u8>,
+    names: &LockNames,
+    lock: u32,
+    granted: Option<Holder>,
+) -> Result<(), AllocError>
+    ensures { OnOk result (text.new.items
+        ≡ text.old.items ++ lines_about names.now lock (other_grant granted)) }
 {
     match granted {
-        Some(holder) => put_answer(text, holder.client, lock, Answer::Granted(holder.token)),
+        Some(holder) => {
+            let told = Answer::Granted(holder.token);
+            put_answer(text, holder.client, names.name(lock), told)
+        }
         None => Ok(()),
     }
 }
@@ -104,14 +114,16 @@ fn tell_grant(text: &mut Vec<u8>, lock: u32, granted: Option<Holder>) -> Result<
 /// Adds the line to the client that asked, if there is an answer.
 fn tell_own(
     text: &mut Vec<u8>,
+    names: &LockNames,
     client: u64,
     lock: u32,
     own: Option<Answer>,
 ) -> Result<(), AllocError>
-    ensures { OnOk result (text.new.items ≡ text.old.items ++ lines_about lock (own_answer client own)) }
+    ensures { OnOk result (text.new.items
+        ≡ text.old.items ++ lines_about names.now lock (own_answer client own)) }
 {
     match own {
-        Some(answer) => put_answer(text, client, lock, answer),
+        Some(answer) => put_answer(text, client, names.name(lock), answer),
         None => Ok(()),
     }
 }
@@ -119,25 +131,31 @@ fn tell_own(
 /// Adds the lines to all clients that answers about a lock concern.
 pub(crate) fn tell(
     text: &mut Vec<u8>,
+    names: &LockNames,
     client: u64,
     lock: u32,
     answers: Answers,
 ) -> Result<(), AllocError>
     ensures { OnOk result (text.new.items
-        ≡ text.old.items ++ lines_about lock (answers_of client answers)) }
+        ≡ text.old.items ++ lines_about names.now lock (answers_of client answers)) }
 {
-    match tell_own(text, client, lock, answers.own) {
-        Ok(()) => tell_grant(text, lock, answers.granted),
+    match tell_own(text, names, client, lock, answers.own) {
+        Ok(()) => tell_grant(text, names, lock, answers.granted),
         Err(error) => Err(error),
     }
 }
 
 /// Adds the lines to the clients that are granted what another client left.
-pub(crate) fn tell_left(text: &mut Vec<u8>, left: &[Left]) -> Result<(), AllocError>
-    ensures { OnOk result (text.new.items ≡ text.old.items ++ lines_of_left left.now) }
+pub(crate) fn tell_left(
+    text: &mut Vec<u8>,
+    names: &LockNames,
+    left: &[Left],
+) -> Result<(), AllocError>
+    ensures { OnOk result (text.new.items
+        ≡ text.old.items ++ lines_of_left names.now left.now) }
 {
     for one in left {
-        match tell_grant(text, one.lock, one.granted) {
+        match tell_grant(text, names, one.lock, one.granted) {
             Ok(()) => {}
             Err(error) => return Err(error),
         }

@@ -1,25 +1,28 @@
 //! The locks of a segment, with what its journal has had.
 
-ghost use Rattle.std.specs.Prelude.{◌≡◌, ◌||◌, ◌⊎◌, true, false, IfOk, IfErr};
+ghost use Rattle.std.specs.Prelude.{◌≡◌, ◌||◌, ◌⊎◌, true, false, slice_get, IfOk, IfErr};
 ghost use Rattle.held_locks.specs.declared.answers.Refusal.{Refusal};
 ghost use Rattle.held_locks.specs.Cuts.{AreNext};
 ghost use Rattle.held_locks.specs.Kept.{IsLeft};
-ghost use Rattle.lock_service.specs.Asking.{asked, IsAnswerTo, is_lack};
+ghost use Rattle.held_locks.specs.Asked.{asked, IsAnswerTo, events_at};
+ghost use Rattle.lock_service.specs.Asking.{is_lack};
 ghost use Rattle.lock_service.specs.Due.{is_due, has_short, HaveNoSegment};
 ghost use Rattle.lock_service.specs.Counting.{IsCounted, IsStart, count_about, count_of_all};
 
-use crate::asking::{OneAsk, ask_lock};
 use crate::counting::{after_end, after_events, after_left, after_start};
-use crate::due::{has_short, is_short_at};
-use crate::noting::events_at;
-use held_locks::{Answers, Left, Locks, Refusal};
+use crate::due::{has_short, has_short_left, is_short_at};
+use held_locks::{Left, Locks, OneAnswer, OneAsk, Refusal};
+use lock_protocol::LockNames;
 use std::alloc::{AllocError, Global};
 use std::marker::Model;
+use std::rc::Rc;
 
 /// The locks of a segment. Its journal may have `remaining` lines more until it is due.
 #[derive(Drop)]
 pub(crate) struct Segment {
     locks: Locks,
+    /// The names of the locks, which the next segment has too.
+    names: Rc<LockNames>,
     /// What the client that left last held, with room for all locks.
     left: Vec<Left>,
     remaining: u64,
@@ -33,7 +36,13 @@ impl Model for Segment {
 
     ghost Value = { SegmentView };
 
-    ghost view = { λ s. record { locks = s.locks; left = s.left.items; remaining = s.remaining; short = s.short } };
+    ghost view = { λ s. record {
+      locks = s.locks;
+      names = s.names.value;
+      left = s.left.items;
+      remaining = s.remaining;
+      short = s.short;
+    } };
 
     ghost invariant = { λ s. (length s.locks ≤ vec_capacity s.left) × IsWatched s.locks s.short };
 }
@@ -52,16 +61,25 @@ impl Segment {
     /// # Errors
     ///
     /// Only if memory is short.
-    pub(crate) fn start(alloc: Global, locks: Locks, limit: u64) -> Result<Segment, AllocError>
-        ensures { IfOk result (λ s. IsStart limit locks s) }
+    pub(crate) fn start(
+        alloc: Global,
+        locks: Locks,
+        names: LockNames,
+        limit: u64,
+    ) -> Result<Segment, AllocError>
+        ensures { IfOk result (λ s. IsStart limit names locks s) }
     {
         let Ok(left) = Vec::with_capacity(alloc, locks.count() as usize) else {
+            return Err(AllocError);
+        };
+        let Ok(names) = Rc::new(alloc, names) else {
             return Err(AllocError);
         };
         let remaining = after_start(limit, &locks);
         let short = has_short(&locks);
         Ok(Segment {
             locks,
+            names,
             left,
             remaining,
             short,
@@ -73,6 +91,13 @@ impl Segment {
         ensures { result.now ≡ self.now.locks }
     {
         &self.locks
+    }
+
+    /// The names of the locks.
+    pub(crate) fn names(&self) -> &LockNames
+        ensures { result.now ≡ self.now.names }
+    {
+        self.names.as_ref()
     }
 
     /// What the client that left last held.
@@ -90,18 +115,19 @@ impl Segment {
     }
 
     /// Asks one lock. Only this lock is looked at, and nothing changes if the asker is refused for lack of room or memory.
-    pub(crate) fn ask(&mut self, client: u64, lock: u32, ask: OneAsk) -> Answers
-        ensures answer { IsAnswerTo self.old.locks self.new.locks client lock (asked ask) result }
+    pub(crate) fn ask(&mut self, client: u64, lock: u32, ask: OneAsk) -> OneAnswer
+        ensures answer { IsAnswerTo self.old.locks self.new.locks client lock (asked ask)
+            result.answers }
+        ensures before { result.before ≡ events_at (slice_get self.old.locks lock) }
         ensures counted { IsCounted self.old self.new
-            (count_about lock self.old.locks self.new.locks result.ended) }
-        ensures lack { is_lack result.own ≡ true → self.new ≡ self.old }
+            (count_about lock self.old.locks self.new.locks result.answers.ended) }
+        ensures lack { is_lack result.answers.own ≡ true → self.new ≡ self.old }
     {
-        let place = events_at(&self.locks, lock);
-        let answers = ask_lock(&mut self.locks, client, lock, ask);
-        let remaining = after_end(self.remaining, answers.ended);
-        self.remaining = after_events(remaining, &self.locks, lock, place);
+        let done = self.locks.ask(client, lock, ask);
+        let remaining = after_end(self.remaining, done.answers.ended);
+        self.remaining = after_events(remaining, done.before, done.after);
         self.short = was_or_is(self.short, is_short_at(&self.locks, lock));
-        answers
+        done
     }
 
     /// A client leaves all locks. It takes no memory.
@@ -113,7 +139,8 @@ impl Segment {
         self.left.clear();
         self.locks.leave(client, &mut self.left);
         self.remaining = after_left(self.remaining, &self.locks, self.left.as_slice());
-        self.short = was_or_is(self.short, has_short(&self.locks));
+        let short = has_short_left(&self.locks, self.left.as_slice());
+        self.short = was_or_is(self.short, short);
     }
 
     /// The next segment, of the locks as they continue in the next segments of their rings.
@@ -123,6 +150,7 @@ impl Segment {
     /// `Full` where no segment has room, or a lock would be short in it; `Memory`.
     pub(crate) fn next(&self, alloc: Global, limit: u64) -> Result<Segment, Refusal>
         ensures locks { IfOk result (λ s. AreNext self.now.locks s.locks) }
+        ensures names { IfOk result (λ s. s.names ≡ self.now.names) }
         ensures remaining { IfOk result (λ s. s.remaining ≡ limit) }
         ensures short { IfOk result (λ s. s.short ≡ false) }
         ensures why { IfErr result (λ e. HaveNoSegment self.now.locks e) }
@@ -137,8 +165,12 @@ impl Segment {
         let Ok(left) = Vec::with_capacity(alloc, locks.count() as usize) else {
             return Err(Refusal::Memory);
         };
+        let Ok(names) = self.names.clone() else {
+            return Err(Refusal::Memory);
+        };
         Ok(Segment {
             locks,
+            names,
             left,
             remaining: limit,
             short: false,

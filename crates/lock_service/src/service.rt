@@ -1,24 +1,26 @@
 //! Locks that answer lines.
 
-ghost use Rattle.std.specs.Prelude.{◌≡◌, ◌⊎◌, ◌&&◌, List, ℕ, OnOk, OnErr, IfOk};
+ghost use Rattle.std.specs.Prelude.{◌≡◌, ◌⊎◌, ◌&&◌, List, ℕ, Some, OnOk, OnErr, IfOk};
 ghost use Rattle.text_lines.specs.Writing.{Writes};
 ghost use Rattle.journal.specs.Spelling.{journal_head};
 ghost use Rattle.held_locks.specs.declared.answers.Refusal.{Refusal};
+ghost use Rattle.held_locks.specs.Asked.{asked};
 ghost use Rattle.lock_protocol.specs.Asks.{seen};
-ghost use Rattle.lock_service.specs.Asking.{is_off, asked, is_lack};
+ghost use Rattle.lock_protocol.specs.Views.{input_of};
+ghost use Rattle.lock_service.specs.Asking.{one_ask, is_lack};
 ghost use Rattle.lock_service.specs.Segments.{content_of};
 ghost use Rattle.lock_service.specs.Counting.{IsStart};
 ghost use Rattle.lock_service.specs.Segmented.{limit_of, is_to_end};
-ghost use Rattle.lock_service.specs.Serving.{IsToldOf, IsToldOfLeave, IsAnsweredIf, denial_of, IsInputAnswered, AnswersInput, IsKept, Leaves, put, is_past, stage_after};
+ghost use Rattle.lock_service.specs.Serving.{IsTold, IsToldOf, IsToldOfLeave, denial_of, IsInputAnswered, AnswersInput, IsKept, Leaves, put, is_past, stage_after};
 ghost use Rattle.line_replica.specs.Replies.{IsAdded};
 
-use crate::asking::{OneAsk, is_lack, is_off, one_ask};
-use crate::noting::{events_at, note_if, note_left_if, tell, tell_left};
+use crate::asking::{is_lack, is_off, one_ask};
+use crate::noting::{note_if, note_left_if, tell, tell_left};
 use crate::segment::Segment;
 use crate::texts::put_beginning;
-use held_locks::{Answer, Locks, Refusal};
+use held_locks::{Answer, Locks, OneAsk, Refusal};
 use line_service::{EndFault, Pending};
-use lock_protocol::{Ask, Denial, Fault, Input, put_denial};
+use lock_protocol::{Ask, Denial, Fault, Input, LockNames, put_answer, put_denial};
 use std::alloc::{AllocError, Global};
 use std::io::Write;
 use text_lines::WriteFault;
@@ -115,18 +117,23 @@ fn answer_one(
         (λ said noted. IsToldOf terms.strict terms.noting client lock (asked ask) segment.old said
         noted segment.new) (segment.new ≡ segment.old) pending.old pending.new }
 {
-    let place = events_at(segment.locks(), lock);
-    let answers = segment.ask(client, lock, ask);
-    if is_stop(terms.strict, answers.own) {
+    let done = segment.ask(client, lock, ask);
+    if is_stop(terms.strict, done.answers.own) {
         return Err(Untold::Unanswered);
     }
-    match tell(&mut pending.answers, client, lock, answers) {
+    match tell(
+        &mut pending.answers,
+        segment.names(),
+        client,
+        lock,
+        done.answers,
+    ) {
         Ok(()) => put(note_if(
             terms.noting,
             segment.locks(),
             lock,
-            answers.ended,
-            place,
+            done.answers.ended,
+            done.before,
             &mut pending.notes,
         )),
         Err(_) => Err(Untold::Answered),
@@ -146,29 +153,49 @@ fn leave(
         × OnOk result (IsAdded pending.old pending.new said noted) }
 {
     segment.leave(client);
-    match tell_left(&mut pending.answers, segment.left()) {
+    match tell_left(&mut pending.answers, segment.names(), segment.left()) {
         Ok(()) => note_left_if(noting, segment.locks(), segment.left(), &mut pending.notes),
         Err(error) => Err(error),
     }
 }
 
-/// Answers what a client asks.
+/// Asks the lock of a name, if there is one, and adds the lines of the answers.
+fn answer_named(
+    segment: &mut Segment,
+    terms: Terms,
+    client: u64,
+    name: &[u8],
+    ask: OneAsk,
+    pending: &mut Pending,
+) -> Result<(), Untold>
+    ensures { Leaves result
+        (λ said noted. IsTold terms.strict terms.noting client (Some (name.now, asked ask))
+        segment.old said noted segment.new) (segment.new ≡ segment.old) pending.old pending.new }
+{
+    let found = segment.names().find(name);
+    match found {
+        Some(lock) => answer_one(segment, terms, client, lock, ask, pending),
+        None => {
+            let answer = Answer::Refused(Refusal::Lock);
+            put(put_answer(&mut pending.answers, client, name, answer))
+        }
+    }
+}
+
+/// Answers an ask of a lock, or leaves all.
 fn answer_ask(
     segment: &mut Segment,
     terms: Terms,
     client: u64,
-    ask: Ask,
+    ask: Ask<'_>,
     pending: &mut Pending,
 ) -> Result<(), Untold>
     ensures { Leaves result
-        (λ said noted. IsAnsweredIf (is_off terms.faults (seen ask)) terms client (seen ask)
+        (λ said noted. IsTold terms.strict terms.noting client (one_ask (seen ask.entry))
         segment.old said noted segment.new) (segment.new ≡ segment.old) pending.old pending.new }
 {
-    if is_off(terms.faults, ask) {
-        return put(put_denial(&mut pending.answers, client, Denial::Off));
-    }
     match one_ask(ask) {
-        Some((lock, ask)) => answer_one(segment, terms, client, lock, ask, pending),
+        Some((name, ask)) => answer_named(segment, terms, client, name, ask, pending),
         None => put(leave(segment, terms.noting, client, pending)),
     }
 }
@@ -187,15 +214,20 @@ fn denial_of(why: Fault) -> Denial
 fn answer_input(
     segment: &mut Segment,
     terms: Terms,
-    input: Input,
+    input: Input<'_>,
     pending: &mut Pending,
 ) -> Result<(), Untold>
     ensures { Leaves result
-        (λ said noted. IsInputAnswered terms input segment.old said noted segment.new)
-        (segment.new ≡ segment.old) pending.old pending.new }
+        (λ said noted. IsInputAnswered terms (input_of input.entry) segment.old said noted
+        segment.new) (segment.new ≡ segment.old) pending.old pending.new }
 {
     match input {
-        Input::Asked { client, ask } => answer_ask(segment, terms, client, ask, pending),
+        Input::Asked { client, ask } => {
+            if is_off(terms.faults, ask) {
+                return put(put_denial(&mut pending.answers, client, Denial::Off));
+            }
+            answer_ask(segment, terms, client, ask, pending)
+        }
         Input::Refused { client, why } => {
             put(put_denial(&mut pending.answers, client, denial_of(why)))
         }
@@ -249,17 +281,17 @@ fn see(service: &mut LockService)
 /// Answers what was read of a line, and sees whether the segment is due.
 pub(crate) fn answer(
     service: &mut LockService,
-    input: Input,
+    input: Input<'_>,
     pending: &mut Pending,
 ) -> Result<(), AllocError>
     ensures ok { OnOk result ((said : List ℕ)
         × (noted : List ℕ)
-        × AnswersInput service.old input said noted service.new
+        × AnswersInput service.old (input_of input.entry) said noted service.new
         × IsAdded pending.old pending.new said noted) }
     ensures err { OnErr result ((service.new ≡ service.old)
         ⊎ ((said : List ℕ)
         × (noted : List ℕ)
-        × AnswersInput service.old input said noted service.new)) }
+        × AnswersInput service.old (input_of input.entry) said noted service.new)) }
 {
     let terms = service.terms;
     if is_stopped(terms.strict, service.stage) {
@@ -286,18 +318,23 @@ pub(crate) fn are_kept(service: &LockService)
 }
 
 impl LockService {
-    /// Locks that answer lines, with the segment with which they start.
+    /// Locks of these names that answer lines, with the segment with which they start.
     ///
     /// # Errors
     ///
     /// Only if memory is short. The locks are let go then.
-    pub fn new(alloc: Global, locks: Locks, terms: Terms) -> Result<LockService, AllocError>
-        ensures start { IfOk result (λ s. IsStart (limit_of terms.limit) locks s.segment) }
+    pub fn new(
+        alloc: Global,
+        locks: Locks,
+        names: LockNames,
+        terms: Terms,
+    ) -> Result<LockService, AllocError>
+        ensures start { IfOk result (λ s. IsStart (limit_of terms.limit) names locks s.segment) }
         ensures terms { IfOk result (λ s. s.terms ≡ terms) }
         ensures stage { IfOk result (λ s. s.stage
             ≡ stage_after Stage.Open (is_past terms s.segment)) }
     {
-        let Ok(segment) = Segment::start(alloc, locks, limit_of(terms.limit)) else {
+        let Ok(segment) = Segment::start(alloc, locks, names, limit_of(terms.limit)) else {
             return Err(AllocError);
         };
         let stage = stage_after(Stage::Open, is_past(terms, &segment));
@@ -313,6 +350,13 @@ impl LockService {
         ensures { result.now ≡ self.now.segment.locks }
     {
         self.segment.locks()
+    }
+
+    /// The names of the locks.
+    pub fn names(&self) -> &LockNames
+        ensures { result.now ≡ self.now.segment.names }
+    {
+        self.segment.names()
     }
 
     /// Writes the beginning of a journal of the locks as they start.

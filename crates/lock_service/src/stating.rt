@@ -8,12 +8,13 @@ ghost use Rattle.lock_service.specs.State.{hold_line, hold_lines, wait_line, wai
 use crate::service::LockService;
 use held_locks::{Holder, Locks, Waiter};
 use line_replica::HasState;
+use lock_protocol::LockNames;
 use std::alloc::AllocError;
 use text_lines::{Line, put_word};
 
 /// Adds the line of a hold.
-fn put_hold(lock: u32, holder: Holder, text: &mut Vec<u8>) -> Result<(), AllocError>
-    ensures { OnOk result (text.new.items ≡ text.old.items ++ hold_line lock holder) }
+fn put_hold(name: &[u8], holder: Holder, text: &mut Vec<u8>) -> Result<(), AllocError>
+    ensures { OnOk result (text.new.items ≡ text.old.items ++ hold_line name.now holder) }
 {
     let mut line = Line::new();
     line.byte(b'\n');
@@ -21,21 +22,21 @@ fn put_hold(lock: u32, holder: Holder, text: &mut Vec<u8>) -> Result<(), AllocEr
     line.byte(b' ');
     line.number(holder.token);
     line.byte(b' ');
-    line.number(lock as u64);
-    put_word(&mut line, b"hold ");
+    text.extend_from_slice(b"hold ")?;
+    text.extend_from_slice(name)?;
     text.extend_from_slice(line.as_bytes())
 }
 
 /// Adds the line of a hold, if there is one, and says how many lines that is.
-fn put_hold_if(lock: u32, holder: Option<Holder>, text: &mut Vec<u8>) -> Result<u64, AllocError>
+fn put_hold_if(name: &[u8], holder: Option<Holder>, text: &mut Vec<u8>) -> Result<u64, AllocError>
     ensures lines { OnOk result (text.new.items
-        ≡ text.old.items ++ joined_lines (hold_lines lock holder)) }
-    ensures count { IfOk result (λ n. n ≡ length (hold_lines lock holder)) }
+        ≡ text.old.items ++ joined_lines (hold_lines name.now holder)) }
+    ensures count { IfOk result (λ n. n ≡ length (hold_lines name.now holder)) }
     ensures few { IfOk result (λ n. n ≤ 1) }
 {
     match holder {
         None => Ok(0),
-        Some(holder) => match put_hold(lock, holder, text) {
+        Some(holder) => match put_hold(name, holder, text) {
             Ok(()) => Ok(1),
             Err(AllocError) => Err(AllocError),
         },
@@ -43,16 +44,16 @@ fn put_hold_if(lock: u32, holder: Option<Holder>, text: &mut Vec<u8>) -> Result<
 }
 
 /// Adds the lines of all holds, lock by lock, and says how many they are.
-fn put_holds(locks: &Locks, text: &mut Vec<u8>) -> Result<u64, AllocError>
+fn put_holds(names: &LockNames, locks: &Locks, text: &mut Vec<u8>) -> Result<u64, AllocError>
     ensures lines { OnOk result (text.new.items
-        ≡ text.old.items ++ joined_lines (holds_from 0 locks.now)) }
-    ensures count { IfOk result (λ n. n ≡ length (holds_from 0 locks.now)) }
+        ≡ text.old.items ++ joined_lines (holds_from names.now 0 locks.now)) }
+    ensures count { IfOk result (λ n. n ≡ length (holds_from names.now 0 locks.now)) }
     ensures few { IfOk result (λ n. n < 2 ^ 63) }
 {
     let locks_count = locks.count();
     let mut count: u64 = 0;
     for lock in 0..locks_count {
-        match put_hold_if(lock, locks.holder(lock), text) {
+        match put_hold_if(names.name(lock), locks.holder(lock), text) {
             Ok(more) => count += more,
             Err(AllocError) => return Err(AllocError),
         }
@@ -61,29 +62,31 @@ fn put_holds(locks: &Locks, text: &mut Vec<u8>) -> Result<u64, AllocError>
 }
 
 /// Adds the line of a client that waits.
-fn put_waiter(lock: u32, waiter: Waiter, text: &mut Vec<u8>) -> Result<(), AllocError>
-    ensures { OnOk result (text.new.items ≡ text.old.items ++ wait_line lock waiter) }
+fn put_waiter(name: &[u8], waiter: Waiter, text: &mut Vec<u8>) -> Result<(), AllocError>
+    ensures { OnOk result (text.new.items ≡ text.old.items ++ wait_line name.now waiter) }
 {
-    let mut line = Line::new();
-    line.byte(b'\n');
-    line.number(waiter.label);
-    line.byte(b' ');
-    line.number(lock as u64);
-    put_word(&mut line, b"acquire ");
-    line.byte(b' ');
-    line.number(waiter.client);
-    text.extend_from_slice(line.as_bytes())
+    let mut front = Line::new();
+    put_word(&mut front, b" acquire ");
+    front.number(waiter.client);
+    let mut end = Line::new();
+    end.byte(b'\n');
+    end.number(waiter.label);
+    end.byte(b' ');
+    text.extend_from_slice(front.as_bytes())?;
+    text.extend_from_slice(name)?;
+    text.extend_from_slice(end.as_bytes())
 }
 
-/// Adds the lines of those who wait for a lock, in their order.
-fn put_line(locks: &Locks, lock: u32, text: &mut Vec<u8>) -> Result<(), AllocError>
+/// Adds the lines of those who wait for a lock of this name, in their order.
+fn put_line(locks: &Locks, name: &[u8], lock: u32, text: &mut Vec<u8>) -> Result<(), AllocError>
     requires { lock < length locks.now }
     ensures { (v : LockView) → slice_get locks.now lock ≡ Some v
-        → OnOk result (text.new.items ≡ text.old.items ++ joined_lines (wait_lines lock v.queue)) }
+        → OnOk result (text.new.items
+        ≡ text.old.items ++ joined_lines (wait_lines name.now v.queue)) }
 {
     let waiting = locks.waiters(lock);
     for place in 0..waiting {
-        match put_waiter(lock, locks.waiter(lock, place), text) {
+        match put_waiter(name, locks.waiter(lock, place), text) {
             Ok(()) => {}
             Err(AllocError) => return Err(AllocError),
         }
@@ -104,33 +107,45 @@ fn sum_of(count: u64, more: usize) -> Result<u64, AllocError>
 }
 
 /// Adds the lines of those who wait for a lock, after `count` lines, and says how many there are with these.
-fn put_counted(locks: &Locks, lock: u32, count: u64, text: &mut Vec<u8>) -> Result<u64, AllocError>
+fn put_counted(
+    locks: &Locks,
+    name: &[u8],
+    lock: u32,
+    count: u64,
+    text: &mut Vec<u8>,
+) -> Result<u64, AllocError>
     requires lock { lock < length locks.now }
     requires count { count < 2 ^ 63 }
     ensures lines { (v : LockView) → slice_get locks.now lock ≡ Some v
-        → OnOk result (text.new.items ≡ text.old.items ++ joined_lines (wait_lines lock v.queue)) }
+        → OnOk result (text.new.items
+        ≡ text.old.items ++ joined_lines (wait_lines name.now v.queue)) }
     ensures count { (v : LockView) → slice_get locks.now lock ≡ Some v
-        → IfOk result (λ n. n ≡ count + length (wait_lines lock v.queue)) }
+        → IfOk result (λ n. n ≡ count + length (wait_lines name.now v.queue)) }
     ensures few { IfOk result (λ n. n < 2 ^ 63) }
 {
-    match put_line(locks, lock, text) {
+    match put_line(locks, name, lock, text) {
         Ok(()) => sum_of(count, locks.waiters(lock)),
         Err(AllocError) => Err(AllocError),
     }
 }
 
 /// Adds the lines of those who wait, lock by lock, after `before` lines, and says how many there are with these.
-fn put_waits(locks: &Locks, before: u64, text: &mut Vec<u8>) -> Result<u64, AllocError>
+fn put_waits(
+    names: &LockNames,
+    locks: &Locks,
+    before: u64,
+    text: &mut Vec<u8>,
+) -> Result<u64, AllocError>
     requires { before < 2 ^ 63 }
     ensures lines { OnOk result (text.new.items
-        ≡ text.old.items ++ joined_lines (waits_from 0 locks.now)) }
-    ensures count { IfOk result (λ n. n ≡ before + length (waits_from 0 locks.now)) }
+        ≡ text.old.items ++ joined_lines (waits_from names.now 0 locks.now)) }
+    ensures count { IfOk result (λ n. n ≡ before + length (waits_from names.now 0 locks.now)) }
     ensures few { IfOk result (λ n. n < 2 ^ 63) }
 {
     let locks_count = locks.count();
     let mut count = before;
     for lock in 0..locks_count {
-        match put_counted(locks, lock, count, text) {
+        match put_counted(locks, names.name(lock), lock, count, text) {
             Ok(with) => count = with,
             Err(AllocError) => return Err(AllocError),
         }
@@ -139,14 +154,14 @@ fn put_waits(locks: &Locks, before: u64, text: &mut Vec<u8>) -> Result<u64, Allo
 }
 
 /// Adds the lines that bring the locks back.
-fn put_locks(locks: &Locks, text: &mut Vec<u8>) -> Result<u64, AllocError>
+fn put_locks(names: &LockNames, locks: &Locks, text: &mut Vec<u8>) -> Result<u64, AllocError>
     ensures lines { OnOk result (text.new.items
-        ≡ text.old.items ++ joined_lines (lines_of locks.now)) }
-    ensures count { IfOk result (λ n. n ≡ length (lines_of locks.now)) }
+        ≡ text.old.items ++ joined_lines (lines_of names.now locks.now)) }
+    ensures count { IfOk result (λ n. n ≡ length (lines_of names.now locks.now)) }
     ensures few { IfOk result (λ n. n < 2 ^ 63) }
 {
-    match put_holds(locks, text) {
-        Ok(holds) => put_waits(locks, holds, text),
+    match put_holds(names, locks, text) {
+        Ok(holds) => put_waits(names, locks, holds, text),
         Err(AllocError) => Err(AllocError),
     }
 }
@@ -157,6 +172,6 @@ impl HasState for LockService {
     ghost state_lines = { state_lines };
 
     fn put_state(&self, text: &mut Vec<u8>) -> Result<u64, AllocError> {
-        put_locks(self.segment.locks(), text)
+        put_locks(self.segment.names(), self.segment.locks(), text)
     }
 }

@@ -1,5 +1,5 @@
 //! A ring with its clients, called by numbers.
-ghost use Rattle.std.specs.Prelude.{◌≡◌, ◌<◌, ◌≤◌, ◌+◌, ◌↔◌, ◌∷◌, [], length, drop, slice_index_or, IsTrue, IsOk, IfOk, IfErr, OnOk, OnErr};
+ghost use Rattle.std.specs.Prelude.{◌≡◌, ◌<◌, ◌≤◌, ◌+◌, ◌↔◌, ◌∷◌, [], length, drop, slice_index_or, true, IsTrue, IsOk, IfOk, IfErr, OnOk, OnErr};
 ghost use Rattle.ring_model.specs.History.{opening};
 ghost use Rattle.ring_model.specs.HistoryLaws.{Settlement};
 ghost use Rattle.ring_model.specs.Limits.{seat_limit};
@@ -311,6 +311,23 @@ impl<R: Resource + Drop> OneThreadRing<R> {
         }
         let receipt = self.book.pass(seat, machine, order)?;
         Ok(receipt)
+    }
+
+    /// A pass by a machine that is privileged, for a seat that there is, where there is room for an event: it is not refused.
+    #[inline(always)]
+    pub fn grant(&mut self, seat: u32, machine: u32, order: u64) -> Receipt
+        requires seat { seat < length self.old.clients }
+        requires machine { machine < length self.old.book.now.ring.values }
+        requires privileged { is_privileged self.old.book.now.ring.values machine ≡ true }
+        requires room { 1 ≤ self.old.book.room }
+        ensures recorded { IsRecorded R.works self.old.book self.new.book seat
+            (op.Pass machine order) result }
+        ensures told { self.new.clients
+            ≡ told_more self.old.clients seat (Entry.Receipt result ∷ []) }
+        ensures ring { IsOneThreadRing R.works R.first self.new }
+        ensures room { self.old.book.room ≤ self.new.book.room + 1 }
+    {
+        self.book.grant(seat, machine, order)
     }
 
     /// A pass by a machine, for a seat, if the machine is privileged. If it is not, there is no receipt: nothing is recorded or

@@ -38,7 +38,7 @@ keeps_answers {terms} {old} {new} {was} {is} {before} {after} s noting all begun
     let all_notes : kept ++ (lost ++ s.back) ≡ head ++ (s.noted ++ (s.front ++ s.back)) =
     sym (append_assoc kept lost s.back)
     ∙ (ap (λ (u : List ℕ). u ++ s.back) whole ∙ (append_assoc head (s.noted ++ s.front) s.back ∙ ap (λ (u : List ℕ). head ++ u) (append_assoc s.noted s.front s.back))) in
-    answers_are_recovered terms old s.mid new was s.between is s.told.lines s.untold.lines s.said s.noted s.unsaid (s.front ++ s.back) kept (lost ++ s.back) (noting head begun.0) all begun.1 s.told.answers s.untold.answers all_notes front
+    answers_are_recovered terms old s.mid.service new was s.mid.files is s.told.lines s.untold.lines s.said s.noted s.unsaid (s.front ++ s.back) kept (lost ++ s.back) (noting head begun.0) all begun.1 s.told.answers s.untold.answers all_notes front
 
 pub some_recovered : {terms : Terms} {old new : List Standing} {was is : Option Held} {unread rest : Option (List ℕ)} {before after : Written} → ServesSome terms old new was is unread rest before after → ((xs : List ℕ) → before.journal ≡ Some xs → is_some terms.journal ≡ true) →
     AllByRecursion IsRight old → AnsweredCallsAreRecovered terms old new was is unread rest before after

@@ -2,6 +2,7 @@
 use Rattle.std.proofs.Common.{◌≡◌, ℕ, Bool, true, false, ◌&&◌, List, [], ◌∷◌, ◌++◌, Option, None, sym, ap, subst, ◌∙◌, cond}
 use Rattle.std.specs.Prelude.{◌||◌, is_some}
 use Rattle.disks.specs.Held.{Held}
+use Rattle.line_service.specs.Stands.{Stand}
 use Rattle.ring_service.specs.Answers.{answer_line}
 use Rattle.ring_service.specs.Notes.{notes_of}
 use Rattle.ring_service.specs.declared.answers.Answer.{Answer}
@@ -51,12 +52,13 @@ line_alike terms old new other before after was is line said noted told kept str
     }
 
 pub equal_lines : EqualLinesGiveEqualAnswers
-equal_lines terms rings new other before after was is [] said noted told kept strict saves a b = (b.0 ∙ sym a.0, b.1 ∙ sym a.1, b.2 ∙ sym a.2)
+equal_lines terms rings new other before after was is [] said noted told kept strict saves a b = (b.0 ∙ sym a.0, b.1 ∙ sym a.1, ap (λ (x : Stand (List Standing)). x.service) b.2 ∙ sym (ap (λ (x : Stand (List Standing)). x.service) a.2))
 equal_lines terms rings new other before after was is (line ∷ lines) said noted told kept strict saves a b =
-    let r = line_alike terms rings a.0 b.0 before a.1 was b.1 line a.2 a.4 b.2 b.4 strict saves a.6 b.6 in
-    let there = subst (λ (x : List Standing). Answers terms x b.1 lines b.3 b.5 other is) r.equal b.9 in
-    let more = equal_lines terms a.0 new other a.1 after b.1 is lines a.3 a.5 b.3 b.5 strict saves a.9 there in (
-      b.7 ∙ ap (λ (x : List ℕ). x ++ b.3) r.said_is ∙ ap (λ (x : List ℕ). a.2 ++ x) more.0 ∙ sym a.7,
-      b.8 ∙ ap (λ (x : List ℕ). x ++ b.5) r.noted_is ∙ ap (λ (x : List ℕ). a.4 ++ x) more.1 ∙ sym a.8,
+    let mid : List Standing = a.0.service in
+    let r = line_alike terms rings mid b.0.service before a.0.files was b.0.files line a.1 a.3 b.1 b.3 strict saves a.5 b.5 in
+    let there = subst (λ (x : List Standing). Answers terms x b.0.files lines b.2 b.4 other is) r.equal b.8 in
+    let more = equal_lines terms mid new other a.0.files after b.0.files is lines a.2 a.4 b.2 b.4 strict saves a.8 there in (
+      b.6 ∙ ap (λ (x : List ℕ). x ++ b.2) r.said_is ∙ ap (λ (x : List ℕ). a.1 ++ x) more.0 ∙ sym a.6,
+      b.7 ∙ ap (λ (x : List ℕ). x ++ b.4) r.noted_is ∙ ap (λ (x : List ℕ). a.3 ++ x) more.1 ∙ sym a.7,
       more.2,
     )

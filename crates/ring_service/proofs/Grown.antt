@@ -3,6 +3,7 @@ use Rattle.std.proofs.Common.{◌≡◌, ℕ, zero, suc, Bool, true, false, if�
 use Rattle.std.proofs.lemmas.Bool.{cases_eq, cases_lt}
 use Rattle.std.proofs.lemmas.List.{append-nil, set_past}
 use Rattle.disks.specs.Held.{Held}
+use Rattle.line_service.specs.Stands.{Stand}
 use Rattle.ring_model.specs.Ring.{is_privileged}
 use Rattle.ring_model.specs.Resources.{till}
 use Rattle.ring_model.specs.History.{reply}
@@ -325,23 +326,27 @@ pub answered_grown : (terms : Terms) (old new : List Standing) (was is : Option 
 answered_grown terms old new was is line said noted a = subst (λ (x : List Standing). HaveGrown old x) a.leaves (went_grown old a.turn (answered_outcome terms old new was is line said noted a))
 
 pub answers_grown : (terms : Terms) (old new : List Standing) (was is : Option Held) (lines : List (List ℕ)) (said noted : List ℕ) → Answers terms old was lines said noted new is → HaveGrown old new
-answers_grown terms old new was is [] said noted h = subst (λ (x : List Standing). HaveGrown old x) (sym h.2) (have_same old)
+answers_grown terms old new was is [] said noted h = subst (λ (x : Stand (List Standing)). HaveGrown old x.service) (sym h.2) (have_same old)
 answers_grown terms old new was is (line ∷ lines) said noted h =
-    have_then old h.0 new (answered_grown terms old h.0 was h.1 line h.2 h.4 h.6) (answers_grown terms h.0 new h.1 is lines h.3 h.5 h.9)
+    let mid : List Standing = h.0.service in
+    let between : Option Held = h.0.files in
+    have_then old mid new (answered_grown terms old mid was between line h.1 h.3 h.5) (answers_grown terms mid new between is lines h.2 h.4 h.8)
 
 pub calls_in : (terms : Terms) (old mid rings : List Standing) (was is : Option Held) (lines : List (List ℕ)) (said noted : List ℕ) → Answers terms old was lines said noted mid is → HaveGrown mid rings → AreCallsIn terms old was lines said rings
 calls_in terms old mid rings was is [] said noted h g = h.0
 calls_in terms old mid rings was is (line ∷ lines) said noted h g =
-    let one = h.6 in
-    let on : HaveGrown h.0 rings = have_then h.0 mid rings (answers_grown terms h.0 mid h.1 is lines h.3 h.5 h.9) g in
+    let now : List Standing = h.0.service in
+    let between : Option Held = h.0.files in
+    let one : IsAnswered terms old was line h.1 h.3 now between = h.5 in
+    let on : HaveGrown now rings = have_then now mid rings (answers_grown terms now mid between is lines h.2 h.4 h.8) g in
     let left : HaveGrown one.turn.leaves rings = subst (λ (x : List Standing). HaveGrown x rings) (sym one.leaves) on in (
-      h.0,
+      now,
+      between,
       h.1,
       h.2,
       h.3,
-      h.4,
       one,
-      h.7,
-      call_in old rings one.turn one.given (answered_outcome terms old h.0 was h.1 line h.2 h.4 one) left (given_of terms.journal terms.history terms.saves was h.1 (name_in line) h.0 one.turn.answer one.given one.gives),
-      calls_in terms h.0 mid rings h.1 is lines h.3 h.5 h.9 g,
+      h.6,
+      call_in old rings one.turn one.given (answered_outcome terms old now was between line h.1 h.3 one) left (given_of terms.journal terms.history terms.saves was between (name_in line) now one.turn.answer one.given one.gives),
+      calls_in terms now mid rings between is lines h.2 h.4 h.8 g,
     )

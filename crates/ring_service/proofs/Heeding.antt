@@ -3,6 +3,7 @@ use Rattle.std.proofs.Common.{◌≡◌, ℕ, ◌+◌, Bool, true, false, not, �
 use Rattle.std.specs.Prelude.{◌⊎◌, ◌==◌, nat_le, nat_lt, if◌then◌else◌, is_some, OnOk, OnErr, slice_get}
 use Rattle.std.proofs.lemmas.Bool.{false≢true}
 use Rattle.line_service.specs.declared.pending.Pending.{Pending}
+use Rattle.line_service.specs.Stands.{IsAdded}
 use Rattle.ring_model.specs.Ring.{is_privileged}
 use Rattle.ring_model.specs.History.{reply}
 use Rattle.ring_model.specs.Resources.{till}
@@ -142,8 +143,8 @@ made_by (Ok u) same IsSo old new said noted so h = (said, noted, so, h.0, h.1)
 made_by (Err e) same IsSo old new said noted so h = inr (said, noted, so)
 
 pub made_ok : {E : Type 0} (r : Result (Unit {0}) E) (same : Type 0) (IsSo WillBe : List ℕ → List ℕ → Type 0) (old new : Pending) → ((said noted : List ℕ) → IsSo said noted → WillBe said noted) → IsMade r same IsSo old new →
-    OnOk r ((said : List ℕ) × (noted : List ℕ) × WillBe said noted × (new.answers.items ≡ old.answers.items ++ said) × (new.notes.items ≡ old.notes.items ++ noted))
-made_ok (Ok u) same IsSo WillBe old new f m = (m.0, m.1, f m.0 m.1 m.2, m.3, m.4)
+    OnOk r ((said : List ℕ) × (noted : List ℕ) × WillBe said noted × IsAdded old new said noted)
+made_ok (Ok u) same IsSo WillBe old new f m = (m.0, m.1, f m.0 m.1 m.2, (m.3, m.4))
 made_ok (Err e) same IsSo WillBe old new f m = tt
 
 pub made_err : {E : Type 0} (r : Result (Unit {0}) E) (same still : Type 0) (IsSo WillBe : List ℕ → List ℕ → Type 0) (old new : Pending) → (same → still) → ((said noted : List ℕ) → IsSo said noted → WillBe said noted) → IsMade r same IsSo old new →

@@ -1,8 +1,8 @@
--- What is known of a service of rings in segments.
-use Rattle.std.proofs.Common.{◌≡◌, ℕ, ◌+◌, ◌≤◌, ◌^◌, ◌⊎◌, Bool, true, false, ◌&&◌, List, Option, None, Some, refl, sym, ap, subst, ◌∙◌, inl, inr}
+-- What is known of a service of rings.
+use Rattle.std.proofs.Common.{◌≡◌, ℕ, ◌+◌, ◌≤◌, ◌^◌, ◌⊎◌, Bool, true, false, not, ◌&&◌, List, Option, None, Some, refl, sym, ap, subst, ◌∙◌, inl, inr}
 use Rattle.std.specs.List.{AllByRecursion}
 use Rattle.std.proofs.lemmas.Bool.{false≢true}
-use Rattle.std.specs.Prelude.{IsSome}
+use Rattle.std.specs.Prelude.{IsSome, is_some}
 use Rattle.sha2.specs.declared.Sha256.{Sha256}
 use Rattle.disks.specs.Held.{Held}
 use Rattle.line_service.specs.Loop.{AllLasts}
@@ -16,12 +16,14 @@ use Rattle.ring_service.specs.Standings.{Standing}
 use Rattle.ring_service.specs.Saved.{IsRight}
 use Rattle.ring_service.specs.Segments.{AreNext, IsFull}
 use Rattle.ring_service.specs.Due.{is_due}
-use Rattle.ring_service.specs.Permits.{Terms, terms_in, IsOpen, is_shut, IsTied}
+use Rattle.ring_service.specs.Permits.{terms_by, IsOpen, is_shut, IsTied}
 use Rattle.ring_service.specs.Serving.{IsAnswered}
 use Rattle.ring_service.proofs.Shutting.{tied_open}
 use Rattle.ring_service.specs.declared.chain_segments.ChainRules.{ChainRules}
+use Rattle.ring_service.specs.declared.rules.Rules.{Rules}
 use Rattle.ring_service.specs.Texts.{segment_text}
-use Rattle.ring_service.specs.ChainServices.{file_of, part_terms, ServiceView, service_of, is_over, IsKnown, IsServed, IsNext, HasNoNext, refusal_of, segmenting}
+use Rattle.ring_service.specs.Rules.{file_of, next_rules, HasNoNumber, IsLimit}
+use Rattle.ring_service.specs.Services.{ServiceView, service_by, is_over, may_save, IsKnown, IsServed, IsNext, HasNoNext, with_refusal, refusal_of, segmenting}
 use Rattle.ring_service.proofs.Fresh.{next_goes}
 
 and_true : (b : Bool) → (b && true) ≡ b
@@ -32,87 +34,92 @@ and_false : (b : Bool) → (b && false) ≡ false
 and_false true = refl
 and_false false = refl
 
--- the service with which a segment begins
-pub known_first : (s : ChainRules) (rings : List Standing) (number : ℕ) (name : List ℕ) (shut : Bool) → 1 ≤ s.limit → name ≡ file_of s number → shut ≡ is_due (Some s.limit) rings → IsKnown s rings number None name shut
-known_first s rings number name shut limit named e = record {
+-- where no line is refused it is shut just if the segment is due
+shut_due : (rules : Rules) (rings : List Standing) → rules.refusing ≡ None → is_shut (terms_by rules) rings ≡ is_due rules.limit rings
+shut_due rules rings none = ap (λ (r : Option Refusal). is_due rules.limit rings && not (is_some r)) none ∙ and_true (is_due rules.limit rings)
+
+-- the service with which lines begin
+pub known_first : (rules : Rules) (rings : List Standing) (shut : Bool) → IsLimit rules.limit → rules.refusing ≡ None → shut ≡ is_due rules.limit rings → IsKnown rules rings shut
+known_first rules rings shut limit none e = record {
   limit = limit;
-  named = named;
-  tied = (e ∙ sym (and_true (is_due (Some s.limit) rings)), λ off. absurd (false≢true off));
+  tied = (
+    e ∙ sym (shut_due rules rings none),
+    λ off. absurd (false≢true (sym (ap (λ (r : Option Refusal). is_some r) none) ∙ off)),
+  );
 }
 
 -- and one that is kept on
-pub known_kept : (s : ChainRules) (rings : List Standing) (number : ℕ) (why : Refusal) (before : Option Refusal) (name : List ℕ) (shut : Bool) → IsKnown s rings number before name shut → is_due (Some s.limit) rings ≡ true → IsKnown s rings number (Some why) name false
-known_kept s rings number why before name shut k due = record {
+pub known_kept : (rules : Rules) (rings : List Standing) (why : Refusal) (shut : Bool) → IsKnown rules rings shut → is_due rules.limit rings ≡ true → IsKnown (record rules { refusing = Some why }) rings false
+known_kept rules rings why shut k due = record {
   limit = k.limit;
-  named = k.named;
-  tied = (sym (and_false (is_due (Some s.limit) rings)), λ _. due);
+  tied = (sym (and_false (is_due rules.limit rings)), λ _. due);
 }
 
 -- ---- a line
 
-pub terms_known : (s : ChainRules) (number : ℕ) (refusing : Option Refusal) (name file : List ℕ) (t : Terms) → t ≡ terms_in (Some name) s.permits (Some (record { limit = s.limit; refusing = refusing })) → name ≡ file → file ≡ file_of s number → t ≡ part_terms s number refusing
-terms_known s number refusing name file t e p q = e ∙ ap (λ (n : List ℕ). terms_in (Some n) s.permits (Some (record { limit = s.limit; refusing = refusing }))) (p ∙ q)
+pub open_known : (rules : Rules) (rings : List Standing) (shut : Bool) (v : ServiceView) → IsKnown rules rings shut → service_by rules rings ≡ v → is_over v ≡ false → IsOpen (terms_by rules) rings
+open_known rules rings shut v k is_v not_over =
+    tied_open (terms_by rules) rings shut k.tied (subst (λ (x : ServiceView). is_over x ≡ false) (sym is_v) not_over)
 
-pub open_known : (s : ChainRules) (rings : List Standing) (number : ℕ) (refusing : Option Refusal) (name : List ℕ) (shut : Bool) (t : Terms) (v : ServiceView) → IsKnown s rings number refusing name shut → t ≡ part_terms s number refusing → service_of s rings number refusing ≡ v → is_over v ≡ false → IsOpen t rings
-open_known s rings number refusing name shut t v k e is_v not_over =
-    let shut_not : is_shut (part_terms s number refusing) rings ≡ false = subst (λ (x : ServiceView). is_over x ≡ false) (sym is_v) not_over in
-    subst (λ (x : Terms). IsOpen x rings) (sym e) (tied_open (part_terms s number refusing) rings shut k.tied shut_not)
-
-pub known_after : (s : ChainRules) (old new : List Standing) (number : ℕ) (refusing : Option Refusal) (name : List ℕ) (shut after : Bool) (t : Terms) → IsKnown s old number refusing name shut → t ≡ part_terms s number refusing → IsTied t new after → IsKnown s new number refusing name after
-known_after s old new number refusing name shut after t k e tied = record { limit = k.limit; named = k.named; tied = subst (λ (x : Terms). IsTied x new after) e tied }
-
-pub served_known : (s : ChainRules) (old new : List Standing) (number : ℕ) (refusing : Option Refusal) (after : Bool) (t : Terms) (v : ServiceView) (was is : Option Held) (line said noted : List ℕ) → t ≡ part_terms s number refusing → service_of s old number refusing ≡ v →
-    IsAnswered t old was line said noted new is → IsTied t new after → AllByRecursion IsRight new → IsServed v was line said noted (service_of s new number refusing) is
-served_known s old new number refusing after t v was is line said noted e is_v a tied right =
-    let known = subst (λ (x : Terms). IsTied x new after) e tied in
-    let one : IsServed (service_of s old number refusing) was line said noted (service_of s new number refusing) is = record {
-      answered = subst (λ (x : Terms). IsAnswered x old was line said noted new is) e a;
+pub served_known : (rules : Rules) (old new : List Standing) (after : Bool) (v : ServiceView) (was is : Option Held) (line said noted : List ℕ) → service_by rules old ≡ v → IsAnswered (terms_by rules) old was line said noted new is → IsTied (terms_by rules) new after → AllByRecursion IsRight new →
+    IsServed v was line said noted (service_by rules new) is
+served_known rules old new after v was is line said noted is_v a tied right =
+    let one : IsServed (service_by rules old) was line said noted (service_by rules new) is = record {
+      answered = a;
       rules = refl;
-      number = refl;
-      refusing = refl;
-      due = known.1;
+      due = tied.1;
       right = right;
     } in
-    subst (λ (x : ServiceView). IsServed x was line said noted (service_of s new number refusing) is) is_v one
+    subst (λ (x : ServiceView). IsServed x was line said noted (service_by rules new) is) is_v one
 
 -- ---- the end of a segment
 
-pub due_known : (s : ChainRules) (rings : List Standing) (number : ℕ) (refusing : Option Refusal) (v : ServiceView) → service_of s rings number refusing ≡ v → is_due (Some v.rules.limit) v.rings ≡ true → is_due (Some s.limit) rings ≡ true
-due_known s rings number refusing v is_v e = subst (λ (x : ServiceView). is_due (Some x.rules.limit) x.rings ≡ true) (sym is_v) e
+pub due_known : (rules : Rules) (rings : List Standing) (v : ServiceView) → service_by rules rings ≡ v → is_due v.rules.limit v.rings ≡ true → is_due rules.limit rings ≡ true
+due_known rules rings v is_v e = subst (λ (x : ServiceView). is_due x.rules.limit x.rings ≡ true) (sym is_v) e
 
-pub next_is : (s : ChainRules) (rings next : List Standing) (number : ℕ) (refusing : Option Refusal) (v r : ServiceView) → service_of s rings number refusing ≡ v → r ≡ service_of s next (number + 1) None → AreNext rings next → AllByRecursion IsRight r.rings → IsNext v r
-next_is s rings next number refusing v r is_v is_r a right =
-    let one : IsNext (service_of s rings number refusing) r = record {
-      rules = ap (λ (x : ServiceView). x.rules) is_r;
+pub next_is : (rules on : Rules) (rings next : List Standing) (v r : ServiceView) → service_by rules rings ≡ v → r ≡ service_by on next → on ≡ next_rules rules → AreNext rings next → AllByRecursion IsRight r.rings → IsNext v r
+next_is rules on rings next v r is_v is_r is_on a right =
+    let one : IsNext (service_by rules rings) r = record {
+      rules = ap (λ (x : ServiceView). x.rules) is_r ∙ is_on;
       rings = subst (λ (x : ServiceView). AreNext rings x.rings) (sym is_r) a;
-      number = ap (λ (x : ServiceView). x.number) is_r;
-      refusing = ap (λ (x : ServiceView). x.refusing) is_r;
       right = right;
     } in
     subst (λ (x : ServiceView). IsNext x r) is_v one
 
-pub next_open : (s : ChainRules) (rings next : List Standing) (number : ℕ) (r : ServiceView) → r ≡ service_of s next number None → 1 ≤ s.limit → AreNext rings next → is_over r ≡ false
-next_open s rings next number r is_r limit a =
-    subst (λ (x : ServiceView). is_over x ≡ false) (sym is_r) (and_true (is_due (Some s.limit) next) ∙ next_goes s.limit rings next limit a)
+fresh_goes : (limit : Option ℕ) (rings next : List Standing) → IsLimit limit → AreNext rings next → is_due limit next ≡ false
+fresh_goes None rings next k a = refl
+fresh_goes (Some limit) rings next k a = next_goes limit rings next k a
+
+pub next_open : (rules on : Rules) (rings next : List Standing) (r : ServiceView) → r ≡ service_by on next → on ≡ next_rules rules → IsLimit rules.limit → AreNext rings next → is_over r ≡ false
+next_open rules on rings next r is_r is_on limit a =
+    subst (λ (x : ServiceView). is_over x ≡ false) (sym (is_r ∙ ap (λ (x : Rules). service_by x next) is_on)) (and_true (is_due rules.limit next) ∙ fresh_goes rules.limit rings next limit a)
+
+-- and lines may save, and a segment has lines, as before
+pub next_limit : (rules on : Rules) → on ≡ next_rules rules → IsLimit rules.limit → IsLimit on.limit
+next_limit rules on e limit = subst (λ (x : Rules). IsLimit x.limit) (sym e) limit
+
+pub next_saves : (rules on : Rules) (rings next : List Standing) (v r : ServiceView) → service_by rules rings ≡ v → r ≡ service_by on next → on ≡ next_rules rules → may_save r ≡ may_save v
+next_saves rules on rings next v r is_v is_r is_on = ap may_save (is_r ∙ ap (λ (x : Rules). service_by x next) is_on) ∙ ap may_save is_v
 
 -- why there is no next one
-pub no_next : (s : ChainRules) (rings : List Standing) (number : ℕ) (refusing : Option Refusal) (v : ServiceView) (why : EndFault) → service_of s rings number refusing ≡ v → ((why ≡ end.Full) × IsFull rings) ⊎ (why ≡ end.OutOfMemory) → HasNoNext v.rings v.number why
-no_next s rings number refusing v why is_v (inl h) =
-    let one : HasNoNext rings number why = inl (h.0, inl h.1) in
-    subst (λ (x : ServiceView). HasNoNext x.rings x.number why) is_v one
-no_next s rings number refusing v why is_v (inr e) = inr e
+pub no_next : (rules : Rules) (rings : List Standing) (v : ServiceView) (why : EndFault) → service_by rules rings ≡ v → ((why ≡ end.Full) × IsFull rings) ⊎ (why ≡ end.OutOfMemory) → HasNoNext v.rings v.rules.journal why
+no_next rules rings v why is_v (inl h) =
+    let one : HasNoNext rings rules.journal why = inl (h.0, inl h.1) in
+    subst (λ (x : ServiceView). HasNoNext x.rings x.rules.journal why) is_v one
+no_next rules rings v why is_v (inr e) = inr e
 
-pub no_number : (s : ChainRules) (rings : List Standing) (number : ℕ) (refusing : Option Refusal) (v : ServiceView) → service_of s rings number refusing ≡ v → 2 ^ 64 ≤ number + 1 → HasNoNext v.rings v.number end.Full
-no_number s rings number refusing v is_v most =
-    let one : HasNoNext rings number end.Full = inl (refl, inr most) in
-    subst (λ (x : ServiceView). HasNoNext x.rings x.number end.Full) is_v one
+pub no_number : (rules : Rules) (rings : List Standing) (v : ServiceView) (why : EndFault) → service_by rules rings ≡ v → why ≡ end.Full → HasNoNumber rules.journal → HasNoNext v.rings v.rules.journal why
+no_number rules rings v why is_v full none =
+    let one : HasNoNext rings rules.journal why = inl (full, inr none) in
+    subst (λ (x : ServiceView). HasNoNext x.rings x.rules.journal why) is_v one
 
-pub kept_is : (s : ChainRules) (rings : List Standing) (number : ℕ) (refusing : Option Refusal) (v : ServiceView) (r : Refusal) (why : EndFault) → service_of s rings number refusing ≡ v → r ≡ refusal_of why → service_of s rings number (Some r) ≡ record v { refusing = Some (refusal_of why) }
-kept_is s rings number refusing v r why is_v e =
-    subst (λ (x : ServiceView). service_of s rings number (Some r) ≡ record x { refusing = Some (refusal_of why) }) is_v (ap (λ (q : Refusal). service_of s rings number (Some q)) e)
+pub kept_is : (rules : Rules) (rings : List Standing) (v : ServiceView) (r : Refusal) (why : EndFault) → service_by rules rings ≡ v → r ≡ refusal_of why → service_by (record rules { refusing = Some r }) rings ≡ with_refusal v (refusal_of why)
+kept_is rules rings v r why is_v e =
+    ap (λ (x : Refusal). service_by (record rules { refusing = Some x }) rings) e ∙ ap (λ (x : ServiceView). with_refusal x (refusal_of why)) is_v
 
-pub kept_open : (s : ChainRules) (rings : List Standing) (number : ℕ) (r : Refusal) → is_over (service_of s rings number (Some r)) ≡ false
-kept_open s rings number r = and_false (is_due (Some s.limit) rings)
+-- a service that is kept on answers lines
+pub kept_open : (rules : Rules) (rings : List Standing) (r : Refusal) → is_over (service_by (record rules { refusing = Some r }) rings) ≡ false
+kept_open rules rings r = and_false (is_due rules.limit rings)
 
 -- ---- the first segment
 

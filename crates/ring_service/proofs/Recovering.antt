@@ -9,6 +9,7 @@ use Rattle.std.proofs.lemmas.List.Folds.{list_any-append}
 use Rattle.std.proofs.lemmas.Grind.{flat_map-append}
 use Rattle.std.proofs.Math.Seq.{take-append_seam}
 use Rattle.disks.specs.Held.{Held}
+use Rattle.line_service.specs.Stands.{Stand, stand}
 use Rattle.text_lines.specs.Spelling.{spaced, ended}
 use Rattle.saved_history.specs.declared.saved.SavedEvent.{SavedEvent}
 use Rattle.saved_history.specs.declared.saved.SavedEvent.TheVariants.{Granted, Refused, Member, Corrupted}
@@ -237,7 +238,7 @@ module _ (terms : Terms) (noting : is_some terms.journal ≡ true) (old : List S
     pub grown : HaveGrown rings new
 
   none_reached : (now : List Standing) (was : Option Held) → IsReached terms now was [] now
-  none_reached now was = ([], [], was, (refl, refl, refl, refl))
+  none_reached now was = ([], [], was, (refl, refl, refl))
 
   -- it ends before this turn is over
   within_turn : (done : List JournalLine) (now mid new : List Standing) (was : Option Held) (noted bytes more others : List ℕ) → Stands old done now → Turned done now mid noted → HaveGrown now new → bytes ++ more ≡ noted ++ others → length bytes < length noted →
@@ -275,7 +276,7 @@ module _ (terms : Terms) (noting : is_some terms.journal ≡ true) (old : List S
     tail = r.tail;
     rings = r.rings;
     lines = line ∷ r.lines;
-    reached = (said ++ r.reached.0, noted ++ r.reached.1, r.reached.2, (mid, between, said, r.reached.0, noted, r.reached.1, a, refl, refl, r.reached.3));
+    reached = (said ++ r.reached.0, noted ++ r.reached.1, r.reached.2, (stand mid between, said, r.reached.0, noted, r.reached.1, a, refl, refl, r.reached.3));
     stands = subst (λ (x : List JournalLine). Stands old x r.rings) (append_assoc done t.calls r.calls) r.stands;
     opens = r.opens;
     fit = subst Fit (sym (append_assoc t.calls r.calls r.open_calls)) (all_then (JournalLineFits latest_version (length old)) t.calls (r.calls ++ r.open_calls) t.fit r.fit);
@@ -300,48 +301,52 @@ module _ (terms : Terms) (noting : is_some terms.journal ≡ true) (old : List S
     fit = tt;
     is = nothing bytes more (e ∙ h.1);
     none = refl;
-    grown = subst (λ (x : List Standing). HaveGrown now x) (sym h.2) (have_same now);
+    grown = subst (λ (x : Stand (List Standing)). HaveGrown now x.service) (sym h.2) (have_same now);
   }
     where
       nothing : (xs ys : List ℕ) → xs ++ ys ≡ [] → xs ≡ []
       nothing [] ys e = refl
       nothing (x ∷ xs) ys e = let long : length (x ∷ (xs ++ ys)) ≡ 0 = ap (λ (u : List ℕ). length u) e in absurd (omega (arith, long))
   reaches done now new was is (line ∷ lines) said noted bytes more s h e =
-      let t = one_turned done now h.0 was h.1 line h.2 h.4 s h.6 in
-      let parts : bytes ++ more ≡ h.4 ++ h.5 = e ∙ h.8 in
-      elim (cases_lt (length bytes) (length h.4)) [
-        | inl lt ↦ within_turn done now h.0 new was h.4 bytes more h.5 s t (answers_grown terms now new was is (line ∷ lines) said noted h) parts lt
+      let mid : List Standing = h.0.service in
+      let between : Option Held = h.0.files in
+      let t = one_turned done now mid was between line h.1 h.3 s h.5 in
+      let parts : bytes ++ more ≡ h.3 ++ h.4 = e ∙ h.7 in
+      elim (cases_lt (length bytes) (length h.3)) [
+        | inl lt ↦ within_turn done now mid new was h.3 bytes more h.4 s t (answers_grown terms now new was is (line ∷ lines) said noted h) parts lt
         | inr le ↦
-            let rest : List ℕ = drop (length h.4) bytes in
-            turn_then done now h.0 new was h.1 line h.2 h.4 bytes rest h.6 t (split bytes more h.4 h.5 parts le)
-            (reaches (done ++ t.calls) h.0 new h.1 is lines h.3 h.5 rest more t.stands h.9 (after_head bytes more h.4 h.5 parts le))
+            let rest : List ℕ = drop (length h.3) bytes in
+            turn_then done now mid new was between line h.1 h.3 bytes rest h.5 t (split bytes more h.3 h.4 parts le)
+            (reaches (done ++ t.calls) mid new between is lines h.2 h.4 rest more t.stands h.8 (after_head bytes more h.3 h.4 parts le))
       ]
 
   pub all_turned : (done : List JournalLine) (now new : List Standing) (was is : Option Held) (lines : List (List ℕ)) (said noted : List ℕ) → Stands old done now → Answers terms now was lines said noted new is → AllTurned old done new noted
   all_turned done now new was is [] said noted s h = record {
     calls = [];
-    stands = subst (λ (x : List Standing). Stands old (done ++ []) x) (sym h.2) (subst (λ (x : List JournalLine). Stands old x now) (sym (append-nil done)) s);
+    stands = subst (λ (x : Stand (List Standing)). Stands old (done ++ []) x.service) (sym h.2) (subst (λ (x : List JournalLine). Stands old x now) (sym (append-nil done)) s);
     fit = tt;
     is = h.1;
   }
   all_turned done now new was is (line ∷ lines) said noted s h =
-      let t = one_turned done now h.0 was h.1 line h.2 h.4 s h.6 in
-      let r = all_turned (done ++ t.calls) h.0 new h.1 is lines h.3 h.5 t.stands h.9 in
+      let mid : List Standing = h.0.service in
+      let between : Option Held = h.0.files in
+      let t = one_turned done now mid was between line h.1 h.3 s h.5 in
+      let r = all_turned (done ++ t.calls) mid new between is lines h.2 h.4 t.stands h.8 in
       record {
         calls = t.calls ++ r.calls;
         stands = subst (λ (x : List JournalLine). Stands old x new) (append_assoc done t.calls r.calls) r.stands;
         fit = all_then (JournalLineFits latest_version (length old)) t.calls r.calls t.fit r.fit;
-        is = h.8 ∙ (ap (λ (u : List ℕ). u ++ h.5) t.is ∙ (ap (λ (u : List ℕ). lines_of t.calls ++ u) r.is ∙ sym (flat_map-append journal_line t.calls r.calls)));
+        is = h.7 ∙ (ap (λ (u : List ℕ). u ++ h.4) t.is ∙ (ap (λ (u : List ℕ). lines_of t.calls ++ u) r.is ∙ sym (flat_map-append journal_line t.calls r.calls)));
       }
 
 -- ---- the recovery
 
 reached_then : (terms : Terms) (old mid new : List Standing) (was between is : Option Held) (lines more : List (List ℕ)) (said noted : List ℕ) → Answers terms old was lines said noted mid between → IsReached terms mid between more new → IsReached terms old was (lines ++ more) new
 reached_then terms old mid new was between is [] more said noted h r =
-    subst (λ (x : List Standing). IsReached terms x was more new) h.2 (subst (λ (x : Option Held). IsReached terms mid x more new) h.3 r)
+    subst (λ (x : Stand (List Standing)). IsReached terms x.service x.files more new) h.2 r
 reached_then terms old mid new was between is (line ∷ lines) more said noted h r =
-    let on = reached_then terms h.0 mid new h.1 between is lines more h.3 h.5 h.9 r in
-    (h.2 ++ on.0, h.4 ++ on.1, on.2, (h.0, h.1, h.2, on.0, h.4, on.1, h.6, refl, refl, on.3))
+    let on = reached_then terms h.0.service mid new h.0.files between is lines more h.2 h.4 h.8 r in
+    (h.1 ++ on.0, h.3 ++ on.1, on.2, (h.0, h.1, on.0, h.3, on.1, h.5, refl, refl, on.3))
 
 module _ (old rings : List Standing) (calls open_calls : List JournalLine) (tail : List ℕ) where
   abbrev begun : Content

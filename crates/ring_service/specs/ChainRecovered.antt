@@ -1,5 +1,5 @@
 -- Answered calls in the history that is recovered of the last segment (this project's own).
-use Rattle.std.specs.Prelude.{◌≡◌, ℕ, List, ◌∷◌, ◌++◌, Option}
+use Rattle.std.specs.Prelude.{◌≡◌, ℕ, true, List, ◌∷◌, ◌++◌, Option}
 use Rattle.std.specs.List.{AllByRecursion}
 use Rattle.disks.specs.Held.{Held}
 use Rattle.saved_history.specs.Spelling.{Fits}
@@ -12,7 +12,7 @@ use Rattle.line_service.specs.Lasting.{ToldLinesLast, EachSegmentLasts}
 use Rattle.ring_service.specs.Standings.{Standing}
 use Rattle.ring_service.specs.Saved.{IsRight, content_of}
 use Rattle.ring_service.specs.Recovered.{IsPrefix, HaveGrown, AreCallsIn}
-use Rattle.ring_service.specs.ChainServices.{ServiceView, terms_of, IsServed, segmenting}
+use Rattle.ring_service.specs.Services.{ServiceView, terms_of, keeps_journal, IsServed, segmenting}
 
 -- The lines of a part were answered, and the call of each is in these rings with that answer.
 abbrev pub HasCallsIn : List Standing → Part ServiceView → Type 0
@@ -68,11 +68,12 @@ CallsOfEachSegmentLast folder a new input rest out after left =
     (each : EachSegmentLasts IsServed segmenting folder a new input rest out after left)
     × KeepsCalls each.told.noted.parts each.told.noted.more new.rings
 
--- A law: rings that are right answer lines in segments. Wherever that ended, the file of the last
--- segment keeps the answers to its lines.
+-- A law: rings that are right, and note what lines record, answer lines in segments. Wherever that
+-- ended, the file of the last segment keeps the answers to its lines.
 abbrev pub SegmentsKeepCalls : Type 0
 SegmentsKeepCalls =
     (folder : List ℕ) (a : Moment ServiceView) (new : ServiceView)
-    (input rest out after journal : Option (List ℕ)) → AllByRecursion IsRight a.service.rings
+    (input rest out after journal : Option (List ℕ)) → keeps_journal a.service ≡ true
+    → AllByRecursion IsRight a.service.rings
     → (noted : ToldLinesAreNoted IsServed segmenting folder a new input rest out after journal)
     → KeepsCalls noted.parts noted.more new.rings

@@ -8,6 +8,7 @@ pub mod Totals
 pub mod Due
 pub mod Counted
 pub mod Permits
+pub mod Rules
 pub mod Notes
 pub mod Serving
 pub mod Equal
@@ -20,6 +21,4 @@ pub mod Segments
 pub mod Recovered
 pub mod InChains
 pub mod Texts
-pub mod ChainServices
 pub mod ChainRecovered
-pub mod ChainStarts

@@ -2,10 +2,12 @@
 use Rattle.std.specs.Prelude.{◌≡◌, ℕ, List, [], ◌∷◌, ◌++◌, Bool, true, false, not, ◌&&◌, ◌||◌, ◌==◌, nat_le, if◌then◌else◌, Option, None, Some}
 use Rattle.std.specs.Option.{option_map, is_some}
 use Rattle.std.specs.List.{list_all}
+use Rattle.line_service.specs.SegmentNames.{segment_file}
 use Rattle.ring_service.specs.declared.answers.Refusal.{Refusal}
 use Rattle.ring_service.specs.declared.permits.Permits.{Permits}
-use Rattle.ring_service.specs.declared.serving.Ends.{Ends}
-use Rattle.ring_service.specs.declared.serving.Rules.{Rules}
+use Rattle.ring_service.specs.declared.rules.JournalFile.{JournalFile}
+use Rattle.ring_service.specs.declared.rules.JournalFile.TheVariants as journal_file
+use Rattle.ring_service.specs.declared.rules.Rules.{Rules}
 use Rattle.ring_service.specs.Standings.{Standing}
 use Rattle.ring_service.specs.Due.{is_due}
 
@@ -35,23 +37,15 @@ terms_of journal permits = record {
   refusing = None;
 }
 
--- in a segment that ends so, if segments do
-abbrev pub terms_in : Option (List ℕ) → Permits → Option Ends → Terms
-terms_in journal permits None = terms_of journal permits
-terms_in journal permits (Some ends) = record {
-  journal = journal;
-  faults = permits.faults;
-  saves = option_map (λ folder. folder.now) permits.saves;
-  history = option_map (λ name. name.now) permits.history;
-  strict = permits.strict;
-  limit = Some ends.limit;
-  refusing = ends.refusing;
-}
+-- the name of the file of a journal
+abbrev pub journal_name : JournalFile → List ℕ
+journal_name (journal_file.Named name) = name.now
+journal_name (journal_file.Segment folder number) = segment_file folder.now number
 
 -- those of these rules
 abbrev pub terms_by : Rules → Terms
 terms_by rules = record {
-  journal = option_map (λ name. name.now) rules.journal;
+  journal = option_map journal_name rules.journal;
   faults = rules.permits.faults;
   saves = option_map (λ folder. folder.now) rules.permits.saves;
   history = option_map (λ name. name.now) rules.permits.history;

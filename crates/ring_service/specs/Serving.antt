@@ -1,12 +1,13 @@
 -- Lines that are served one after the other (this project's own).
-use Rattle.std.specs.Prelude.{◌≡◌, ℕ, ◌-◌, Bool, true, false, ◌&&◌, ◌||◌, cond, List, [], ◌∷◌, ◌++◌, length, take, drop, Option, None, Some, IfSome, Result, Ok, Err, ◌⊎◌}
-use Rattle.std.specs.List.{AllByRecursion}
+use Rattle.std.specs.Prelude.{◌≡◌, ℕ, ◌-◌, Bool, true, false, ◌&&◌, ◌||◌, cond, List, [], ◌++◌, length, take, drop, Option, None, Some, IfSome, Result, Ok, Err, ◌⊎◌}
 use Rattle.std.specs.Option.{option_map, is_some}
-use Rattle.std.specs.Io.KnownBytes.{Appends, Consumes, IsAtEnd}
-use Rattle.text_lines.specs.Writing.{Wrote}
+use Rattle.std.specs.Io.KnownBytes.{Consumes, IsAtEnd}
 use Rattle.disks.specs.Held.{Held, IsOneFile, Replaces}
-use Rattle.line_service.specs.Answering.{IsLine, HasNoEnd, joined_lines}
-use Rattle.line_service.specs.Loop.{Written}
+use Rattle.line_service.specs.Answering as lined
+use Rattle.line_service.specs.Answering.{HasNoEnd}
+use Rattle.line_service.specs.Loop as loop
+use Rattle.line_service.specs.Loop.{Written, AreTold}
+use Rattle.line_service.specs.Stands.{stand, by_stand}
 use Rattle.line_service.specs.declared.pending.Pending.{Pending}
 use Rattle.saved_history.specs.Spelling.{text}
 use Rattle.ring_check.specs.Legal.{IsLegalText}
@@ -108,71 +109,27 @@ IsMade (Ok _) same IsSo old new =
 IsMade (Err _) same IsSo old new =
     same ⊎ ((said : List ℕ) × (noted : List ℕ) × IsSo said noted)
 
--- The rings answer these lines, one after the other, with this text, and these are the notes.
+-- The rings answer these lines on these terms, one after the other, with this text, and these are
+-- the notes.
 abbrev pub Answers : Terms → List Standing → Option Held → List (List ℕ) → List ℕ → List ℕ
     → List Standing → Option Held → Type 0
-Answers terms old was [] said noted new is = (said ≡ []) × (noted ≡ []) × (new ≡ old) × (is ≡ was)
-Answers terms old was (line ∷ lines) said noted new is =
-    (mid : List Standing)
-    × (between : Option Held)
-    × (first : List ℕ)
-    × (later : List ℕ)
-    × (note : List ℕ)
-    × (notes : List ℕ)
-    × IsAnswered terms old was line first note mid between
-    × (said ≡ first ++ later)
-    × (noted ≡ note ++ notes)
-    × Answers terms mid between lines later notes new is
-
--- The lines of these bytes, up to where this rest begins, were answered with this text, and these
--- are the notes.
-pub record AreAnswered (terms : Terms) (old : List Standing) (was : Option Held)
-    (bytes rest said noted : List ℕ) (new : List Standing) (is : Option Held) : Type 0 where
-  pub lines : List (List ℕ)
-  pub split : bytes ≡ joined_lines lines ++ rest
-  pub each : AllByRecursion IsLine lines
-  pub answers : Answers terms old was lines said noted new is
+Answers terms old was lines said noted new is =
+    lined.Answers (by_stand (IsAnswered terms)) (stand old was) lines said noted (stand new is)
 
 -- what a journal holds; nothing is known of it where none is kept
 abbrev pub held_by : {J : Type 0} → (J → Option (List ℕ)) → Option (Journal J) → Option (List ℕ)
-held_by contents None = None
-held_by contents (Some journal) = contents journal.writer
+held_by contents journal = loop.written_by (λ j. contents j.writer) journal
 
 -- the name of its file, if one is kept
 abbrev pub named_by : {J : Type 0} → Option (Journal J) → Option (List ℕ)
 named_by journal = option_map (λ j. j.name.now) journal
 
--- The lines up to the rest were answered and delivered: the output has all of the answers' text,
--- and the journal all notes.
-pub record AreTold (terms : Terms) (old : List Standing) (was : Option Held)
-    (before after : Written) (bytes rest : List ℕ) (new : List Standing) (is : Option Held) :
-    Type 0 where
-  pub said : List ℕ
-  pub noted : List ℕ
-  pub answered : AreAnswered terms old was bytes rest said noted new is
-  pub wrote : Appends before.out after.out said
-  pub wrote_notes : Appends before.journal after.journal noted
-
--- Served so far: some lines were delivered, those after them were answered, and a prefix of the
--- answers to the delivered ones is all that went out. The journal has all notes of the delivered
--- lines, and a prefix of those of the others. So each delivered line is in the journal, wherever
--- this ended.
-pub record Stops (terms : Terms) (old : List Standing) (was : Option Held) (before after : Written)
-    (bytes : List ℕ) (new : List Standing) (is : Option Held) : Type 0 where
-  pub mid : List Standing
-  pub between : Option Held
-  pub behind : List ℕ
-  pub rest : List ℕ
-  pub said : List ℕ
-  pub noted : List ℕ
-  pub unsaid : List ℕ
-  pub front : List ℕ
-  pub back : List ℕ
-  pub left : List ℕ
-  pub told : AreAnswered terms old was bytes behind said noted mid between
-  pub untold : AreAnswered terms mid between behind rest unsaid (front ++ back) new is
-  pub wrote : Wrote before.out after.out said left
-  pub wrote_notes : Appends before.journal after.journal (noted ++ front)
+-- Served so far, on these terms: some lines were delivered, and those after them were answered. So
+-- each delivered line is in the journal, wherever this ended.
+abbrev pub Stops : Terms → List Standing → Option Held → Written → Written → List ℕ
+    → List Standing → Option Held → Type 0
+Stops terms old was before after bytes new is =
+    loop.Stops (by_stand (IsAnswered terms)) (stand old was) before after bytes (stand new is)
 
 -- whether no line is answered any more, as the code sees it after a line that called the ring of
 -- this number
@@ -188,7 +145,8 @@ pub record ServesAll (terms : Terms) (old new : List Standing) (was is : Option 
   pub read : Consumes unread rest bytes
   pub ended : IsAtEnd rest
   pub partial : HasNoEnd begun
-  pub told : AreTold terms old was before after bytes begun new is
+  pub told : AreTold (by_stand (IsAnswered terms)) (stand old was) before after bytes begun
+      (stand new is)
 
 -- Of what the reader gave some lines were answered.
 abbrev pub ServesSome : Terms → List Standing → List Standing → Option Held → Option Held

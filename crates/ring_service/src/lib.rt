@@ -4,12 +4,12 @@
 
 mod answers;
 mod chain_segments;
-mod chain_service;
 mod commands;
 mod kept_calls;
 mod laws;
 mod permits;
 mod recovered;
+mod rules;
 mod saving;
 mod segmented;
 mod segments;
@@ -23,7 +23,6 @@ mod turns;
 
 pub use answers::{Answer, Refusal};
 pub use chain_segments::ChainRules;
-pub use chain_service::ChainService;
 pub use commands::{Command, read_command};
 pub use kept_calls::segments_keep_calls;
 pub use laws::{
@@ -32,9 +31,11 @@ pub use laws::{
 };
 pub use permits::Permits;
 pub use recovered::{answered_calls_are_in_chains, answered_calls_are_recovered};
+pub use rules::{JournalFile, Rules};
 pub use saving::{save_rings, write_rings};
 pub use served::{LineAnswer, Served, answer_line};
-pub use serving::{Ends, Journal, Rules, answer_by, are_right, rules_in, serve};
+pub use service::RingService;
+pub use serving::{Journal, are_right, serve};
 pub use starting::StartError;
 pub use texts::put_beginning;
 pub use turns::{CallAnswer, Trace};

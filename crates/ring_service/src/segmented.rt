@@ -3,11 +3,11 @@
 ghost use Rattle.std.specs.Prelude.{◌≡◌, ◌⊎◌, IfOk, IfErr};
 ghost use Rattle.ring_service.specs.Segments.{AreNext, IsFull};
 ghost use Rattle.line_service.specs.declared.segmented.EndFault.TheVariants as end;
-ghost use Rattle.ring_service.specs.ChainServices.{refusal_of};
+ghost use Rattle.ring_service.specs.Services.{refusal_of};
 
 use crate::answers::Refusal;
-use crate::chain_service::ChainService;
 use crate::served::Served;
+use crate::service::{RingService, is_due};
 use crate::texts::segment_text;
 use endless_ring::NextError;
 use line_service::{EndFault, Segmented};
@@ -38,9 +38,9 @@ fn refusal_of(why: EndFault) -> Refusal
     }
 }
 
-impl Segmented for ChainService<'_> {
-    ghost use Rattle.ring_service.specs.ChainServices.{segmenting};
-    ghost use Rattle.ring_service.specs.ChainStarts.{goes, knows};
+impl Segmented for RingService<'_> {
+    ghost use Rattle.ring_service.specs.Services.{segmenting};
+    ghost use Rattle.ring_service.specs.Starts.{goes, knows};
 
     ghost segmenting = { segmenting };
 
@@ -49,7 +49,7 @@ impl Segmented for ChainService<'_> {
     ghost knows = { knows };
 
     fn is_due(&self) -> bool {
-        self.served.is_due(self.rules.limit)
+        is_due(&self.served, self.rules.limit)
     }
 
     fn next(&self, alloc: Global) -> Result<Self, EndFault> {
@@ -57,14 +57,12 @@ impl Segmented for ChainService<'_> {
             Ok(served) => served,
             Err(why) => return Err(why),
         };
-        if self.number == u64::MAX {
-            return Err(EndFault::Full);
-        }
-        let number = self.number + 1;
-        match ChainService::new(alloc, served, self.rules, number) {
-            Ok(next) => Ok(next),
-            Err(_) => Err(EndFault::OutOfMemory),
-        }
+        let rules = match self.rules.next() {
+            Ok(rules) => rules,
+            Err(why) => return Err(why),
+        };
+        let next = RingService::new(alloc, served, rules);
+        Ok(next)
     }
 
     fn text(
@@ -77,7 +75,7 @@ impl Segmented for ChainService<'_> {
     }
 
     fn keep_on(&mut self, why: EndFault) {
-        self.refusing = Some(refusal_of(why));
+        self.rules.refusing = Some(refusal_of(why));
         self.shut = false;
     }
 }

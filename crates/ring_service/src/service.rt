@@ -1,70 +1,116 @@
-//! Rings that answer lines by rules.
+//! Rings that answer lines, with a journal in a file or in the segments of a folder.
 
-ghost use Rattle.std.specs.Prelude.{◌≡◌};
-ghost use Rattle.ring_service.specs.Permits.{terms_by, IsOpen};
-ghost use Rattle.ring_service.specs.Services.{service_of};
+ghost use Rattle.std.specs.Prelude.{◌≡◌, ◌≤◌, true, None};
+ghost use Rattle.std.specs.List.{AllByRecursion};
+ghost use Rattle.ring_service.specs.Due.{is_due};
+ghost use Rattle.ring_service.specs.Saved.{IsRight};
+ghost use Rattle.ring_service.specs.Rules.{file_rules, IsLimit};
+ghost use Rattle.ring_service.specs.Services.{service_by, service_of, keeps_journal};
 
+use crate::chain_segments::ChainRules;
+use crate::permits::Permits;
+use crate::rules::Rules;
 use crate::served::Served;
-use crate::serving::{Rules, answer_by};
+use crate::serving::{answer_by, are_right};
 use disks::Disk;
 use line_service::{AnswersLines, Pending};
 use std::alloc::{AllocError, Global};
 use std::marker::Model;
 
-/// Rings that answer lines by rules. Contracts see the rings, and the terms that the rules are.
+/// Rings that answer lines by rules: with a journal in a file or without one, or in the segment of a number. Contracts see the
+/// rules and the rings.
 #[derive(Drop)]
-pub(crate) struct RingService<'j, 'p> {
-    alloc: Global,
-    served: Served,
-    rules: Rules<'j, 'p>,
+pub struct RingService<'n> {
+    pub(crate) alloc: Global,
+    pub(crate) served: Served,
+    pub(crate) rules: Rules<'n>,
     /// Whether no line is answered any more.
-    shut: bool,
+    pub(crate) shut: bool,
 }
 
-impl<'j, 'p> Model for RingService<'j, 'p> {
-    ghost use Rattle.ring_service.specs.Permits.{terms_by, IsTied};
-    ghost use Rattle.ring_service.specs.Services.{ServiceView, service_of};
+impl<'n> Model for RingService<'n> {
+    ghost use Rattle.ring_service.specs.Services.{ServiceView, service_by, IsKnown};
 
     ghost Value = { ServiceView };
 
-    ghost view = { λ s. service_of s.served (terms_by s.rules) };
+    ghost view = { λ s. service_by s.rules s.served };
 
-    ghost invariant = { λ s. IsTied (terms_by s.rules) s.served s.shut };
+    ghost invariant = { λ s. IsKnown s.rules s.served s.shut };
 }
 
-impl<'j, 'p> RingService<'j, 'p> {
-    /// These rings, by these rules.
-    pub(crate) fn new(alloc: Global, served: Served, rules: Rules<'j, 'p>) -> RingService<'j, 'p>
-        requires { IsOpen (terms_by rules) served }
-        ensures { result ≡ service_of served (terms_by rules.entry) }
+/// Whether the segment is due, which it never is without a limit.
+pub(crate) fn is_due(served: &Served, limit: Option<u64>) -> bool
+    ensures { result ≡ is_due limit served.now }
+{
+    match limit {
+        None => false,
+        Some(limit) => served.is_due(limit),
+    }
+}
+
+impl<'n> RingService<'n> {
+    /// Rings that answer lines by these rules, and refuse none yet.
+    pub(crate) fn new(alloc: Global, served: Served, rules: Rules<'n>) -> RingService<'n>
+        requires limit { IsLimit rules.limit }
+        requires open { rules.refusing ≡ None }
+        ensures is { result ≡ service_by rules.entry served }
+        ensures right { AllByRecursion IsRight result.rings }
     {
+        are_right(&served); // says: they are, at each moment
+        let shut = is_due(&served, rules.limit);
         RingService {
             alloc,
             served,
             rules,
-            shut: false,
+            shut,
         }
     }
 
+    /// Rings with a journal in the file of this name, if one is kept: no segment ends.
+    pub fn in_file(
+        alloc: Global,
+        served: Served,
+        journal: Option<&'n str>,
+        permits: Permits<'n>,
+    ) -> RingService<'n>
+        ensures is { result ≡ service_by (file_rules journal.entry permits.entry) served }
+        ensures right { AllByRecursion IsRight result.rings }
+    {
+        RingService::new(alloc, served, Rules::in_file(journal, permits))
+    }
+
+    /// Rings in the segment of this number.
+    pub fn in_segment(
+        alloc: Global,
+        served: Served,
+        rules: ChainRules<'n>,
+        number: u64,
+    ) -> RingService<'n>
+        requires { 1 ≤ rules.limit }
+        ensures is { result ≡ service_of rules.entry served number None }
+        ensures right { AllByRecursion IsRight result.rings }
+        ensures journal { keeps_journal result ≡ true }
+    {
+        RingService::new(alloc, served, Rules::in_segment(rules, number))
+    }
+
     /// The rings, as they are.
-    pub(crate) fn into_rings(self) -> Served
+    pub fn into_rings(self) -> Served
         ensures { result ≡ self.entry.rings }
     {
         self.served
     }
 }
 
-impl AnswersLines for RingService<'_, '_> {
-    ghost use Rattle.std.specs.Prelude.{is_some};
-    ghost use Rattle.ring_service.specs.Permits.{is_shut};
-    ghost use Rattle.ring_service.specs.Services.{IsServed};
+impl AnswersLines for RingService<'_> {
+    ghost use Rattle.ring_service.specs.Services.{IsServed, is_over, may_save};
     ghost use Rattle.ring_service.specs.Starts.{by_start};
 
     ghost is_answered = { IsServed };
 
-    ghost is_over = { λ s. is_shut s.terms s.rings };
+    ghost is_over = { is_over };
 
-    ghost changes_files = { λ s. is_some s.terms.saves };
+    ghost changes_files = { may_save };
 
     ghost by_start = { by_start };
 
@@ -76,7 +122,7 @@ impl AnswersLines for RingService<'_, '_> {
         line: &[u8],
         pending: &mut Pending,
     ) -> Result<(), AllocError> {
-        answer_by(
+        let told = answer_by(
             self.alloc,
             &mut self.served,
             disk,
@@ -84,7 +130,9 @@ impl AnswersLines for RingService<'_, '_> {
             line,
             &mut self.shut,
             pending,
-        )
+        );
+        are_right(&self.served); // says: the rings are right, at each moment
+        told
     }
 
     fn is_over(&self) -> bool {

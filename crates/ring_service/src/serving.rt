@@ -10,7 +10,7 @@ ghost use Rattle.ring_service.specs.declared.answers.Refusal.TheVariants as refu
 ghost use Rattle.ring_service.specs.Answers.{answer_line};
 ghost use Rattle.ring_service.specs.Due.{is_due, is_due_at};
 ghost use Rattle.ring_service.specs.Saved.{IsRight};
-ghost use Rattle.ring_service.specs.Permits.{terms_of, terms_in, terms_by, IsOpen, IsTied, file_in};
+ghost use Rattle.ring_service.specs.Permits.{journal_name, terms_of, terms_by, IsOpen, IsTied, file_in};
 ghost use Rattle.ring_service.specs.Turns.{recorded_among, turn_seen_among};
 ghost use Rattle.ring_service.specs.Notes.{notes_of};
 ghost use Rattle.ring_service.specs.Recovered.{AnsweredCallsAreRecovered};
@@ -18,12 +18,13 @@ ghost use Rattle.ring_service.specs.Serving.{name_in, IsSaved, IsSaveGiven, IsGi
 
 use crate::answers::{Answer, Refusal};
 use crate::permits::{Permits, file_in, is_plain};
+use crate::rules::{JournalFile, Rules};
 use crate::saving::save_rings;
 use crate::served::{LineAnswer, Served, answer_line, no_call};
 use crate::service::RingService;
 use crate::turns::Trace;
 use disks::{Disk, Grow};
-use line_service::{LoopFault, Pending, Unread, serve_part};
+use line_service::{LoopFault, Pending, Unread, segment_file, serve_part};
 use one_thread_ring::{put_events, put_survey};
 use std::alloc::{AllocError, Global};
 use std::io::{Read, Write};
@@ -37,27 +38,8 @@ pub struct Journal<'n, J> {
     pub writer: J,
 }
 
-/// When the segment ends in which lines are served.
-#[derive(Clone, Copy)]
-pub struct Ends {
-    /// It is due once its journal has this number of lines.
-    pub limit: u64,
-    /// What each line is refused with, if the segment is due and cannot be ended.
-    pub refusing: Option<Refusal>,
-}
-
-/// The rules by which lines are served: the name of the journal's file, if one is kept, and what is permitted; after how many
-/// lines a segment is due, if segments end; and the refusal of each line, if all are refused.
-#[derive(Clone, Copy)]
-pub struct Rules<'j, 'p> {
-    pub(crate) journal: Option<&'j str>,
-    pub(crate) permits: Permits<'p>,
-    pub(crate) limit: Option<u64>,
-    pub(crate) refusing: Option<Refusal>,
-}
-
 /// The name of the journal's file, if one is kept.
-pub(crate) fn file_of<'n, J>(journal: &Option<Journal<'n, J>>) -> Option<&'n str>
+fn file_of<'n, J>(journal: &Option<Journal<'n, J>>) -> Option<&'n str>
     ensures { option_map (λ name. name.now) result ≡ named_by journal.now }
 {
     match journal {
@@ -78,14 +60,41 @@ fn put_trace<J: Write>(served: &Served, turn: LineAnswer, notes: &mut J) -> Resu
     }
 }
 
-/// Whether a name may lead to the journal's file, or to the history's, if that is the one to look at.
-fn may_be_journal<D: Disk>(disk: &D, journal: Option<&str>, name: &str) -> bool
+/// Whether a name may lead to this file.
+fn may_be_file<D: Disk>(disk: &D, file: &str, name: &str) -> bool
+    ensures { IsFalse result → IsApartFrom (D.holds disk.now) (Some file.now) name.now }
+{
+    disk.is_one_file(file, name).unwrap_or(true)
+}
+
+/// Whether a name may lead to the history's file, if there is one.
+fn may_be_history<D: Disk>(disk: &D, history: Option<&str>, name: &str) -> bool
     ensures { IsFalse result
-        → IsApartFrom (D.holds disk.now) (option_map (λ n. n.now) journal.entry) name.now }
+        → IsApartFrom (D.holds disk.now) (option_map (λ n. n.now) history.entry) name.now }
+{
+    match history {
+        None => false,
+        Some(history) => may_be_file(disk, history, name),
+    }
+}
+
+/// Whether a name may lead to the journal's file, if one is kept, or there is no memory for the name of that.
+fn may_be_journal<D: Disk>(
+    alloc: Global,
+    disk: &D,
+    journal: Option<JournalFile<'_>>,
+    name: &str,
+) -> bool
+    ensures { IsFalse result
+        → IsApartFrom (D.holds disk.now) (option_map journal_name journal.entry) name.now }
 {
     match journal {
         None => false,
-        Some(journal) => disk.is_one_file(journal, name).unwrap_or(true),
+        Some(JournalFile::Named(journal)) => may_be_file(disk, journal, name),
+        Some(JournalFile::Segment { folder, number }) => match segment_file(alloc, folder, number) {
+            Ok(journal) => may_be_file(disk, journal.as_str(), name),
+            Err(_) => true,
+        },
     }
 }
 
@@ -110,12 +119,12 @@ fn save_in<D: Disk>(
     alloc: Global,
     served: &Served,
     disk: &mut D,
-    journal: Option<&str>,
+    journal: Option<JournalFile<'_>>,
     history: Option<&str>,
     folder: &str,
     name: &[u8],
 ) -> bool
-    ensures { IsSaved (option_map (λ n. n.now) journal.entry)
+    ensures { IsSaved (option_map journal_name journal.entry)
         (option_map (λ n. n.now) history.entry) (D.holds disk.old) (D.holds disk.new)
         (file_in folder.now name.now) served.now
         (cond result answer.Saved (answer.Refused refusal.File)) }
@@ -129,10 +138,10 @@ fn save_in<D: Disk>(
     if may_be_stream(disk, file.as_str()) {
         return false;
     }
-    if may_be_journal(disk, journal, file.as_str()) {
+    if may_be_journal(alloc, disk, journal, file.as_str()) {
         return false;
     }
-    if may_be_journal(disk, history, file.as_str()) {
+    if may_be_history(disk, history, file.as_str()) {
         return false;
     }
     save_rings(alloc, disk, served, file.as_str())
@@ -143,7 +152,7 @@ fn save<D: Disk>(
     alloc: Global,
     served: &Served,
     disk: &mut D,
-    rules: Rules<'_, '_>,
+    rules: Rules<'_>,
     name: &[u8],
 ) -> Answer
     ensures gives { IsSaveGiven (terms_by rules.entry).journal (terms_by rules.entry).history
@@ -171,7 +180,7 @@ fn give<D: Disk>(
     alloc: Global,
     served: &Served,
     disk: &mut D,
-    rules: Rules<'_, '_>,
+    rules: Rules<'_>,
     line: &[u8],
     asked: Answer,
 ) -> Answer
@@ -213,7 +222,7 @@ fn add_pending(
 }
 
 /// The turn of a line, which every line has by its refusal if all are refused.
-fn turn_on(alloc: Global, served: &mut Served, rules: Rules<'_, '_>, line: &[u8]) -> LineAnswer
+fn turn_on(alloc: Global, served: &mut Served, rules: Rules<'_>, line: &[u8]) -> LineAnswer
     ensures turn { IsTurnOn rules.entry.refusing rules.entry.permits.faults served.old line.now
         (turn_seen_among result.ring served.new result.call) }
     ensures due { (limit : ℕ) → is_due (Some limit) served.old ≡ false
@@ -226,7 +235,7 @@ fn turn_on(alloc: Global, served: &mut Served, rules: Rules<'_, '_>, line: &[u8]
 }
 
 /// Whether the segment is over after a line that called this ring, if it was not before that.
-fn is_over(served: &Served, rules: Rules<'_, '_>, ring: u32) -> bool
+fn is_over(served: &Served, rules: Rules<'_>, ring: u32) -> bool
     ensures { result ≡ is_over_at rules.entry.refusing rules.entry.limit served.now ring }
 {
     match (rules.refusing, rules.limit) {
@@ -236,7 +245,7 @@ fn is_over(served: &Served, rules: Rules<'_, '_>, ring: u32) -> bool
 }
 
 /// Whether the line is refused since memory is short, or all are refused, on strict terms.
-fn is_stop(rules: Rules<'_, '_>, asked: Answer) -> bool
+fn is_stop(rules: Rules<'_>, asked: Answer) -> bool
     ensures { result ≡ is_stop (terms_by rules.entry) asked }
 {
     let short = matches!(asked, Answer::Refused(Refusal::OutOfMemory));
@@ -250,11 +259,11 @@ fn is_stop(rules: Rules<'_, '_>, asked: Answer) -> bool
 ///
 /// Out of memory, where there was none for the answer or the notes: the line is answered. On strict terms also where the line would
 /// be refused for it, or all lines are refused: nothing has changed then.
-pub fn answer_by<D: Disk>(
+pub(crate) fn answer_by<D: Disk>(
     alloc: Global,
     served: &mut Served,
     disk: &mut D,
-    rules: Rules<'_, '_>,
+    rules: Rules<'_>,
     line: &[u8],
     shut: &mut bool,
     pending: &mut Pending,
@@ -275,31 +284,6 @@ pub fn answer_by<D: Disk>(
     let given = give(alloc, served, disk, rules, line, turn.call.answer);
     *shut = is_over(served, rules, turn.ring);
     add_pending(served, turn, given, rules.journal.is_some(), pending)
-}
-
-/// The rules by which lines are served with a journal of this name, if one is kept, and in a segment that ends so, if segments do.
-pub fn rules_in<'j, 'p>(
-    journal: Option<&'j str>,
-    permits: Permits<'p>,
-    ends: Option<Ends>,
-) -> Rules<'j, 'p>
-    ensures { terms_by result
-        ≡ terms_in (option_map (λ name. name.now) journal.entry) permits.entry ends }
-{
-    match ends {
-        None => Rules {
-            journal,
-            permits,
-            limit: None,
-            refusing: None,
-        },
-        Some(ends) => Rules {
-            journal,
-            permits,
-            limit: Some(ends.limit),
-            refusing: ends.refusing,
-        },
-    }
 }
 
 /// The writer of a journal, if one is kept.
@@ -385,9 +369,9 @@ pub fn serve<D: Disk, I: Read, J: Grow + Drop, W: Write>(
 {
     are_right(served); // says: the rings are right, at each moment
     let name = file_of(journal);
-    let rules = rules_in(name, permits, None);
     let mut writer = writer_of(mem::replace(journal, None));
-    let mut service = RingService::new(alloc, mem::replace(served, Served::none(alloc)), rules);
+    let rings = mem::replace(served, Served::none(alloc));
+    let mut service = RingService::in_file(alloc, rings, name, permits);
     let mut line = Vec::new(alloc);
     let mut unread = Unread::none();
     let ended = serve_part(

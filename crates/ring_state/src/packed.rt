@@ -1,6 +1,6 @@
 //! The state of a ring, in cells of one width.
 ghost use Rattle.std.specs.Prelude.{◌≡◌, ◌<◌, ◌≤◌, length, map, not, slice_index, ℕ, ◌↔◌, IfOk, IsTrue, true};
-ghost use Rattle.ring_model.specs.Ring.{Ring, is_privileged, privileged_count, first_privileged, weight, is_absent, first_value_is_prefix, IsPrefix, moved, written};
+ghost use Rattle.ring_model.specs.Ring.{Ring, is_privileged, privileged_count, first_privileged, weight, is_absent, first_value_is_prefix, IsPrefix, moved_value, written};
 ghost use Rattle.ring_model.specs.Limits.{machine_limit};
 ghost use Rattle.ring_lanes.specs.Masks.{IsMaskOf};
 ghost use Rattle.ring_state.specs.Sizes.{IsRingState, size_of};
@@ -127,20 +127,20 @@ impl<C: Cell> Packed<C> {
         C::first_value_is_prefix(self.cells.as_slice())
     }
 
-    /// The move of machine `i`, privileged or not.
+    /// The value of machine `i` after its move, privileged or not.
     #[inline(always)]
-    pub(crate) fn take_step(&mut self, i: u32)
-        requires { i < length self.old.values }
-        ensures is { self.new ≡ moved self.old i }
-        ensures ring { IsRingState self.old }
+    pub(crate) fn moved_value(&self, i: u32) -> u32
+        requires { i < length self.now.values }
+        ensures is { result ≡ moved_value self.now i }
+        ensures below { result < self.now.k }
+        ensures ring { IsRingState self.now }
     {
-        let value = if i == 0 {
+        if i == 0 {
             (self.get(0) + 1) % self.k
         } else {
             let left = i - 1;
             self.get(left)
-        };
-        self.write(i, value);
+        }
     }
 
     /// Writes `v` into machine `i`, and answers the value that was there.

@@ -190,16 +190,10 @@ impl RingState {
         ensures closure { IsClosed self.old self.new i }
         ensures descent { rest self.new ≤ rest self.old - 1 }
     {
-        self.take_step(i);
-    }
-
-    /// Only the move.
-    fn take_step(&mut self, i: u32)
-        requires { i < length self.old.values }
-        ensures is { self.new ≡ moved self.old i }
-        ensures ring { IsRingState self.old }
-    {
-        of_either!(&mut self.cells, state => state.take_step(i));
+        of_either!(&mut self.cells, state => {
+            let value = state.moved_value(i);
+            state.write(i, value);
+        })
     }
 
     /// Writes `v`, which is below K, into machine `i`, and answers the value that was there.

@@ -21,6 +21,8 @@ use std::process::Abort;
 pub enum Step<'a> {
     /// A pass that is granted: its position, the machine, the order, the number of the grant, and the resource's answer.
     Granted(u64, u32, u64, u64, u64),
+    /// The same of a machine that is privileged, for which there is room: it cannot be refused.
+    SurelyGranted(u64, u32, u64, u64, u64),
     /// A pass that is not granted: its position, the machine, and the order.
     NotPrivileged(u64, u32, u64),
     /// A corruption: its position, the machine, and the values that it writes and writes over.
@@ -128,6 +130,24 @@ fn is_recorded<R: Resource + Drop>(
     called(rt, book, op) == Ok(Receipt { position, event })
 }
 
+/// A grant by seat 0 to a machine that is privileged, with room for its event, which is asked for a second time if it is refused.
+fn grant<R: Resource + Drop>(
+    rt: &impl Abort,
+    book: &mut Book<R>,
+    machine: u32,
+    order: u64,
+) -> Receipt {
+    assert!(rt; machine < book.state().params().n());
+    assert!(rt; book.state().is_privileged(machine));
+    match book.reserve(1) {
+        Ok(()) => book.grant(0, machine, order),
+        Err(_) => match book.reserve(1) {
+            Ok(()) => book.grant(0, machine, order),
+            Err(_) => panic!(rt; "memory is refused twice"),
+        },
+    }
+}
+
 /// A pass by a group, with a second try. Nothing has changed where it is refused.
 fn pass_group<R: Resource + Drop>(
     rt: &impl Abort,
@@ -220,6 +240,14 @@ fn is_answered<R: Resource + Drop>(rt: &impl Abort, book: &mut Book<R>, step: St
         Step::Granted(position, machine, order, number, result) => {
             let op = Op::Pass { machine, order };
             is_recorded(rt, book, op, position, Reply::Granted { number, result })
+        }
+        Step::SurelyGranted(position, machine, order, number, result) => {
+            let event = Event {
+                seat: 0,
+                op: Op::Pass { machine, order },
+                reply: Reply::Granted { number, result },
+            };
+            grant(rt, book, machine, order) == Receipt { position, event }
         }
         Step::NotPrivileged(position, machine, order) => {
             let op = Op::Pass { machine, order };

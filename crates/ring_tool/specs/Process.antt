@@ -1,7 +1,7 @@
 -- The run of a process: what its words were read as is run over what it is given.
 use Rattle.std.specs.Prelude.{◌≡◌, ℕ, Bool, List, Option, Some, None, ◌⊎◌}
 use Rattle.disks.specs.Held.{Held}
-use Rattle.tool_parts.specs.Worlds.{World}
+use Rattle.tool_parts.specs.Worlds.{World, world}
 use Rattle.ring_tool.specs.declared.asked.Asked.{Asked}
 use Rattle.ring_tool.specs.Run.{HasRun}
 
@@ -14,6 +14,22 @@ pub record IsRunOf (Words : Option (List (List ℕ)) → Type 0)
   pub read : Reads words asked
   pub told : Bool
   pub run : HasRun asked status told was is
+
+-- The same over the input and the output of the process: what these have before and after it, by
+-- `remaining` and `contents`, beside what files and standard error hold.
+abbrev pub IsRunOver : {I O : Type 0} → (Option (List (List ℕ)) → Type 0)
+    → (List (List ℕ) → Asked → Type 0) → (I → Type 0) → (O → Type 0) → (I → Option (List ℕ))
+    → (O → Option (List ℕ)) → ℕ → Option Held → Option (List ℕ) → Option Held → Option (List ℕ)
+    → Type 0
+IsRunOver {I} {O} Words Reads HasInput HasOutput remaining contents status was err is told =
+    (input : I)
+    × (output : O)
+    × (rest : I)
+    × (printed : O)
+    × HasInput input
+    × HasOutput output
+    × IsRunOf Words Reads status (world was (remaining input) (contents output) err)
+    (world is (remaining rest) (contents printed) told)
 
 -- Nothing was run, and no file has changed: a word is not UTF-8, with status 2; or there was no memory
 -- for the words or for the buffer, with status 1.

@@ -1,11 +1,10 @@
 //! The program as a process: what it is given, and the status that comes of it.
 
-ghost use Rattle.std.specs.Prelude.{◌≡◌, ◌≤◌, ◌⊎◌, ℕ, List, Option, map, IfOk, string_bytes};
+ghost use Rattle.std.specs.Prelude.{◌≤◌, ◌⊎◌, ℕ, List, Option, map, IfOk, string_bytes};
 ghost use Rattle.std.specs.Option.{option_map};
 ghost use Rattle.std.specs.Process.{exit_status};
 ghost use Rattle.ring_tool.specs.declared.asked.Asked.{Asked};
-ghost use Rattle.ring_tool.specs.Process.{IsRunOf, IsNotRun};
-ghost use Rattle.tool_parts.specs.Worlds.{world};
+ghost use Rattle.ring_tool.specs.Process.{IsRunOver, IsNotRun};
 
 use crate::asked::{Asked, read_asked};
 use crate::program::run_asked;
@@ -130,17 +129,9 @@ pub fn run_process<
     E: Write,
 >(rt: &R, disk: &mut D, process: &P, reading: &A, err: &mut E) -> ExitCode
     ensures status { exit_status result ≤ 2 }
-    ensures ran { ((input : P.Input)
-        × (output : P.Output)
-        × (rest : P.Input)
-        × (printed : P.Output)
-        × P.has_input process.now input
-        × P.has_output process.now output
-        × IsRunOf (P.has_words process.now) A.reads (exit_status result)
-        (world (D.holds disk.old) (P.Input.remaining input) (P.Output.contents output)
-        (E.contents err.old))
-        (world (D.holds disk.new) (P.Input.remaining rest) (P.Output.contents printed)
-        (E.contents err.new)))
+    ensures ran { IsRunOver (P.has_words process.now) A.reads (P.has_input process.now)
+        (P.has_output process.now) P.Input.remaining P.Output.contents (exit_status result)
+        (D.holds disk.old) (E.contents err.old) (D.holds disk.new) (E.contents err.new)
         ⊎ IsNotRun (P.has_words process.now) (exit_status result) (D.holds disk.old)
         (D.holds disk.new) }
 {

@@ -1,57 +1,58 @@
 //! The lines of events and surveys, as text that stays where it is. Nothing takes memory.
 
-ghost use Rattle.std.specs.Prelude.{◌≡◌};
+ghost use Rattle.std.specs.Prelude.{◌≡◌, []};
 ghost use Rattle.saved_history.specs.declared.saved.SavedEvent.TheVariants.{Granted, Refused, Member, Corrupted};
 ghost use Rattle.saved_history.specs.Spelling.{event_line, survey_line};
 
 use crate::saved::{SavedEvent, SavedSurvey};
-use text_lines::Line;
+use text_lines::{Line, put_word};
 
-/// The line of a granted pass.
-fn granted_line(seat: u32, machine: u32, order: u64, number: u64, answer: u64) -> Line
-    ensures { result ≡ event_line (Granted seat machine order number answer) }
+/// Puts the line of a granted pass.
+#[inline(always)]
+fn put_granted(line: &mut Line, seat: u32, machine: u32, order: u64, number: u64, answer: u64)
+    requires { line.old ≡ [] }
+    ensures { line.new ≡ event_line (Granted seat machine order number answer) }
 {
-    let mut line = Line::new();
     line.byte(b'\n');
     line.number(answer);
     line.byte(b' ');
     line.number(number);
-    line.byte(b' ');
-    line.byte(b'g');
-    line.byte(b' ');
+    put_word(line, b" g ");
     line.number(order);
     line.byte(b' ');
     line.number(machine as u64);
     line.byte(b' ');
     line.number(seat as u64);
-    line.byte(b' ');
-    line.byte(b'p');
-    line
+    put_word(line, b"p ");
 }
 
-/// The line of a pass that was not granted.
-fn refused_line(seat: u32, machine: u32, order: u64) -> Line
-    ensures { result ≡ event_line (Refused seat machine order) }
+/// Puts the line of a pass that was not granted.
+fn put_refused(line: &mut Line, seat: u32, machine: u32, order: u64)
+    requires { line.old ≡ [] }
+    ensures { line.new ≡ event_line (Refused seat machine order) }
 {
-    let mut line = Line::new();
-    line.byte(b'\n');
-    line.byte(b'n');
-    line.byte(b' ');
+    put_word(line, b" n\n");
     line.number(order);
     line.byte(b' ');
     line.number(machine as u64);
     line.byte(b' ');
     line.number(seat as u64);
-    line.byte(b' ');
-    line.byte(b'p');
-    line
+    put_word(line, b"p ");
 }
 
-/// The line of a member of a group.
-fn member_line(seat: u32, machine: u32, order: u64, left: u32, number: u64, answer: u64) -> Line
-    ensures { result ≡ event_line (Member seat machine order left number answer) }
+/// Puts the line of a member of a group.
+fn put_member(
+    line: &mut Line,
+    seat: u32,
+    machine: u32,
+    order: u64,
+    left: u32,
+    number: u64,
+    answer: u64,
+)
+    requires { line.old ≡ [] }
+    ensures { line.new ≡ event_line (Member seat machine order left number answer) }
 {
-    let mut line = Line::new();
     line.byte(b'\n');
     line.number(answer);
     line.byte(b' ');
@@ -64,16 +65,14 @@ fn member_line(seat: u32, machine: u32, order: u64, left: u32, number: u64, answ
     line.number(machine as u64);
     line.byte(b' ');
     line.number(seat as u64);
-    line.byte(b' ');
-    line.byte(b'm');
-    line
+    put_word(line, b"m ");
 }
 
-/// The line of a fault.
-fn corrupted_line(seat: u32, machine: u32, value: u32, old: u32) -> Line
-    ensures { result ≡ event_line (Corrupted seat machine value old) }
+/// Puts the line of a fault.
+fn put_corrupted(line: &mut Line, seat: u32, machine: u32, value: u32, old: u32)
+    requires { line.old ≡ [] }
+    ensures { line.new ≡ event_line (Corrupted seat machine value old) }
 {
-    let mut line = Line::new();
     line.byte(b'\n');
     line.number(old as u64);
     line.byte(b' ');
@@ -82,14 +81,14 @@ fn corrupted_line(seat: u32, machine: u32, value: u32, old: u32) -> Line
     line.number(machine as u64);
     line.byte(b' ');
     line.number(seat as u64);
-    line.byte(b' ');
-    line.byte(b'c');
-    line
+    put_word(line, b"c ");
 }
 
-/// The line of an event.
-pub fn event_line(event: SavedEvent) -> Line
-    ensures { result ≡ event_line event }
+/// Puts the line of an event, as [`event_line`] makes it, where it need not be copied.
+#[inline(always)]
+pub fn put_event(line: &mut Line, event: SavedEvent)
+    requires { line.old ≡ [] }
+    ensures { line.new ≡ event_line event }
 {
     match event {
         SavedEvent::Granted {
@@ -98,12 +97,12 @@ pub fn event_line(event: SavedEvent) -> Line
             order,
             number,
             result: answer,
-        } => granted_line(seat, machine, order, number, answer),
+        } => put_granted(line, seat, machine, order, number, answer),
         SavedEvent::Refused {
             seat,
             machine,
             order,
-        } => refused_line(seat, machine, order),
+        } => put_refused(line, seat, machine, order),
         SavedEvent::Member {
             seat,
             machine,
@@ -111,21 +110,22 @@ pub fn event_line(event: SavedEvent) -> Line
             left,
             number,
             result: answer,
-        } => member_line(seat, machine, order, left, number, answer),
+        } => put_member(line, seat, machine, order, left, number, answer),
         SavedEvent::Corrupted {
             seat,
             machine,
             value,
             old,
-        } => corrupted_line(seat, machine, value, old),
+        } => put_corrupted(line, seat, machine, value, old),
     }
 }
 
-/// The line of a survey.
-pub fn survey_line(survey: SavedSurvey) -> Line
-    ensures { result ≡ survey_line survey }
+/// Puts the line of a survey, as [`survey_line`] makes it, where it need not be copied.
+#[inline(always)]
+pub fn put_survey(line: &mut Line, survey: SavedSurvey)
+    requires { line.old ≡ [] }
+    ensures { line.new ≡ survey_line survey }
 {
-    let mut line = Line::new();
     line.byte(b'\n');
     line.number(survey.rest);
     line.byte(b' ');
@@ -138,7 +138,23 @@ pub fn survey_line(survey: SavedSurvey) -> Line
     line.number(survey.position);
     line.byte(b' ');
     line.number(survey.seat as u64);
-    line.byte(b' ');
-    line.byte(b's');
+    put_word(line, b"s ");
+}
+
+/// The line of an event.
+pub fn event_line(event: SavedEvent) -> Line
+    ensures { result ≡ event_line event }
+{
+    let mut line = Line::new();
+    put_event(&mut line, event);
+    line
+}
+
+/// The line of a survey.
+pub fn survey_line(survey: SavedSurvey) -> Line
+    ensures { result ≡ survey_line survey }
+{
+    let mut line = Line::new();
+    put_survey(&mut line, survey);
     line
 }

@@ -15,7 +15,7 @@ mod versions;
 mod write;
 
 pub use blocks::read_prefix;
-pub use event_lines::{event_line, survey_line};
+pub use event_lines::{event_line, put_event, put_survey, survey_line};
 pub use lines::{EventOrEnd, Next, SurveyOrNext, event_or_end, survey_or_next};
 pub use read::{answers_are_apart, read_saved, texts_are_apart, texts_read_back};
 pub use saved::{RingHeader, Saved, SavedEvent, SavedRing, SavedSurvey};

@@ -6,7 +6,7 @@ use Rattle.disks.specs.Held.{Held}
 use Rattle.line_service.specs.Segments.{Moment, HasBegun, IsFileUnbegun}
 use Rattle.ring_service.specs.declared.chain_segments.ChainRules.{ChainRules}
 use Rattle.ring_service.specs.Texts.{segment_text}
-use Rattle.ring_service.specs.ChainServices.{ServiceView, service_of, may_save, segmenting}
+use Rattle.ring_service.specs.Services.{ServiceView, service_of, may_save, segmenting}
 use Rattle.serve_commands.specs.ServedFolder.{Place, HasBegunAt}
 
 module _ (s : ChainRules) (start : Place) (v : ServiceView) (e : v ≡ service_of s start.rings start.number None) where

@@ -1,13 +1,13 @@
 -- What the journal's file holds while lines are served: no line replaces it.
-use Rattle.std.proofs.Common.{◌≡◌, ◌∙◌, ℕ, List, [], ◌∷◌, Option, None, Some, refl, sym, subst, inl, inr}
+use Rattle.std.proofs.Common.{◌≡◌, ◌∙◌, ℕ, List, [], ◌∷◌, Option, None, Some, refl, sym, ap, subst, inl, inr}
 use Rattle.std.specs.Prelude.{IfSome, ⊤}
 use Rattle.disks.specs.Held.{Held, bytes_of, Replaces, IsHeld}
 use Rattle.line_service.specs.Loop.{Written}
-use Rattle.ring_service.specs.declared.answers.Answer.{Answer}
-use Rattle.ring_service.specs.declared.answers.Answer.TheVariants as answer
+use Rattle.line_service.specs.Stands.{Stand}
 use Rattle.ring_service.specs.Permits.{Terms}
 use Rattle.ring_service.specs.Standings.{Standing}
-use Rattle.ring_service.specs.Serving.{IsApartFrom, IsSaved, IsSaveGiven, IsGiven, Answers, Stops, name_in}
+use Rattle.ring_service.specs.Starts.{HaveChanged, answered_changed}
+use Rattle.ring_service.specs.Serving.{IsApartFrom, IsAnswered, Answers, Stops}
 use Rattle.serve_commands.specs.Served.{IsServedPart}
 
 -- the file of this name has the content that it had, where that is known
@@ -34,34 +34,22 @@ replaced None is name file bytes apart r = tt
 replaced (Some was) None name file bytes apart r = absurd r
 replaced (Some was) (Some is) name file bytes apart r = r.others name (λ one. apart (sym one))
 
-module _ (journal : Option (List ℕ)) (name : List ℕ) (named : journal ≡ Some name) where
-  saved : (history : Option (List ℕ)) (was is : Option Held) (file : List ℕ) (rings : List Standing) (given : Answer) → IsSaved journal history was is file rings given → HoldsStill was is name
-  saved history was is file rings given (inl h) = replaced was is name file _ (subst (λ (j : Option (List ℕ)). IsApartFrom was j file) named h.3) h.1
-  saved history was is file rings given (inr h) = same was is name h.1
-
-  save : (history saves : Option (List ℕ)) (was is : Option Held) (file : List ℕ) (rings : List Standing) (given : Answer) → IsSaveGiven journal history saves was is file rings given → HoldsStill was is name
-  save history None was is file rings given h = same was is name h.1
-  save history (Some folder) was is file rings given (inl h) = saved history was is _ rings given h.1
-  save history (Some folder) was is file rings given (inr h) = same was is name h.2
-
-  given_still : (history saves : Option (List ℕ)) (was is : Option Held) (file : List ℕ) (rings : List Standing) (asked given : Answer) → IsGiven journal history saves was is file rings asked given → HoldsStill was is name
-  given_still history saves was is file rings answer.Saved given h = save history saves was is file rings given h
-  given_still history saves was is file rings (answer.Granted number result) given h = same was is name h.1
-  given_still history saves was is file rings answer.Waits given h = same was is name h.1
-  given_still history saves was is file rings (answer.Corrupted old) given h = same was is name h.1
-  given_still history saves was is file rings (answer.Survey survey) given h = same was is name h.1
-  given_still history saves was is file rings (answer.Block first count) given h = same was is name h.1
-  given_still history saves was is file rings (answer.Refused why) given h = same was is name h.1
+changed_still : (journal : Option (List ℕ)) (name : List ℕ) (was is : Option Held) → journal ≡ Some name → HaveChanged journal was is → HoldsStill was is name
+changed_still journal name was is named (inl e) = same was is name e
+changed_still journal name was is named (inr r) = replaced was is name r.0 r.1 (subst (λ (j : Option (List ℕ)). IsApartFrom was j r.0) named r.3) r.2
 
 answers_still : (terms : Terms) (name : List ℕ) (old new : List Standing) (was is : Option Held) (lines : List (List ℕ)) (said noted : List ℕ) → terms.journal ≡ Some name → Answers terms old was lines said noted new is → HoldsStill was is name
-answers_still terms name old new was is [] said noted named h = same was is name h.3
+answers_still terms name old new was is [] said noted named h = same was is name (ap (λ (x : Stand (List Standing)). x.files) h.2)
 answers_still terms name old new was is (line ∷ lines) said noted named h =
-    both was h.1 is name (given_still terms.journal name named terms.history terms.saves was h.1 (name_in line) h.0 h.6.turn.answer h.6.given h.6.gives) (answers_still terms name h.0 new h.1 is lines h.3 h.5 named h.9)
+    let mid : List Standing = h.0.service in
+    let between : Option Held = h.0.files in
+    let one : IsAnswered terms old was line h.1 h.3 mid between = h.5 in
+    both was between is name (changed_still terms.journal name was between named (answered_changed terms old mid was between line h.1 h.3 one)) (answers_still terms name mid new between is lines h.2 h.4 named h.8)
 
 stops_still : (terms : Terms) (name : List ℕ) (old new : List Standing) (was is : Option Held) (before after : Written) (bytes : List ℕ) → terms.journal ≡ Some name → Stops terms old was before after bytes new is → HoldsStill was is name
 stops_still terms name old new was is before after bytes named h =
-    both was h.between is name (answers_still terms name old h.mid was h.between h.told.lines h.said h.noted named h.told.answers)
-    (answers_still terms name h.mid new h.between is h.untold.lines h.unsaid _ named h.untold.answers)
+    both was h.mid.files is name (answers_still terms name old h.mid.service was h.mid.files h.told.lines h.said h.noted named h.told.answers)
+    (answers_still terms name h.mid.service new h.mid.files is h.untold.lines h.unsaid _ named h.untold.answers)
 
 -- what was put there is there still
 put_still : (before begun after : Option Held) (name bytes : List ℕ) → Replaces before begun name (Some bytes) → HoldsStill begun after name → IfSome before (λ _. IsHeld after name bytes)

@@ -3,11 +3,9 @@ use Rattle.std.proofs.Common.{◌≡◌, ℕ, List, [], ◌∷◌, Option, None,
 use Rattle.std.specs.Prelude.{IsSome}
 use Rattle.disks.specs.Held.{Held}
 use Rattle.line_service.specs.SegmentNames.{segment_file}
-use Rattle.ring_service.specs.declared.answers.Answer.{Answer}
-use Rattle.ring_service.specs.declared.answers.Answer.TheVariants as answer
 use Rattle.ring_service.specs.Permits.{Terms}
 use Rattle.ring_service.specs.Standings.{Standing}
-use Rattle.ring_service.specs.Serving.{IsSaveGiven, IsGiven, name_in}
+use Rattle.ring_service.specs.Starts.{HaveChanged, answered_changed}
 use Rattle.line_service.specs.Answering.{Answers}
 use Rattle.line_service.specs.Stands.{Stand, by_stand}
 use Rattle.line_service.specs.declared.segmented.EndFault.{EndFault}
@@ -16,7 +14,7 @@ use Rattle.line_service.specs.Service.{Part, AreParts}
 use Rattle.line_service.proofs.Changing.{kept_file}
 use Rattle.ring_service.specs.declared.chain_segments.ChainRules.{ChainRules}
 use Rattle.ring_service.specs.Texts.{segment_text}
-use Rattle.ring_service.specs.ChainServices.{ServiceView, terms_of, IsServed, segmenting}
+use Rattle.ring_service.specs.Services.{ServiceView, terms_of, IsServed, segmenting}
 use Rattle.tool_parts.specs.Locking.{IsLocked, StandsLocked}
 use Rattle.tool_parts.proofs.LockedFolders.{Stands, stands_locked, same_locked, put_locked, if_held, ended_stand, kept_stand, added_stand}
 use Rattle.serve_commands.specs.ServedFolder.{Place, IsRun, AreUnderLock}
@@ -24,15 +22,9 @@ use Rattle.serve_commands.specs.ServedFolder.{Place, IsRun, AreUnderLock}
 module _ (folder : List ℕ) where
   -- ---- a line changes no lock
 
-  save_locked : (journal history saves : Option (List ℕ)) (was is : Option Held) (name : List ℕ) (rings : List Standing) (given : Answer) → IsSaveGiven journal history saves was is name rings given → StandsLocked was folder → StandsLocked is folder
-  save_locked journal history None was is name rings given g l = same_locked was is folder g.1 l
-  save_locked journal history (Some place) was is name rings given (inl (plain, inl s)) l = put_locked was is folder _ _ s.1 l
-  save_locked journal history (Some place) was is name rings given (inl (plain, inr s)) l = same_locked was is folder s.1 l
-  save_locked journal history (Some place) was is name rings given (inr s) l = same_locked was is folder s.2 l
-
-  given_locked : (journal history saves : Option (List ℕ)) (was is : Option Held) (name : List ℕ) (rings : List Standing) (asked given : Answer) → IsGiven journal history saves was is name rings asked given → StandsLocked was folder → StandsLocked is folder
-  given_locked journal history saves was is name rings answer.Saved given g l = save_locked journal history saves was is name rings given g l
-  given_locked journal history saves was is name rings asked given g l = same_locked was is folder g.1 l
+  changed_locked : (journal : Option (List ℕ)) (was is : Option Held) → HaveChanged journal was is → StandsLocked was folder → StandsLocked is folder
+  changed_locked journal was is (inl e) l = same_locked was is folder e l
+  changed_locked journal was is (inr r) l = put_locked was is folder r.0 r.1 r.2 l
 
   answers_locked : (old new : Stand ServiceView) (lines : List (List ℕ)) (said noted : List ℕ) → Answers (by_stand IsServed) old lines said noted new → StandsLocked old.files folder → StandsLocked new.files folder
   answers_locked old new [] said noted h l = subst (λ (x : Stand ServiceView). StandsLocked x.files folder) (sym h.2) l
@@ -40,8 +32,8 @@ module _ (folder : List ℕ) where
       let mid : Stand ServiceView = h.0 in
       let one : IsServed old.service old.files line h.1 h.3 mid.service mid.files = h.5 in
       let terms : Terms = terms_of old.service in
-      let a = one.answered in
-      answers_locked mid new lines h.2 h.4 h.8 (given_locked terms.journal terms.history terms.saves old.files mid.files (name_in line) mid.service.rings a.turn.answer a.given a.gives l)
+      let one_changed = answered_changed terms old.service.rings mid.service.rings old.files mid.files line h.1 h.3 one.answered in
+      answers_locked mid new lines h.2 h.4 h.8 (changed_locked terms.journal old.files mid.files one_changed l)
 
   -- ---- before a part a segment ends, or continues
 

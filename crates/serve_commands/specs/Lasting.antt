@@ -12,7 +12,8 @@ use Rattle.ring_service.specs.Saved.{content_of}
 use Rattle.ring_service.specs.Standings.{Standing}
 use Rattle.ring_service.specs.Starting.{AreResumed}
 use Rattle.ring_service.specs.declared.chain_segments.ChainRules.{ChainRules}
-use Rattle.ring_service.specs.ChainServices.{ServiceView, folder_of}
+use Rattle.ring_service.specs.Rules.{folder_of}
+use Rattle.ring_service.specs.Services.{ServiceView}
 use Rattle.ring_service.specs.ChainRecovered.{AnsweredCallsLast, CallsOfEachSegmentLast}
 use Rattle.line_service.specs.Segments.{Moment}
 use Rattle.tool_parts.specs.declared.requests.ServeWords.{ServeWords}
@@ -66,6 +67,12 @@ pub record JournalLasts (permits : Permits) (name : List ℕ) (start : List Stan
   pub served : AnsweredCallsAreRecovered (terms_of (Some name) permits) start end begun ended was is
       (record { journal = Some first; out = old }) (record { journal = Some last; out = new })
   pub left_is : IfSome left (λ held. HasFront held name (Some last))
+
+-- No line was served, or of the lines that were what was delivered lasts.
+abbrev pub BegunLasts : Permits → List ℕ → List Standing → Option Held → List ℕ → Option (List ℕ)
+    → Option (List ℕ) → Option (List ℕ) → Option (List ℕ) → Option Held → Type 0
+BegunLasts permits name start begun first was is old new left =
+    IsUnserved was is old new ⊎ JournalLasts permits name start begun first was is old new left
 
 -- In a file: no line was served; or the rings began where the history or the journal has them, the
 -- journal was begun anew with them, and what was delivered lasts.

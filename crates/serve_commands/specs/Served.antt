@@ -121,6 +121,15 @@ pub record IsServedOn (permits : Permits) (name : List ℕ) (start end : List St
       (record { journal = first; out = old }) (record { journal = last; out = new })
   pub settled : Replaces ended after name last
 
+-- The journal in the file of this name, which had been begun, was opened, and the lines were served
+-- with it.
+abbrev pub IsServedBegun : Permits → List ℕ → List Standing → List Standing → Option Held
+    → Option Held → Option (List ℕ) → Option (List ℕ) → Option (List ℕ) → Option (List ℕ) → Type 0
+IsServedBegun permits name start end begun after was is old new =
+    (first : Option (List ℕ))
+    × Grows begun name first
+    × IsServedOn permits name start end begun after first was is old new
+
 -- either, by whether a journal is kept
 abbrev pub IsServed : Permits → Option (List ℕ) → List Standing → List Standing → Option Held
     → Option Held → Option (List ℕ) → Option (List ℕ) → Option (List ℕ) → Option (List ℕ) → Type 0
@@ -241,6 +250,17 @@ pub record IsServedPart (terms : Terms) (start : List Standing) (before after : 
   pub served : AnsweredCallsAreRecovered terms start end before after was is
       (record { journal = first; out = old }) (record { journal = last; out = new })
 
+-- A journal in the file of this name, which had been begun with these rings, was not served to the
+-- end: no line was read, since it cannot be opened; or serving was broken off.
+abbrev pub IsBegunPart : Permits → List ℕ → List Standing → Option Held → Option Held
+    → Option (List ℕ) → Option (List ℕ) → Option (List ℕ) → Option (List ℕ) → ToolError → Type 0
+IsBegunPart permits name start begun after was is old new e =
+    (IsUnserved was is old new × IsUnopenedJournal name e × (after ≡ begun))
+    ⊎ (IsServingFault (Some name) e
+    × (first : Option (List ℕ))
+    × Grows begun name first
+    × IsServedPart (terms_of (Some name) permits) start begun after first was is old new)
+
 -- with a journal in the file of this name: it was put there with the saved text of the rings as
 -- they began, and that it holds still
 pub record IsNotedPart (permits : Permits) (name : List ℕ) (start : List Standing)
@@ -259,6 +279,16 @@ IsPlainPart permits start before after was is old new e =
     IsServingFault None e
     × ((first : Option (List ℕ))
     × IsServedPart (terms_of None permits) start before after first was is old new)
+
+-- These rings of a history were not served to the end without a journal: no line was read, since
+-- they do not resume; or serving was broken off.
+abbrev pub IsResumedPart : Permits → List SavedRing → Option Held → Option Held → Option (List ℕ)
+    → Option (List ℕ) → Option (List ℕ) → Option (List ℕ) → ToolError → Type 0
+IsResumedPart permits rings before after was is old new e =
+    (IsUnserved was is old new × (after ≡ before) × IsStartRefusal rings e)
+    ⊎ ((start : List Standing)
+    × AreResumed start rings
+    × IsPlainPart permits start before after was is old new e)
 
 -- Rings that began with a journal in the file of this name were not served to the end: it was put
 -- there with the rings as they began, and cannot be opened; or serving was broken off.

@@ -18,7 +18,8 @@ use Rattle.ring_service.specs.Standings.{Standing}
 use Rattle.ring_service.specs.Starting.{AreResumed, AreResumedAfter}
 use Rattle.ring_service.specs.declared.chain_segments.ChainRules.{ChainRules}
 use Rattle.ring_service.specs.Texts.{segment_text}
-use Rattle.ring_service.specs.ChainServices.{ServiceView, service_of, IsServed, segmenting, folder_of, file_of}
+use Rattle.ring_service.specs.Rules.{folder_of, file_of}
+use Rattle.ring_service.specs.Services.{ServiceView, service_of, IsServed, segmenting}
 use Rattle.ring_service.specs.ChainRecovered.{AnsweredCallsAreRecovered}
 use Rattle.line_service.specs.Segments.{Moment, HasBegun, IsFileUnbegun}
 use Rattle.line_service.specs.Service.{Part, ServesSegments, ServesSomeSegments}

@@ -1,9 +1,9 @@
 //! `serve`: rings that resume from a saved text, driven by the lines of standard input.
 
-ghost use Rattle.std.specs.Prelude.{◌≡◌, ℕ, List, true, None, Some, Option, OnOk, OnErr, IfOk, IfErr, IfSome, IsSome, length, ◌⊎◌, string_bytes};
+ghost use Rattle.std.specs.Prelude.{◌≡◌, ℕ, List, true, None, Some, Option, OnOk, OnErr, IfOk, IfErr, IfSome, IsSome, length, string_bytes};
 ghost use Rattle.std.specs.Option.{option_map};
 ghost use Rattle.std.specs.Io.KnownBytes.{Appends};
-ghost use Rattle.disks.specs.Held.{Grows, Replaces};
+ghost use Rattle.disks.specs.Held.{Replaces};
 ghost use Rattle.disks.specs.Lasting.{HasFront, Leaves, bytes_in, outlives};
 ghost use Rattle.saved_history.specs.declared.saved.Saved.{Saved};
 ghost use Rattle.ring_service.specs.Standings.{Standing};
@@ -11,10 +11,8 @@ ghost use Rattle.ring_service.specs.Permits.{terms_of};
 ghost use Rattle.ring_service.specs.Starting.{AreResumed};
 ghost use Rattle.ring_service.specs.Totals.{totals_of};
 ghost use Rattle.ring_text.specs.Report.{total_line};
-ghost use Rattle.serve_commands.specs.Served.{permits_of, CanBeginWith, IsNoted, IsServedPlain, IsServedOn, IsServedNoted, journal_of, IsStartRefusal, IsServingFault, IsServedPart, IsPlainPart, IsRefusedFrom};
-ghost use Rattle.serve_commands.specs.Lasting.{JournalLasts, FileLasts, KeptLasts, CallsLast, ToldCallsLast};
-ghost use Rattle.tool_parts.specs.Worlds.{IsUnserved};
-ghost use Rattle.tool_parts.specs.Locking.{IsUnopenedJournal};
+ghost use Rattle.serve_commands.specs.Served.{permits_of, CanBeginWith, IsNoted, IsServedPlain, IsServedOn, IsServedBegun, IsServedNoted, journal_of, IsServingFault, IsServedPart, IsBegunPart, IsPlainPart, IsResumedPart, IsRefusedFrom};
+ghost use Rattle.serve_commands.specs.Lasting.{JournalLasts, BegunLasts, FileLasts, KeptLasts, CallsLast, ToldCallsLast};
 ghost use Rattle.serve_commands.specs.ServeAnswer.{IsServedTo, IsServeAnswer, IsRefusedTo, IsUntold, IsServeRefusal};
 ghost use Rattle.tool_parts.specs.Worlds.{world};
 
@@ -188,26 +186,15 @@ fn serve_begun<'a, D: Disk, I: Read, W: Write>(
     out: &mut W,
 ) -> Result<(), ToolError<'a>>
     requires named { string_bytes file ≡ name.now }
-    ensures ok { OnOk result ((first : Option (List ℕ))
-        × Grows (D.holds disk.old) name.now first
-        × IsServedOn (permits_of words.now) name.now served.old served.new (D.holds disk.old)
-        (D.holds disk.new) first (I.remaining input.old) (I.remaining input.new)
+    ensures ok { OnOk result (IsServedBegun (permits_of words.now) name.now served.old served.new
+        (D.holds disk.old) (D.holds disk.new) (I.remaining input.old) (I.remaining input.new)
         (W.contents out.old) (W.contents out.new)) }
-    ensures err { IfErr result (λ e. (IsUnserved (I.remaining input.old) (I.remaining input.new)
-        (W.contents out.old) (W.contents out.new)
-        × IsUnopenedJournal name.now e
-        × (D.holds disk.new ≡ D.holds disk.old))
-        ⊎ (IsServingFault (Some name.now) e
-        × (first : Option (List ℕ))
-        × Grows (D.holds disk.old) name.now first
-        × IsServedPart (terms_of (Some name.now) (permits_of words.now)) served.old
-        (D.holds disk.old) (D.holds disk.new) first (I.remaining input.old)
-        (I.remaining input.new) (W.contents out.old) (W.contents out.new))) }
+    ensures err { IfErr result (λ e. IsBegunPart (permits_of words.now) name.now served.old
+        (D.holds disk.old) (D.holds disk.new) (I.remaining input.old) (I.remaining input.new)
+        (W.contents out.old) (W.contents out.new) e) }
     ensures lasts { outlives D.keeps_written words.now.synced ≡ true → (first : List ℕ)
         → bytes_in (D.holds disk.old) name.now ≡ Some first
-        → IsUnserved (I.remaining input.old) (I.remaining input.new) (W.contents out.old)
-        (W.contents out.new)
-        ⊎ JournalLasts (permits_of words.now) name.now served.old (D.holds disk.old) first
+        → BegunLasts (permits_of words.now) name.now served.old (D.holds disk.old) first
         (I.remaining input.old) (I.remaining input.new) (W.contents out.old) (W.contents out.new)
         (D.leaves disk.new) }
 {
@@ -244,15 +231,9 @@ fn run_plain<D: Disk, I: Read, W: Write>(
         × AreResumed start saved.now.rings.items
         × IsServedPlain permits.entry start end (D.holds disk.old) (D.holds disk.new)
         (I.remaining input.old) (I.remaining input.new) (W.contents out.old) (W.contents out.new)) }
-    ensures err { IfErr result (λ e. (IsUnserved (I.remaining input.old) (I.remaining input.new)
-        (W.contents out.old) (W.contents out.new)
-        × (D.holds disk.new ≡ D.holds disk.old)
-        × IsStartRefusal saved.now.rings.items e)
-        ⊎ ((start : List Standing)
-        × AreResumed start saved.now.rings.items
-        × IsPlainPart permits.entry start (D.holds disk.old) (D.holds disk.new)
-        (I.remaining input.old) (I.remaining input.new) (W.contents out.old) (W.contents out.new)
-        e)) }
+    ensures err { IfErr result (λ e. IsResumedPart permits.entry saved.now.rings.items
+        (D.holds disk.old) (D.holds disk.new) (I.remaining input.old) (I.remaining input.new)
+        (W.contents out.old) (W.contents out.new) e) }
 {
     let mut served = match resume_rings(alloc, saved) {
         Ok(served) => served,

@@ -10,7 +10,7 @@ ghost use Rattle.segment_files.specs.Spelling.{DigestFits};
 ghost use Rattle.segment_files.specs.Torn.{IsRightEnd};
 ghost use Rattle.ring_model.specs.Bases.{IsBase};
 ghost use Rattle.ring_service.specs.Starting.{AreResumedAfter};
-ghost use Rattle.ring_service.specs.ChainServices.{ServiceView};
+ghost use Rattle.ring_service.specs.Services.{ServiceView};
 ghost use Rattle.line_service.specs.Segments.{Moment};
 ghost use Rattle.tool_parts.specs.Chained.{IsFolderFault};
 ghost use Rattle.serve_commands.specs.Served.{IsFirstRefusal};
@@ -25,7 +25,7 @@ use line_service::{
     EndFault, SegmentNumbers, SegmentRules, begin_segment, close_segment, has_list, list_name,
     serve_segments,
 };
-use ring_service::{ChainRules, ChainService, Served};
+use ring_service::{ChainRules, RingService, Served};
 use saved_history::Saved;
 use segment_files::{DIGEST_DIGITS, LastSegment, SegmentError, read_end};
 use std::alloc::{AllocError, Global};
@@ -297,10 +297,7 @@ fn serve_from<'a, D: Disk, I: Read, W: Write>(
         behind,
     } = place;
     let folder = rules.files.folder;
-    let mut service = match ChainService::new(alloc, served, rules, number) {
-        Ok(service) => service,
-        Err(_) => return Err(ToolError::OutOfMemory),
-    };
+    let mut service = RingService::in_segment(alloc, served, rules, number);
     let first = match begin_segment(alloc, disk, &service, number, behind, rules.files) {
         Ok(first) => first,
         Err(why) => return Err(begin_refusal(why, folder)),

@@ -48,6 +48,17 @@ impl Line {
         self.bytes[self.start] = byte;
     }
 
+    /// Puts the word in front.
+    #[inline(always)]
+    pub(crate) fn word(&mut self, word: &[u8])
+        requires { length self.old + length word.now ≤ 128 }
+        ensures { self.new ≡ word.now ++ self.old }
+    {
+        let end = self.start;
+        self.start = end - word.len();
+        self.bytes[self.start..end].copy_from_slice(word);
+    }
+
     /// Puts the number's decimal in front: at most 20 digits.
     #[inline(always)]
     pub fn number(&mut self, number: u64)

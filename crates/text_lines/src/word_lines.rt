@@ -6,13 +6,12 @@ ghost use Rattle.text_lines.specs.Spelling.{spaced, ended};
 use crate::line::Line;
 
 /// Puts the word before a line.
+#[inline(always)]
 pub fn put_word(line: &mut Line, word: &[u8])
     requires { length line.old + length word.now ≤ 128 }
     ensures { line.new ≡ word.now ++ line.old }
 {
-    for i in 0..word.len() {
-        line.byte(word[word.len() - 1 - i]);
-    }
+    line.word(word);
 }
 
 /// The line of this one word, which has its LF.

@@ -79,6 +79,24 @@ pub fn passes_another_machine<R: Resource + Drop>(
     book.pass(seat, other, order)
 }
 
+/// A pass that cannot be refused is recorded under its seat: this one under another.
+pub fn grants_under_another_seat<R: Resource + Drop>(
+    book: &mut Book<R>,
+    seat: u32,
+    other: u32,
+    machine: u32,
+    order: u64,
+) -> Receipt
+    requires seat { other < seat_limit }
+    requires machine { machine < length book.old.now.ring.values }
+    requires privileged { is_privileged book.old.now.ring.values machine ≡ true }
+    requires room { 1 ≤ book.old.room }
+    requires apart { other ≢ seat }
+    ensures wrong { IsRecorded R.works book.old book.new seat (Op.Pass machine order) result → ⊥ }
+{
+    book.grant(other, machine, order)
+}
+
 /// A pass is one event: this one is two.
 pub fn passes_twice<R: Resource + Drop>(
     book: &mut Book<R>,

@@ -30,7 +30,7 @@ use Rattle.ring_service.specs.Turns.{Turn, refused}
 use Rattle.ring_service.specs.Permits.{Terms}
 use Rattle.ring_service.specs.Serving.{IsTurnOn, IsGiven, name_in}
 use Rattle.ring_service.specs.Texts.{segment_text}
-use Rattle.ring_service.specs.ChainServices.{ServiceView, terms_of, IsServed, refusal_of, segmenting}
+use Rattle.ring_service.specs.Services.{ServiceView, terms_of, IsServed, with_refusal, refusal_of, segmenting}
 
 abbrev pub head : List ℕ → ℕ
 head [] = 0
@@ -38,7 +38,7 @@ head (b ∷ bs) = b
 
 -- the segment of the service is due
 abbrev pub IsDue : ServiceView → Type 0
-IsDue v = is_due (Some v.rules.limit) v.rings ≡ true
+IsDue v = is_due v.rules.limit v.rings ≡ true
 
 -- ---- numbers never fall
 
@@ -57,7 +57,7 @@ parts_up folder a b (p ∷ ps) h =
 
 -- ---- lines that are all refused
 
-refused_one : (why : Refusal) (old new : ServiceView) (was is : Option Held) (line said noted : List ℕ) → old.refusing ≡ Some why → IsServed old was line said noted new is → said ≡ answer_line (answer.Refused why)
+refused_one : (why : Refusal) (old new : ServiceView) (was is : Option Held) (line said noted : List ℕ) → old.rules.refusing ≡ Some why → IsServed old was line said noted new is → said ≡ answer_line (answer.Refused why)
 refused_one why old new was is line said noted off one =
     let terms : Terms = terms_of old in
     let a = one.answered in
@@ -69,7 +69,7 @@ refused_one why old new was is line said noted off one =
 refused_head : (why : Refusal) (later more : List ℕ) → head ((answer_line (answer.Refused why) ++ later) ++ more) ≡ 103 → ⊥
 refused_head why later more e = let h : ◌≡◌ {A = ℕ} 114 103 = e in absurd (omega arith)
 
-refused_part : (why : Refusal) (old new : Stand ServiceView) (lines : List (List ℕ)) (said noted : List ℕ) → old.service.refusing ≡ Some why → Answers (by_stand IsServed) old lines said noted new → (more : List ℕ) → head (said ++ more) ≡ 103 → (head more ≡ 103) × (new ≡ old)
+refused_part : (why : Refusal) (old new : Stand ServiceView) (lines : List (List ℕ)) (said noted : List ℕ) → old.service.rules.refusing ≡ Some why → Answers (by_stand IsServed) old lines said noted new → (more : List ℕ) → head (said ++ more) ≡ 103 → (head more ≡ 103) × (new ≡ old)
 refused_part why old new [] said noted off h more e = (subst (λ (x : List ℕ). head (x ++ more) ≡ 103) h.0 e, h.2)
 refused_part why old new (line ∷ lines) said noted off h more e =
     let mid : Stand ServiceView = h.0 in
@@ -80,7 +80,7 @@ refused_part why old new (line ∷ lines) said noted off h more e =
 
 record Stays (a from : Moment ServiceView) : Type 0 where
   pub why : EndFault
-  pub service : from.service ≡ record a.service { refusing = Some (refusal_of why) }
+  pub service : from.service ≡ with_refusal a.service (refusal_of why)
   pub number : from.number ≡ a.number
 
 stays : (folder : List ℕ) (kept : Option EndFault) (a from : Moment ServiceView) (last : ℕ) → IsDue a.service → last ≡ a.number → from.number ≤ last → IsReady segmenting folder kept a from → Stays a from
@@ -95,9 +95,9 @@ none_granted folder a b (p ∷ ps) due same h e =
     let rest = parts_up folder p.to b ps h.2 in
     let kept = h.1.number in
     let st = stays folder p.kept a p.from b.number due same (omega (arith, rest, kept)) h.0 in
-    let off : p.from.service.refusing ≡ Some (refusal_of st.why) = ap (λ (v : ServiceView). v.refusing) st.service in
+    let off : p.from.service.rules.refusing ≡ Some (refusal_of st.why) = ap (λ (v : ServiceView). v.rules.refusing) st.service in
     let one = refused_part (refusal_of st.why) (stand_of p.from) (stand_of p.to) p.lines p.said p.noted off h.1.answers (all_said ps) e in
-    let service : p.to.service ≡ record a.service { refusing = Some (refusal_of st.why) } = ap (λ (x : Stand ServiceView). x.service) one.1 ∙ st.service in
+    let service : p.to.service ≡ with_refusal a.service (refusal_of st.why) = ap (λ (x : Stand ServiceView). x.service) one.1 ∙ st.service in
     none_granted folder p.to b ps (subst IsDue (sym service) due) (same ∙ sym (kept ∙ st.number)) h.2 one.0
 
 pub starts : (out : List ℕ) (y : ℕ) → y ≡ get_or out 0 y → 0 < length out → y ≡ 103 → head out ≡ 103
@@ -128,7 +128,7 @@ quiet old new (line ∷ lines) said noted e h = absurd (not_nil line lines e)
     not_nil l ls p = cc
 
 -- a moment whose limit, rings, number and journal are these, and whose files are known
-record IsAt (limit : ℕ) (rings : List Standing) (number : ℕ) (journal : List ℕ) (m : Moment ServiceView) : Type 0 where
+record IsAt (limit : Option ℕ) (rings : List Standing) (number : ℕ) (journal : List ℕ) (m : Moment ServiceView) : Type 0 where
   pub held : Held
   pub limit_is : m.service.rules.limit ≡ limit
   pub rings_are : m.service.rings ≡ rings
@@ -144,7 +144,7 @@ appended_none was is bytes noted w n a =
     go None a = absurd a
     go (Some xs) a = ap (λ (x : List ℕ). Some x) (a ∙ append-nil bytes)
 
-part_quiet : (p : Part ServiceView) (limit : ℕ) (rings : List Standing) (number : ℕ) (journal more : List ℕ) → IsPart IsServed p → joined_lines p.lines ++ more ≡ [] → IsAt limit rings number journal p.from → IsAt limit rings number journal p.to
+part_quiet : (p : Part ServiceView) (limit : Option ℕ) (rings : List Standing) (number : ℕ) (journal more : List ℕ) → IsPart IsServed p → joined_lines p.lines ++ more ≡ [] → IsAt limit rings number journal p.from → IsAt limit rings number journal p.to
 part_quiet p limit rings number journal more is none at =
     let q = quiet (stand_of p.from) (stand_of p.to) p.lines p.said p.noted (no_lines p.lines more is.each none).0 is.answers in
     let service : p.to.service ≡ p.from.service = ap (λ (x : Stand ServiceView). x.service) q.0 in
@@ -172,7 +172,7 @@ if_some o a P e h = subst (λ (x : Option _). IfSome x P) e h
 
 module _ (folder : List ℕ) where
   -- the segment stays
-  ready_at : (kept : Option EndFault) (a from : Moment ServiceView) (limit : ℕ) (rings : List Standing) (number : ℕ) (journal : List ℕ) → IsAt limit rings number journal a → from.number ≡ number → IsReady segmenting folder kept a from → IsAt limit rings number journal from
+  ready_at : (kept : Option EndFault) (a from : Moment ServiceView) (limit : Option ℕ) (rings : List Standing) (number : ℕ) (journal : List ℕ) → IsAt limit rings number journal a → from.number ≡ number → IsReady segmenting folder kept a from → IsAt limit rings number journal from
   ready_at None a from limit rings number journal at same (inl h) = subst (IsAt limit rings number journal) (sym h.1) at
   ready_at None a from limit rings number journal at same (inr h) =
       let next = h.1.number in
@@ -180,7 +180,7 @@ module _ (folder : List ℕ) where
       absurd (omega (arith, next, is, same))
   ready_at (Some why) a from limit rings number journal at same h = kept_at (kept_file segmenting folder why a from h.1)
     where
-      service : from.service ≡ record a.service { refusing = Some (refusal_of why) }
+      service : from.service ≡ with_refusal a.service (refusal_of why)
       service = h.1.kept
 
       kept_at : HoldsSame folder a from → IsAt limit rings number journal from
@@ -210,7 +210,7 @@ module _ (folder : List ℕ) where
       let rest = parts_up folder p.to b ps h.2 in
       omega (arith, one, kept, rest, low, high)
 
-  parts_at : (a b : Moment ServiceView) (ps : List (Part ServiceView)) (limit : ℕ) (rings : List Standing) (number : ℕ) (journal : List ℕ) → IsAt limit rings number journal a → b.number ≡ number → all_lines ps ≡ [] → AreParts IsServed segmenting folder a ps b → IsAt limit rings number journal b
+  parts_at : (a b : Moment ServiceView) (ps : List (Part ServiceView)) (limit : Option ℕ) (rings : List Standing) (number : ℕ) (journal : List ℕ) → IsAt limit rings number journal a → b.number ≡ number → all_lines ps ≡ [] → AreParts IsServed segmenting folder a ps b → IsAt limit rings number journal b
   parts_at a b [] limit rings number journal at same none h = subst (IsAt limit rings number journal) (sym h) at
   parts_at a b (p ∷ ps) limit rings number journal at same none h =
       let from = ready_at p.kept a p.from limit rings number journal at (same_number a b p ps number at.number_is same h) h.0 in
@@ -225,7 +225,7 @@ pub record IsCut (rings : List Standing) (bytes : List ℕ) (b : Moment ServiceV
   pub journal : b.journal ≡ Some (segment_text b.number behind b.service.rings)
 
 module _ (folder : List ℕ) where
-  cut_at : (a from b : Moment ServiceView) (limit : ℕ) (rings : List Standing) (number : ℕ) (bytes : List ℕ) → IsAt limit rings number bytes a → HasEnded segmenting folder a from
+  cut_at : (a from b : Moment ServiceView) (limit : Option ℕ) (rings : List Standing) (number : ℕ) (bytes : List ℕ) → IsAt limit rings number bytes a → HasEnded segmenting folder a from
       → ((journal : List ℕ) → IsAt from.service.rules.limit from.service.rings from.number journal from → IsAt from.service.rules.limit from.service.rings from.number journal b) → IsCut rings bytes b
   cut_at a from b limit rings number bytes at e rest =
       let f = e.file in
@@ -243,10 +243,10 @@ module _ (folder : List ℕ) where
         journal = end.journal_is ∙ (ap (λ (n : ℕ). Some (segment_text n f.behind from.service.rings)) (sym end.number_is) ∙ ap (λ (x : List Standing). Some (segment_text b.number f.behind x)) (sym end.rings_are));
       }
 
-  by_ready : (a b : Moment ServiceView) (p : Part ServiceView) (ps : List (Part ServiceView)) (limit : ℕ) (rings : List Standing) (number : ℕ) (bytes : List ℕ) → is_due (Some limit) rings ≡ true → IsAt limit rings number bytes a → b.number ≡ number + 1 → all_lines (p ∷ ps) ≡ []
+  by_ready : (a b : Moment ServiceView) (p : Part ServiceView) (ps : List (Part ServiceView)) (limit : Option ℕ) (rings : List Standing) (number : ℕ) (bytes : List ℕ) → is_due limit rings ≡ true → IsAt limit rings number bytes a → b.number ≡ number + 1 → all_lines (p ∷ ps) ≡ []
       → AreParts IsServed segmenting folder a (p ∷ ps) b → (kept : Option EndFault) → IsReady segmenting folder kept a p.from → (IsAt limit rings number bytes p.to → IsCut rings bytes b) → IsCut rings bytes b
   by_ready a b p ps limit rings number bytes due at up none h None (inl k) more =
-      absurd (false≢true (sym k.0 ∙ (ap (λ (x : List Standing). is_due (Some a.service.rules.limit) x) at.rings_are ∙ (ap (λ (n : ℕ). is_due (Some n) rings) at.limit_is ∙ due))))
+      absurd (false≢true (sym k.0 ∙ (ap (λ (x : List Standing). is_due a.service.rules.limit x) at.rings_are ∙ (ap (λ (n : Option ℕ). is_due n rings) at.limit_is ∙ due))))
   by_ready a b p ps limit rings number bytes due at up none h None (inr k) more =
       let next = k.1.number in
       let is = at.number_is in
@@ -255,7 +255,7 @@ module _ (folder : List ℕ) where
   by_ready a b p ps limit rings number bytes due at up none h (Some why) k more =
       more (part_quiet p limit rings number bytes (all_lines ps) h.1 none (ready_at folder (Some why) a p.from limit rings number bytes at (k.1.number ∙ at.number_is) k))
 
-  parts_cut : (a b : Moment ServiceView) (ps : List (Part ServiceView)) (limit : ℕ) (rings : List Standing) (number : ℕ) (bytes : List ℕ) → is_due (Some limit) rings ≡ true → IsAt limit rings number bytes a → b.number ≡ number + 1 → all_lines ps ≡ [] → AreParts IsServed segmenting folder a ps b → IsCut rings bytes b
+  parts_cut : (a b : Moment ServiceView) (ps : List (Part ServiceView)) (limit : Option ℕ) (rings : List Standing) (number : ℕ) (bytes : List ℕ) → is_due limit rings ≡ true → IsAt limit rings number bytes a → b.number ≡ number + 1 → all_lines ps ≡ [] → AreParts IsServed segmenting folder a ps b → IsCut rings bytes b
   parts_cut a b [] limit rings number bytes due at up none h =
       let same : b.number ≡ a.number = ap (λ (m : Moment ServiceView). m.number) h in
       let is = at.number_is in

@@ -18,3 +18,4 @@ pub mod OneReport
 pub mod Unlocked
 mod Stayed
 mod Dropped
+mod OtherNames

@@ -7,19 +7,20 @@ use Rattle.std.proofs.lemmas.Bool.{false≢true, true≢false}
 use Rattle.disks.specs.Held.{Held, Thing, Nothing, Folder, File, file_bytes, is_a_folder, is_a_thing, bytes_of, is_folder, is_there, LeadsToFolder, IsOneFile, IsReplaced, Grows, Creates, Locks, Replaces}
 use Rattle.line_service.specs.SegmentNames.{segment_file}
 use Rattle.saved_history.specs.declared.saved.Saved.{Saved}
-use Rattle.ring_service.specs.declared.answers.Answer.{Answer}
-use Rattle.ring_service.specs.declared.answers.Answer.TheVariants as answer
 use Rattle.ring_service.specs.declared.permits.Permits.{Permits}
 use Rattle.ring_service.specs.Permits.{Terms}
 use Rattle.ring_service.specs.Standings.{Standing}
-use Rattle.ring_service.specs.Serving.{IsSaved, IsSaveGiven, IsGiven, IsAnswered, Answers, name_in}
+use Rattle.ring_service.specs.Starts.{HaveChanged, answered_changed}
+use Rattle.ring_service.specs.Serving.{IsAnswered, Answers}
+use Rattle.line_service.specs.Stands.{Stand}
 use Rattle.line_service.specs.declared.segmented.EndFault.{EndFault}
 use Rattle.line_service.specs.Segments.{Moment, IsReady, HasBegun}
 use Rattle.line_service.specs.Service.{Part, IsPart, AreParts}
 use Rattle.line_service.proofs.Changing.{HoldsSame, kept_file}
 use Rattle.ring_service.specs.declared.chain_segments.ChainRules.{ChainRules}
 use Rattle.ring_service.specs.Texts.{segment_text}
-use Rattle.ring_service.specs.ChainServices.{ServiceView, terms_of, IsServed as IsLineServed, segmenting, file_of}
+use Rattle.ring_service.specs.Rules.{file_of}
+use Rattle.ring_service.specs.Services.{ServiceView, terms_of, IsServed as IsLineServed, segmenting}
 use Rattle.ring_service.proofs.ChainRecovering.{part_answers}
 use Rattle.tool_parts.specs.declared.requests.ServeWords.{ServeWords}
 use Rattle.serve_commands.specs.Served.{journal_of, permits_of, IsNoted, BeginsAt, IsServedNoted, IsServed, IsServedFrom}
@@ -39,29 +40,17 @@ replaced_known was is name bytes k r = known_after was is name (Some bytes) k.0 
 same_known : (was is : Option Held) → Known was → is ≡ was → Known is
 same_known was is k same = (k.0, same ∙ k.1)
 
-saved_known : (journal history : Option (List ℕ)) (was is : Option Held) (file : List ℕ) (rings : List Standing) (given : Answer) → Known was → IsSaved journal history was is file rings given → Known is
-saved_known journal history was is file rings given k (inl h) = replaced_known was is file _ k h.1
-saved_known journal history was is file rings given k (inr h) = same_known was is k h.1
-
-save_known : (journal history saves : Option (List ℕ)) (was is : Option Held) (name : List ℕ) (rings : List Standing) (given : Answer) → Known was → IsSaveGiven journal history saves was is name rings given → Known is
-save_known journal history None was is name rings given k h = same_known was is k h.1
-save_known journal history (Some folder) was is name rings given k (inl h) = saved_known journal history was is _ rings given k h.1
-save_known journal history (Some folder) was is name rings given k (inr h) = same_known was is k h.2
-
-given_known : (journal history saves : Option (List ℕ)) (was is : Option Held) (name : List ℕ) (rings : List Standing) (asked given : Answer) → Known was → IsGiven journal history saves was is name rings asked given → Known is
-given_known journal history saves was is name rings answer.Saved given k h = save_known journal history saves was is name rings given k h
-given_known journal history saves was is name rings (answer.Granted number result) given k h = same_known was is k h.1
-given_known journal history saves was is name rings answer.Waits given k h = same_known was is k h.1
-given_known journal history saves was is name rings (answer.Corrupted old) given k h = same_known was is k h.1
-given_known journal history saves was is name rings (answer.Survey survey) given k h = same_known was is k h.1
-given_known journal history saves was is name rings (answer.Block first count) given k h = same_known was is k h.1
-given_known journal history saves was is name rings (answer.Refused why) given k h = same_known was is k h.1
+changed_known : (journal : Option (List ℕ)) (was is : Option Held) → Known was → HaveChanged journal was is → Known is
+changed_known journal was is k (inl e) = same_known was is k e
+changed_known journal was is k (inr r) = replaced_known was is r.0 r.1 k r.2
 
 pub answers_known : (terms : Terms) (old new : List Standing) (was is : Option Held) (lines : List (List ℕ)) (said noted : List ℕ) → Known was → Answers terms old was lines said noted new is → Known is
-answers_known terms old new was is [] said noted k h = same_known was is k h.3
+answers_known terms old new was is [] said noted k h = same_known was is k (ap (λ (x : Stand (List Standing)). x.files) h.2)
 answers_known terms old new was is (line ∷ lines) said noted k h =
-    let one = given_known terms.journal terms.history terms.saves was h.1 (name_in line) h.0 h.6.turn.answer h.6.given k h.6.gives in
-    answers_known terms h.0 new h.1 is lines h.3 h.5 one h.9
+    let mid : List Standing = h.0.service in
+    let between : Option Held = h.0.files in
+    let one : IsAnswered terms old was line h.1 h.3 mid between = h.5 in
+    answers_known terms mid new between is lines h.2 h.4 (changed_known terms.journal was between k (answered_changed terms old mid was between line h.1 h.3 one)) h.8
 
 abbrev pub Has : Option (List ℕ) → Type 0
 Has contents = (bytes : List ℕ) × (contents ≡ Some bytes)

@@ -145,11 +145,13 @@ first_noted name permits old was [] said noted new is h e =
     let none : head [] ≡ 103 = subst (λ (x : List ℕ). head x ≡ 103) h.0 e in
     absurd (omega arith)
 first_noted name permits old was (line ∷ lines) said noted new is h e =
-    let a : IsAnswered (terms_of (Some name) permits) old was line h.2 h.4 h.0 h.1 = h.6 in
-    let g = granted_of a.given h.3 (subst (λ (x : List ℕ). head (x ++ h.3) ≡ 103) a.says (subst (λ (x : List ℕ). head x ≡ 103) h.7 e)) in
-    let asked = asked_granted (terms_of (Some name) permits).journal (terms_of (Some name) permits).history (terms_of (Some name) permits).saves was h.1 (name_in line) h.0 a.turn.answer a.given g.0 g.1 a.gives g.2 in
+    let mid : List Standing = h.0.service in
+    let between : Option Held = h.0.files in
+    let a : IsAnswered (terms_of (Some name) permits) old was line h.1 h.3 mid between = h.5 in
+    let g = granted_of a.given h.2 (subst (λ (x : List ℕ). head (x ++ h.2) ≡ 103) a.says (subst (λ (x : List ℕ). head x ≡ 103) h.6 e)) in
+    let asked = asked_granted (terms_of (Some name) permits).journal (terms_of (Some name) permits).history (terms_of (Some name) permits).saves was between (name_in line) mid a.turn.answer a.given g.0 g.1 a.gives g.2 in
     let many : 1 ≤ length (notes_of a.turn.recorded) = of_line permits.faults old line a.turn a.of_line g.0 g.1 asked in
-    subst (λ (x : List ℕ). 1 ≤ length x) (sym h.8) (some_front h.4 h.5 (subst (λ (x : List ℕ). 1 ≤ length x) (sym a.notes) many))
+    subst (λ (x : List ℕ). 1 ≤ length x) (sym h.7) (some_front h.3 h.4 (subst (λ (x : List ℕ). 1 ≤ length x) (sym a.notes) many))
 
 same_length : (a b : List ℕ) → a ≡ a ++ b → length b ≡ 0
 same_length [] b e = sym (ap (λ (x : List ℕ). length x) e)
@@ -184,6 +186,6 @@ unkept name permits old new was is unread rest journal out y e some g h =
     let s = h.ended in
     let said : s.said ≡ out ++ s.left = s.wrote.1 ∙ ap (λ (x : List ℕ). x ++ s.left) (sym s.wrote.2) in
     let begins : head s.said ≡ 103 = ap (λ (x : List ℕ). head x) said ∙ (head_more out s.left some ∙ starts out y e some g) in
-    let many = first_noted name permits old was s.told.lines s.said s.noted s.mid s.between s.told.answers begins in
+    let many = first_noted name permits old was s.told.lines s.said s.noted s.mid.service s.mid.files s.told.answers begins in
     let none = same_length journal (s.noted ++ s.front) s.wrote_notes in
     absurd (omega (arith, many, none, length-append s.noted s.front))

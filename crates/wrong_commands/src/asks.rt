@@ -3,8 +3,10 @@
 ghost use Rattle.std.specs.Prelude.{IfSome};
 ghost use Rattle.held_locks.specs.Locks.{Acquire, Corrupt};
 ghost use Rattle.held_locks.specs.Kept.{IsAnswer};
+ghost use Rattle.held_locks.specs.Asked.{asked, IsAnswerTo};
+ghost use Rattle.held_locks.specs.declared.asks.OneAsk.TheVariants as one;
 
-use held_locks::{Answer, Answers, HoldEnd, Locks, Refusal};
+use held_locks::{Answer, Answers, HoldEnd, Locks, OneAsk, Refusal};
 
 /// A client that asks while another holds the lock waits: here it is granted the lock. It gives up unless the client waits.
 pub fn grants_while_somebody_holds(
@@ -90,6 +92,23 @@ pub fn ends_a_hold_by_a_fault(
         (Some(Answer::Corrupted(_)), None) => Some(Answers {
             own: answers.own,
             ended: Some(end),
+            granted: answers.granted,
+        }),
+        _ => None,
+    }
+}
+
+/// An ask is answered as the call that it names: here a client that waits no more is answered that it did not wait. It gives
+/// up unless the client waited.
+pub fn denies_that_the_client_waited(locks: &mut Locks, client: u64, lock: u32) -> Option<Answers>
+    ensures wrong { IfSome result
+        (λ r. IsAnswerTo locks.old locks.new client lock (asked one.Cancel) r → ⊥) }
+{
+    let answers = locks.ask(client, lock, OneAsk::Cancel).answers;
+    match answers.own {
+        Some(Answer::Cancelled) => Some(Answers {
+            own: Some(Answer::Refused(Refusal::Waiter)),
+            ended: answers.ended,
             granted: answers.granted,
         }),
         _ => None,

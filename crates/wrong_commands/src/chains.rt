@@ -1,21 +1,20 @@
 //! Wrong ways to serve lines in segments.
 
-ghost use Rattle.std.specs.Prelude.{◌≡◌, ◌≢◌, ◌≤◌, ◌+◌, ◌∷◌, ℕ, List, [], true, None, Some, IfSome};
+ghost use Rattle.std.specs.Prelude.{◌≡◌, ◌≢◌, ◌≤◌, ◌+◌, ◌∷◌, ℕ, List, [], true, Some, IfSome};
 ghost use Rattle.disks.specs.Held.{Held};
 ghost use Rattle.segment_files.specs.Spelling.{digest_of, DigestFits};
 ghost use Rattle.ring_service.specs.Due.{is_due};
 ghost use Rattle.ring_service.specs.Standings.{standing_of};
-ghost use Rattle.line_service.specs.Segments.{moment_at, segment_holds};
-ghost use Rattle.line_service.specs.Service.{ServesSegments};
+ghost use Rattle.line_service.specs.Segments.{segment_holds};
 ghost use Rattle.ring_service.specs.Texts.{segment_text};
-ghost use Rattle.ring_service.specs.ChainServices.{ServiceView, service_of, IsServed, segmenting};
+ghost use Rattle.wrong_commands.specs.Nowhere.{LeadNowhere, EndsNowhere};
 
 use disks::Disk;
 use endless_ring::EndlessRing;
 use line_service::{OpenSegment, begin_segment, close_segment};
 use ring_book::Till;
 use ring_model::Base;
-use ring_service::{ChainRules, ChainService, Journal, Served, serve};
+use ring_service::{ChainRules, Journal, RingService, Served, serve};
 use segment_files::{DIGEST_DIGITS, digest};
 use std::alloc::Global;
 use std::io::Read;
@@ -37,12 +36,9 @@ pub fn answers_in_a_segment_that_is_due<D: Disk, I: Read>(
     input: &mut I,
 ) -> Option<Told<D::Grown>>
     requires { is_due (Some rules.limit) served.old ≡ true }
-    ensures wrong { IfSome result (λ told. (new : ServiceView) → new.rings ≡ served.new
-        → ServesSegments IsServed segmenting rules.entry.files.folder.now
-        (moment_at D.Grown.contents (service_of rules.entry served.old first.number None)
-        (D.holds disk.old) first)
-        (moment_at D.Grown.contents new (D.holds disk.new) told.segment)
-        (I.remaining input.old) (I.remaining input.new) (Some []) (Some told.out.items) → ⊥) }
+    ensures wrong { IfSome result (λ told. LeadNowhere D.Grown.contents D.holds rules.entry
+        served.old disk.old first served.new disk.new told.segment (I.remaining input.old)
+        (I.remaining input.new) (Some told.out.items)) }
 {
     let OpenSegment {
         number,
@@ -106,9 +102,7 @@ fn cut<D: Disk>(
         return None;
     }
     let number = first.number + 1;
-    let Ok(service) = ChainService::new(alloc, next, rules, number) else {
-        return None;
-    };
+    let service = RingService::in_segment(alloc, next, rules, number);
     match close_segment(disk, first) {
         Ok(()) => {}
         Err(_) => return None,
@@ -134,15 +128,8 @@ pub fn names_the_digest_of_the_head_alone<D: Disk>(
     requires due { is_due (Some rules.limit) served.old ≡ true }
     requires apart { (bytes : List ℕ) → segment_holds D.Grown.contents first ≡ Some bytes
         → digest_of head.now ≢ digest_of bytes }
-    ensures wrong { IfSome result (λ end. (bytes : List ℕ) (held : Held) (new : ServiceView)
-        → new.rings ≡ served.new
-        → segment_holds D.Grown.contents first ≡ Some bytes
-        → D.holds disk.old ≡ Some held
-        → ServesSegments IsServed segmenting rules.entry.files.folder.now
-        (moment_at D.Grown.contents (service_of rules.entry served.old first.number None)
-        (D.holds disk.old) first)
-        (moment_at D.Grown.contents new (D.holds disk.new) end)
-        (Some []) (Some []) (Some []) (Some []) → ⊥) }
+    ensures wrong { IfSome result (EndsNowhere D.Grown.contents D.holds rules.entry served.old
+        disk.old first served.new disk.new) }
 {
     let next = match served.next(alloc) {
         Ok(next) => next,
@@ -166,15 +153,8 @@ pub fn ends_with_a_base_that_forgets_the_grants<D: Disk>(
     requires due { is_due (Some rules.limit) served.old ≡ true }
     requires one { served.old ≡ standing_of ring.now ∷ [] }
     requires grants { 1 ≤ ring.now.base.grants }
-    ensures wrong { IfSome result (λ end. (bytes : List ℕ) (held : Held) (new : ServiceView)
-        → new.rings ≡ served.new
-        → segment_holds D.Grown.contents first ≡ Some bytes
-        → D.holds disk.old ≡ Some held
-        → ServesSegments IsServed segmenting rules.entry.files.folder.now
-        (moment_at D.Grown.contents (service_of rules.entry served.old first.number None)
-        (D.holds disk.old) first)
-        (moment_at D.Grown.contents new (D.holds disk.new) end)
-        (Some []) (Some []) (Some []) (Some []) → ⊥) }
+    ensures wrong { IfSome result (EndsNowhere D.Grown.contents D.holds rules.entry served.old
+        disk.old first served.new disk.new) }
 {
     let behind = match first.writer.digest() {
         Ok(behind) => behind,
@@ -225,15 +205,8 @@ pub fn begins_one_call_late<D: Disk>(
 ) -> Option<OpenSegment<D::Grown>>
     requires due { is_due (Some rules.limit) served.old ≡ true }
     requires one { served.old ≡ standing_of ring.now ∷ [] }
-    ensures wrong { IfSome result (λ end. (bytes : List ℕ) (held : Held) (new : ServiceView)
-        → new.rings ≡ served.new
-        → segment_holds D.Grown.contents first ≡ Some bytes
-        → D.holds disk.old ≡ Some held
-        → ServesSegments IsServed segmenting rules.entry.files.folder.now
-        (moment_at D.Grown.contents (service_of rules.entry served.old first.number None)
-        (D.holds disk.old) first)
-        (moment_at D.Grown.contents new (D.holds disk.new) end)
-        (Some []) (Some []) (Some []) (Some []) → ⊥) }
+    ensures wrong { IfSome result (EndsNowhere D.Grown.contents D.holds rules.entry served.old
+        disk.old first served.new disk.new) }
 {
     let behind = match first.writer.digest() {
         Ok(behind) => behind,

@@ -1,6 +1,7 @@
 //! Wrong calls of rings whose histories have no end.
 
-ghost use Rattle.std.specs.Prelude.{◌≡◌, ◌<◌, ◌≤◌, length, IfSome};
+ghost use Rattle.std.specs.Prelude.{◌≡◌, ◌<◌, ◌≤◌, true, length, IfSome};
+ghost use Rattle.ring_model.specs.Ring.{is_privileged};
 ghost use Rattle.ring_model.specs.declared.events.Op.TheVariants as op;
 ghost use Rattle.endless_ring.specs.declared.rings.NextError.TheVariants as error;
 ghost use Rattle.endless_ring.specs.Endless.{IsCalled, IsTried, IsSurveyed, IsNextRing};
@@ -25,6 +26,34 @@ pub fn pass_that_counts_from_one(
     let Ok(receipt) = ring.pass(seat, machine, order) else {
         return None;
     };
+    match receipt.event.reply {
+        Reply::Granted { number, result } if number > 1 => Some(Receipt {
+            position: receipt.position,
+            event: Event {
+                seat: receipt.event.seat,
+                op: receipt.event.op,
+                reply: Reply::Granted { number: 1, result },
+            },
+        }),
+        _ => None,
+    }
+}
+
+/// So is one that cannot be refused: here the numbers begin at 1 again.
+pub fn grant_that_counts_from_one(
+    ring: &mut EndlessRing,
+    seat: u32,
+    machine: u32,
+    order: u64,
+) -> Option<Receipt>
+    requires seat { seat < length ring.old.ring.clients }
+    requires machine { machine < length ring.old.ring.book.now.ring.values }
+    requires privileged { is_privileged ring.old.ring.book.now.ring.values machine ≡ true }
+    requires room { 1 ≤ ring.old.ring.book.room }
+    ensures wrong { IfSome result
+        (λ r. IsCalled ring.old ring.new seat (op.Pass machine order) r → ⊥) }
+{
+    let receipt = ring.grant(seat, machine, order);
     match receipt.event.reply {
         Reply::Granted { number, result } if number > 1 => Some(Receipt {
             position: receipt.position,

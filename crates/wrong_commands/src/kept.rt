@@ -13,7 +13,7 @@ ghost use Rattle.tool_parts.specs.Worlds.{world};
 
 use disks::{Contents, ContentsFault, Disk, MemoryDisk, ReplaceFault, replace};
 use line_service::{EndFault, begin_segment, close_segment};
-use ring_service::{ChainRules, ChainService, Served};
+use ring_service::{ChainRules, RingService, Served};
 use segment_files::DIGEST_DIGITS;
 use serve_commands::serve::run;
 use std::alloc::Global;
@@ -43,9 +43,7 @@ pub fn serves_a_new_name_as_a_folder<D: Disk>(
     if rules.limit == 0 {
         return Err(EndFault::File);
     }
-    let Ok(service) = ChainService::new(alloc, served, rules, 1) else {
-        return Err(EndFault::OutOfMemory);
-    };
+    let service = RingService::in_segment(alloc, served, rules, 1);
     let first = match begin_segment(alloc, disk, &service, 1, behind, rules.files) {
         Ok(first) => first,
         Err(why) => return Err(why),

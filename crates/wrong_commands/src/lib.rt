@@ -18,6 +18,7 @@ pub mod journals;
 pub mod kept;
 pub mod lines;
 pub mod listings;
+pub mod names;
 pub mod replacing;
 pub mod reported;
 pub mod segments;

@@ -4,9 +4,9 @@ ghost use Rattle.std.specs.Prelude.{◌≡◌, ◌≢◌, ◌⊎◌, ℕ, List, 
 ghost use Rattle.disks.specs.Held.{IsHeld};
 ghost use Rattle.ring_check.specs.declared.answers.Summary.{Summary};
 ghost use Rattle.saved_history.specs.Content.{Content};
-ghost use Rattle.tool_parts.specs.Named.{IsNamed};
 ghost use Rattle.folder_commands.specs.JoinedFolder.{IsJoinable};
 ghost use Rattle.text_commands.specs.Upgraded.{IsUpgradeOf};
+ghost use Rattle.wrong_commands.specs.Nowhere.{IsGiven};
 
 use disks::Disk;
 use folder_commands::join;
@@ -38,14 +38,13 @@ pub fn file_that_is_made_before_the_check<'a, D: CountedDisk, I: Read, W: Write,
     err: &mut E,
 ) -> Result<(), ToolError<'a>>
     ensures wrong { ((bytes : List ℕ) (c : Content) (sums : Summary)
-        → IsNamed words.now.file.now (D.holds disk.old) (I.remaining input.old)
-        (I.remaining input.new) bytes → IsUpgradeOf bytes c sums → ⊥)
+        → IsGiven words.now D.holds disk.old I.remaining input.old input.new bytes
+        → IsUpgradeOf bytes c sums → ⊥)
         → (disk.new ≡ disk.old)
         ⊎ ((bytes : List ℕ)
         × (c : Content)
         × (sums : Summary)
-        × IsNamed words.now.file.now (D.holds disk.old) (I.remaining input.old)
-        (I.remaining input.new) bytes
+        × IsGiven words.now D.holds disk.old I.remaining input.old input.new bytes
         × IsUpgradeOf bytes c sums) → ⊥ }
 {
     let _early = disk.make_counted(words.new);

@@ -1,9 +1,10 @@
 //! Calls of a ring that is called by numbers, each broken: the real one with something wrong.
 
-ghost use Rattle.std.specs.Prelude.{◌≡◌, ◌≢◌, ◌+◌, ◌≤◌, [], ◌∷◌, length, map, IsSome, IfOk, IfSome, OnErr};
+ghost use Rattle.std.specs.Prelude.{◌≡◌, ◌≢◌, ◌+◌, ◌<◌, ◌≤◌, [], ◌∷◌, true, length, map, IsSome, IfOk, IfSome, OnErr};
 ghost use Rattle.ring_book.specs.BookView.{IsRecorded};
 ghost use Rattle.ring_book.specs.GroupView.{IsGroupRecorded};
 ghost use Rattle.ring_check.specs.Table.{event_of};
+ghost use Rattle.ring_model.specs.Ring.{is_privileged};
 ghost use Rattle.ring_model.specs.declared.events.Entry.TheVariants as entry;
 ghost use Rattle.ring_model.specs.declared.events.Op.TheVariants as op;
 ghost use Rattle.one_thread_ring.specs.Refusals.{IsDecided, bounds_of, pass_refusal};
@@ -34,6 +35,24 @@ pub fn pass_for_another_seat<R: Resource + Drop>(
         (λ r. IsRecorded R.works ring.old.book ring.new.book seat (op.Pass machine order) r → ⊥) }
 {
     ring.pass(other, machine, order)
+}
+
+/// A pass that cannot be refused is recorded for the seat that asks: it is recorded for another one.
+pub fn grant_for_another_seat<R: Resource + Drop>(
+    ring: &mut OneThreadRing<R>,
+    seat: u32,
+    other: u32,
+    machine: u32,
+    order: u64,
+) -> Receipt
+    requires seat { other < length ring.old.clients }
+    requires machine { machine < length ring.old.book.now.ring.values }
+    requires privileged { is_privileged ring.old.book.now.ring.values machine ≡ true }
+    requires room { 1 ≤ ring.old.book.room }
+    requires apart { other ≢ seat }
+    ensures wrong { IsRecorded R.works ring.old.book ring.new.book seat (op.Pass machine order) result → ⊥ }
+{
+    ring.grant(other, machine, order)
 }
 
 /// Each seat of the ring may call: the last one gets the answer that there is no such seat.

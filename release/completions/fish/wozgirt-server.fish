@@ -34,6 +34,7 @@ complete -c wozgirt-server -l grace -x -d "How long what was held stays held, in
 complete -c wozgirt-server -l connections -x -d "How many clients at once at each door"
 complete -c wozgirt-server -l memory -x -d "How much memory all connections may take, in MiB"
 complete -c wozgirt-server -l waiters -x -d "How many clients may wait for one lock at once"
+complete -c wozgirt-server -l most-holds -x -d "How many locks one client may hold at once, with the one that it waits for"
 complete -c wozgirt-server -l deaf -x -d "How long a client may leave answers unread, in seconds"
 complete -c wozgirt-server -l log-connections -d "Log each client that comes and goes"
 complete -c wozgirt-server -l help -d "Print the help"

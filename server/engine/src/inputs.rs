@@ -1,12 +1,12 @@
 //! What the engine is asked.
 
-use crate::words::{lock, Words};
+use crate::words::Words;
 use crate::{decimal, Client, Label, Lock, NotALine, Token};
 use std::fmt;
 use std::str::FromStr;
 
 /// One input of a client.
-#[derive(Clone, Copy, Debug, PartialEq, Eq)]
+#[derive(Clone, Debug, PartialEq, Eq)]
 pub enum Input {
     /// To hold the lock, at once or later.
     Acquire {
@@ -52,6 +52,17 @@ pub enum Input {
     },
 }
 
+impl Input {
+    /// Its lock; a leave has none.
+    pub fn lock(&self) -> Option<&Lock> {
+        match self {
+            Input::Acquire { lock, .. } | Input::Try { lock, .. } | Input::Release { lock, .. } => Some(lock),
+            Input::Cancel { lock } | Input::Corrupt { lock, .. } | Input::Stats { lock } => Some(lock),
+            Input::Leave => None,
+        }
+    }
+}
+
 impl fmt::Display for Input {
     fn fmt(&self, f: &mut fmt::Formatter<'_>) -> fmt::Result {
         match self {
@@ -67,7 +78,7 @@ impl fmt::Display for Input {
 }
 
 /// An input, with the client that asks.
-#[derive(Clone, Copy, Debug, PartialEq, Eq)]
+#[derive(Clone, Debug, PartialEq, Eq)]
 pub struct Asked {
     /// The client that asks.
     pub client: Client,
@@ -86,34 +97,36 @@ impl FromStr for Input {
 
     fn from_str(text: &str) -> Result<Input, NotALine> {
         let mut words = Words::of(text);
-        Ok(match words.word()? {
+        let word = words.word()?;
+        if word == "leave" {
+            let [] = words.numbers()?;
+            return Ok(Input::Leave);
+        }
+        let lock: Lock = words.word()?.parse()?;
+        Ok(match word {
             "acquire" => {
-                let [l, label] = words.numbers()?;
-                Input::Acquire { lock: lock(l)?, label }
+                let [label] = words.numbers()?;
+                Input::Acquire { lock, label }
             }
             "try" => {
-                let [l, label] = words.numbers()?;
-                Input::Try { lock: lock(l)?, label }
+                let [label] = words.numbers()?;
+                Input::Try { lock, label }
             }
             "release" => {
-                let [l, token] = words.numbers()?;
-                Input::Release { lock: lock(l)?, token }
+                let [token] = words.numbers()?;
+                Input::Release { lock, token }
             }
             "cancel" => {
-                let [l] = words.numbers()?;
-                Input::Cancel { lock: lock(l)? }
-            }
-            "leave" => {
                 let [] = words.numbers()?;
-                Input::Leave
+                Input::Cancel { lock }
             }
             "corrupt" => {
-                let [l, machine, value] = words.numbers()?;
-                Input::Corrupt { lock: lock(l)?, machine, value }
+                let [machine, value] = words.numbers()?;
+                Input::Corrupt { lock, machine, value }
             }
             "stats" => {
-                let [l] = words.numbers()?;
-                Input::Stats { lock: lock(l)? }
+                let [] = words.numbers()?;
+                Input::Stats { lock }
             }
             _ => return Err(NotALine::Syntax),
         })
@@ -135,16 +148,18 @@ mod tests {
 
     #[test]
     fn each_input_is_written_and_read() {
+        let lock: Lock = "a".parse().unwrap();
         let lines = [
-            ("1 acquire 0 77", Input::Acquire { lock: 0, label: 77 }),
-            ("1 try 3 18446744073709551615", Input::Try { lock: 3, label: u64::MAX }),
-            ("1 release 0 1", Input::Release { lock: 0, token: 1 }),
-            ("1 cancel 9", Input::Cancel { lock: 9 }),
+            ("1 acquire a 77", Input::Acquire { lock: lock.clone(), label: 77 }),
+            ("1 try a 18446744073709551615", Input::Try { lock: lock.clone(), label: u64::MAX }),
+            ("1 release a 1", Input::Release { lock: lock.clone(), token: 1 }),
+            ("1 cancel a", Input::Cancel { lock: lock.clone() }),
             ("1 leave", Input::Leave),
-            ("1 corrupt 0 2 5", Input::Corrupt { lock: 0, machine: 2, value: 5 }),
-            ("1 stats 4", Input::Stats { lock: 4 }),
+            ("1 corrupt a 2 5", Input::Corrupt { lock: lock.clone(), machine: 2, value: 5 }),
+            ("1 stats a", Input::Stats { lock: lock.clone() }),
         ];
         for (line, input) in lines {
+            assert_eq!(input.lock(), (input != Input::Leave).then_some(&lock));
             let asked = Asked { client: 1, input };
             assert_eq!(asked.to_string(), line);
             assert_eq!(line.parse(), Ok(asked));
@@ -153,11 +168,22 @@ mod tests {
 
     #[test]
     fn refusals_name_the_first_fault() {
-        for line in ["", "1", "x acquire 0 1", "1 jump 0", "1 acquire 0", "1 acquire 0 1 2", "1 leave 0", "1  leave"] {
+        for line in [
+            "",
+            "1",
+            "x acquire a 1",
+            "1 jump a",
+            "1 acquire a",
+            "1 acquire a 1 2",
+            "1 leave a",
+            "1  leave",
+            "1 cancel é",
+        ] {
             assert_eq!(line.parse::<Asked>(), Err(NotALine::Syntax), "{line:?}");
         }
-        assert_eq!("1 acquire 0 18446744073709551616".parse::<Asked>(), Err(NotALine::Number));
-        assert_eq!("1 acquire 18446744073709551616 x".parse::<Asked>(), Err(NotALine::Syntax));
+        assert_eq!("1 acquire a 18446744073709551616".parse::<Asked>(), Err(NotALine::Number));
+        assert_eq!("1 acquire : 18446744073709551616".parse::<Asked>(), Err(NotALine::Syntax));
+        assert_eq!("1 corrupt a 18446744073709551616 x".parse::<Asked>(), Err(NotALine::Syntax));
         assert_eq!("18446744073709551616 leave".parse::<Asked>(), Err(NotALine::Number));
     }
 }

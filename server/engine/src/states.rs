@@ -1,6 +1,6 @@
 //! The lines of the engine's state: what brings its holds, its waiters, its keys and its place back at another start.
 
-use crate::words::{lock, Words};
+use crate::words::Words;
 use crate::{decimal, Client, Label, Lock, NotALine, Token};
 use std::fmt;
 use std::str::FromStr;
@@ -60,8 +60,10 @@ impl FromStr for StateLine {
 
     fn from_str(line: &str) -> Result<StateLine, NotALine> {
         if let Some(rest) = line.strip_prefix("hold ") {
-            let [l, token, client] = Words::of(rest).numbers()?;
-            return Ok(StateLine::Hold { lock: lock(l)?, token, client });
+            let mut words = Words::of(rest);
+            let lock = words.word()?.parse()?;
+            let [token, client] = words.numbers()?;
+            return Ok(StateLine::Hold { lock, token, client });
         }
         if let Some((place, digest)) = line.strip_prefix("at ").and_then(|rest| rest.split_once(' ')) {
             let is_digest = !digest.is_empty() && digest.bytes().all(|b| b.is_ascii_hexdigit());
@@ -70,8 +72,10 @@ impl FromStr for StateLine {
         }
         let (first, rest) = line.split_once(' ').ok_or(NotALine::Syntax)?;
         if let Some(rest) = rest.strip_prefix("acquire ") {
-            let [l, label] = Words::of(rest).numbers()?;
-            return Ok(StateLine::Wait { client: decimal(first)?, lock: lock(l)?, label });
+            let mut words = Words::of(rest);
+            let lock = words.word()?.parse()?;
+            let [label] = words.numbers()?;
+            return Ok(StateLine::Wait { client: decimal(first)?, lock, label });
         }
         let (number, answer) = rest.split_once(" did ").ok_or(NotALine::Syntax)?;
         Ok(StateLine::Did { key: decimal(first)?, number: decimal(number)?, answer: answer.into() })
@@ -84,11 +88,11 @@ mod tests {
 
     #[test]
     fn each_line_is_written_and_read() {
-        let zeros = "0".repeat(64);
+        let (zeros, lock) = ("0".repeat(64), || "a".parse().unwrap());
         for (text, line) in [
-            ("hold 0 3 7", StateLine::Hold { lock: 0, token: 3, client: 7 }),
-            ("8 acquire 0 1", StateLine::Wait { client: 8, lock: 0, label: 1 }),
-            ("7 4 did 7 granted 0 3", StateLine::Did { key: 7, number: 4, answer: "7 granted 0 3".into() }),
+            ("hold a 3 7", StateLine::Hold { lock: lock(), token: 3, client: 7 }),
+            ("8 acquire a 1", StateLine::Wait { client: 8, lock: lock(), label: 1 }),
+            ("7 4 did 7 granted a 3", StateLine::Did { key: 7, number: 4, answer: "7 granted a 3".into() }),
             ("7 4 did ", StateLine::Did { key: 7, number: 4, answer: String::new() }),
             (&format!("at 12 {zeros}"), StateLine::At { place: 12, digest: zeros.clone() }),
         ] {
@@ -100,18 +104,20 @@ mod tests {
     fn what_is_no_line_of_a_state() {
         for line in [
             "",
-            "hold 0 3",
-            "hold 0 3 x",
+            "hold a 3",
+            "hold a 3 x",
+            "hold é 3 7",
             "at 12",
             "at 12 x y",
-            "8 acquire 0",
-            "8 release 0 1",
+            "8 acquire a",
+            "8 acquire é 1",
+            "8 release a 1",
             "7 4 did",
             "7 did x",
             "state 4",
         ] {
             assert_eq!(line.parse::<StateLine>(), Err(NotALine::Syntax), "{line:?}");
         }
-        assert_eq!("hold 0 18446744073709551616 1".parse::<StateLine>(), Err(NotALine::Number));
+        assert_eq!("hold a 18446744073709551616 1".parse::<StateLine>(), Err(NotALine::Number));
     }
 }

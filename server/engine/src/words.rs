@@ -1,5 +1,6 @@
 //! Words and numbers of a line.
 
+use crate::lock::name;
 use std::fmt;
 use std::str::Split;
 
@@ -63,20 +64,20 @@ impl<'a> Words<'a> {
         }
     }
 
-    /// The next word, if there is one, as a number; nothing may follow it.
-    pub(crate) fn last_number(mut self) -> Result<Option<u64>, NotALine> {
-        let number = self.0.next().map(decimal).transpose()?;
-        self.end().map(|()| number)
+    /// The next word as the name of a lock.
+    pub(crate) fn lock(&mut self) -> Result<&'a str, NotALine> {
+        name(self.word()?)
+    }
+
+    /// The next word, if there is one, as the name of a lock; nothing may follow it.
+    pub(crate) fn last_lock(mut self) -> Result<Option<&'a str>, NotALine> {
+        let lock = self.0.next().map(name).transpose()?;
+        self.end().map(|()| lock)
     }
 
     fn end(mut self) -> Result<(), NotALine> {
         self.0.next().map_or(Ok(()), |_| Err(NotALine::Syntax))
     }
-}
-
-/// The number of a lock: one that no computer has is one that the engine does not have either.
-pub(crate) fn lock(number: u64) -> Result<usize, NotALine> {
-    usize::try_from(number).map_err(|_| NotALine::Number)
 }
 
 #[cfg(test)]

@@ -1,7 +1,7 @@
 """A second reading of the log: what its entries mean, and a machine of locks, with no code of the programs.
 
 An entry is `by NAME INCARNATION SERIAL POSITION DIGEST`, and lines `with SETTINGS`, `here KEY WHO`, `KEY NUMBER INPUT`, `gone KEY`,
-`server NAME INCARNATION`, with tabs between them. KEY is a session's; sessions count from 1, in the order in which they come. WHO is a user,
+`server NAME INCARNATION`, with tabs between them. An input has the name of its lock. KEY is a session's; sessions count from 1, in the order in which they come. WHO is a user,
 `uNUMBER`, or an address, `aADDRESS`; a session is the first user's and the first address's that came with its key."""
 
 import collections
@@ -11,8 +11,8 @@ import sys
 class Locks:
     """Locks with holders, lines of those who wait, and tokens that rise by one."""
 
-    def __init__(self, count):
-        self.holders, self.waiting, self.tokens = [None] * count, [collections.deque() for _ in range(count)], [0] * count
+    def __init__(self):
+        self.holders, self.waiting, self.tokens = collections.defaultdict(lambda: None), collections.defaultdict(collections.deque), collections.Counter()
         self.waits = {}  # the lock that a client waits for
         self.held = collections.defaultdict(set)  # the locks that a client holds
         self.grants = []  # (lock, token, client, label)
@@ -85,8 +85,8 @@ class Locks:
 class Reading:
     """The log from its first entry on."""
 
-    def __init__(self, count):
-        self.locks, self.settings, self.servers, self.over, self.sessions = Locks(count), None, {}, {}, {}
+    def __init__(self):
+        self.locks, self.settings, self.servers, self.over, self.sessions = Locks(), None, {}, {}, {}
         self.answers = collections.defaultdict(dict)  # by key, by number: place, verb and lock, answer
         self.twice = []  # those that were done more than once
         self.done = self.again = self.entries = self.ignored = self.last_session = self.foreign = 0
@@ -154,7 +154,7 @@ class Reading:
             self.again += 1
             return
         self.sessions[key] = writer, number, self.sessions[key][2]
-        answer = self.locks.do(key, words[0], *map(int, words[1:]))
+        answer = self.locks.do(key, words[0], sys.intern(words[1]), *map(int, words[2:]))
         if number in self.answers[key]:
             self.twice.append((key, number))
         # texts are the same few, but for grants

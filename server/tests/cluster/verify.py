@@ -32,13 +32,13 @@ class Run:
 
     def __init__(self, folder, locks):
         self.folder, self.locks, self.wrong, self.passed = folder, locks, [], 0
-        self.reading, self.gaps = Reading(len(locks)), []
+        self.reading, self.gaps = Reading(), []
         for i, line in enumerate(whole_lines(f"{folder}/log.txt"), 1):
             position, _, text = line.split(" ", 2)
             if int(position) != i:
                 self.gaps.append(position)
             self.reading.read(text)
-        self.grants = {(locks[lock], token): client for lock, token, client, _ in self.reading.locks.grants}
+        self.grants = {(lock, token): client for lock, token, client, _ in self.reading.locks.grants}
         self.counts, self.bad_answers, self.bad_writes = collections.Counter(), [], []
         # of each answer when it was asked and told, and its place among all; of each time inside a lock its token, beginning and end
         self.sent, self.got, self.places = array("d"), array("d"), array("q")
@@ -67,9 +67,8 @@ class Run:
         told = line.partition(" | ")[2]
         if told == "left":
             return  # it has no number in the log
-        place, asked, answer = self.reading.answers.get(int(words[1]), {}).get(int(words[2]), (None, "- 0", ""))
-        verb, lock = asked.split(" ")
-        if place is None or self.named(answer) != told or verb != words[5] or self.locks[int(lock)] != words[6]:
+        place, asked, answer = self.reading.answers.get(int(words[1]), {}).get(int(words[2]), (None, "", ""))
+        if place is None or answer != told or asked != f"{words[5]} {words[6]}":
             self.bad_answers.append(f"{line}: the log has {place} {asked} {answer}")
             return
         self.sent.append(float(words[3]))
@@ -83,12 +82,6 @@ class Run:
             self.wrong.append(what)
         else:
             self.passed += 1
-
-    def named(self, answer):
-        """An answer as clients know it, with the lock's name."""
-        words = answer.split(" ")
-        at = 2 if words[0] == "refused" else 1
-        return " ".join([*words[:at], self.locks[int(words[at])], *words[at + 1:]]) if len(words) > at else answer
 
 
 def judge_log(run):
@@ -169,7 +162,8 @@ def judge_histories(run):
             for lock, token, label in holds_of(folder):
                 found[lock].append((token, label))
                 count += 1
-            wrong += [f"{folder}: lock {lock}" for lock, holds in found.items() if holds != expected[lock][:len(holds)]]
+            named = ((run.locks[lock], holds) for lock, holds in found.items())
+            wrong += [f"{folder}: lock {lock}" for lock, holds in named if holds != expected[lock][:len(holds)]]
         illegal += illegal_in(folder)
     run.judge("holds of the histories, those of the log", wrong, count)
     by = "bench/small_recover.py of the first segment, since the engine is a double" if IS_DOUBLE else "ring_tool check and holds"

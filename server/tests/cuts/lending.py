@@ -11,8 +11,9 @@ from .disk import TAKEN
 from .histories import History, recovered
 
 LOCKS = ("a:3", "b", "c:3:5")
+NAMES = [it.split(":")[0] for it in LOCKS]
 MARK = 999
-GRANTED = re.compile(rb"(\d+) granted (\d+) (\d+)\n")
+GRANTED = re.compile(rb"(\d+) granted (\S+) (\d+)\n")
 SECONDS = 60
 
 
@@ -43,7 +44,7 @@ class Told:
             self.place = int(what)
             asks["at"].popleft()
             return
-        lock = int(rest[0]) if what in ("granted", "released") else None
+        lock = NAMES.index(rest[0]) if what in ("granted", "released") else None
         if what == "granted":
             self.grants[lock][int(rest[1])] = label_of(who, lock)
         if what == "granted" and waits.get(who) == lock:
@@ -53,7 +54,7 @@ class Told:
         if what == "released":
             self.ends[lock].add(int(words[3]))
         if what == "waiting":
-            waits[who] = int(rest[0])
+            waits[who] = NAMES.index(rest[0])
         if what == "cancelled":
             del waits[who]
         if keyed:
@@ -96,13 +97,14 @@ class Locks:
             yield self.batch([self.a_line(draw, clients, numbers) for _ in range(draw.choice((1, 3, 20, 60, 300)))])
 
     def batch(self, lines):
-        lines = [*lines, f"{MARK} stats 0"]
+        lines = [*lines, f"{MARK} stats {NAMES[0]}"]
         self.sent += lines
 
         def is_done(answers):
             is_it = f"\n{MARK} stats ".encode() in b"\n" + answers and answers.endswith(b"\n")
             if is_it:
-                self.holders.update((int(lock), (int(who), int(token))) for who, lock, token in GRANTED.findall(answers))
+                granted = ((NAMES.index(name.decode()), int(who), int(token)) for who, name, token in GRANTED.findall(answers))
+                self.holders.update((lock, (who, token)) for lock, who, token in granted)
             return is_it
 
         return "".join(f"{it}\n" for it in lines), is_done
@@ -126,7 +128,7 @@ class Locks:
         rest = {"acquire": f" {label_of(client, lock)}", "release": f" {token}", "corrupt": f" {draw.randrange(3)} {draw.randrange(3)}"}
         rest["try"] = rest["acquire"]
         numbers[at:at + 1] = [it + 1 for it in numbers[at:at + 1]]
-        return f"{f'{at + 1} {numbers[at]} ' if at < len(numbers) else ''}{client} {what} {lock}{rest.get(what, '')}"
+        return f"{f'{at + 1} {numbers[at]} ' if at < len(numbers) else ''}{client} {what} {NAMES[lock]}{rest.get(what, '')}"
 
     def judge(self, folder, told, kind, is_started=False):
         """What is wrong with what is recovered."""

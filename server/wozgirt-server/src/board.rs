@@ -2,7 +2,8 @@
 //! how many clients may wait.
 
 use crate::log::Utc;
-use std::collections::VecDeque;
+use crate::names::ByName;
+use std::collections::{HashMap, VecDeque};
 use std::time::{Duration, Instant};
 use wozgirt_engine::{Client, Label, Lock, Stats, Token, NOBODY};
 
@@ -44,8 +45,10 @@ pub struct Fault {
 }
 
 /// One lock, as far as it is known here.
-#[derive(Debug, Default)]
+#[derive(Debug)]
 pub struct Sight {
+    /// Its name.
+    pub lock: Lock,
     /// How many machines its ring has, or 0 as long as the engine did not say.
     pub machines: u64,
     /// How many passes were granted, as far as the engine said.
@@ -69,10 +72,31 @@ pub struct Sight {
 }
 
 impl Sight {
+    fn new(lock: Lock) -> Sight {
+        Sight {
+            lock,
+            machines: 0,
+            passes: 0,
+            holder: None,
+            line: VecDeque::new(),
+            grants: 0,
+            waited: Duration::ZERO,
+            longest_wait: Duration::ZERO,
+            faults: 0,
+            last_fault: None,
+            asked: 0,
+        }
+    }
+
     /// Whether one more client might be too many in the queue. The first that asks for a free lock does not wait.
     pub fn is_full(&self, most: usize) -> bool {
         let waiting = self.line.len() + self.asked;
         waiting >= most.saturating_add(usize::from(self.holder.is_none()))
+    }
+
+    /// An acquire goes to the engine.
+    pub fn asked(&mut self) {
+        self.asked += 1;
     }
 
     fn take_waiter(&mut self, client: Client) -> Option<Waiter> {
@@ -103,16 +127,20 @@ impl Waits {
 }
 
 /// All locks.
-#[derive(Debug)]
+#[derive(Debug, Default)]
 pub struct Board {
+    /// In the order of the list.
     locks: Vec<Sight>,
+    places: ByName<usize>,
     waits: Waits,
 }
 
 impl Board {
-    /// For this many locks, of which nothing is known.
-    pub fn new(locks: usize) -> Board {
-        Board { locks: (0..locks).map(|_| Sight::default()).collect(), waits: Waits::default() }
+    /// For these locks, of which nothing is known.
+    pub fn new<'a>(locks: impl IntoIterator<Item = &'a Lock>) -> Board {
+        let mut board = Board::default();
+        board.set_locks(locks);
+        board
     }
 
     /// How long grants were waited for.
@@ -120,9 +148,12 @@ impl Board {
         &self.waits
     }
 
-    /// There are this many locks now; nothing is known of those that are new.
-    pub fn resize(&mut self, locks: usize) {
-        self.locks.resize_with(locks, Sight::default);
+    /// There are these locks now, in this order; nothing is known of those that are new.
+    pub fn set_locks<'a>(&mut self, locks: impl IntoIterator<Item = &'a Lock>) {
+        let mut known: HashMap<Lock, Sight> = self.locks.drain(..).map(|it| (it.lock.clone(), it)).collect();
+        let sights = locks.into_iter().map(|lock| known.remove(lock).unwrap_or_else(|| Sight::new(lock.clone())));
+        self.locks = sights.collect();
+        self.places = self.locks.iter().enumerate().map(|(place, sight)| (sight.lock.clone(), place)).collect();
     }
 
     /// Each lock, in order.
@@ -130,43 +161,43 @@ impl Board {
         &self.locks
     }
 
-    /// One lock.
-    pub fn lock(&self, lock: Lock) -> Option<&Sight> {
-        self.locks.get(lock)
+    /// One lock, by its name.
+    pub fn lock(&self, name: &str) -> Option<&Sight> {
+        self.places.get(name).map(|place| &self.locks[*place])
     }
 
-    fn with(&mut self, lock: Lock, change: impl FnOnce(&mut Sight)) {
-        if let Some(sight) = self.locks.get_mut(lock) {
+    /// The same, to be changed.
+    pub fn lock_mut(&mut self, name: &str) -> Option<&mut Sight> {
+        self.places.get(name).map(|place| &mut self.locks[*place])
+    }
+
+    fn with(&mut self, lock: &str, change: impl FnOnce(&mut Sight)) {
+        if let Some(sight) = self.lock_mut(lock) {
             change(sight);
         }
     }
 
-    /// An acquire goes to the engine.
-    pub fn asked(&mut self, lock: Lock) {
-        self.with(lock, |sight| sight.asked += 1);
-    }
-
     /// An acquire was answered, or its client is gone.
-    pub fn asked_no_longer(&mut self, lock: Lock) {
+    pub fn asked_no_longer(&mut self, lock: &str) {
         self.with(lock, |sight| sight.asked = sight.asked.saturating_sub(1));
     }
 
     /// The client is at the end of the queue.
-    pub fn waits(&mut self, lock: Lock, client: Client, label: Label, now: Instant) {
+    pub fn waits(&mut self, lock: &str, client: Client, label: Label, now: Instant) {
         self.with(lock, |sight| sight.line.push_back(Waiter { client, label, since: now }));
     }
 
     /// The client waits no longer.
-    pub fn waits_no_longer(&mut self, lock: Lock, client: Client) {
+    pub fn waits_no_longer(&mut self, lock: &str, client: Client) {
         self.with(lock, |sight| {
             sight.take_waiter(client);
         });
     }
 
     /// The client holds the lock. The label of one that waited is known.
-    pub fn granted(&mut self, lock: Lock, client: Client, token: Token, label: Option<Label>, now: Instant) {
-        let Board { locks, waits } = self;
-        if let Some(sight) = locks.get_mut(lock) {
+    pub fn granted(&mut self, lock: &str, client: Client, token: Token, label: Option<Label>, now: Instant) {
+        let Board { locks, places, waits } = self;
+        if let Some(sight) = places.get(lock).map(|place| &mut locks[*place]) {
             let waiter = sight.take_waiter(client);
             let waited = waiter.map_or(Duration::ZERO, |waiter| now.saturating_duration_since(waiter.since));
             sight.holder = Some(Holder { client, token, label: label.or(waiter.map(|it| it.label)), since: now });
@@ -179,24 +210,24 @@ impl Board {
     }
 
     /// The client holds the lock since before this server started.
-    pub fn holds(&mut self, lock: Lock, client: Client, token: Token, now: Instant) {
+    pub fn holds(&mut self, lock: &str, client: Client, token: Token, now: Instant) {
         self.with(lock, |sight| sight.holder = Some(Holder { client, token, label: None, since: now }));
     }
 
     /// The client's hold ended.
-    pub fn released(&mut self, lock: Lock, client: Client) {
+    pub fn released(&mut self, lock: &str, client: Client) {
         self.with(lock, |sight| {
             sight.holder.take_if_held_by(client);
         });
     }
 
     /// The hold ended without a release: whether there was one.
-    pub fn left(&mut self, lock: Lock, client: Client) -> bool {
-        self.locks.get_mut(lock).is_some_and(|sight| sight.holder.take_if_held_by(client))
+    pub fn left(&mut self, lock: &str, client: Client) -> bool {
+        self.lock_mut(lock).is_some_and(|sight| sight.holder.take_if_held_by(client))
     }
 
     /// A fault was written and repaired.
-    pub fn fault(&mut self, lock: Lock, machine: u64, value: u64, old: u64) {
+    pub fn fault(&mut self, lock: &str, machine: u64, value: u64, old: u64) {
         self.with(lock, |sight| {
             sight.faults += 1;
             sight.last_fault = Some(Fault { at: Utc::now(), machine, value, old });
@@ -213,7 +244,7 @@ impl Board {
     }
 
     /// What the engine says of a lock's ring.
-    pub fn note_stats(&mut self, stats: &Stats) {
+    pub fn note_stats(&mut self, stats: &Stats<'_>) {
         self.with(stats.lock, |sight| {
             sight.machines = stats.machines;
             sight.passes = stats.passes;
@@ -221,15 +252,12 @@ impl Board {
     }
 
     /// What the engine says of a lock when it starts: whether it is held from before.
-    pub fn begin(&mut self, stats: &Stats, now: Instant) -> bool {
-        let is_held = stats.lock < self.locks.len() && stats.token > 0 && stats.holder == NOBODY;
-        self.with(stats.lock, |sight| {
-            sight.machines = stats.machines;
-            sight.passes = stats.passes;
-            if is_held {
-                sight.holder = Some(Holder { client: NOBODY, token: stats.token, label: None, since: now });
-            }
-        });
+    pub fn begin(&mut self, stats: &Stats<'_>, now: Instant) -> bool {
+        let is_held = stats.token > 0 && stats.holder == NOBODY;
+        self.note_stats(stats);
+        if is_held {
+            self.holds(stats.lock, NOBODY, stats.token, now);
+        }
         is_held
     }
 }
@@ -254,45 +282,62 @@ impl TakeIfHeldBy for Option<Holder> {
 mod tests {
     use super::*;
 
+    fn board() -> Board {
+        Board::new(&["a", "b"].map(|name| name.parse().unwrap()))
+    }
+
     #[test]
     fn a_hand_over() {
-        let (mut board, start) = (Board::new(2), Instant::now());
-        board.granted(0, 1, 1, Some(77), start);
-        board.asked(0);
+        let (mut board, start) = (board(), Instant::now());
+        board.granted("a", 1, 1, Some(77), start);
+        board.lock_mut("a").unwrap().asked();
         assert!(board.locks()[0].is_full(1) && !board.locks()[0].is_full(2));
         assert!(!board.locks()[1].is_full(0));
-        board.asked_no_longer(0);
-        board.waits(0, 2, 78, start);
-        board.waits(0, 3, 79, start);
-        board.released(0, 2); // does not hold it
+        board.asked_no_longer("a");
+        board.waits("a", 2, 78, start);
+        board.waits("a", 3, 79, start);
+        board.released("a", 2); // does not hold it
         assert_eq!(board.locks()[0].holder.unwrap().client, 1);
-        board.released(0, 1);
+        board.released("a", 1);
         assert_eq!(board.locks()[0].holder, None);
-        board.granted(0, 2, 2, None, start + Duration::from_millis(5));
+        board.granted("a", 2, 2, None, start + Duration::from_millis(5));
         let sight = &board.locks()[0];
         let holder = Holder { client: 2, token: 2, label: Some(78), since: start + Duration::from_millis(5) };
         assert_eq!(sight.holder, Some(holder));
         assert_eq!((sight.grants, sight.longest_wait, sight.line.len()), (2, Duration::from_millis(5), 1));
-        assert!(board.left(0, 2) && !board.left(0, 2) && !board.left(7, 2));
+        assert!(board.left("a", 2) && !board.left("a", 2) && !board.left("c", 2));
         assert_eq!(
             (board.all_waits().counts[0], board.all_waits().counts[2], board.all_waits().sum.as_millis()),
             (1, 1, 5)
         );
-        board.waits_no_longer(0, 3);
+        board.waits_no_longer("a", 3);
         assert_eq!((board.locks()[0].holder, board.locks()[0].line.len()), (None, 0));
     }
 
     #[test]
     fn a_restart() {
-        let (mut board, now) = (Board::new(1), Instant::now());
-        board.granted(0, 5, 9, Some(1), now);
-        board.waits(0, 6, 1, now);
+        let (mut board, now) = (board(), Instant::now());
+        board.granted("a", 5, 9, Some(1), now);
+        board.waits("a", 6, 1, now);
         board.forget();
-        let stats = Stats { lock: 0, machines: 8, waiters: 0, passes: 9, holder: NOBODY, token: 9 };
+        let stats = Stats { lock: "a", machines: 8, waiters: 0, passes: 9, holder: NOBODY, token: 9 };
         assert!(board.begin(&stats, now));
         assert_eq!(board.locks()[0].holder.unwrap().client, NOBODY);
-        assert!(board.left(0, NOBODY));
+        assert!(board.left("a", NOBODY));
         assert!(!board.begin(&Stats { token: 0, ..stats }, now));
-        assert!(!board.begin(&Stats { lock: 7, ..stats }, now));
+        assert!(!board.begin(&Stats { holder: 7, ..stats }, now));
+    }
+
+    #[test]
+    fn another_list() {
+        let mut board = board();
+        board.granted("b", 5, 9, Some(1), Instant::now());
+        for list in [&["a", "b", "c"][..], &["b"], &["x", "b"]] {
+            let locks: Vec<Lock> = list.iter().map(|name| name.parse().unwrap()).collect();
+            board.set_locks(&locks);
+            assert_eq!(board.locks().iter().map(|sight| &*sight.lock).collect::<Vec<_>>(), list);
+            assert!(list.iter().all(|name| board.lock(name).unwrap().lock == *name));
+            assert_eq!((board.lock("b").unwrap().grants, board.lock("d").is_none()), (1, true));
+        }
     }
 }

@@ -263,11 +263,6 @@ impl Connection {
         self.input.len() >= SHARE
     }
 
-    /// What was read and not taken yet.
-    pub fn input(&self) -> &[u8] {
-        &self.input
-    }
-
     /// Whether a line has begun that can have no end.
     pub fn has_endless_line(&self) -> bool {
         self.input.len() >= LONGEST_LINE && !self.input[..LONGEST_LINE].contains(&b'\n')
@@ -313,7 +308,7 @@ impl Connection {
     /// All holds that operators wait to end.
     pub fn ended(&self) -> Vec<(Client, Lock, Token)> {
         let ended = |it: &Pending| match it {
-            Pending::Ended(operator, lock, token) => Some((*operator, *lock, *token)),
+            Pending::Ended(operator, lock, token) => Some((*operator, lock.clone(), *token)),
             _ => None,
         };
         self.pending.iter().filter_map(ended).collect()

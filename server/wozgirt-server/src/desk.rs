@@ -1,14 +1,13 @@
 //! Between the connections and the engine: lines of a connection become inputs, and answers become lines.
 
+mod holding;
 mod waiting;
 
-use crate::answer_line::AnswerLine;
 use crate::board::Board;
 use crate::connection::{Connection, Door, Pending};
 use crate::engine::Engine;
 use crate::log::{End, Event, Log};
 use crate::mode::Mode;
-use crate::names::Names;
 use crate::questions::Questions;
 use crate::requests::{numbered, parse, BadRequest, Request, Verb, LONGEST_LINE};
 use crate::rules::Rules;
@@ -19,7 +18,7 @@ use crate::turns::Turn;
 use std::fmt;
 use std::rc::Rc;
 use std::time::{Duration, Instant};
-use wozgirt_engine::{Answer, Asked, Client, Input, Lock, NotALine, Token, NOBODY};
+use wozgirt_engine::{Answer, Client, Input, Lock, NotALine, Token, NOBODY};
 
 /// After this many lines the server looks at the clock.
 const LINES_BY_CLOCK: u32 = 8;
@@ -51,8 +50,6 @@ pub struct Unasked;
 pub struct Desk {
     /// The words of the command line.
     pub settings: Settings,
-    /// The names of locks.
-    pub names: Names,
     /// The rules: which users may use them.
     pub rules: Rc<Rules>,
     /// The engine.
@@ -78,7 +75,7 @@ impl Desk {
     pub fn take_lines(&mut self, connection: &mut Connection, until: Instant) -> Then {
         let input = connection.take_input();
         let (mut taken, mut count, mut then) = (0, 0, Then::Wait);
-        while then == Then::Wait && connection.takes_more() && self.may_ask(connection, &input[taken..]) {
+        while then == Then::Wait && connection.takes_more() && self.may_ask(connection) {
             count += 1;
             if count % LINES_BY_CLOCK == 0 && Instant::now() >= until {
                 break;
@@ -105,15 +102,11 @@ impl Desk {
     }
 
     /// Asks the engine. Where there is a log, what goes to the engine comes from there.
-    pub fn ask_engine(&mut self, client: Client, input: Input) {
-        self.engine.ask(Asked { client, input });
-        let is_marked = if input == Input::Leave { self.questions.ask_to_leave() } else { self.questions.ask() };
-        if is_marked {
-            self.mark();
-        }
+    pub fn ask_engine(&mut self, client: Client, input: &Input) {
+        self.ask_engine_line(format_args!("{client} {input}"));
     }
 
-    /// The same for a line that no client has sent.
+    /// The same for any line.
     pub(crate) fn ask_engine_line(&mut self, line: impl fmt::Display) {
         self.engine.ask_line(line);
         if self.questions.ask() {
@@ -123,8 +116,13 @@ impl Desk {
 
     /// Asks the engine how far it is.
     pub fn mark(&mut self) {
-        let input = self.questions.mark(self.now);
-        self.engine.ask(Asked { client: NOBODY, input });
+        self.questions.mark(self.now);
+        self.engine.ask_line(format_args!("{NOBODY} {}", self.look()));
+    }
+
+    /// A look at the first lock, whose answer shows that all that was asked before is done.
+    pub(crate) fn look(&self) -> Input {
+        Input::Stats { lock: self.board.locks()[0].lock.clone() }
     }
 
     /// How long the oldest question of the server's own has been unanswered.
@@ -140,7 +138,7 @@ impl Desk {
     /// Sends more of the list of all locks, until this time.
     pub fn tell_listing(&mut self, connection: &mut Connection, until: Instant) {
         let peer = connection.peer.take();
-        let view = Locks { board: &self.board, names: &self.names, peer: peer.as_ref(), now: self.now };
+        let view = Locks { board: &self.board, peer: peer.as_ref(), now: self.now };
         connection.tell_listing(|listing, text, most| listing.go_on(text, &view, most, until));
         connection.peer = peer;
     }
@@ -218,11 +216,8 @@ impl Desk {
                 return Then::Wait;
             }
         };
-        if let Input::Acquire { lock, .. } = input {
-            self.board.asked(lock);
-        }
         self.sums.inputs += 1;
-        match (&self.mode, number, input) {
+        match (&self.mode, number, &input) {
             (Mode::Alone(_), Some(number), _) => return self.ask_for_session(connection, number, input),
             (Mode::Alone(_), None, Input::Stats { lock }) if connection.seat.is_some() => {
                 self.tell_stats(connection, lock);
@@ -234,10 +229,10 @@ impl Desk {
     }
 
     fn ask_plainly(&mut self, connection: &mut Connection, input: Input) {
-        if let (Input::Acquire { lock, .. } | Input::Try { lock, .. }, Some(alone)) = (input, self.alone()) {
+        if let (Input::Acquire { lock, .. } | Input::Try { lock, .. }, Some(alone)) = (&input, self.alone()) {
             alone.note_plain(lock);
         }
-        self.ask_engine(connection.client, input);
+        self.ask_engine(connection.client, &input);
         self.note_asked(connection, Pending::Asked(input));
     }
 
@@ -255,17 +250,22 @@ impl Desk {
     }
 
     /// The engine's input, or why the server refuses it.
-    fn input(&self, connection: &Connection, name: &str, verb: Verb) -> Result<Input, &'static str> {
-        let lock = self.names.number(name).ok_or("lock")?;
-        if connection.door != Door::Operators && !self.rules.permits(lock, connection.peer.as_ref()) {
+    fn input(&mut self, connection: &Connection, name: &str, verb: Verb) -> Result<Input, &'static str> {
+        let sight = self.board.lock_mut(name).ok_or("lock")?;
+        if connection.door != Door::Operators && !self.rules.permits(name, connection.peer.as_ref()) {
             return Err("permission");
+        }
+        let lock = sight.lock.clone();
+        let is_for_it = matches!(verb, Verb::Acquire(_) | Verb::Try(_));
+        if is_for_it && self.mode.has_enough(connection, name, self.settings.most_holds) {
+            return Err("many");
         }
         match verb {
             Verb::Acquire(label) => {
-                let is_full = self.board.lock(lock).is_some_and(|sight| sight.is_full(self.settings.waiters));
-                if is_full && !self.mode.holds(connection, lock) {
+                if sight.is_full(self.settings.waiters) && !self.mode.has(connection, name) {
                     return Err("waiters");
                 }
+                sight.asked();
                 Ok(Input::Acquire { lock, label })
             }
             Verb::Try(label) => Ok(Input::Try { lock, label }),
@@ -280,14 +280,12 @@ impl Desk {
 
     /// An operator ends a hold. What servers share a log of is ended with its session.
     fn end_hold(&mut self, connection: &mut Connection, name: &str, token: Token) -> Then {
-        let lock = self.names.number(name);
-        let holder = lock.and_then(|lock| self.board.lock(lock)).and_then(|sight| sight.holder);
-        let why = match (lock, holder) {
+        let why = match self.board.lock(name).map(|sight| (&sight.lock, sight.holder)) {
             _ if self.mode.in_log().is_some() => "cluster",
-            (None, _) => "lock",
-            (Some(lock), Some(holder)) if holder.token == token => {
+            None => "lock",
+            Some((lock, Some(holder))) if holder.token == token => {
                 connection.pending.push_back(Pending::Ending);
-                return Then::EndHold(holder.client, lock, token);
+                return Then::EndHold(holder.client, lock.clone(), token);
             }
             _ => "holder",
         };
@@ -298,15 +296,15 @@ impl Desk {
 
     /// Asks the engine to end a client's hold, for this operator.
     pub fn ask_to_end(&mut self, holder: &mut Connection, operator: Client, lock: Lock, token: Token) {
-        self.ask_engine(holder.client, Input::Release { lock, token });
+        self.ask_engine(holder.client, &Input::Release { lock: lock.clone(), token });
         self.note_asked(holder, Pending::Ended(operator, lock, token));
     }
 
     /// The engine does not answer a leave: the next question after it shows when it is done.
     fn ask_to_leave(&mut self, connection: &mut Connection) {
         self.sums.inputs += 1;
-        for input in [Input::Leave, Input::Stats { lock: 0 }] {
-            self.ask_engine(connection.client, input);
+        for input in [Input::Leave, self.look()] {
+            self.ask_engine(connection.client, &input);
         }
         self.note_asked(connection, Pending::Left);
     }
@@ -315,24 +313,24 @@ impl Desk {
     pub fn tell_answer(
         &mut self,
         connection: &mut Connection,
-        answer: Answer,
+        answer: &Answer<'_>,
     ) -> Result<Option<(Client, Lock, Token)>, Unasked> {
-        if let (Answer::Granted { lock, token }, Some(waits_for)) = (&answer, connection.waits_for) {
-            if *lock == waits_for {
+        if let (Answer::Granted { lock: l, token }, Some(lock)) = (answer, connection.waits_for.clone()) {
+            if lock == *l {
                 connection.waits_for = None;
-                connection.holds.push(*lock);
-                self.note_token(*lock, *token);
-                self.board.granted(*lock, connection.client, *token, None, self.now);
-                self.tell(connection, &answer);
+                self.note_token(&lock, *token);
+                self.board.granted(l, connection.client, *token, None, self.now);
+                connection.holds.push(lock);
+                connection.tell(answer);
                 return Ok(None);
             }
         }
         let pending = connection.take_asked().ok_or(Unasked)?;
         self.note_answered(connection);
         let mut ended = None;
-        match (pending, &answer) {
-            (Pending::Ended(operator, lock, token), answer) => {
-                self.note(connection, Input::Release { lock, token }, answer)?;
+        match (pending, answer) {
+            (Pending::Ended(operator, lock, token), _) => {
+                self.note(connection, &Input::Release { lock: lock.clone(), token }, answer)?;
                 ended = Some((operator, lock, token));
             }
             (Pending::Left, Answer::Stats(_)) => {
@@ -340,10 +338,10 @@ impl Desk {
                 connection.tell("left");
             }
             // an engine that refuses every line for a while has not done the leave either
-            (Pending::Left, Answer::Refused { .. }) => self.tell(connection, &answer),
+            (Pending::Left, Answer::Refused { .. }) => connection.tell(answer),
             (Pending::Asked(input), _) => {
-                self.note(connection, input, &answer)?;
-                self.tell(connection, &answer);
+                self.note(connection, &input, answer)?;
+                connection.tell(answer);
             }
             _ => return Err(Unasked),
         }
@@ -352,62 +350,51 @@ impl Desk {
     }
 
     /// What the answer to an input changes on the board and at the connection.
-    fn note(&mut self, connection: &mut Connection, input: Input, answer: &Answer) -> Result<(), Unasked> {
+    fn note(&mut self, connection: &mut Connection, input: &Input, answer: &Answer<'_>) -> Result<(), Unasked> {
         let client = connection.client;
         if let Input::Acquire { lock, .. } = input {
             self.board.asked_no_longer(lock);
         }
         match (input, answer) {
             (Input::Acquire { lock, label } | Input::Try { lock, label }, Answer::Granted { lock: l, token })
-                if lock == *l =>
+                if lock == l =>
             {
-                connection.holds.push(lock);
+                connection.holds.push(lock.clone());
                 self.note_token(lock, *token);
-                self.board.granted(lock, client, *token, Some(label), self.now);
+                self.board.granted(lock, client, *token, Some(*label), self.now);
             }
-            (Input::Acquire { lock, label }, Answer::Waiting { lock: l, .. }) if lock == *l => {
-                connection.waits_for = Some(lock);
-                self.board.waits(lock, client, label, self.now);
+            (Input::Acquire { lock, label }, Answer::Waiting { lock: l, .. }) if lock == l => {
+                connection.waits_for = Some(lock.clone());
+                self.board.waits(lock, client, *label, self.now);
             }
-            (Input::Release { lock, .. }, Answer::Released { lock: l }) if lock == *l => {
-                connection.holds.retain(|held| *held != lock);
+            (Input::Release { lock, .. }, Answer::Released { lock: l }) if lock == l => {
+                connection.holds.retain(|held| held != lock);
                 self.board.released(lock, client);
             }
-            (Input::Cancel { lock }, Answer::Cancelled { lock: l }) if lock == *l => {
+            (Input::Cancel { lock }, Answer::Cancelled { lock: l }) if lock == l => {
                 connection.waits_for = None;
                 self.board.waits_no_longer(lock, client);
             }
-            (Input::Corrupt { lock, machine, value }, Answer::Corrupted { lock: l, old }) if lock == *l => {
-                self.board.fault(lock, machine, value, *old);
-                let (who, name) = (connection.who.as_str(), self.names.name(lock));
-                self.log.say(&Event::Fault { client, who, lock: name, machine, value, old: *old });
+            (&Input::Corrupt { ref lock, machine, value }, &Answer::Corrupted { lock: l, old }) if *lock == l => {
+                self.board.fault(lock, machine, value, old);
+                self.log.say(&Event::Fault { client, who: &connection.who, lock, machine, value, old });
             }
-            (Input::Try { lock, .. }, Answer::Busy { lock: l }) if lock == *l => {}
-            (Input::Stats { lock }, Answer::Stats(stats)) if lock == stats.lock => {}
+            (Input::Try { lock, .. }, Answer::Busy { lock: l }) if lock == l => {}
+            (Input::Stats { lock }, Answer::Stats(stats)) if *lock == stats.lock => {}
             (_, Answer::Refused { why, .. }) => self.sums.refused(why.word()),
             _ => return Err(Unasked),
         }
         Ok(())
     }
 
-    pub(crate) fn tell(&self, connection: &mut Connection, answer: &Answer) {
-        connection.tell(self.line(answer));
-    }
-
-    /// An answer as a client knows it.
-    pub(crate) fn line<'a>(&'a self, answer: &'a Answer) -> AnswerLine<'a> {
-        AnswerLine { answer, names: &self.names }
-    }
-
     /// The client holds nothing and waits for nothing. Returns what it held, as a list of names.
     fn forget(&mut self, connection: &mut Connection) -> String {
         let client = connection.client;
         if let Some(lock) = connection.waits_for.take() {
-            self.board.waits_no_longer(lock, client);
+            self.board.waits_no_longer(&lock, client);
         }
-        let held = std::mem::take(&mut connection.holds);
-        let held: Vec<&str> =
-            held.into_iter().filter(|&lock| self.board.left(lock, client)).map(|lock| self.names.name(lock)).collect();
+        let mut held = std::mem::take(&mut connection.holds);
+        held.retain(|lock| self.board.left(lock, client));
         held.join(",")
     }
 
@@ -417,7 +404,7 @@ impl Desk {
             if let Pending::Asked(Input::Acquire { lock, .. }) | Pending::Numbered(_, Input::Acquire { lock, .. }) =
                 pending
             {
-                self.board.asked_no_longer(lock);
+                self.board.asked_no_longer(&lock);
             }
         }
         self.step_out(connection);
@@ -447,7 +434,7 @@ impl Desk {
 
     /// A client or a session with this tag is gone: the engine hears that now, or when its turn comes.
     pub(crate) fn say_gone(&mut self, client: Client, tag: u64, last: Option<u64>) {
-        if self.questions.has_room(true) && self.questions.turns.is_next(tag) {
+        if self.questions.has_room() && self.questions.turns.is_next(tag) {
             self.ask_to_forget(client, last);
         } else {
             self.questions.turns.line_up(client, tag, Turn::Gone(last));
@@ -456,9 +443,9 @@ impl Desk {
 
     /// The engine hears that a client or a session is gone. It keeps no note of the last input of a session, which has this number.
     pub(crate) fn ask_to_forget(&mut self, client: Client, last: Option<u64>) {
-        self.ask_engine(client, Input::Leave);
+        self.ask_engine(client, &Input::Leave);
         if let Some(last) = last {
-            self.engine.ask_line(format_args!("{client} {last} forget"));
+            self.ask_engine_line(format_args!("{client} {last} forget"));
         }
     }
 

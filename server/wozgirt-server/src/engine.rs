@@ -7,7 +7,6 @@ use std::io::{self, ErrorKind, Read};
 use std::os::unix::process::CommandExt;
 use std::process::{Child, ChildStdin, ChildStdout, Command, ExitStatus, Stdio};
 use std::time::{Duration, Instant};
-use wozgirt_engine::{Answered, Asked, NotALine};
 use wozgirt_system::{never_wait, Interest, Signals};
 
 /// How much is read of its lines at once, at first. No answer of the engine is longer.
@@ -61,8 +60,8 @@ enum State {
 pub enum Unheard {
     /// Its output ended.
     Ended,
-    /// It said something that is not an answer.
-    Unreadable(String, NotALine),
+    /// It said a line without an end.
+    Endless,
 }
 
 /// What became of an engine that was to end.
@@ -198,12 +197,7 @@ impl Engine {
         Ok(Some(process))
     }
 
-    /// Puts an input among those that are written at the end of the round.
-    pub fn ask(&mut self, asked: Asked) {
-        self.ask_line(asked);
-    }
-
-    /// The same for any line.
+    /// Puts a line among those that are written at the end of the round.
     pub fn ask_line(&mut self, line: impl fmt::Display) {
         use io::Write;
         if self.is_running() {
@@ -225,40 +219,28 @@ impl Engine {
         }
     }
 
-    /// Reads answers that are there, in their order.
-    pub fn read(&mut self, answered: &mut Vec<Answered>) -> Result<(), Unheard> {
-        self.read_each(|line| line.parse().map(|answer| answered.push(answer)))
-    }
-
-    /// Reads lines that are there, in their order.
-    pub fn read_lines(&mut self, lines: &mut Vec<String>) -> Result<(), Unheard> {
-        self.read_each(|line| {
-            lines.push(line.into());
-            Ok(())
-        })
-    }
-
-    fn read_each(&mut self, mut take: impl FnMut(&str) -> Result<(), NotALine>) -> Result<(), Unheard> {
-        let State::Running(_, _, output) = &mut self.state else { return Ok(()) };
+    /// Reads the whole lines that are there.
+    pub fn read(&mut self) -> Result<String, Unheard> {
+        let State::Running(_, _, output) = &mut self.state else { return Ok(String::new()) };
         if self.have == self.answers.len() {
             if self.have >= self.most_room {
-                return Err(Unheard::Unreadable("a line without an end".into(), NotALine::Syntax));
+                return Err(Unheard::Endless);
             }
             self.answers.resize(2 * self.have, 0);
         }
         match output.read(&mut self.answers[self.have..]) {
             Ok(0) => return Err(Unheard::Ended),
             Ok(count) => self.have += count,
-            Err(fault) if matches!(fault.kind(), ErrorKind::WouldBlock | ErrorKind::Interrupted) => return Ok(()),
+            Err(fault) if matches!(fault.kind(), ErrorKind::WouldBlock | ErrorKind::Interrupted) => {
+                return Ok(String::new())
+            }
             Err(_) => return Err(Unheard::Ended),
         }
         let end = self.answers[..self.have].iter().rposition(|&b| b == b'\n').map_or(0, |i| i + 1);
-        for line in String::from_utf8_lossy(&self.answers[..end]).lines() {
-            take(line).map_err(|fault| Unheard::Unreadable(line.escape_debug().take(100).collect(), fault))?;
-        }
+        let lines = String::from_utf8_lossy(&self.answers[..end]).into_owned();
         self.answers.copy_within(end..self.have, 0);
         self.have -= end;
-        Ok(())
+        Ok(lines)
     }
 
     /// Starts it without a pause, if it is to be started at all: it ended because it had to.

@@ -6,7 +6,6 @@
 
 pub mod accounts;
 mod alone;
-mod answer_line;
 mod awake;
 pub mod board;
 mod cluster;

@@ -1,6 +1,6 @@
 //! How a server is run: as a single server, or as one of several that have one log. This file has what differs, event by event.
 
-use crate::alone::Alone;
+use crate::alone::{Alone, Session};
 use crate::cluster::Cluster;
 use crate::connection::Connection;
 use crate::pages::InLog;
@@ -104,25 +104,37 @@ impl Mode {
         match (self, &connection.seat) {
             (Mode::InLog(cluster), Some(seat)) => {
                 let standing = cluster.standing(seat.key);
-                (standing.holds.into_iter().map(|(lock, _)| lock).collect(), standing.waits)
+                (standing.held(), standing.waits)
             }
             (Mode::Alone(alone), Some(seat)) => {
                 let session = seat.session.and_then(|number| alone.session(number));
-                session.map_or((Vec::new(), None), |it| {
-                    (it.holds.iter().map(|(lock, _)| *lock).collect(), it.waits.map(|place| place.lock))
-                })
+                session.map_or((Vec::new(), None), |it| (it.held(), it.waits.as_ref().map(|place| place.lock.clone())))
             }
-            _ => (connection.holds.clone(), connection.waits_for),
+            _ => (connection.holds.clone(), connection.waits_for.clone()),
+        }
+    }
+
+    /// How many locks the client holds, with the one that it waits for, as far as the engine has answered.
+    pub fn count_locks(&self, connection: &Connection) -> usize {
+        match (self, &connection.seat) {
+            (Mode::Alone(alone), Some(seat)) => {
+                seat.session.and_then(|number| alone.session(number)).map_or(0, Session::count_locks)
+            }
+            (Mode::Alone(_), None) => connection.holds.len() + usize::from(connection.waits_for.is_some()),
+            (Mode::InLog(cluster), Some(seat)) => {
+                cluster.owns.session(seat.key).map_or(0, |session| cluster.mirror.count_locks(session))
+            }
+            (Mode::InLog(_), None) => 0,
         }
     }
 
     /// Whether the client holds the lock, as far as the engine has answered.
-    pub fn holds(&self, connection: &Connection, lock: Lock) -> bool {
+    pub fn holds(&self, connection: &Connection, lock: &str) -> bool {
         match (self, &connection.seat) {
             (Mode::Alone(alone), Some(seat)) => {
                 seat.session.and_then(|number| alone.session(number)).is_some_and(|session| session.has(lock))
             }
-            (Mode::Alone(_), None) => connection.holds.contains(&lock),
+            (Mode::Alone(_), None) => connection.holds.iter().any(|held| *held == lock),
             (Mode::InLog(cluster), Some(seat)) => {
                 cluster.owns.session(seat.key).is_some_and(|session| cluster.mirror.holds(session, lock))
             }

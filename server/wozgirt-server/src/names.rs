@@ -1,19 +1,35 @@
-//! The locks' names: the server's clients use names, the engine numbers.
+//! The list of locks, as the command line and the file `locks` have it.
 
-use std::collections::HashMap;
+use std::collections::{HashMap, HashSet};
 use std::fmt;
-use wozgirt_engine::Lock;
+use std::hash::{BuildHasherDefault, Hasher};
+use wozgirt_engine::{Lock, LONGEST_NAME};
 
-/// The longest name of a lock.
-pub const LONGEST_NAME: usize = 64;
+/// What is kept of locks, by their names.
+pub type ByName<T> = HashMap<Lock, T, BuildHasherDefault<Fnv>>;
 
-/// The names of all locks, in the order of their numbers. Not empty.
-#[derive(Debug)]
-pub struct Names {
-    names: Vec<String>,
-    sizes: Vec<(u32, u32)>,
-    numbers: HashMap<String, Lock>,
+/// FNV-1a, which is quick for short names. Which names there are says the list: no client can have them collide.
+pub struct Fnv(u64);
+
+impl Default for Fnv {
+    fn default() -> Fnv {
+        Fnv(0xcbf2_9ce4_8422_2325)
+    }
 }
+
+impl Hasher for Fnv {
+    fn write(&mut self, bytes: &[u8]) {
+        bytes.iter().for_each(|b| self.0 = (self.0 ^ u64::from(*b)).wrapping_mul(0x0100_0000_01b3));
+    }
+
+    fn finish(&self) -> u64 {
+        self.0
+    }
+}
+
+/// All locks with their sizes, in the order of the list. Not empty.
+#[derive(Debug)]
+pub struct Names(Vec<(Lock, u32, u32)>);
 
 /// Why a text is not a list of locks.
 #[derive(Debug, PartialEq, Eq)]
@@ -44,56 +60,40 @@ impl std::error::Error for BadNames {}
 impl Names {
     /// The names in a list `NAME[:N[:K]],..`, or in a text with such a lock, or `NAME N K`, in each line.
     pub fn parse(list: &str) -> Result<Names, BadNames> {
-        let mut names = Names { names: Vec::new(), sizes: Vec::new(), numbers: HashMap::new() };
+        let (mut locks, mut known) = (Vec::new(), HashSet::new());
         for lock in list.split([',', '\n']).map(str::trim).filter(|lock| !lock.is_empty()) {
-            let mut parts = lock.split([':', ' ']);
-            let name = parts.next().unwrap_or("");
-            let sizes: Option<Vec<u32>> = parts.map(|size| size.parse().ok()).collect();
-            let size = match sizes.as_deref() {
-                _ if !is_name(name) => None,
-                Some([]) => Some((8, 8)),
-                Some([n]) => Some((*n, *n)),
-                Some([n, k]) => Some((*n, *k)),
-                _ => None,
+            let Some((name, n, k)) = read(lock) else {
+                return Err(BadNames::Lock(lock.chars().take(2 * LONGEST_NAME).collect()));
             };
-            let Some(size) = size else { return Err(BadNames::Lock(lock.chars().take(2 * LONGEST_NAME).collect())) };
-            if names.numbers.insert(name.into(), names.names.len()).is_some() {
-                return Err(BadNames::Twice(name.into()));
+            if !known.insert(name.clone()) {
+                return Err(BadNames::Twice(name.to_string()));
             }
-            names.names.push(name.into());
-            names.sizes.push(size);
+            locks.push((name, n, k));
         }
-        if names.names.is_empty() {
+        if locks.is_empty() {
             return Err(BadNames::None);
         }
-        Ok(names)
+        Ok(Names(locks))
     }
 
-    /// The number of the lock with this name.
-    pub fn number(&self, name: &str) -> Option<Lock> {
-        self.numbers.get(name).copied()
-    }
-
-    /// The name of a lock; of one that is not there, a question mark.
-    pub fn name(&self, lock: Lock) -> &str {
-        self.names.get(lock).map_or("?", String::as_str)
+    /// Each lock, in order.
+    pub fn locks(&self) -> impl Iterator<Item = &Lock> {
+        self.0.iter().map(|(lock, ..)| lock)
     }
 
     /// The list with all sizes.
     pub fn list(&self) -> String {
-        let lock = |(name, (n, k)): (&String, &(u32, u32))| format!("{name}:{n}:{k}");
-        self.names.iter().zip(&self.sizes).map(lock).collect::<Vec<_>>().join(",")
-    }
-
-    /// How many locks there are.
-    pub fn count(&self) -> usize {
-        self.names.len()
+        self.0.iter().map(|(lock, n, k)| format!("{lock}:{n}:{k}")).collect::<Vec<_>>().join(",")
     }
 }
 
-fn is_name(name: &str) -> bool {
-    let is_part = |b: u8| b.is_ascii_alphanumeric() || matches!(b, b'.' | b'_' | b'-' | b'/');
-    (1..=LONGEST_NAME).contains(&name.len()) && name.bytes().all(is_part)
+/// A lock with its size.
+fn read(text: &str) -> Option<(Lock, u32, u32)> {
+    let mut parts = text.split([':', ' ']);
+    let lock = parts.next()?.parse().ok()?;
+    let n = parts.next().map_or(Some(8), |n| n.parse().ok())?;
+    let k = parts.next().map_or(Some(n), |k| k.parse().ok())?;
+    parts.next().is_none().then_some((lock, n, k))
 }
 
 #[cfg(test)]
@@ -104,17 +104,18 @@ mod tests {
     fn lists_and_files() {
         for text in ["deploy,gpu/0:3,db:3:5", "deploy\ngpu/0:3\ndb:3:5\n", "deploy 8 8\ngpu/0 3 3\ndb 3 5\n"] {
             let names = Names::parse(text).unwrap();
-            assert_eq!((names.count(), names.number("gpu/0"), names.number("x")), (3, Some(1), None));
-            assert_eq!((names.name(2), names.name(3)), ("db", "?"));
+            assert_eq!(names.locks().map(|lock| &**lock).collect::<Vec<_>>(), ["deploy", "gpu/0", "db"]);
             assert_eq!(names.list(), "deploy:8:8,gpu/0:3:3,db:3:5");
         }
+        let longest = "n".repeat(128);
+        assert_eq!(Names::parse(&longest).unwrap().list(), format!("{longest}:8:8"));
     }
 
     #[test]
     fn refusals() {
         assert_eq!(Names::parse("").unwrap_err(), BadNames::None);
         assert_eq!(Names::parse("a,b,a:3").unwrap_err(), BadNames::Twice("a".into()));
-        for text in ["*", "a b", "a:x", "a:1:2:3", "é", "a=1", ":3", &"n".repeat(65)] {
+        for text in ["*", "a b", "a:x", "a:1:2:3", "é", "a=1", ":3", &"n".repeat(129)] {
             assert_eq!(Names::parse(text).unwrap_err(), BadNames::Lock(text.into()));
         }
     }

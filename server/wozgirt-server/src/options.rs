@@ -29,6 +29,7 @@ pub enum Name {
     Connections,
     Memory,
     Waiters,
+    MostHolds,
     Deaf,
     LogConnections,
     /// One of a server that is one of several.
@@ -169,6 +170,12 @@ pub static SECTIONS: [Section; 5] = [
                 "how much memory all connections may take together [128, or what COUNT needs]",
             ),
             valued(Name::Waiters, "--waiters", "COUNT", "how many clients may wait for one lock at once [10000]"),
+            valued(
+                Name::MostHolds,
+                "--most-holds",
+                "COUNT",
+                "how many locks one client may hold at once, with the one that it waits for [1024]",
+            ),
             valued(Name::Deaf, "--deaf", "SECONDS", "how long a client may leave its answers unread [30]"),
         ],
     },

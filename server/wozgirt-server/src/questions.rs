@@ -1,13 +1,13 @@
 //! How far the engine is with what it was asked, and what the server itself asks it.
 //!
 //! The engine answers in order. So a question of the server's own, a *mark*, shows that all lines before it are done, whosever they
-//! were, of clients that are gone too. One goes to it each second, and one after each some hundred lines. What a leave costs grows with
-//! the locks there are, so it counts for more than one.
+//! were, of clients that are gone too. One goes to it each second, and one after each some hundred lines. A leave is one of these: each
+//! lock that it frees took a line to acquire.
 
 use crate::turns::Turns;
 use std::collections::VecDeque;
 use std::time::{Duration, Instant};
-use wozgirt_engine::{Answer, Client, Input, Lock, Token};
+use wozgirt_engine::{Answer, Client, Lock, Token};
 
 /// How many lines of all clients together should wait for the engine: what each may have there is its part of this. A new client
 /// waits for as many; so there are fewer, between these, if a mark takes longer than it should, and more if half of them take a
@@ -19,8 +19,6 @@ const LONG: Duration = Duration::from_millis(5);
 /// How many lines lie between marks at most, and how many times at least a mark comes in as many as are wanted.
 const BETWEEN_MARKS: usize = 128;
 const LEAST_MARKS: usize = 4;
-/// For this many locks a leave takes as long as another line does.
-const LOCKS_AS_LONG_AS_A_LINE: usize = 8;
 /// How long it takes at most to the next mark.
 const PERIOD: Duration = Duration::from_secs(1);
 
@@ -45,7 +43,6 @@ pub struct Questions {
     last_mark: Instant,
     wanted: usize,
     wanted_since: Instant,
-    leave_cost: u64,
     /// The clients that ask when there is room for more.
     pub turns: Turns,
     /// How many of these are beginnings.
@@ -55,11 +52,9 @@ pub struct Questions {
 }
 
 impl Questions {
-    /// Nothing was asked of an engine that has this many locks.
-    pub fn new(now: Instant, locks: usize) -> Questions {
-        let leave_cost = 1 + locks / LOCKS_AS_LONG_AS_A_LINE;
+    /// Nothing was asked.
+    pub fn new(now: Instant) -> Questions {
         Questions {
-            leave_cost: u64::try_from(leave_cost).unwrap_or(u64::MAX),
             turns: Turns::default(),
             own: VecDeque::new(),
             asked: 0,
@@ -75,16 +70,7 @@ impl Questions {
 
     /// A line goes to the engine: whether a mark is to go after it.
     pub fn ask(&mut self) -> bool {
-        self.ask_much(1)
-    }
-
-    /// The same for a leave.
-    pub fn ask_to_leave(&mut self) -> bool {
-        self.ask_much(self.leave_cost)
-    }
-
-    fn ask_much(&mut self, cost: u64) -> bool {
-        self.asked += cost;
+        self.asked += 1;
         self.asked - self.marked >= self.between_marks() as u64
     }
 
@@ -103,26 +89,24 @@ impl Questions {
         self.own.push_back(own);
     }
 
-    /// A mark goes to the engine now: how it asks.
-    pub fn mark(&mut self, now: Instant) -> Input {
+    /// A mark goes to the engine now.
+    pub fn mark(&mut self, now: Instant) {
         self.put(Own::Mark(self.asked, self.waiting(), now));
         (self.marked, self.last_mark) = (self.asked, now);
-        Input::Stats { lock: 0 }
     }
 
-    /// When the next mark is due, unless the last one is unanswered: at once if somebody waits for what was asked since then.
+    /// When the next mark is due, unless the last one is unanswered. Nobody waits for it: fewer lines than lie between marks were asked
+    /// since the last one, so there is room.
     pub fn next_mark(&self) -> Option<Instant> {
-        let is_wanted = self.asked > self.marked && self.turns.first().is_some();
-        let period = if is_wanted { Duration::ZERO } else { PERIOD };
-        self.own.is_empty().then_some(self.last_mark + period)
+        self.own.is_empty().then_some(self.last_mark + PERIOD)
     }
 
     /// What the engine's answer to client 0 is the answer to, if it can be one.
-    pub fn answered(&mut self, answer: &Answer, now: Instant) -> Option<Own> {
+    pub fn answered(&mut self, answer: &Answer<'_>, now: Instant) -> Option<Own> {
         let own = self.own.pop_front()?;
         let is_right = match (&own, answer) {
             (Own::Begin(lock), Answer::Stats(stats)) => *lock == stats.lock,
-            (Own::Mark(..), Answer::Stats(stats)) => stats.lock == 0,
+            (Own::Mark(..), Answer::Stats(_)) => true,
             (Own::End(_, lock, _), Answer::Released { lock: released }) => lock == released,
             (Own::Mark(..) | Own::End(..), Answer::Refused { .. }) => true,
             _ => false,
@@ -157,11 +141,9 @@ impl Questions {
         usize::try_from(self.asked - self.done).unwrap_or(usize::MAX)
     }
 
-    /// Whether it has so little that it may have one more line; a leave that costs more than is wanted, if it has done nearly all.
-    pub fn has_room(&self, is_leave: bool) -> bool {
-        let cost = if is_leave { usize::try_from(self.leave_cost).unwrap_or(usize::MAX) } else { 1 };
-        let has = self.waiting();
-        has.saturating_add(cost) <= self.wanted || has < self.between_marks()
+    /// Whether it has so little that it may have one more line.
+    pub fn has_room(&self) -> bool {
+        self.waiting() < self.wanted
     }
 
     /// Whether a client that has this many lines there has less than its part, and never more than `most`.
@@ -170,9 +152,9 @@ impl Questions {
     }
 
     /// Whether a client with this tag, and this many lines there, may have one more now: one that has none there, and asks no more than
-    /// its part, always, unless that line is a leave.
-    pub fn permits(&self, asked: usize, tag: u64, is_leave: bool) -> bool {
-        asked == 0 && !is_leave && self.turns.is_light(tag) || self.has_room(is_leave) && self.turns.is_next(tag)
+    /// its part, always.
+    pub fn permits(&self, asked: usize, tag: u64) -> bool {
+        asked == 0 && self.turns.is_light(tag) || self.has_room() && self.turns.is_next(tag)
     }
 
     /// Since when the oldest question of the server's own is unanswered.
@@ -184,73 +166,72 @@ impl Questions {
     pub fn forget(&mut self, now: Instant) {
         let mut turns = std::mem::take(&mut self.turns);
         turns.forget_leaving();
-        *self = Questions { askers: self.askers, leave_cost: self.leave_cost, turns, ..Questions::new(now, 0) };
+        *self = Questions { askers: self.askers, turns, ..Questions::new(now) };
     }
 }
 
 #[cfg(test)]
 mod tests {
     use super::*;
+    use crate::turns::Turn;
     use wozgirt_engine::Stats;
 
-    fn stats(lock: Lock) -> Answer {
+    fn lock(name: &str) -> Lock {
+        name.parse().unwrap()
+    }
+
+    fn stats(lock: &str) -> Answer<'_> {
         Answer::Stats(Stats { lock, machines: 8, waiters: 0, passes: 0, holder: 0, token: 0 })
     }
 
     #[test]
     fn a_mark_shows_what_is_done() {
         let now = Instant::now();
-        let mut questions = Questions::new(now, 0);
+        let mut questions = Questions::new(now);
         assert_eq!(questions.next_mark(), Some(now + PERIOD));
         assert_eq!((1..=32).filter(|_| questions.ask()).count(), 1);
         questions.mark(now);
         assert!(!questions.ask());
         assert_eq!((questions.waiting(), questions.next_mark(), questions.oldest()), (33, None, Some(now)));
-        assert_eq!(questions.answered(&stats(0), now), Some(Own::Mark(32, 32, now)));
+        assert_eq!(questions.answered(&stats("a"), now), Some(Own::Mark(32, 32, now)));
         assert_eq!((questions.waiting(), questions.oldest()), (1, None));
-        assert_eq!(questions.answered(&stats(0), now), None);
+        assert_eq!(questions.answered(&stats("a"), now), None);
     }
 
     #[test]
     fn the_beginning_is_over_with_the_last_lock() {
         let now = Instant::now();
-        let mut questions = Questions::new(now, 0);
-        questions.put(Own::Begin(0));
-        questions.put(Own::Begin(1));
-        assert!(questions.answered(&stats(0), now).is_some() && !questions.has_begun());
-        assert!(questions.answered(&stats(1), now).is_some() && questions.has_begun());
-        questions.put(Own::Begin(1));
-        assert!(questions.answered(&stats(0), now).is_none());
+        let mut questions = Questions::new(now);
+        questions.put(Own::Begin(lock("a")));
+        questions.put(Own::Begin(lock("b")));
+        assert!(questions.answered(&stats("a"), now).is_some() && !questions.has_begun());
+        assert!(questions.answered(&stats("b"), now).is_some() && questions.has_begun());
+        questions.put(Own::Begin(lock("b")));
+        assert!(questions.answered(&stats("a"), now).is_none());
     }
 
     #[test]
     fn who_asks_has_a_part() {
-        let mut questions = Questions::new(Instant::now(), 0);
+        let mut questions = Questions::new(Instant::now());
         for (askers, part) in [(0, 100), (1, 100), (20, 6), (5000, 1)] {
             questions.askers = askers;
             assert_eq!((0..1000).filter(|&asked| questions.has_part(asked, 100)).count(), part);
         }
         let newcomer = questions.turns.newcomer();
-        assert!(questions.permits(1, 0, true) && questions.permits(0, newcomer, true));
+        assert!(questions.permits(1, 0) && questions.permits(0, newcomer));
         for _ in 0..FIRST_WANTED {
+            assert!(questions.has_room());
             questions.ask();
         }
-        let permits = [(0, 0, false), (0, 0, true), (1, 0, false), (0, newcomer, false)];
-        let permits = permits.map(|(asked, tag, is_leave)| questions.permits(asked, tag, is_leave));
-        assert_eq!(permits, [true, false, false, false]);
-    }
-
-    #[test]
-    fn a_leave_counts_for_many_lines_and_has_a_mark() {
-        let mut questions = Questions::new(Instant::now(), 1000);
-        assert!(questions.has_room(true) && questions.ask_to_leave());
-        assert!(questions.has_room(false) && !questions.has_room(true));
+        assert!(!questions.has_room());
+        let permits = [(0, 0), (1, 0), (0, newcomer)].map(|(asked, tag)| questions.permits(asked, tag));
+        assert_eq!(permits, [true, false, false]);
     }
 
     #[test]
     fn of_a_slow_engine_less_is_wanted() {
         let now = Instant::now();
-        let mut questions = Questions::new(now, 0);
+        let mut questions = Questions::new(now);
         (0..9).for_each(|_| questions.note_time(1, 2 * LONG, now));
         assert_eq!(questions.wanted, LEAST_WANTED);
         questions.note_time(LEAST_WANTED / 2, LONG / 8, now);
@@ -262,29 +243,26 @@ mod tests {
     }
 
     #[test]
-    fn who_waits_for_the_rest_of_a_mark_has_it_at_once() {
+    fn when_all_marks_are_answered_there_is_room() {
         let now = Instant::now();
-        let mut questions = Questions::new(now, 1000);
+        let mut questions = Questions::new(now);
         questions.mark(now);
         (1..FIRST_WANTED / LEAST_MARKS).for_each(|_| assert!(!questions.ask()));
-        questions.answered(&stats(0), now + 2 * LONG);
-        assert!(!questions.has_room(true) && questions.next_mark() == Some(now + PERIOD));
-        questions.turns.line_up(7, 0, crate::turns::Turn::Gone(None));
-        assert_eq!(questions.next_mark(), Some(now));
-        questions.mark(now + LONG);
-        questions.answered(&stats(0), now + LONG);
-        assert!(questions.has_room(true) && questions.next_mark() == Some(now + LONG + PERIOD));
+        questions.answered(&stats("a"), now + 2 * LONG);
+        assert_eq!((questions.waiting(), questions.wanted, questions.has_room()), (31, 64, true));
+        questions.turns.line_up(7, 0, Turn::Gone(None));
+        assert_eq!(questions.next_mark(), Some(now + PERIOD));
     }
 
     #[test]
     fn one_change_is_waited_for_before_the_next() {
         let begun = Instant::now();
-        let mut questions = Questions::new(begun, 0);
+        let mut questions = Questions::new(begun);
         (0..4).for_each(|_| {
             questions.mark(begun);
         });
         for _ in 0..4 {
-            questions.answered(&stats(0), begun + 2 * LONG);
+            questions.answered(&stats("a"), begun + 2 * LONG);
         }
         assert_eq!(questions.wanted, FIRST_WANTED / 2);
     }

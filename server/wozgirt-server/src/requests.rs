@@ -144,12 +144,6 @@ fn alone<'a>(rest: Option<&str>, request: Request<'a>) -> Result<Request<'a>, Ba
     rest.map_or(Ok(request), |_| Err(NotALine::Syntax.into()))
 }
 
-/// Whether a leave is the first line here, with its number if there is one.
-pub fn asks_to_leave(input: &[u8]) -> bool {
-    let line = input.split(|&b| b == b'\n').next().unwrap_or(input);
-    line.ends_with(b"leave") && line[..line.len() - 5].iter().all(|&b| b == b' ' || b.is_ascii_digit())
-}
-
 #[cfg(test)]
 mod tests {
     use super::*;

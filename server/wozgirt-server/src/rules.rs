@@ -1,12 +1,14 @@
 //! The rules: which users may use which lock. A file of lines `lock NAME: WORD ..`.
 //!
-//! A WORD is a user, `%GROUP`, or `*` for all; users and groups also by number. The line of the lock named `*` is for all
-//! locks without a line of their own; without it, those are for all. A user who connects over TCP has no name, so only
-//! `*` lets it in. Empty lines, and what follows `#`, say nothing.
+//! A WORD is a user, `%GROUP`, or `*` for all; users and groups also by number. A NAME that ends in `*` is a pattern, of all locks
+//! whose names begin so. A lock has the line of its whole name; if there is none, that of the longest pattern, of which `*` is
+//! the last; without any line it is for all. A user who connects over TCP has no name, so only `*` lets it in. Empty lines, and
+//! what follows `#`, say nothing.
 
 use crate::accounts::Accounts;
-use crate::names::Names;
-use std::collections::HashMap;
+use crate::board::Board;
+use crate::names::ByName;
+use std::collections::{BTreeSet, HashMap};
 use std::fmt;
 use wozgirt_engine::Lock;
 use wozgirt_system::Peer;
@@ -17,13 +19,26 @@ struct Rule {
     is_for_all: bool,
     users: Vec<u32>,
     groups: Vec<u32>,
+    /// How many locks of the server have it, unless it is that of all others.
+    locks: usize,
 }
 
 /// Rules for all locks.
-#[derive(Debug)]
+#[derive(Debug, Clone)]
 pub struct Rules {
-    rules: HashMap<Lock, Rule>,
+    /// Of locks with a line of their own.
+    rules: ByName<Rule>,
+    patterns: Patterns,
     others: Rule,
+}
+
+/// Rules of patterns.
+#[derive(Debug, Default, Clone)]
+struct Patterns {
+    /// By what the names begin with.
+    rules: HashMap<String, Rule>,
+    /// How long these beginnings are.
+    lengths: BTreeSet<usize>,
 }
 
 /// What is wrong with a file of rules, and in which line, from 1.
@@ -37,6 +52,8 @@ pub struct BadRule {
 #[derive(Debug, PartialEq, Eq)]
 enum WhyBad {
     Syntax,
+    Star(String),
+    Beginning(String),
     Lock(String),
     Twice(String),
     User(String),
@@ -48,6 +65,10 @@ impl fmt::Display for BadRule {
         write!(f, "line {}: ", self.line)?;
         match &self.why {
             WhyBad::Syntax => f.write_str("`lock NAME: USER %GROUP ..` is wanted"),
+            WhyBad::Star(name) => {
+                write!(f, "in {name} a `*` is not at the end, where it means any rest of a name")
+            }
+            WhyBad::Beginning(text) => write!(f, "no name of a lock begins with `{text}`"),
             WhyBad::Lock(name) => write!(f, "there is no lock {name}"),
             WhyBad::Twice(name) => write!(f, "lock {name} has a rule already"),
             WhyBad::User(name) => write!(f, "there is no user {name}"),
@@ -61,13 +82,14 @@ impl std::error::Error for BadRule {}
 impl Default for Rules {
     /// Every lock is for all who may connect.
     fn default() -> Rules {
-        Rules { rules: HashMap::new(), others: Rule { is_for_all: true, ..Rule::default() } }
+        let others = Rule { is_for_all: true, ..Rule::default() };
+        Rules { rules: ByName::default(), patterns: Patterns::default(), others }
     }
 }
 
 impl Rules {
-    /// The rules in the text of a file.
-    pub fn parse(text: &str, names: &Names, accounts: &Accounts) -> Result<Rules, BadRule> {
+    /// The rules in the text of a file, for the locks of this board.
+    pub fn parse(text: &str, board: &Board, accounts: &Accounts) -> Result<Rules, BadRule> {
         let mut rules = Rules::default();
         let mut has_others = false;
         for (i, line) in text.lines().enumerate() {
@@ -77,29 +99,69 @@ impl Rules {
             }
             let bad = |why| BadRule { line: i + 1, why };
             let (name, rule) = read_rule(line, accounts).map_err(bad)?;
-            let was_there = if name == "*" {
-                rules.others = rule;
-                std::mem::replace(&mut has_others, true)
-            } else {
-                let lock = names.number(name).ok_or_else(|| bad(WhyBad::Lock(name.into())))?;
-                rules.rules.insert(lock, rule).is_some()
+            let was_there = match beginning(name).map_err(bad)? {
+                Some("") => {
+                    rules.others = rule;
+                    std::mem::replace(&mut has_others, true)
+                }
+                Some(beginning) => rules.patterns.insert(beginning, rule),
+                None => {
+                    let sight = board.lock(name).ok_or_else(|| bad(WhyBad::Lock(name.into())))?;
+                    rules.rules.insert(sight.lock.clone(), rule).is_some()
+                }
             };
             if was_there {
                 return Err(bad(WhyBad::Twice(name.into())));
             }
         }
-        Ok(rules)
+        Ok(rules.of(board))
+    }
+
+    /// The same rules where the locks are these.
+    pub fn of(mut self, board: &Board) -> Rules {
+        let Rules { rules, patterns, .. } = &mut self;
+        rules.values_mut().chain(patterns.rules.values_mut()).for_each(|rule| rule.locks = 0);
+        for sight in board.locks() {
+            let rule = rules.get_mut(&*sight.lock).or_else(|| patterns.rule_mut(&sight.lock));
+            rule.into_iter().for_each(|rule| rule.locks += 1);
+        }
+        self
     }
 
     /// Whether this client may use the lock. A client over TCP is not known.
-    pub fn permits(&self, lock: Lock, peer: Option<&Peer>) -> bool {
-        self.rules.get(&lock).unwrap_or(&self.others).permits(peer)
+    pub fn permits(&self, name: &str, peer: Option<&Peer>) -> bool {
+        let rule = self.rules.get(name).or_else(|| self.patterns.rule(name));
+        rule.unwrap_or(&self.others).permits(peer)
     }
 
     /// How many of this many locks this one may use.
     pub fn count(&self, locks: usize, peer: Option<&Peer>) -> usize {
-        let others = if self.others.permits(peer) { locks - self.rules.len() } else { 0 };
-        others + self.rules.values().filter(|rule| rule.permits(peer)).count()
+        let rules = || self.rules.values().chain(self.patterns.rules.values());
+        let permitted: usize = rules().filter(|rule| rule.permits(peer)).map(|rule| rule.locks).sum();
+        let others = locks - rules().map(|rule| rule.locks).sum::<usize>();
+        permitted + if self.others.permits(peer) { others } else { 0 }
+    }
+}
+
+impl Patterns {
+    /// Whether there was one with this beginning.
+    fn insert(&mut self, beginning: &str, rule: Rule) -> bool {
+        self.lengths.insert(beginning.len());
+        self.rules.insert(beginning.into(), rule).is_some()
+    }
+
+    /// The longest beginning that the name has.
+    fn beginning<'a>(&self, name: &'a str) -> Option<&'a str> {
+        let mut beginnings = self.lengths.iter().rev().filter_map(|&length| name.get(..length));
+        beginnings.find(|beginning| self.rules.contains_key(*beginning))
+    }
+
+    fn rule(&self, name: &str) -> Option<&Rule> {
+        self.rules.get(self.beginning(name)?)
+    }
+
+    fn rule_mut(&mut self, name: &str) -> Option<&mut Rule> {
+        self.rules.get_mut(self.beginning(name)?)
     }
 }
 
@@ -110,6 +172,18 @@ impl Rule {
         };
         self.is_for_all || peer.is_some_and(is_named)
     }
+}
+
+/// What the names of a pattern begin with; nothing if it is a whole name.
+fn beginning(name: &str) -> Result<Option<&str>, WhyBad> {
+    let Some((beginning, rest)) = name.split_once('*') else { return Ok(None) };
+    if !rest.is_empty() {
+        return Err(WhyBad::Star(name.into()));
+    }
+    if !beginning.is_empty() && beginning.parse::<Lock>().is_err() {
+        return Err(WhyBad::Beginning(beginning.into()));
+    }
+    Ok(Some(beginning))
 }
 
 fn read_rule<'a>(line: &'a str, accounts: &Accounts) -> Result<(&'a str, Rule), WhyBad> {
@@ -131,10 +205,15 @@ fn read_rule<'a>(line: &'a str, accounts: &Accounts) -> Result<(&'a str, Rule), 
 #[cfg(test)]
 mod tests {
     use super::*;
+    use crate::names::Names;
 
     fn parse(text: &str) -> Result<Rules, BadRule> {
         let accounts = Accounts::parse("alice:x:1000:1000::/:\n", "ops:x:50:\n");
-        Rules::parse(text, &Names::parse("deploy,gpu,db").unwrap(), &accounts)
+        Rules::parse(text, &board("deploy,gpu,db,db/1,db/2,dbx"), &accounts)
+    }
+
+    fn board(list: &str) -> Board {
+        Board::new(Names::parse(list).unwrap().locks())
     }
 
     fn peer(user: u32, groups: &[u32]) -> Option<Peer> {
@@ -144,15 +223,53 @@ mod tests {
     #[test]
     fn users_groups_and_all() {
         let rules = parse("# who may\nlock deploy: alice %ops 1007\n\nlock *:   # nobody else\nlock gpu: *\n").unwrap();
-        assert!(rules.permits(0, peer(1000, &[1000]).as_ref()));
-        assert!(rules.permits(0, peer(1001, &[1001, 50]).as_ref()));
-        assert!(rules.permits(0, peer(1007, &[1]).as_ref()));
-        assert!(!rules.permits(0, peer(1001, &[1001]).as_ref()));
-        assert!(!rules.permits(0, None));
-        assert!(rules.permits(1, None));
-        assert!(!rules.permits(2, peer(0, &[0]).as_ref()));
-        assert_eq!((rules.count(3, peer(1000, &[1]).as_ref()), rules.count(3, None)), (2, 1));
-        assert!(parse("lock deploy: alice").unwrap().permits(2, None));
+        assert!(rules.permits("deploy", peer(1000, &[1000]).as_ref()));
+        assert!(rules.permits("deploy", peer(1001, &[1001, 50]).as_ref()));
+        assert!(rules.permits("deploy", peer(1007, &[1]).as_ref()));
+        assert!(!rules.permits("deploy", peer(1001, &[1001]).as_ref()));
+        assert!(!rules.permits("deploy", None));
+        assert!(rules.permits("gpu", None));
+        assert!(!rules.permits("db", peer(0, &[0]).as_ref()));
+        assert_eq!((rules.count(6, peer(1000, &[1]).as_ref()), rules.count(6, None)), (2, 1));
+        let rules = parse("lock deploy: alice").unwrap();
+        assert!(rules.permits("db", None) && rules.count(6, None) == 5);
+    }
+
+    /// Which of the locks each of the users 1, 2 and 3 may use.
+    fn permitted(text: &str) -> [Vec<&'static str>; 3] {
+        let rules = parse(text).unwrap();
+        [1, 2, 3].map(|user| {
+            let peer = peer(user, &[]);
+            let all = ["deploy", "gpu", "db", "db/1", "db/2", "dbx"].into_iter();
+            let may: Vec<_> = all.filter(|name| rules.permits(name, peer.as_ref())).collect();
+            assert_eq!(rules.count(6, peer.as_ref()), may.len(), "{text}");
+            may
+        })
+    }
+
+    #[test]
+    fn patterns() {
+        let names = permitted("lock *: 3\nlock db*: 1\nlock db/*: 2\nlock db/2: 1 2\n");
+        assert_eq!(names, [vec!["db", "db/2", "dbx"], vec!["db/1", "db/2"], vec!["deploy", "gpu"]]);
+        // in any order, and of names that no lock has
+        let names = permitted("lock db/2: 1\nlock db/*: 2\nlock z*: 3\nlock db/2/*:\nlock db*: 1 3");
+        let all = ["deploy", "gpu"].as_slice();
+        assert_eq!(names[0], [all, &["db", "db/2", "dbx"]].concat());
+        assert_eq!(names[1], [all, &["db/1"]].concat());
+        assert_eq!(names[2], [all, &["db", "dbx"]].concat());
+        let rules = parse("lock db/*:\nlock d*: *").unwrap();
+        assert!(!rules.permits("db/é", None) && rules.permits("dé", None) && !rules.permits("db/", None));
+        assert!(rules.permits("d", None) && rules.permits("é", None) && rules.permits("", None));
+    }
+
+    #[test]
+    fn rules_of_another_list() {
+        let rules = parse("lock db/*:\nlock gpu*: 1\nlock gpu:").unwrap();
+        assert_eq!(rules.count(6, None), 3);
+        let rules = rules.of(&board("deploy,gpu,db,db/1,db/2,dbx,db/3,gpu/1,gpu/2"));
+        assert_eq!((rules.count(9, None), rules.count(9, peer(1, &[]).as_ref())), (3, 5));
+        assert!(!rules.permits("db/3", None) && !rules.permits("gpu/1", None));
+        assert_eq!(rules.of(&board("deploy")).count(1, None), 1);
     }
 
     #[test]
@@ -163,6 +280,11 @@ mod tests {
             ("lock x: alice", "line 1: there is no lock x"),
             ("lock gpu: *\nlock gpu: alice", "line 2: lock gpu has a rule already"),
             ("lock *: alice\nlock *:", "line 2: lock * has a rule already"),
+            ("lock d*: *\nlock db:\nlock d*:", "line 3: lock d* has a rule already"),
+            ("lock d*b: *", "line 1: in d*b a `*` is not at the end, where it means any rest of a name"),
+            ("lock *b: *", "line 1: in *b a `*` is not at the end, where it means any rest of a name"),
+            ("lock d**: *", "line 1: in d** a `*` is not at the end, where it means any rest of a name"),
+            ("lock db/ *: *", "line 1: no name of a lock begins with `db/ `"),
             ("lock gpu: bob", "line 1: there is no user bob"),
             ("lock gpu: %dev", "line 1: there is no group dev"),
         ];

@@ -62,6 +62,8 @@ pub struct Settings {
     pub memory: Option<usize>,
     /// How many may wait for one lock.
     pub waiters: usize,
+    /// How many locks one client may hold.
+    pub most_holds: usize,
     /// How long answers may stay unread.
     pub deaf: Duration,
     /// Whether connections are logged.
@@ -174,6 +176,7 @@ struct Reading {
     connections: Option<usize>,
     memory: Option<usize>,
     waiters: Option<usize>,
+    most_holds: Option<usize>,
     deaf: Option<Duration>,
     logs_connections: bool,
     cluster: ReadingOverEtcd,
@@ -207,6 +210,7 @@ impl Reading {
             Name::Connections => self.connections = Some(count(value)?),
             Name::Memory => self.memory = Some(count(value)?),
             Name::Waiters => self.waiters = Some(value.parse().ok()?),
+            Name::MostHolds => self.most_holds = Some(count(value)?),
             Name::Deaf => self.deaf = Some(seconds(value).filter(|time| !time.is_zero())?),
             Name::LogConnections => self.logs_connections = true,
             Name::OverEtcd(name) => self.cluster.put(name, value)?,
@@ -251,6 +255,7 @@ impl Reading {
             connections: self.connections.unwrap_or(1000),
             memory: self.memory,
             waiters: self.waiters.unwrap_or(10_000),
+            most_holds: self.most_holds.unwrap_or(1024),
             deaf: self.deaf.unwrap_or(Duration::from_secs(30)),
             logs_connections: self.logs_connections,
             cluster,
@@ -346,7 +351,8 @@ mod tests {
         let settings = read(
             "--engine e --journal j --locks a,b:3 --segment 9 --no-sync --faults --engine-patience 3 --socket s --mode 660 --group g \
              --operators o --operators-mode 640 --operators-group h --tcp 127.0.0.1:1 --page [::1]:2 --rules r \
-             --longest-lease 0.5 --lease-for-all --grace 2 --connections 7 --memory 64 --waiters 8 --deaf 9 --log-connections",
+             --longest-lease 0.5 --lease-for-all --grace 2 --connections 7 --memory 64 --waiters 8 --most-holds 6 --deaf 9 \
+             --log-connections",
         )
         .unwrap();
         let words = ["locks", "--journal", "j", "--locks", "a,b:3", "--segment", "9", "--no-sync", "--faults"];
@@ -357,6 +363,7 @@ mod tests {
         assert_eq!(settings.page, Some("[::1]:2".parse().unwrap()));
         assert_eq!((settings.longest_lease, settings.grace), (Duration::from_millis(500), Duration::from_secs(2)));
         assert_eq!((settings.connections, settings.waiters, settings.deaf.as_secs()), (7, 8, 9));
+        assert_eq!((settings.most_holds, read("--journal j").unwrap().most_holds), (6, 1024));
         assert_eq!((settings.memory, settings.engine_patience.as_secs()), (Some(64), 3));
         assert!(settings.is_lease_for_all && settings.logs_connections);
     }
@@ -402,6 +409,7 @@ mod tests {
                 "--keep-segments is for a single server, without --etcd",
             ),
             ("--journal j --memory 0", "--memory: bad value `0`"),
+            ("--journal j --most-holds 0", "--most-holds: bad value `0`"),
             ("--journal j --etcd e", "--name is missing"),
             ("--journal j --etcd e --name a:b", "--name: bad value `a:b`"),
             ("--journal j --etcd e --name a --host-lease 0.5", "--host-lease: bad value `0.5`"),

@@ -4,12 +4,11 @@
 //! STATE is `free`, `held`, or `before`: held by a client of an engine that ended. What is not known is `-`.
 
 use crate::board::{Board, Sight};
-use crate::names::Names;
 use crate::rules::Rules;
 use std::io::Write;
 use std::rc::Rc;
 use std::time::Instant;
-use wozgirt_engine::{Lock, NOBODY};
+use wozgirt_engine::NOBODY;
 use wozgirt_system::Peer;
 
 /// After this many locks the server looks whether time or room is over.
@@ -20,7 +19,7 @@ const STEP: usize = 32;
 pub struct Listing {
     /// Nothing if all locks are shown, else the rules that held at the beginning.
     rules: Option<Rc<Rules>>,
-    next: Lock,
+    next: usize,
     has_begun: bool,
 }
 
@@ -37,19 +36,18 @@ impl Listing {
 
     /// Puts the next lines into `text`, until that has this many bytes or it is this time: whether it is done.
     pub fn go_on(&mut self, text: &mut Vec<u8>, view: &Locks<'_>, most: usize, until: Instant) -> bool {
-        let count = view.board.locks().len();
+        let locks = view.board.locks();
+        let count = locks.len();
         let rules = self.rules.clone();
-        let is_shown = |lock| rules.as_ref().map_or(true, |rules| rules.permits(lock, view.peer));
+        let is_shown = |sight: &Sight| rules.as_ref().map_or(true, |rules| rules.permits(&sight.lock, view.peer));
         if !std::mem::replace(&mut self.has_begun, true) {
             let shown = rules.as_ref().map_or(count, |rules| rules.count(count, view.peer));
             let _ = writeln!(text, "status {shown}"); // a list takes whatever is written
         }
         while self.next < count {
             let end = count.min(self.next + STEP);
-            for lock in (self.next..end).filter(|&lock| is_shown(lock)) {
-                if let Some(sight) = view.board.lock(lock) {
-                    put(text, view.names.name(lock), sight, view.now);
-                }
+            for sight in locks[self.next..end].iter().filter(|sight| is_shown(sight)) {
+                put(text, sight, view.now);
             }
             self.next = end;
             if text.len() >= most || Instant::now() >= until {
@@ -64,15 +62,14 @@ impl Listing {
 pub struct Locks<'a> {
     /// What is known of the locks.
     pub board: &'a Board,
-    /// Their names.
-    pub names: &'a Names,
     /// The process that asks, if the system knows it.
     pub peer: Option<&'a Peer>,
     /// The time.
     pub now: Instant,
 }
 
-fn put(text: &mut Vec<u8>, name: &str, sight: &Sight, now: Instant) {
+fn put(text: &mut Vec<u8>, sight: &Sight, now: Instant) {
+    let name = &sight.lock;
     let age = |since: Instant| now.saturating_duration_since(since).as_millis();
     let _ = match sight.holder {
         None => write!(text, "lock {name} free - - - -"),
@@ -90,6 +87,7 @@ fn put(text: &mut Vec<u8>, name: &str, sight: &Sight, now: Instant) {
 mod tests {
     use super::*;
     use crate::accounts::Accounts;
+    use crate::names::Names;
     use std::time::Duration;
 
     /// The whole text, sent in parts of at least this many bytes, and how many parts there were.
@@ -106,14 +104,17 @@ mod tests {
         }
     }
 
+    fn board(list: &str) -> Board {
+        Board::new(Names::parse(list).unwrap().locks())
+    }
+
     #[test]
     fn lines() {
-        let (mut board, start) = (Board::new(3), Instant::now());
-        board.granted(0, 7, 12, Some(77), start);
-        board.waits(0, 8, 1, start + Duration::from_millis(10));
-        let names = Names::parse("deploy,gpu,db").unwrap();
-        let rules = Rules::parse("lock db:", &names, &Accounts::default()).unwrap();
-        let view = Locks { board: &board, names: &names, peer: None, now: start + Duration::from_millis(25) };
+        let (mut board, start) = (board("deploy,gpu,db"), Instant::now());
+        board.granted("deploy", 7, 12, Some(77), start);
+        board.waits("deploy", 8, 1, start + Duration::from_millis(10));
+        let rules = Rules::parse("lock db:", &board, &Accounts::default()).unwrap();
+        let view = Locks { board: &board, peer: None, now: start + Duration::from_millis(25) };
         let text = "status 2\nlock deploy held 7 77 12 25 1 15 1 0\nlock gpu free - - - - 0 0 0 0\n";
         assert_eq!(told(&view, Some(rules), 1000), (text.into(), 1));
         assert!(told(&view, None, 1000).0.starts_with("status 3\n"));
@@ -121,10 +122,8 @@ mod tests {
 
     #[test]
     fn a_list_in_parts_is_the_same_list() {
-        let board = Board::new(100);
-        let names = (0..100).map(|i| format!("n{i}")).collect::<Vec<_>>().join(",");
-        let names = Names::parse(&names).unwrap();
-        let view = Locks { board: &board, names: &names, peer: None, now: Instant::now() };
+        let board = board(&(0..100).map(|i| format!("n{i}")).collect::<Vec<_>>().join(","));
+        let view = Locks { board: &board, peer: None, now: Instant::now() };
         let (whole, parts) = told(&view, None, 1 << 20);
         assert_eq!((whole.lines().count(), parts), (101, 1));
         assert_eq!(told(&view, None, 1), (whole, 100usize.div_ceil(STEP)));

@@ -1,8 +1,8 @@
 //! Whose lines go to the engine next.
 //!
 //! The engine answers in order, so whatever it has got already comes before a new line. It gets only a limited amount at once, and a
-//! client that has more to ask waits in a queue here, by start-time fair queueing. Each client has a *tag*, to which is added what each of
-//! its lines costs the engine; the lowest tag is next, and a client that asks seldom begins at the tag that was served last. So a
+//! client that has more to ask waits in a queue here, by start-time fair queueing. Each client has a *tag*, to which is added how many
+//! lines the engine gets for it; the lowest tag is next, and a client that asks seldom begins at the tag that was served last. So a
 //! client waits for what the engine has, and not for what other clients ask of it, whatever that costs.
 
 use std::collections::BTreeMap;
@@ -10,8 +10,7 @@ use wozgirt_engine::Client;
 
 /// A new connection begins this far after those that are here.
 const NEWCOMERS: u64 = 32;
-/// A client that is at most this far back has asked for no more than its part, and may have one line at the engine at any time, but
-/// not a leave.
+/// A client that is at most this far back has asked for no more than its part, and may have one line at the engine at any time.
 const LIGHT: u64 = 16;
 /// The tag of one that has asked for nothing for a while.
 pub const FIRST_TAG: u64 = 0;
@@ -23,18 +22,11 @@ const MOST_LEAVING: usize = 64;
 pub enum Turn {
     /// To ask more.
     Ask,
-    /// The same, and a leave is what it asks first.
-    AskToLeave,
     /// It is gone, and the engine has to hear that; of a session, with the number of its last input, of which the engine has a note.
     Gone(Option<u64>),
 }
 
 impl Turn {
-    /// Whether the engine is to get a leave.
-    pub fn is_leave(self) -> bool {
-        self != Turn::Ask
-    }
-
     fn is_of_one_gone(self) -> bool {
         matches!(self, Turn::Gone(_))
     }

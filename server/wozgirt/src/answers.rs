@@ -101,6 +101,7 @@ mod tests {
             ("released a", Answer::Released, Some(Verb::Release)),
             ("refused waiter a", Answer::Refused("waiter"), Some(Verb::Cancel)),
             ("refused syntax", Answer::Refused("syntax"), Some(Verb::Try)),
+            ("refused many a", Answer::Refused("many"), Some(Verb::Acquire)),
             ("refused past 9", Answer::Refused("past"), Some(Verb::Release)),
             ("pong", Answer::Pong, None),
         ] {

@@ -1,10 +1,11 @@
 //! Files that are written at their end.
 
 use crate::files::memory::{bytes_of, no_files, put};
-use crate::files::system::{expect_bytes, expect_count, folder_of, within};
+use crate::files::playing::{Play, expect_bytes, expect_count, folder_of, play_in, within};
 use disks::{Disk, Grow, SystemDisk};
-use std::io::ErrorKind;
+use std::io::{self, ErrorKind};
 use std::process::Abort;
+use std::rt::Files;
 use std::test::Fail;
 
 /// A file of this name cannot be grown, for this reason.
@@ -33,63 +34,104 @@ pub fn close<D: Disk>(rt: &impl Abort, disk: &mut D, grown: D::Grown, name: &str
     assert!(rt; disk.close_synced(grown, name).is_ok());
 }
 
+/// A file is grown twice, and by nobody else meanwhile.
+struct GrowByOneHand;
+
+impl Play for GrowByOneHand {
+    fn play<R: Abort + AllocGlobal + Files + Clone, D: Disk>(
+        &self,
+        rt: &R,
+        disk: &mut D,
+        _other: &mut D,
+        folder: &str,
+    ) -> io::Result<()> {
+        let name = within(rt, folder, "a")?;
+        expect_refused(rt, disk, &name, ErrorKind::NotFound);
+        assert!(rt; disk.create(&name)?);
+        let mut first = disk.grow(&name, true)?;
+        add(rt, &mut first, b"one");
+        expect_bytes(rt, &name, b"one")?;
+        expect_refused(rt, disk, &name, ErrorKind::WouldBlock);
+        close(rt, disk, first, &name);
+        let mut again = disk.grow(&name, false)?;
+        add(rt, &mut again, b" two");
+        close(rt, disk, again, &name);
+        expect_bytes(rt, &name, b"one two")?;
+        expect_refused(rt, disk, folder, ErrorKind::IsADirectory);
+        expect_refused(rt, disk, "/dev/null", ErrorKind::InvalidInput);
+        expect_count(rt, folder, 1)
+    }
+}
+
 #[test]
 fn a_file_grows_by_one_hand_alone(rt: HostRuntime) -> Result<(), Fail> {
     let folder = folder_of(&rt, "grown")?;
-    let name = within(&rt, &folder, "a")?;
-    let mut disk = SystemDisk::new(&rt);
-    expect_refused(&rt, &mut disk, &name, ErrorKind::NotFound);
-    assert!(rt; disk.create(&name)?);
-    let mut first = disk.grow(&name, true)?;
-    add(&rt, &mut first, b"one");
-    expect_bytes(&rt, &name, b"one")?;
-    expect_refused(&rt, &mut disk, &name, ErrorKind::WouldBlock);
-    close(&rt, &mut disk, first, &name);
-    let mut again = disk.grow(&name, false)?;
-    add(&rt, &mut again, b" two");
-    close(&rt, &mut disk, again, &name);
-    expect_bytes(&rt, &name, b"one two")?;
-    expect_refused(&rt, &mut disk, &folder, ErrorKind::IsADirectory);
-    expect_refused(&rt, &mut disk, "/dev/null", ErrorKind::InvalidInput);
-    expect_count(&rt, &folder, 1)?;
+    play_in(&rt, &folder, &GrowByOneHand)?;
     Ok(())
+}
+
+/// The first disk locks a file, which the second one can lock once the first one is gone.
+fn lock_by_turns<R: Abort + AllocGlobal + Files + Clone, D: Disk + Drop>(
+    rt: &R,
+    mut first: D,
+    second: &mut D,
+    folder: &str,
+) -> io::Result<()> {
+    let name = within(rt, folder, "lock")?;
+    expect_unlocked(rt, &mut first, &name, ErrorKind::NotFound);
+    assert!(rt; first.create(&name)?);
+    assert!(rt; first.lock(&name).is_ok());
+    expect_unlocked(rt, second, &name, ErrorKind::WouldBlock);
+    expect_refused(rt, second, &name, ErrorKind::WouldBlock);
+    // No lock is let go for another.
+    let other = within(rt, folder, "other")?;
+    assert!(rt; first.create(&other)?);
+    expect_unlocked(rt, &mut first, &other, ErrorKind::WouldBlock);
+    expect_unlocked(rt, second, &name, ErrorKind::WouldBlock);
+    drop(first);
+    assert!(rt; second.lock(&name).is_ok());
+    expect_count(rt, folder, 2)
 }
 
 #[test]
 fn a_file_is_locked_as_long_as_its_disk_is_there(rt: HostRuntime) -> Result<(), Fail> {
     let folder = folder_of(&rt, "locked")?;
-    let name = within(&rt, &folder, "lock")?;
-    let mut first = SystemDisk::new(&rt);
-    let mut second = SystemDisk::new(&rt);
-    expect_unlocked(&rt, &mut first, &name, ErrorKind::NotFound);
-    assert!(rt; first.create(&name)?);
-    assert!(rt; first.lock(&name).is_ok());
-    expect_unlocked(&rt, &mut second, &name, ErrorKind::WouldBlock);
-    expect_refused(&rt, &mut second, &name, ErrorKind::WouldBlock);
-    // No lock is let go for another.
-    let other = within(&rt, &folder, "other")?;
-    assert!(rt; first.create(&other)?);
-    expect_unlocked(&rt, &mut first, &other, ErrorKind::WouldBlock);
-    expect_unlocked(&rt, &mut second, &name, ErrorKind::WouldBlock);
-    drop(first);
-    assert!(rt; second.lock(&name).is_ok());
-    expect_count(&rt, &folder, 2)?;
+    lock_by_turns(
+        &rt,
+        SystemDisk::new(&rt),
+        &mut SystemDisk::new(&rt),
+        &folder,
+    )?;
     Ok(())
+}
+
+/// A file that was grown is let go, and grown once more.
+struct LetGo;
+
+impl Play for LetGo {
+    fn play<R: Abort + AllocGlobal + Files + Clone, D: Disk>(
+        &self,
+        rt: &R,
+        disk: &mut D,
+        _other: &mut D,
+        folder: &str,
+    ) -> io::Result<()> {
+        let name = within(rt, folder, "a")?;
+        assert!(rt; disk.create(&name)?);
+        let mut grown = disk.grow(&name, true)?;
+        add(rt, &mut grown, b"one");
+        disk.abandon(grown, within(rt, folder, "a")?);
+        expect_bytes(rt, &name, b"one")?;
+        let again = disk.grow(&name, false)?;
+        close(rt, disk, again, &name);
+        expect_count(rt, folder, 1)
+    }
 }
 
 #[test]
 fn a_file_that_is_let_go_keeps_what_was_added(rt: HostRuntime) -> Result<(), Fail> {
     let folder = folder_of(&rt, "let_go")?;
-    let name = within(&rt, &folder, "a")?;
-    let mut disk = SystemDisk::new(&rt);
-    assert!(rt; disk.create(&name)?);
-    let mut grown = disk.grow(&name, true)?;
-    add(&rt, &mut grown, b"one");
-    disk.abandon(grown, within(&rt, &folder, "a")?);
-    expect_bytes(&rt, &name, b"one")?;
-    let again = disk.grow(&name, false)?;
-    close(&rt, &mut disk, again, &name);
-    expect_count(&rt, &folder, 1)?;
+    play_in(&rt, &folder, &LetGo)?;
     Ok(())
 }
 

@@ -1,6 +1,6 @@
 //! `join` into a file that has another name in the folder.
 
-use crate::files::system::{expect, expect_count, folder_of, link_in, within, write_in};
+use crate::files::playing::{expect, expect_count, folder_of, link_in, within, write_in};
 use crate::segments::FIRST;
 use disks::SystemDisk;
 use folder_commands::join;

@@ -43,56 +43,140 @@ fn expect_left<R: Abort + AllocGlobal>(
     Ok(())
 }
 
+/// What is done to files before a loss of power.
+trait Change {
+    fn change<R: Abort + AllocGlobal, D: Disk>(&self, rt: &R, disk: &mut D) -> io::Result<()>;
+}
+
+/// Has it done, and compares what is left.
+fn expect_change<R: Abort + AllocGlobal, C: Change>(
+    rt: &R,
+    mut disk: LosingDisk,
+    change: &C,
+    files: &[(&str, Option<&str>)],
+) -> io::Result<()> {
+    change.change(rt, &mut disk)?;
+    expect_left(rt, disk, files)
+}
+
+/// Two files are put in their places, of which one is opened synced.
+struct GrowOneOfTwo;
+
+impl Change for GrowOneOfTwo {
+    fn change<R: Abort + AllocGlobal, D: Disk>(&self, rt: &R, disk: &mut D) -> io::Result<()> {
+        put(disk, "a", b"one")?;
+        put(disk, "b", b"new")?;
+        let held = bytes_of(rt.alloc(), disk, "b")?;
+        assert!(rt; held.as_slice() == b"new".as_slice());
+        drop(disk.grow("a", true)?);
+        Ok(())
+    }
+}
+
 #[test]
 fn a_name_lasts_once_its_file_is_opened_synced(rt: HostRuntime) -> Result<(), Fail> {
-    let mut disk = losing(rt.alloc(), &[("b", "old")])?;
-    put(&mut disk, "a", b"one")?;
-    put(&mut disk, "b", b"new")?;
-    let held = bytes_of(rt.alloc(), &disk, "b")?;
-    assert!(rt; held.as_slice() == b"new".as_slice());
-    drop(disk.grow("a", true)?);
-    expect_left(&rt, disk, &[("a", Some("one")), ("b", Some("old"))])?;
+    let disk = losing(rt.alloc(), &[("b", "old")])?;
+    expect_change(
+        &rt,
+        disk,
+        &GrowOneOfTwo,
+        &[("a", Some("one")), ("b", Some("old"))],
+    )?;
     Ok(())
+}
+
+/// A file that is synced and one that is not are added to by turns, and let go.
+struct AddByTurns;
+
+impl Change for AddByTurns {
+    fn change<R: Abort + AllocGlobal, D: Disk>(&self, rt: &R, disk: &mut D) -> io::Result<()> {
+        let mut synced = disk.grow("a", true)?;
+        add(rt, &mut synced, b" two");
+        put(disk, "b", b"")?;
+        let mut other = disk.grow("b", false)?;
+        add(rt, &mut other, b"lost");
+        add(rt, &mut synced, b" three");
+        disk.abandon(synced, String::from_str(rt.alloc(), "a")?);
+        disk.abandon(other, String::from_str(rt.alloc(), "b")?);
+        let held = bytes_of(rt.alloc(), disk, "a")?;
+        assert!(rt; held.as_slice() == b"one".as_slice());
+        Ok(())
+    }
 }
 
 #[test]
 fn what_is_added_to_a_synced_file_lasts(rt: HostRuntime) -> Result<(), Fail> {
-    let mut disk = losing(rt.alloc(), &[("a", "one")])?;
-    let mut synced = disk.grow("a", true)?;
-    add(&rt, &mut synced, b" two");
-    put(&mut disk, "b", b"")?;
-    let mut other = disk.grow("b", false)?;
-    add(&rt, &mut other, b"lost");
-    add(&rt, &mut synced, b" three");
-    disk.abandon(synced, String::from_str(rt.alloc(), "a")?);
-    disk.abandon(other, String::from_str(rt.alloc(), "b")?);
-    let held = bytes_of(rt.alloc(), &disk, "a")?;
-    assert!(rt; held.as_slice() == b"one".as_slice());
-    expect_left(&rt, disk, &[("a", Some("one two three")), ("b", Some(""))])?;
+    let disk = losing(rt.alloc(), &[("a", "one")])?;
+    expect_change(
+        &rt,
+        disk,
+        &AddByTurns,
+        &[("a", Some("one two three")), ("b", Some(""))],
+    )?;
     Ok(())
+}
+
+/// A file is made, added to and closed.
+struct AddAndClose;
+
+impl Change for AddAndClose {
+    fn change<R: Abort + AllocGlobal, D: Disk>(&self, rt: &R, disk: &mut D) -> io::Result<()> {
+        assert!(rt; disk.create("a")?);
+        let mut grown = disk.grow("a", false)?;
+        add(rt, &mut grown, b"one");
+        close(rt, disk, grown, "a");
+        let held = bytes_of(rt.alloc(), disk, "a")?;
+        assert!(rt; held.as_slice() == b"one".as_slice());
+        Ok(())
+    }
 }
 
 #[test]
 fn a_file_that_is_closed_lasts(rt: HostRuntime) -> Result<(), Fail> {
-    let mut disk = losing(rt.alloc(), &[])?;
-    assert!(rt; disk.create("a")?);
-    let mut grown = disk.grow("a", false)?;
-    add(&rt, &mut grown, b"one");
-    close(&rt, &mut disk, grown, "a");
-    let held = bytes_of(rt.alloc(), &disk, "a")?;
-    assert!(rt; held.as_slice() == b"one".as_slice());
-    expect_left(&rt, disk, &[("a", Some("one"))])?;
+    let disk = losing(rt.alloc(), &[])?;
+    expect_change(&rt, disk, &AddAndClose, &[("a", Some("one"))])?;
     Ok(())
+}
+
+/// An empty file is removed, and another one made.
+struct DiscardAndCreate;
+
+impl Change for DiscardAndCreate {
+    fn change<R: Abort + AllocGlobal, D: Disk>(&self, rt: &R, disk: &mut D) -> io::Result<()> {
+        assert!(rt; disk.discard("a")?);
+        assert!(rt; disk.create("b")?);
+        assert!(rt; disk.open("a").is_err());
+        Ok(())
+    }
 }
 
 #[test]
 fn what_is_made_or_removed_alone_may_be_lost(rt: HostRuntime) -> Result<(), Fail> {
-    let mut disk = losing(rt.alloc(), &[("a", "")])?;
-    assert!(rt; disk.discard("a")?);
-    assert!(rt; disk.create("b")?);
-    assert!(rt; disk.open("a").is_err());
-    expect_left(&rt, disk, &[("a", Some("")), ("b", None)])?;
+    let disk = losing(rt.alloc(), &[("a", "")])?;
+    expect_change(
+        &rt,
+        disk,
+        &DiscardAndCreate,
+        &[("a", Some("")), ("b", None)],
+    )?;
     Ok(())
+}
+
+/// A file is added to past the sync that fails, and cannot be closed.
+struct AddPastASync;
+
+impl Change for AddPastASync {
+    fn change<R: Abort + AllocGlobal, D: Disk>(&self, rt: &R, disk: &mut D) -> io::Result<()> {
+        let mut grown = disk.grow("a", true)?;
+        assert!(rt; grown.add(b" two") == Ok(()));
+        assert!(rt; grown.add(b" three") == Err(6));
+        assert!(rt; grown.add(b" four") == Err(0));
+        let Err(grown) = disk.close_synced(grown, "a") else {
+            panic!(rt; "closed");
+        };
+        disk.abandon(grown, String::from_str(rt.alloc(), "a")?);
+        Ok(())
+    }
 }
 
 #[test]
@@ -100,17 +184,21 @@ fn a_synced_file_whose_sync_failed_takes_no_more(rt: HostRuntime) -> Result<(), 
     let mut held = no_files(rt.alloc());
     put(&mut held, "a", b"one")?;
     let calls = LosingCalls::new(held, Vec::new(rt.alloc())).failing(2, u32::MAX);
-    let mut disk = SystemDisk::over(calls);
-    let mut grown = disk.grow("a", true)?;
-    assert!(rt; grown.add(b" two") == Ok(()));
-    assert!(rt; grown.add(b" three") == Err(6));
-    assert!(rt; grown.add(b" four") == Err(0));
-    let Err(grown) = disk.close_synced(grown, "a") else {
-        panic!(rt; "closed");
-    };
-    disk.abandon(grown, String::from_str(rt.alloc(), "a")?);
-    expect_left(&rt, disk, &[("a", Some("one two"))])?;
+    let disk = SystemDisk::over(calls);
+    expect_change(&rt, disk, &AddPastASync, &[("a", Some("one two"))])?;
     Ok(())
+}
+
+/// A file whose name cannot be synced is not opened synced, and not closed.
+struct GrowNameless;
+
+impl Change for GrowNameless {
+    fn change<R: Abort + AllocGlobal, D: Disk>(&self, rt: &R, disk: &mut D) -> io::Result<()> {
+        assert!(rt; disk.grow("a", true).is_err());
+        let grown = disk.grow("a", false)?;
+        assert!(rt; disk.close_synced(grown, "a").is_err());
+        Ok(())
+    }
 }
 
 #[test]
@@ -118,10 +206,7 @@ fn a_name_that_cannot_be_synced_is_told(rt: HostRuntime) -> Result<(), Fail> {
     let mut held = no_files(rt.alloc());
     put(&mut held, "a", b"one")?;
     let calls = LosingCalls::new(held, Vec::new(rt.alloc())).failing(u32::MAX, 0);
-    let mut disk = SystemDisk::over(calls);
-    assert!(rt; disk.grow("a", true).is_err());
-    let grown = disk.grow("a", false)?;
-    assert!(rt; disk.close_synced(grown, "a").is_err());
-    expect_left(&rt, disk, &[("a", None)])?;
+    let disk = SystemDisk::over(calls);
+    expect_change(&rt, disk, &GrowNameless, &[("a", None)])?;
     Ok(())
 }

@@ -1,6 +1,6 @@
 //! Two servers of one folder at once.
 
-use crate::files::system::{expect, expect_count, folder_of};
+use crate::files::playing::{expect, expect_count, folder_of};
 use crate::power::LENT;
 use disks::{Disk, SystemDisk};
 use lock_commands::locks;
@@ -35,10 +35,10 @@ fn lend<'a, D: Disk, I: Read>(
 fn is_refused(rt: &HostRuntime, folder: &str) -> bool {
     let alloc = rt.alloc();
     let mut disk = SystemDisk::new(rt);
-    let mut input: &[u8] = b"2 acquire 0 78\n";
+    let mut input: &[u8] = b"2 acquire deploy 78\n";
     let mut out = Vec::new(alloc);
     match lend(alloc, &mut disk, folder, &mut input, &mut out) {
-        Err(ToolError::InUse(name)) => name == folder && input.len() == 15 && out.is_empty(),
+        Err(ToolError::InUse(name)) => name == folder && input.len() == 20 && out.is_empty(),
         _ => false,
     }
 }
@@ -70,12 +70,12 @@ fn a_folder_has_one_server_at_a_time(rt: HostRuntime) -> Result<(), Fail> {
     let mut input = Beside {
         rt: &rt,
         folder: folder.as_str(),
-        lines: b"1 acquire 0 77\n",
+        lines: b"1 acquire deploy 77\n",
         refused: 0,
     };
     let mut out = Vec::new(alloc);
     assert!(rt; lend(alloc, &mut disk, folder.as_str(), &mut input, &mut out).is_ok());
-    assert!(rt; out.as_slice() == b"1 granted 0 1\n".as_slice());
+    assert!(rt; out.as_slice() == b"1 granted deploy 1\n".as_slice());
     // One began before the line was read, and one before the end was.
     assert!(rt; input.refused == 2);
     expect(&rt, &folder, "0000000001.ring", Some(LENT))?;
@@ -83,10 +83,10 @@ fn a_folder_has_one_server_at_a_time(rt: HostRuntime) -> Result<(), Fail> {
     assert!(rt; is_refused(&rt, folder.as_str()));
     drop(disk);
     let mut disk = SystemDisk::new(&rt);
-    let mut input: &[u8] = b"1 acquire 0 79\n";
+    let mut input: &[u8] = b"1 acquire deploy 79\n";
     let mut out = Vec::new(alloc);
     assert!(rt; lend(alloc, &mut disk, folder.as_str(), &mut input, &mut out).is_ok());
-    assert!(rt; out.as_slice() == b"1 waiting 0 0\n".as_slice());
+    assert!(rt; out.as_slice() == b"1 waiting deploy 0\n".as_slice());
     // The list of locks, the lock of the folder, and the segment, in which the second one began where the first one ended.
     expect_count(&rt, &folder, 3)?;
     Ok(())

@@ -1,9 +1,11 @@
 //! A file that is replaced by one that is written as a whole.
 
 use crate::files::memory::{bytes_of, no_files, put};
-use crate::files::system::{expect_bytes, expect_count, folder_of, within};
+use crate::files::playing::{Play, expect_bytes, expect_count, folder_of, play_in, within};
 use disks::{Contents, ContentsFault, Disk, ReplaceFault, SystemDisk, replace};
-use std::io::Write;
+use std::io::{self, Write};
+use std::process::Abort;
+use std::rt::Files;
 use std::test::Fail;
 
 /// Two lines, or the fault that comes after the first.
@@ -61,18 +63,32 @@ fn a_file_in_memory_is_replaced_as_a_whole(rt: HostRuntime) -> Result<(), Fail> 
     Ok(())
 }
 
+/// A file of the folder is replaced, kept where that fails, and not made where it cannot be.
+struct ReplaceInFolder;
+
+impl Play for ReplaceInFolder {
+    fn play<R: Abort + AllocGlobal + Files + Clone, D: Disk>(
+        &self,
+        rt: &R,
+        disk: &mut D,
+        _other: &mut D,
+        folder: &str,
+    ) -> io::Result<()> {
+        let name = within(rt, folder, "a")?;
+        assert!(rt; replace(rt.alloc(), disk, &name, &WHOLE) == Ok(()));
+        expect_bytes(rt, &name, b"one\ntwo\n")?;
+        put(disk, &name, b"old")?;
+        assert!(rt; replace(rt.alloc(), disk, &name, &BROKEN) == Err(ReplaceFault::Write));
+        expect_bytes(rt, &name, b"old")?;
+        let within = within(rt, &name, "b")?;
+        assert!(rt; replace(rt.alloc(), disk, &within, &WHOLE) == Err(ReplaceFault::Make));
+        expect_count(rt, folder, 1)
+    }
+}
+
 #[test]
 fn a_file_of_the_system_is_replaced_as_a_whole(rt: HostRuntime) -> Result<(), Fail> {
     let folder = folder_of(&rt, "replaced")?;
-    let name = within(&rt, &folder, "a")?;
-    let mut disk = SystemDisk::new(&rt);
-    assert!(rt; replace(rt.alloc(), &mut disk, &name, &WHOLE) == Ok(()));
-    expect_bytes(&rt, &name, b"one\ntwo\n")?;
-    put(&mut disk, &name, b"old")?;
-    assert!(rt; replace(rt.alloc(), &mut disk, &name, &BROKEN) == Err(ReplaceFault::Write));
-    expect_bytes(&rt, &name, b"old")?;
-    let within = within(&rt, &name, "b")?;
-    assert!(rt; replace(rt.alloc(), &mut disk, &within, &WHOLE) == Err(ReplaceFault::Make));
-    expect_count(&rt, &folder, 1)?;
+    play_in(&rt, &folder, &ReplaceInFolder)?;
     Ok(())
 }

@@ -1,87 +1,16 @@
 //! The system's files.
 
-use crate::files::memory::{bytes_of, is_of_a_folder, put};
+use crate::files::memory::{is_of_a_folder, put};
+use crate::files::playing::{
+    Play, expect, expect_count, folder_of, link_in, play_in, put_in, within, write_in,
+};
 use disks::{Disk, FolderEntry, SystemDisk};
 use std::fs::{self, File};
 use std::io::{self, ErrorKind, Write};
-use std::os::unix::fs::{MetadataExt, PermissionsExt, symlink};
-use std::process::{self, Abort};
+use std::os::unix::fs::{MetadataExt, PermissionsExt};
+use std::process::Abort;
 use std::rt::Files;
 use std::test::Fail;
-
-/// A new folder of this process. Each test gives its own another name.
-pub fn folder_of(rt: &HostRuntime, name: &str) -> io::Result<String> {
-    let folder = std::env::temp_dir(rt)?;
-    let folder = folder.as_path().to_string_lossy();
-    let number = process::id(rt.process());
-    let own = format!(in rt.alloc(); "{folder}/disks-{number}-{name}")?;
-    fs::create_dir(rt, own.as_str())?;
-    Ok(own)
-}
-
-/// The name of a file in a folder.
-pub fn within<R: AllocGlobal>(rt: &R, folder: &str, name: &str) -> io::Result<String> {
-    Ok(format!(in rt.alloc(); "{folder}/{name}")?)
-}
-
-/// Compares what the file of this name holds, by the system's own call.
-pub fn expect_bytes<R: Abort + AllocGlobal + Files>(
-    rt: &R,
-    name: &str,
-    bytes: &[u8],
-) -> io::Result<()> {
-    let held = fs::read(rt, name)?;
-    assert!(rt; held.as_slice() == bytes, "at {name}");
-    Ok(())
-}
-
-/// Compares how many files a folder has, and takes it away.
-pub fn expect_count<R: Abort + AllocGlobal + Files + Clone>(
-    rt: &R,
-    folder: &str,
-    want: usize,
-) -> io::Result<()> {
-    let count = fs::read_dir(rt, folder)?.count();
-    assert_eq!(rt; count, want);
-    fs::remove_dir_all(rt, folder)
-}
-
-/// Makes a file in a folder by the system's own call.
-pub fn write_in<R: AllocGlobal + Files>(
-    rt: &R,
-    folder: &str,
-    name: &str,
-    text: &str,
-) -> io::Result<()> {
-    fs::write(rt, within(rt, folder, name)?.as_str(), text)
-}
-
-/// Makes a link in a folder that leads to this name.
-pub fn link_in<R: AllocGlobal + Files>(
-    rt: &R,
-    folder: &str,
-    name: &str,
-    to: &str,
-) -> io::Result<()> {
-    symlink(rt, to, within(rt, folder, name)?.as_str())
-}
-
-/// Compares what a file of a folder holds; `None` is a file that is not there.
-pub fn expect<R: Abort + AllocGlobal + Files>(
-    rt: &R,
-    folder: &str,
-    name: &str,
-    text: Option<&str>,
-) -> io::Result<()> {
-    let name = within(rt, folder, name)?;
-    match text {
-        Some(text) => expect_bytes(rt, &name, text.as_bytes()),
-        None => {
-            assert!(rt; !fs::exists(rt, name.as_str())?, "at {name}");
-            Ok(())
-        }
-    }
-}
 
 /// The content of files, by their names in a folder.
 type Held<'a> = &'a [(&'a str, Option<&'a str>)];
@@ -196,59 +125,88 @@ fn a_new_file_is_made_beside_and_put_in_its_place(rt: HostRuntime) -> Result<(),
     Ok(())
 }
 
-/// Puts bytes into a file of a folder, and compares them with what the disk then reads.
-pub fn put_in<R: Abort + AllocGlobal + Files<File = File>>(
-    rt: &R,
-    folder: &str,
-    name: &str,
-    bytes: &[u8],
-) -> io::Result<()> {
-    let name = within(rt, folder, name)?;
-    let mut disk = SystemDisk::new(rt);
-    put(&mut disk, &name, bytes)?;
-    let held = bytes_of(rt.alloc(), &disk, &name)?;
-    assert!(rt; held.as_slice() == bytes);
-    Ok(())
+/// A file that only its owner and its group can read is replaced.
+struct ReplaceWithMode;
+
+impl Play for ReplaceWithMode {
+    fn play<R: Abort + AllocGlobal + Files + Clone, D: Disk>(
+        &self,
+        rt: &R,
+        disk: &mut D,
+        _other: &mut D,
+        folder: &str,
+    ) -> io::Result<()> {
+        let name = within(rt, folder, "a")?;
+        fs::write(rt, name.as_str(), "old")?;
+        fs::set_permissions(rt, name.as_str(), fs::Permissions::from_mode(0o640))?;
+        put_in(rt, disk, folder, "a", b"new text")?;
+        assert_eq!(rt; fs::metadata(rt, name.as_str())?.mode() & 0o777, 0o640);
+        expect_count(rt, folder, 1)
+    }
 }
 
 #[test]
 fn the_mode_of_a_file_is_kept(rt: HostRuntime) -> Result<(), Fail> {
     let folder = folder_of(&rt, "modes")?;
-    let name = within(&rt, &folder, "a")?;
-    fs::write(&rt, name.as_str(), "old")?;
-    fs::set_permissions(&rt, name.as_str(), fs::Permissions::from_mode(0o640))?;
-    put_in(&rt, &folder, "a", b"new text")?;
-    assert_eq!(rt; fs::metadata(&rt, name.as_str())?.mode() & 0o777, 0o640);
-    expect_count(&rt, &folder, 1)?;
+    play_in(&rt, &folder, &ReplaceWithMode)?;
     Ok(())
+}
+
+/// A file is made for one name, and put to another.
+struct FinishElsewhere;
+
+impl Play for FinishElsewhere {
+    fn play<R: Abort + AllocGlobal + Files + Clone, D: Disk>(
+        &self,
+        rt: &R,
+        disk: &mut D,
+        _other: &mut D,
+        folder: &str,
+    ) -> io::Result<()> {
+        let name = within(rt, folder, "a")?;
+        let other = within(rt, folder, "b")?;
+        let mut made = disk.make(&name)?;
+        made.write_all(b"one")?;
+        let Err(fault) = disk.finish(made, &other) else {
+            panic!(rt; "put");
+        };
+        assert!(rt; fault.kind() == ErrorKind::InvalidInput);
+        expect_count(rt, folder, 0)
+    }
 }
 
 #[test]
 fn a_new_file_goes_to_no_other_name(rt: HostRuntime) -> Result<(), Fail> {
     let folder = folder_of(&rt, "others")?;
-    let name = within(&rt, &folder, "a")?;
-    let other = within(&rt, &folder, "b")?;
-    let mut disk = SystemDisk::new(&rt);
-    let mut made = disk.make(&name)?;
-    made.write_all(b"one")?;
-    let Err(fault) = disk.finish(made, &other) else {
-        panic!(rt; "put");
-    };
-    assert!(rt; fault.kind() == ErrorKind::InvalidInput);
-    expect_count(&rt, &folder, 0)?;
+    play_in(&rt, &folder, &FinishElsewhere)?;
     Ok(())
+}
+
+/// A file is replaced by the name of a link that leads to it.
+struct ReplaceBehindALink;
+
+impl Play for ReplaceBehindALink {
+    fn play<R: Abort + AllocGlobal + Files + Clone, D: Disk>(
+        &self,
+        rt: &R,
+        disk: &mut D,
+        _other: &mut D,
+        folder: &str,
+    ) -> io::Result<()> {
+        write_in(rt, folder, "a", "old")?;
+        link_in(rt, folder, "b", "a")?;
+        put_in(rt, disk, folder, "b", b"new")?;
+        expect(rt, folder, "a", Some("new"))?;
+        let link = within(rt, folder, "b")?;
+        assert!(rt; fs::symlink_metadata(rt, link.as_str())?.is_symlink());
+        expect_count(rt, folder, 2)
+    }
 }
 
 #[test]
 fn what_a_link_leads_to_is_replaced(rt: HostRuntime) -> Result<(), Fail> {
     let folder = folder_of(&rt, "links")?;
-    write_in(&rt, &folder, "a", "old")?;
-    link_in(&rt, &folder, "b", "a")?;
-    put_in(&rt, &folder, "b", b"new")?;
-    expect(&rt, &folder, "a", Some("new"))?;
-    let link = within(&rt, &folder, "b")?;
-    assert!(rt; fs::symlink_metadata(&rt, link.as_str())?.is_symlink());
-    expect_count(&rt, &folder, 2)?;
+    play_in(&rt, &folder, &ReplaceBehindALink)?;
     Ok(())
 }
 
@@ -298,15 +256,29 @@ fn names_of_one_file_are_known(rt: HostRuntime) -> Result<(), Fail> {
     Ok(())
 }
 
+/// Files are opened and made where none can be.
+struct MakeNowhere;
+
+impl Play for MakeNowhere {
+    fn play<R: Abort + AllocGlobal + Files + Clone, D: Disk>(
+        &self,
+        rt: &R,
+        disk: &mut D,
+        _other: &mut D,
+        folder: &str,
+    ) -> io::Result<()> {
+        let missing = within(rt, folder, "missing/a")?;
+        assert!(rt; disk.open(&missing).is_err());
+        assert!(rt; disk.make(&missing).is_err());
+        assert!(rt; disk.make(folder).is_err());
+        expect_count(rt, folder, 0)
+    }
+}
+
 #[test]
 fn what_cannot_be_made_is_refused(rt: HostRuntime) -> Result<(), Fail> {
     let folder = folder_of(&rt, "refused")?;
-    let missing = within(&rt, &folder, "missing/a")?;
-    let mut disk = SystemDisk::new(&rt);
-    assert!(rt; disk.open(&missing).is_err());
-    assert!(rt; disk.make(&missing).is_err());
-    assert!(rt; disk.make(&folder).is_err());
-    expect_count(&rt, &folder, 0)?;
+    play_in(&rt, &folder, &MakeNowhere)?;
     Ok(())
 }
 
@@ -316,33 +288,61 @@ fn make_both<R: AllocGlobal + Files>(rt: &R, folder: &str) -> io::Result<()> {
     fs::create_dir(rt, within(rt, folder, "e")?.as_str())
 }
 
+/// An empty folder and a file are listed.
+struct ListBoth;
+
+impl Play for ListBoth {
+    fn play<R: Abort + AllocGlobal + Files + Clone, D: Disk>(
+        &self,
+        rt: &R,
+        disk: &mut D,
+        _other: &mut D,
+        folder: &str,
+    ) -> io::Result<()> {
+        make_both(rt, folder)?;
+        assert!(rt; disk.list(&within(rt, folder, "e")?)?.is_empty());
+        assert!(rt; disk.list(&within(rt, folder, "a")?).is_err());
+        expect_count(rt, folder, 2)
+    }
+}
+
 #[test]
 fn an_empty_folder_is_listed_and_a_file_is_not(rt: HostRuntime) -> Result<(), Fail> {
     let folder = folder_of(&rt, "both")?;
-    make_both(&rt, &folder)?;
-    let disk = SystemDisk::new(&rt);
-    assert!(rt; disk.list(&within(&rt, &folder, "e")?)?.is_empty());
-    assert!(rt; disk.list(&within(&rt, &folder, "a")?).is_err());
-    expect_count(&rt, &folder, 2)?;
+    play_in(&rt, &folder, &ListBoth)?;
     Ok(())
+}
+
+/// Folders are used as files.
+struct UseFoldersAsFiles;
+
+impl Play for UseFoldersAsFiles {
+    fn play<R: Abort + AllocGlobal + Files + Clone, D: Disk>(
+        &self,
+        rt: &R,
+        disk: &mut D,
+        _other: &mut D,
+        folder: &str,
+    ) -> io::Result<()> {
+        make_both(rt, folder)?;
+        let empty = within(rt, folder, "e")?;
+        for name in [folder, empty.as_str()] {
+            assert!(rt; is_of_a_folder(&disk.open(name)));
+            assert!(rt; is_of_a_folder(&disk.create(name)));
+            assert!(rt; is_of_a_folder(&disk.grow(name, false)));
+            assert!(rt; is_of_a_folder(&disk.make(name)));
+            assert!(rt; !disk.discard(name)?);
+            assert!(rt; disk.is_one_file(name, name)?);
+        }
+        assert!(rt; !disk.is_one_file(folder, &empty)?);
+        expect_count(rt, folder, 2)
+    }
 }
 
 #[test]
 fn a_folder_of_the_system_is_no_file(rt: HostRuntime) -> Result<(), Fail> {
     let folder = folder_of(&rt, "folders")?;
-    make_both(&rt, &folder)?;
-    let empty = within(&rt, &folder, "e")?;
-    let mut disk = SystemDisk::new(&rt);
-    for name in [&folder, &empty] {
-        assert!(rt; is_of_a_folder(&disk.open(name)));
-        assert!(rt; is_of_a_folder(&disk.create(name)));
-        assert!(rt; is_of_a_folder(&disk.grow(name, false)));
-        assert!(rt; is_of_a_folder(&disk.make(name)));
-        assert!(rt; !disk.discard(name)?);
-        assert!(rt; disk.is_one_file(name, name)?);
-    }
-    assert!(rt; !disk.is_one_file(&folder, &empty)?);
-    expect_count(&rt, &folder, 2)?;
+    play_in(&rt, &folder, &UseFoldersAsFiles)?;
     Ok(())
 }
 
@@ -357,22 +357,41 @@ fn a_device_is_written_as_it_stands(rt: HostRuntime) -> Result<(), Fail> {
 
 /// What a folder has of this name: none, or whether it is a regular file.
 fn listed(entries: &[FolderEntry], name: &str) -> Option<bool> {
-    let entry = entries.iter().find(|entry| entry.name.as_str() == name)?;
-    Some(entry.is_regular)
+    for entry in entries {
+        if entry.name.as_str() == name {
+            return Some(entry.is_regular);
+        }
+    }
+    None
+}
+
+/// A file, a link to it and a folder are listed.
+struct ListThree;
+
+impl Play for ListThree {
+    fn play<R: Abort + AllocGlobal + Files + Clone, D: Disk>(
+        &self,
+        rt: &R,
+        disk: &mut D,
+        _other: &mut D,
+        folder: &str,
+    ) -> io::Result<()> {
+        write_in(rt, folder, "a.ring", "one")?;
+        link_in(rt, folder, "b.ring", "a.ring")?;
+        fs::create_dir(rt, within(rt, folder, "c.ring")?.as_str())?;
+        let entries = disk.list(folder)?;
+        assert_eq!(rt; entries.len(), 3);
+        for (name, want) in [("a.ring", true), ("b.ring", false), ("c.ring", false)] {
+            assert!(rt; listed(&entries, name) == Some(want), "at {name}");
+        }
+        expect_count(rt, folder, 3)
+    }
 }
 
 #[test]
 fn a_folder_is_listed_with_what_is_a_regular_file(rt: HostRuntime) -> Result<(), Fail> {
     let folder = folder_of(&rt, "listed")?;
-    write_in(&rt, &folder, "a.ring", "one")?;
-    link_in(&rt, &folder, "b.ring", "a.ring")?;
-    fs::create_dir(&rt, within(&rt, &folder, "c.ring")?.as_str())?;
-    let entries = SystemDisk::new(&rt).list(&folder)?;
-    assert_eq!(rt; entries.len(), 3);
-    for (name, want) in [("a.ring", true), ("b.ring", false), ("c.ring", false)] {
-        assert!(rt; listed(&entries, name) == Some(want), "at {name}");
-    }
-    fs::remove_dir_all(&rt, folder.as_str())?;
+    play_in(&rt, &folder, &ListThree)?;
     Ok(())
 }
 

@@ -9,7 +9,7 @@ use disks::{Disk, FolderEntry, MemoryDisk, Stored, StoredEntry};
 use line_service::{
     LoopFault, OpenSegment, SegmentRules, close_segment, open_segment, segment_file, serve_segments,
 };
-use ring_service::{ChainRules, ChainService};
+use ring_service::{ChainRules, RingService};
 use sha2::{Digest, Sha256};
 use std::alloc::Global;
 use std::io::{self, Cursor, ErrorKind, Read};
@@ -35,7 +35,7 @@ const SECOND_END: &[u8] =
 const LINES: &[u8] = b"pass 0 0 0 5\npass 0 0 0 1\npass 0 0 2 4\n";
 
 /// The rings in the first segment. Two lines of the journal make it due; `strict` says whether memory that is short is never reported.
-fn first_service(rt: &impl Abort, alloc: Global, strict: bool) -> ChainService<'static> {
+fn first_service(rt: &impl Abort, alloc: Global, strict: bool) -> RingService<'static> {
     let mut permits = NOTHING;
     permits.strict = strict;
     let rules = ChainRules {
@@ -43,10 +43,7 @@ fn first_service(rt: &impl Abort, alloc: Global, strict: bool) -> ChainService<'
         limit: 2,
         permits,
     };
-    match ChainService::new(alloc, served(rt, alloc), rules, 1) {
-        Ok(service) => service,
-        Err(_) => panic!(rt; "there is memory"),
-    }
+    RingService::in_segment(alloc, served(rt, alloc), rules, 1)
 }
 
 /// The files of the segments are not synced.

@@ -1,4 +1,5 @@
 //! Calls one after another, and the text that is saved of them.
+use crate::events::granted;
 use one_thread_ring::{OneThreadRing, from_saved};
 use ring_book::{Idle, Till};
 use ring_farm::RingOutcome;
@@ -101,6 +102,29 @@ fn a_log_has_each_survey_at_its_place(rt: HostRuntime) {
     assert!(rt; run.book.history().len() == 4 && run.logs.len() == 2);
     assert!(rt; run.logs[0].seat == 0 && run.logs[0].entries.as_slice() == told.as_slice());
     assert!(rt; run.logs[1].seat == 1 && run.logs[1].entries.len() == 4);
+}
+
+// A pass that cannot be refused is recorded, and only in the log of its seat.
+#[test]
+fn a_grant_is_in_the_log_of_its_seat(rt: HostRuntime) {
+    let alloc = rt.alloc();
+    let Ok(mut ring) = OneThreadRing::open(alloc, 3, 3, &[0, 2, 0], 2, Till::new()) else {
+        panic!(rt; "the ring is opened");
+    };
+    assert!(rt; ring.machines() == 3);
+    assert!(rt; ring.is_privileged(2));
+    let Ok(()) = ring.reserve(1) else {
+        panic!(rt; "there is memory");
+    };
+    let receipt = ring.grant(1, 2, 4);
+    let wanted = Receipt {
+        position: 0,
+        event: granted(1, 2, 4, 1, 4),
+    };
+    assert!(rt; receipt == wanted);
+    assert!(rt; ring.history().len() == 1);
+    assert!(rt; log_of(&rt, alloc, &ring, 0).is_empty());
+    assert!(rt; log_of(&rt, alloc, &ring, 1).as_slice() == [Entry::Receipt(wanted)].as_slice());
 }
 
 #[test]

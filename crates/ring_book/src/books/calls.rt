@@ -1,5 +1,5 @@
 ghost use Rattle.std.specs.Prelude.{◌≡◌, ◌<◌, ◌≤◌, ◌+◌, ◌↔◌, true, false, List, length, IsOk, IfOk, IfErr, OnOk, OnErr, IsErrOf};
-ghost use Rattle.ring_model.specs.Ring.{is_settled, rest};
+ghost use Rattle.ring_model.specs.Ring.{is_privileged, is_settled, rest};
 ghost use Rattle.ring_model.specs.RepairLaws.{passes_left};
 ghost use Rattle.ring_model.specs.History.{opening};
 ghost use Rattle.ring_model.specs.HistoryLaws.{Settlement};
@@ -38,6 +38,21 @@ impl<R: Resource + Drop> Book<R> {
     {
         self.parts.events.reserve(1)?; // before the work
         Ok(self.parts.pass(seat, machine, order))
+    }
+
+    /// A pass by `machine`, which is privileged, where there is room for an event: it is granted, takes no memory and is not refused.
+    #[inline(always)]
+    pub fn grant(&mut self, seat: u32, machine: u32, order: u64) -> Receipt
+        requires seat { seat < seat_limit }
+        requires machine { machine < length self.old.now.ring.values }
+        requires privileged { is_privileged self.old.now.ring.values machine ≡ true }
+        requires room { 1 ≤ self.old.room }
+        ensures recorded { IsRecorded R.works self.old self.new seat (Op.Pass machine order) result }
+        ensures book { IsBook R.works R.first self.new }
+        ensures settlement { Settlement R.works (opening self.new.start R.first) self.new.history }
+        ensures room { self.old.room ≤ self.new.room + 1 }
+    {
+        self.parts.grant(seat, machine, order, None)
     }
 
     /// A fault: `value`, which is below K, is written into `machine`, which is below n. It is recorded as a

@@ -22,7 +22,7 @@ macro_rules! granted {
 
 const MOST: u64 = u64::MAX;
 
-const PASSES: [Scene<'static>; 5] = [
+const PASSES: [Scene<'static>; 6] = [
     // Passes move the ring, and are recorded.
     Scene {
         k: 3,
@@ -47,6 +47,22 @@ const PASSES: [Scene<'static>; 5] = [
                 },
                 granted!(0, 2, 2),
             ]),
+            Step::Counts([0, 3, 0], 2, 3),
+        ],
+    },
+    // So are the passes that cannot be refused.
+    Scene {
+        k: 3,
+        start: &[0, 2, 0],
+        filled: 0,
+        steps: &[
+            Step::SurelyGranted(0, 0, 5, 1, 5),
+            Step::Values(&[1, 2, 0]),
+            Step::NotPrivileged(1, 0, 1),
+            Step::SurelyGranted(2, 2, 4, 2, 9),
+            Step::Values(&[1, 2, 2]),
+            Step::Survey(3, 1, 1, 2, 0),
+            Step::Grants([1, 0, 1], [0, 0, 0]),
             Step::Counts([0, 3, 0], 2, 3),
         ],
     },

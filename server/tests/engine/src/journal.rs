@@ -2,7 +2,7 @@
 //! a new one. Grants are counted over all of them, so their bases are 0.
 
 use crate::keys::{digest, Keyed};
-use crate::locks::{Holder, Locks};
+use crate::locks::{Holder, Listed, Locks};
 use crate::ring::{HOLD, LEFT, RELEASED};
 use std::fmt::Write as _;
 use std::fs::{self, File, OpenOptions};
@@ -10,15 +10,16 @@ use std::io::{self, Write};
 use std::path::{Path, PathBuf};
 use wozgirt_engine::{decimal, NOBODY};
 
-/// The sizes in a list of locks, `NAME[:N[:K]],..`: eight machines, and as many values, if there is nothing else.
-pub fn sizes(list: &str) -> Option<Vec<(usize, u64)>> {
-    let size = |lock: &str| {
-        let mut parts = lock.split([':', ' ']).skip(1);
+/// The locks in a list, `NAME[:N[:K]],..`: eight machines, and as many values, if there is nothing else.
+pub fn listed(list: &str) -> Option<Vec<Listed>> {
+    let lock = |lock: &str| {
+        let mut parts = lock.split([':', ' ']);
+        let name = parts.next()?.parse().ok()?;
         let n = parts.next().map_or(Some(8), |n| n.parse().ok())?;
         let k = parts.next().map_or(Some(n as u64), |k| k.parse().ok())?;
-        (n >= 2 && k >= n as u64 && parts.next().is_none()).then_some((n, k))
+        (n >= 2 && k >= n as u64 && parts.next().is_none()).then_some((name, n, k))
     };
-    list.split(',').map(size).collect()
+    list.split(',').map(lock).collect()
 }
 
 fn wrong(what: String) -> io::Error {

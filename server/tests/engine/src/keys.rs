@@ -136,11 +136,11 @@ impl Keyed {
 
     fn state(&mut self) {
         let mut lines = Vec::new();
-        for (l, lock) in self.locks.locks.iter().enumerate() {
-            lines.extend(lock.holder.map(|holder| format!("hold {l} {} {}", holder.token, holder.client)));
+        for lock in &self.locks.locks {
+            lines.extend(lock.holder.map(|it| format!("hold {} {} {}", lock.name, it.token, it.client)));
         }
-        for (l, lock) in self.locks.locks.iter().enumerate() {
-            lines.extend(lock.line.iter().map(|waiter| format!("{} acquire {l} {}", waiter.client, waiter.label)));
+        for lock in &self.locks.locks {
+            lines.extend(lock.line.iter().map(|it| format!("{} acquire {} {}", it.client, lock.name, it.label)));
         }
         lines.extend(self.own_lines());
         for line in &lines {
@@ -161,29 +161,31 @@ mod tests {
 
     #[test]
     fn what_was_done_is_not_done_again() {
-        let mut keyed = Keyed::new(Locks::new(&[(8, 8)], false));
+        let mut keyed = Keyed::new(Locks::new(&[("a".parse().unwrap(), 8, 8)], false));
         for (line, told) in [
             ("at 0", format!("at 0 {}\n", "0".repeat(64))),
-            ("7 1 7 acquire 0 5", "7 granted 0 1\n".into()),
-            ("7 1 7 acquire 0 5", "7 granted 0 1\n".into()),
-            ("9 1 9 acquire 0 6", "9 waiting 0 0\n".into()),
-            ("7 2 7 release 0 1", "7 released 0\n9 granted 0 2\n".into()),
-            ("7 2 7 release 0 1", "7 released 0\n".into()),
-            ("7 1 7 acquire 0 5", "7 refused past 2\n".into()),
+            ("7 1 7 acquire a 5", "7 granted a 1\n".into()),
+            ("7 1 7 acquire a 5", "7 granted a 1\n".into()),
+            ("9 1 9 acquire a 6", "9 waiting a 0\n".into()),
+            ("7 2 7 release a 1", "7 released a\n9 granted a 2\n".into()),
+            ("7 2 7 release a 1", "7 released a\n".into()),
+            ("7 1 7 acquire a 5", "7 refused past 2\n".into()),
             ("state", {
                 let zeros = "0".repeat(64);
-                format!("hold 0 2 9\n7 2 did 7 released 0\n9 1 did 9 waiting 0 0\nat 0 {zeros}\nstate 4\n")
+                format!("hold a 2 9\n7 2 did 7 released a\n9 1 did 9 waiting a 0\nat 0 {zeros}\nstate 4\n")
             }),
-            ("7 3 acquire 0 5", "7 refused syntax\n".into()),
+            ("7 3 acquire a 5", "7 refused syntax\n".into()),
             ("7 3 did", "7 refused syntax\n".into()),
-            ("7 2 7 release 0 1", "7 released 0\n".into()),
+            ("7 2 7 release a 1", "7 released a\n".into()),
             ("8 1 9 leave", String::new()),
-            ("5 1 5 acquire 0 7", "5 granted 0 3\n".into()),
-            ("3 1 3 acquire 0 8", "3 waiting 0 0\n".into()),
-            ("8 2 5 leave", "3 granted 0 4\n".into()),
+            ("5 1 5 acquire a 7", "5 granted a 3\n".into()),
+            ("3 1 3 acquire a 8", "3 waiting a 0\n".into()),
+            ("8 2 5 leave", "3 granted a 4\n".into()),
             ("8 2 5 leave", String::new()),
             ("7 2 forget", String::new()),
-            ("7 1 7 cancel 0", "7 refused waiter 0\n".into()),
+            ("7 1 7 cancel a", "7 refused waiter a\n".into()),
+            ("7 2 7 cancel b", "7 refused lock b\n".into()),
+            ("8 cancel é", "8 refused syntax\n".into()),
         ] {
             assert_eq!(asked(&mut keyed, line), told, "{line}");
         }
@@ -195,13 +197,13 @@ mod tests {
 
     #[test]
     fn what_brings_keys_and_positions_back_is_noted() {
-        let mut keyed = Keyed::new(Locks::new(&[(8, 8)], false));
-        let lines = "7 1 7 cancel 0\n7 1 7 cancel 0\n9 3 did 9 busy 0\n8 2 did \n9 2 forget\n9 3 forget\nstate\nat 5\n";
+        let mut keyed = Keyed::new(Locks::new(&[("a".parse().unwrap(), 8, 8)], false));
+        let lines = "7 1 7 cancel a\n7 1 7 cancel a\n9 3 did 9 busy a\n8 2 did \n9 2 forget\n9 3 forget\nstate\nat 5\n";
         for line in lines.lines() {
             keyed.line(line);
         }
-        let (key, place) = ("# 7 1 did 7 refused waiter 0\n", format!("# at 5 {}\n", "0".repeat(64)));
-        assert_eq!(keyed.locks.journal, format!("{key}# 9 3 did 9 busy 0\n# 8 2 did \n# 9 3 forget\n{place}"));
+        let (key, place) = ("# 7 1 did 7 refused waiter a\n", format!("# at 5 {}\n", "0".repeat(64)));
+        assert_eq!(keyed.locks.journal, format!("{key}# 9 3 did 9 busy a\n# 8 2 did \n# 9 3 forget\n{place}"));
         assert_eq!(keyed.remarks(), format!("{key}# 8 2 did \n{place}"));
     }
 }

@@ -3,7 +3,7 @@
 use crate::ring::{Ring, LEFT, RELEASED};
 use std::collections::{BTreeSet, HashMap, VecDeque};
 use std::fmt::Write as _;
-use wozgirt_engine::{Answer, Answered, Asked, Client, Input, Label, Refusal, Stats, Token, NOBODY};
+use wozgirt_engine::{Answer, Answered, Asked, Client, Input, Label, Lock as Name, Refusal, Stats, Token, NOBODY};
 
 pub struct Waiter {
     pub client: Client,
@@ -16,7 +16,11 @@ pub struct Holder {
     pub token: Token,
 }
 
+/// A lock of the list: its name, its machines, their values.
+pub type Listed = (Name, usize, u64);
+
 pub struct Lock {
+    pub name: Name,
     pub ring: Ring,
     pub holder: Option<Holder>,
     pub line: VecDeque<Waiter>,
@@ -36,6 +40,7 @@ impl Lock {
 
 pub struct Locks {
     pub locks: Vec<Lock>,
+    numbers: HashMap<Name, usize>,
     /// The locks that a client may hold or wait for.
     touched: HashMap<Client, BTreeSet<usize>>,
     waits_for: HashMap<Client, usize>,
@@ -45,10 +50,16 @@ pub struct Locks {
 }
 
 impl Locks {
-    pub fn new(sizes: &[(usize, u64)], permits_faults: bool) -> Locks {
-        let ring = |(number, &(n, k))| Lock { ring: Ring::new(number, n, k), holder: None, line: VecDeque::new() };
+    pub fn new(list: &[Listed], permits_faults: bool) -> Locks {
+        let lock = |(number, (name, n, k)): (usize, &Listed)| Lock {
+            name: name.clone(),
+            ring: Ring::new(number, *n, *k),
+            holder: None,
+            line: VecDeque::new(),
+        };
         Locks {
-            locks: sizes.iter().enumerate().map(ring).collect(),
+            locks: list.iter().enumerate().map(lock).collect(),
+            numbers: list.iter().enumerate().map(|(number, (name, ..))| (name.clone(), number)).collect(),
             touched: HashMap::new(),
             waits_for: HashMap::new(),
             permits_faults,
@@ -67,8 +78,9 @@ impl Locks {
     }
 
     /// Gives an open hold of nobody to a client: whether there was one with this token.
-    pub fn give(&mut self, l: usize, token: Token, client: Client) -> bool {
-        let Some(holder) = self.locks.get_mut(l).and_then(|lock| lock.holder.as_mut()) else { return false };
+    pub fn give(&mut self, name: &str, token: Token, client: Client) -> bool {
+        let Some(&l) = self.numbers.get(name) else { return false };
+        let Some(holder) = self.locks[l].holder.as_mut() else { return false };
         let is_open = holder.client == NOBODY && holder.token == token;
         if is_open {
             holder.client = client;
@@ -78,7 +90,7 @@ impl Locks {
         is_open
     }
 
-    fn answer(&mut self, client: Client, answer: Answer) {
+    fn answer(&mut self, client: Client, answer: Answer<'_>) {
         let _ = writeln!(self.answers, "{}", Answered { client, answer });
     }
 
@@ -86,7 +98,8 @@ impl Locks {
     pub fn line(&mut self, line: &str) {
         match line.parse::<Asked>() {
             Ok(Asked { client, input }) => {
-                if let Err((why, lock)) = self.input(client, input) {
+                if let Err(why) = self.input(client, &input) {
+                    let lock = input.lock().filter(|_| why != Refusal::Off).map(|lock| &**lock);
                     self.answer(client, Answer::Refused { why, lock });
                 }
             }
@@ -97,36 +110,33 @@ impl Locks {
         }
     }
 
-    fn input(&mut self, client: Client, input: Input) -> Result<(), (Refusal, Option<usize>)> {
-        let lock = match input {
-            Input::Leave => {
-                self.leave(client);
-                return Ok(());
-            }
-            Input::Acquire { lock, .. } | Input::Try { lock, .. } | Input::Release { lock, .. } => lock,
-            Input::Cancel { lock } | Input::Corrupt { lock, .. } | Input::Stats { lock } => lock,
-        };
-        if lock >= self.locks.len() {
-            return Err((Refusal::Lock, None));
+    fn input(&mut self, client: Client, input: &Input) -> Result<(), Refusal<'static>> {
+        if matches!(input, Input::Corrupt { .. }) && !self.permits_faults {
+            return Err(Refusal::Off);
         }
-        let done = match input {
-            Input::Leave => Ok(()),
-            Input::Acquire { label, .. } => self.acquire(client, lock, label),
-            Input::Try { label, .. } => self.attempt(client, lock, label),
-            Input::Release { token, .. } => self.release(client, lock, token),
-            Input::Cancel { .. } => self.cancel(client, lock),
-            Input::Corrupt { machine, value, .. } => self.corrupt(client, lock, machine, value),
-            Input::Stats { .. } => self.stats(client, lock),
+        let Some(name) = input.lock() else {
+            self.leave(client);
+            return Ok(());
         };
-        done.map_err(|why| if why == Refusal::Off { (why, None) } else { (why, Some(lock)) })
+        let l = *self.numbers.get(name).ok_or(Refusal::Lock)?;
+        match *input {
+            Input::Leave => Ok(()),
+            Input::Acquire { label, .. } => self.acquire(client, l, label),
+            Input::Try { label, .. } => self.attempt(client, l, label),
+            Input::Release { token, .. } => self.release(client, l, token),
+            Input::Cancel { .. } => self.cancel(client, l),
+            Input::Corrupt { machine, value, .. } => self.corrupt(client, l, machine, value),
+            Input::Stats { .. } => self.stats(client, l),
+        }
     }
 
     fn grant(&mut self, client: Client, l: usize, label: Label) {
         let lock = &mut self.locks[l];
         let token = lock.ring.grant(label, &mut self.journal);
         lock.holder = Some(Holder { client, token });
+        let name = lock.name.clone();
         self.touched.entry(client).or_default().insert(l);
-        self.answer(client, Answer::Granted { lock: l, token });
+        self.answer(client, Answer::Granted { lock: &name, token });
     }
 
     fn end_hold(&mut self, l: usize, seat: u64) {
@@ -156,7 +166,7 @@ impl Locks {
         false
     }
 
-    fn acquire(&mut self, client: Client, l: usize, label: Label) -> Result<(), Refusal> {
+    fn acquire(&mut self, client: Client, l: usize, label: Label) -> Result<(), Refusal<'static>> {
         if self.locks[l].is_held_by(client) {
             return Err(Refusal::Holds);
         }
@@ -174,11 +184,12 @@ impl Locks {
         self.locks[l].line.push_back(Waiter { client, label });
         self.waits_for.insert(client, l);
         self.touched.entry(client).or_default().insert(l);
-        self.answer(client, Answer::Waiting { lock: l, before });
+        let name = self.locks[l].name.clone();
+        self.answer(client, Answer::Waiting { lock: &name, before });
         Ok(())
     }
 
-    fn attempt(&mut self, client: Client, l: usize, label: Label) -> Result<(), Refusal> {
+    fn attempt(&mut self, client: Client, l: usize, label: Label) -> Result<(), Refusal<'static>> {
         if self.locks[l].is_held_by(client) {
             return Err(Refusal::Holds);
         }
@@ -186,29 +197,32 @@ impl Locks {
             return Err(Refusal::Waits);
         }
         if self.locks[l].holder.is_some() {
-            self.answer(client, Answer::Busy { lock: l });
+            let name = self.locks[l].name.clone();
+            self.answer(client, Answer::Busy { lock: &name });
         } else {
             self.grant(client, l, label);
         }
         Ok(())
     }
 
-    fn release(&mut self, client: Client, l: usize, token: Token) -> Result<(), Refusal> {
+    fn release(&mut self, client: Client, l: usize, token: Token) -> Result<(), Refusal<'static>> {
         if !self.locks[l].holder.is_some_and(|holder| holder.client == client && holder.token == token) {
             return Err(Refusal::Holder);
         }
         self.end_hold(l, RELEASED);
-        self.answer(client, Answer::Released { lock: l });
+        let name = self.locks[l].name.clone();
+        self.answer(client, Answer::Released { lock: &name });
         self.advance(l);
         Ok(())
     }
 
-    fn cancel(&mut self, client: Client, l: usize) -> Result<(), Refusal> {
+    fn cancel(&mut self, client: Client, l: usize) -> Result<(), Refusal<'static>> {
         if !self.locks[l].give_up(client) {
             return Err(Refusal::Waiter);
         }
         self.waits_for.remove(&client);
-        self.answer(client, Answer::Cancelled { lock: l });
+        let name = self.locks[l].name.clone();
+        self.answer(client, Answer::Cancelled { lock: &name });
         Ok(())
     }
 
@@ -223,26 +237,24 @@ impl Locks {
         }
     }
 
-    fn corrupt(&mut self, client: Client, l: usize, machine: u64, value: u64) -> Result<(), Refusal> {
-        if !self.permits_faults {
-            return Err(Refusal::Off);
-        }
-        let ring = &mut self.locks[l].ring;
+    fn corrupt(&mut self, client: Client, l: usize, machine: u64, value: u64) -> Result<(), Refusal<'static>> {
+        let Lock { name, ring, .. } = &mut self.locks[l];
+        let name = name.clone();
         let machine = usize::try_from(machine).ok().filter(|&machine| machine < ring.n()).ok_or(Refusal::Machine)?;
         if value >= ring.k {
             return Err(Refusal::Value);
         }
         let old = ring.corrupt(machine, value, &mut self.journal);
-        self.answer(client, Answer::Corrupted { lock: l, old });
+        self.answer(client, Answer::Corrupted { lock: &name, old });
         Ok(())
     }
 
-    fn stats(&mut self, client: Client, l: usize) -> Result<(), Refusal> {
+    fn stats(&mut self, client: Client, l: usize) -> Result<(), Refusal<'static>> {
         let lock = &self.locks[l];
         let Holder { client: holder, token } = lock.holder.unwrap_or(Holder { client: NOBODY, token: 0 });
         let (machines, waiters) = (lock.ring.n() as u64, lock.line.len() as u64);
-        let stats = Stats { lock: l, machines, waiters, passes: lock.ring.passes, holder, token };
-        self.answer(client, Answer::Stats(stats));
+        let (name, passes) = (lock.name.clone(), lock.ring.passes);
+        self.answer(client, Answer::Stats(Stats { lock: &name, machines, waiters, passes, holder, token }));
         Ok(())
     }
 }

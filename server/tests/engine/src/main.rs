@@ -58,8 +58,8 @@ fn give_holds(locks: &mut Locks, text: &str) -> io::Result<()> {
     for (i, line) in text.lines().enumerate() {
         let words: Vec<&str> = line.split(' ').collect();
         let is_given = match words[..] {
-            ["hold", lock, token, client] => match (decimal(lock), decimal(token), decimal(client)) {
-                (Ok(lock), Ok(token), Ok(client)) => locks.give(lock as usize, token, client),
+            ["hold", lock, token, client] => match (decimal(token), decimal(client)) {
+                (Ok(token), Ok(client)) => locks.give(lock, token, client),
                 _ => false,
             },
             _ => false,
@@ -80,8 +80,8 @@ fn write(keyed: &mut Keyed, journal: &mut Journal) -> io::Result<()> {
 }
 
 fn open(settings: &Settings) -> io::Result<(Keyed, Journal)> {
-    let sizes = journal::sizes(&settings.list).ok_or_else(|| io::Error::other("bad list of locks"))?;
-    let mut locks = Locks::new(&sizes, settings.permits_faults);
+    let list = journal::listed(&settings.list).ok_or_else(|| io::Error::other("bad list of locks"))?;
+    let mut locks = Locks::new(&list, settings.permits_faults);
     let mut journal =
         Journal::open(&settings.folder, &settings.list, &mut locks, settings.most_lines, settings.is_synced)?;
     locks.begin();

@@ -9,7 +9,7 @@ use crate::mode::Mode;
 use crate::requests::BadRequest;
 use crate::turns::FIRST_TAG;
 use std::fmt::Write as _;
-use wozgirt_engine::{Answer, Answered, Client, Input, Lock, NotALine, Token};
+use wozgirt_engine::{Answer, Client, Input, Label, Lock, NotALine, Token};
 
 impl Desk {
     pub(crate) fn alone(&mut self) -> Option<&mut Alone> {
@@ -67,10 +67,10 @@ impl Desk {
             text.push_str(" alone"); // else a client of several servers would take this one's locks for those of all
         }
         for (lock, token) in &session.holds {
-            let _ = write!(text, "\nholds {} {token}", self.names.name(*lock));
+            let _ = write!(text, "\nholds {lock} {token}");
         }
-        if let Some(place) = session.waits {
-            let _ = write!(text, "\nwaits {}", self.names.name(place.lock));
+        if let Some(place) = &session.waits {
+            let _ = write!(text, "\nwaits {}", place.lock);
         }
         connection.tell_in_place(|it| matches!(it, Pending::Opening), text);
     }
@@ -92,7 +92,7 @@ impl Desk {
     /// An input of a session goes to the engine, with its number.
     pub(crate) fn ask_for_session(&mut self, connection: &mut Connection, number: u64, input: Input) -> Then {
         let Some((session, before)) = self.session_of(connection) else {
-            if let Input::Acquire { lock, .. } = input {
+            if let Input::Acquire { lock, .. } = &input {
                 self.board.asked_no_longer(lock);
             }
             self.sums.refused("session");
@@ -103,7 +103,7 @@ impl Desk {
         if let Some(it) = self.alone().and_then(|alone| alone.session_mut(session)) {
             let is_new = it.last_asked.map_or(true, |last| number > last);
             it.last_asked = it.last_asked.max(Some(number));
-            it.asked.push_back(Ask { client, what: What::Input(number, input, is_new) });
+            it.asked.push_back(Ask { client, what: What::Input(number, input.clone(), is_new) });
         }
         self.ask_engine_line(format_args!("{session} {number} {session} {input}"));
         self.note_asked(connection, Pending::Numbered(number, input));
@@ -120,7 +120,7 @@ impl Desk {
         let last = self.last_asked(session);
         self.ask_to_forget(session, last);
         // the engine does not answer a leave: the next question after it shows when it is done
-        self.ask_engine_line(format_args!("{session} {}", Input::Stats { lock: 0 }));
+        self.ask_engine(session, &self.look());
         if let Some(alone) = self.alone() {
             alone.end(session);
             if let Some(it) = alone.session_mut(session) {
@@ -151,17 +151,13 @@ impl Desk {
     /// Nothing is known of the session any more. Returns what it held.
     pub(crate) fn forget_session(&mut self, session: Client) -> String {
         let Some(it) = self.alone().and_then(|alone| alone.forget(session)) else { return String::new() };
-        if let Some(place) = it.waits {
-            self.board.waits_no_longer(place.lock, session);
+        if let Some(place) = &it.waits {
+            self.board.waits_no_longer(&place.lock, session);
         }
         for (lock, _) in &it.holds {
-            self.board.left(*lock, session);
+            self.board.left(lock, session);
         }
-        self.names_of(it.holds.iter().map(|(lock, _)| *lock))
-    }
-
-    fn names_of(&self, locks: impl Iterator<Item = Lock>) -> String {
-        locks.map(|lock| self.names.name(lock)).collect::<Vec<_>>().join(",")
+        it.held().join(",")
     }
 
     /// The connection of a session is gone: its client may come back, unless it has ended it. Returns what it held.
@@ -179,8 +175,7 @@ impl Desk {
         }
         let until = now + connection.lease.unwrap_or(longest);
         session.at = At::Away(Some(until).filter(|_| !is_engine_gone));
-        let held: Vec<Lock> = session.holds.iter().map(|(lock, _)| *lock).collect();
-        self.names_of(held.into_iter())
+        session.held().join(",")
     }
 
     /// Sessions whose clients have not come back are over.
@@ -195,27 +190,32 @@ impl Desk {
     /// An operator ends the hold of a session.
     pub(crate) fn ask_session_to_end(&mut self, operator: Client, session: Client, lock: Lock, token: Token) {
         if let Some(it) = self.alone().and_then(|alone| alone.session_mut(session)) {
-            it.asked.push_back(Ask { client: operator, what: What::End(operator, lock, token) });
+            it.asked.push_back(Ask { client: operator, what: What::End(operator, lock.clone(), token) });
         }
-        self.ask_engine_line(format_args!("{session} {}", Input::Release { lock, token }));
+        self.ask_engine(session, &Input::Release { lock, token });
     }
 
     /// The engine has granted a session the lock for which it waited.
     pub(crate) fn granted_late(&mut self, session: Client, lock: Lock, token: Token) {
-        self.note_token(lock, token);
+        self.note_token(&lock, token);
+        self.board.granted(&lock, session, token, None, self.now);
         if let Some(alone) = self.alone() {
             alone.hold(session, lock, token);
         }
-        self.board.granted(lock, session, token, None, self.now);
     }
 
     /// A place in a queue that the session had before the engine started.
-    pub(crate) fn placed(&mut self, session: Client, place: (Lock, u64), answer: &Answer) -> Result<(), Unasked> {
-        let (lock, label) = place;
+    pub(crate) fn placed(
+        &mut self,
+        session: Client,
+        lock: Lock,
+        label: Label,
+        answer: &Answer<'_>,
+    ) -> Result<(), Unasked> {
         match answer {
-            Answer::Waiting { lock: l, .. } if lock == *l => self.board.waits(lock, session, label, self.now),
+            Answer::Waiting { lock: l, .. } if lock == *l => self.board.waits(l, session, label, self.now),
             Answer::Granted { lock: l, token } if lock == *l => {
-                self.board.waits(lock, session, label, self.now);
+                self.board.waits(l, session, label, self.now);
                 self.granted_late(session, lock, *token);
             }
             Answer::Refused { .. } => {
@@ -233,42 +233,40 @@ impl Desk {
         &mut self,
         session: Client,
         number: u64,
-        input: Input,
-        answer: &Answer,
+        input: &Input,
+        answer: &Answer<'_>,
     ) -> Result<(), Unasked> {
         self.note_on_board(session, input, answer)?;
-        let text = Answered { client: session, answer: answer.clone() }.to_string();
         let Some(alone) = self.alone() else { return Ok(()) };
-        alone.did(session, number, text);
+        alone.did(session, number, *answer);
         if let (Input::Acquire { lock, label }, Answer::Waiting { .. }) = (input, answer) {
-            alone.place(session, lock, label);
+            alone.place(session, lock.clone(), *label);
         }
         Ok(())
     }
 
-    fn note_on_board(&mut self, session: Client, input: Input, answer: &Answer) -> Result<(), Unasked> {
+    fn note_on_board(&mut self, session: Client, input: &Input, answer: &Answer<'_>) -> Result<(), Unasked> {
         match (input, answer) {
             (Input::Acquire { lock, label } | Input::Try { lock, label }, Answer::Granted { lock: l, token })
-                if lock == *l =>
+                if lock == l =>
             {
                 self.note_token(lock, *token);
-                self.board.granted(lock, session, *token, Some(label), self.now);
+                self.board.granted(lock, session, *token, Some(*label), self.now);
             }
-            (Input::Acquire { lock, label }, Answer::Waiting { lock: l, .. }) if lock == *l => {
-                self.board.waits(lock, session, label, self.now);
+            (Input::Acquire { lock, label }, Answer::Waiting { lock: l, .. }) if lock == l => {
+                self.board.waits(lock, session, *label, self.now);
             }
-            (Input::Release { lock, .. }, Answer::Released { lock: l }) if lock == *l => {
+            (Input::Release { lock, .. }, Answer::Released { lock: l }) if lock == l => {
                 self.board.released(lock, session);
             }
-            (Input::Cancel { lock }, Answer::Cancelled { lock: l }) if lock == *l => {
+            (Input::Cancel { lock }, Answer::Cancelled { lock: l }) if lock == l => {
                 self.board.waits_no_longer(lock, session);
             }
-            (Input::Corrupt { lock, machine, value }, Answer::Corrupted { lock: l, old }) if lock == *l => {
-                self.board.fault(lock, machine, value, *old);
-                let (client, lock, old) = (session, self.names.name(lock), *old);
-                self.log.say(&Event::Fault { client, who: "a session", lock, machine, value, old });
+            (&Input::Corrupt { ref lock, machine, value }, &Answer::Corrupted { lock: l, old }) if *lock == l => {
+                self.board.fault(lock, machine, value, old);
+                self.log.say(&Event::Fault { client: session, who: "a session", lock, machine, value, old });
             }
-            (Input::Try { lock, .. }, Answer::Busy { lock: l }) if lock == *l => {}
+            (Input::Try { lock, .. }, Answer::Busy { lock: l }) if lock == l => {}
             (_, Answer::Refused { .. }) => {}
             _ => return Err(Unasked),
         }
@@ -276,20 +274,17 @@ impl Desk {
     }
 
     /// Sends the client the answer to its input with this number.
-    pub(crate) fn tell_done(&mut self, connection: &mut Connection, number: u64, answer: &Answer) {
-        let its = |it: &Pending| match it {
-            Pending::Numbered(its, input) if *its == number => Some(*input),
-            _ => None,
-        };
-        let Some(at) = connection.pending.iter().position(|it| its(it).is_some()) else { return };
+    pub(crate) fn tell_done(&mut self, connection: &mut Connection, number: u64, answer: &Answer<'_>) {
+        let its = |it: &Pending| matches!(it, Pending::Numbered(its, _) if *its == number);
+        let Some(at) = connection.pending.iter().position(its) else { return };
         if let Some(Pending::Numbered(_, Input::Acquire { lock, .. })) = connection.pending.remove(at) {
-            self.board.asked_no_longer(lock);
+            self.board.asked_no_longer(&lock);
         }
         self.note_answered(connection);
         if let Answer::Refused { why, .. } = answer {
             self.sums.refused(why.word());
         }
-        connection.tell_numbered(number, self.line(answer));
+        connection.tell_numbered(number, answer);
         connection.tell_what_waited();
     }
 
@@ -303,7 +298,7 @@ impl Desk {
     }
 
     /// A client was granted the lock.
-    pub(crate) fn note_token(&mut self, lock: Lock, token: Token) {
+    pub(crate) fn note_token(&mut self, lock: &Lock, token: Token) {
         if let Some(alone) = self.alone() {
             alone.note_token(lock, token);
         }

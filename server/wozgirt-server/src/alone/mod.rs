@@ -5,20 +5,23 @@
 //! open holds. If sessions have some of them, the engine starts once more, and reads a file that says whose they are.
 
 mod desk;
+mod plain;
 mod session;
 mod store;
 #[cfg(test)]
 mod tests;
 
+use plain::Plain;
 pub use session::{Ask, At, Ended, Place, Session, What};
 pub use store::{boot, Line, Store};
 
-use crate::board::Board;
+use crate::board::{Board, Sight};
 use crate::cluster::{Key, Owner, Who};
+use crate::names::ByName;
 use std::collections::{BTreeMap, HashMap, HashSet};
 use std::io;
 use std::time::{Duration, Instant};
-use wozgirt_engine::{Client, Label, Lock, StateLine, Token};
+use wozgirt_engine::{Answer, Answered, Client, Label, Lock, StateLine, Token};
 
 /// What the engine is started for.
 #[derive(Debug, Clone, Copy, PartialEq, Eq)]
@@ -55,11 +58,11 @@ pub struct Alone {
     /// What the engine runs for.
     pub start: Start,
     /// The greatest token of each lock that this server has heard of.
-    heard: Vec<Token>,
-    /// The first client in the queue of each lock when the engine was lost.
-    firsts: Vec<Option<Client>>,
+    heard: ByName<Token>,
+    /// The first client in the queue of each lock when the engine was lost, if there was one.
+    firsts: ByName<Client>,
     /// Of which locks the server may have answered clients without a session since the engine started, or before.
-    plain: Vec<bool>,
+    plain: Plain,
     /// Holds that were given up, where the engine may not have heard that: of each lock the last.
     given: BTreeMap<Lock, Token>,
     /// Holds of sessions that are over, and the operators that wait for an answer about them.
@@ -68,7 +71,7 @@ pub struct Alone {
 
 impl Alone {
     /// With the sessions of this store; without one there are none. `boot` is the system's word for this start of the machine.
-    pub fn new(store: Option<Store>, boot: Option<String>, locks: usize, most: usize) -> io::Result<Alone> {
+    pub fn new(store: Option<Store>, boot: Option<String>, most: usize) -> io::Result<Alone> {
         let mut alone = Alone {
             boot,
             sessions: BTreeMap::new(),
@@ -77,9 +80,9 @@ impl Alone {
             last: 0,
             last_order: 0,
             start: Start::Serving,
-            heard: vec![0; locks],
-            firsts: vec![None; locks],
-            plain: vec![false; locks],
+            heard: ByName::default(),
+            firsts: ByName::default(),
+            plain: Plain::default(),
             given: BTreeMap::new(),
             ended: Vec::new(),
             store: None,
@@ -88,7 +91,7 @@ impl Alone {
             let lines = store.read()?;
             let is_of_this_start = |boot: &String| lines.contains(&Line::Boot(boot.clone()));
             if !alone.boot.as_ref().is_some_and(is_of_this_start) {
-                alone.plain.fill(true); // the last answers may be missing
+                alone.plain.add_all(); // the last answers may be missing
             }
             lines.into_iter().for_each(|line| alone.read(line));
             alone.store = Some(store);
@@ -111,33 +114,35 @@ impl Alone {
                 self.change(client, |session| session.hold(lock, token));
             }
             Line::Has(StateLine::Wait { client, lock, label }) => self.wait(client, lock, label),
-            Line::Has(StateLine::Did { key, number, answer }) => self.note_done(key, number, &answer),
+            Line::Has(StateLine::Did { key, number, answer }) => self.read_done(key, number, &answer),
             Line::Has(StateLine::At { .. }) => {}
-            Line::Free(number, lock) => self.change(number, |session| {
-                session.lose(lock);
-                session.waits = session.waits.filter(|place| place.lock != lock);
-            }),
+            Line::Free(number, lock) => self.change(number, |session| session.free(&lock)),
             Line::Over(number) => {
                 let session = self.remove(number);
                 session.into_iter().flat_map(|it| it.holds).for_each(|(lock, token)| self.give(lock, token));
             }
-            Line::Plain(lock) => self.plain.get_mut(lock).into_iter().for_each(|it| *it = true),
+            Line::Plain(lock) => _ = self.plain.add(lock),
+            Line::AllPlain => self.plain.add_all(),
             Line::Given(lock, token) => self.give(lock, token),
             Line::Boot(_) => {}
         }
     }
 
-    fn note_done(&mut self, session: Client, number: u64, answer: &str) {
+    /// What is kept of an input that was done: its answer as a text.
+    fn read_done(&mut self, session: Client, number: u64, text: &str) {
+        self.note_done(session, number, Answered::parse(text).ok().map(|it| it.answer), text);
+    }
+
+    fn note_done(&mut self, session: Client, number: u64, answer: Option<Answer<'_>>, text: &str) {
         self.last_order += 1;
         let order = self.last_order;
-        self.change(session, |session| session.did(number, answer, order));
+        self.change(session, |session| session.did(number, answer, text, order));
     }
 
     /// A client without a session asks for the lock.
-    pub fn note_plain(&mut self, lock: Lock) {
-        if self.plain.get(lock) == Some(&false) {
-            self.plain[lock] = true;
-            self.put(&Line::Plain(lock));
+    pub fn note_plain(&mut self, lock: &Lock) {
+        if self.plain.add(lock.clone()) {
+            self.put(&Line::Plain(lock.clone()));
         }
     }
 
@@ -236,8 +241,10 @@ impl Alone {
     /// The session is over, and the engine has heard that. What it answers for it from now on is not heard.
     pub fn forget(&mut self, number: Client) -> Option<Session> {
         let session = self.remove(number)?;
-        self.ended.extend(session.asked.iter().filter_map(|ask| match ask.what {
-            What::End(operator, lock, token) => Some(Ended { operator, session: number, lock, token }),
+        self.ended.extend(session.asked.iter().filter_map(|ask| match &ask.what {
+            What::End(operator, lock, token) => {
+                Some(Ended { operator: *operator, session: number, lock: lock.clone(), token: *token })
+            }
             _ => None,
         }));
         Some(session)
@@ -252,7 +259,7 @@ impl Alone {
     pub fn end_all(&mut self) {
         self.sessions.clear();
         self.keys.clear();
-        self.plain.fill(true);
+        self.plain.add_all();
         if let Some(store) = &mut self.store {
             let _ = store.remove(); // if it stays, it is replaced next
             store.put(&Line::Last(self.last));
@@ -268,20 +275,21 @@ impl Alone {
 
     /// The session was granted what it waited for, or had before.
     pub fn hold(&mut self, number: Client, lock: Lock, token: Token) {
-        self.change(number, |session| session.hold(lock, token));
+        self.change(number, |session| session.hold(lock.clone(), token));
         self.put(&Line::Has(StateLine::Hold { lock, token, client: number }));
     }
 
     /// The session waits, and the input that was answered so is done.
     pub fn place(&mut self, number: Client, lock: Lock, label: Label) {
-        self.wait(number, lock, label);
+        self.wait(number, lock.clone(), label);
         self.put(&Line::Has(StateLine::Wait { client: number, lock, label }));
     }
 
     /// An input was done.
-    pub fn did(&mut self, number: Client, input: u64, answer: String) {
-        self.note_done(number, input, &answer);
-        self.put(&Line::Has(StateLine::Did { key: number, number: input, answer }));
+    pub fn did(&mut self, number: Client, input: u64, answer: Answer<'_>) {
+        let text = Answered { client: number, answer }.to_string();
+        self.note_done(number, input, Some(answer), &text);
+        self.put(&Line::Has(StateLine::Did { key: number, number: input, answer: text }));
     }
 
     /// The session holds the lock, or waits for it, no longer.
@@ -292,13 +300,14 @@ impl Alone {
     }
 
     /// The engine grants the lock to a client that may be gone: no client learns of it, and the engine may not know that.
-    pub fn note_grant(&mut self, number: Client, lock: Lock, token: Token) {
+    pub fn note_grant(&mut self, number: Client, lock: &str, token: Token) {
         if self.sessions.get(&number).is_some_and(|session| !session.is_left) || self.is_given(lock, token) {
             return;
         }
-        self.note_token(lock, token);
+        let Ok(lock) = lock.parse() else { return };
+        self.note_token(&lock, token);
+        self.put(&Line::Given(lock.clone(), token));
         self.give(lock, token);
-        self.put(&Line::Given(lock, token));
     }
 
     fn give(&mut self, lock: Lock, token: Token) {
@@ -306,17 +315,16 @@ impl Alone {
         *last = token.max(*last);
     }
 
-    fn is_given(&self, lock: Lock, token: Token) -> bool {
-        self.given.get(&lock) == Some(&token)
+    fn is_given(&self, lock: &str, token: Token) -> bool {
+        self.given.get(lock) == Some(&token)
     }
 
     /// A client was granted the lock.
-    pub fn note_token(&mut self, lock: Lock, token: Token) {
-        if let Some(heard) = self.heard.get_mut(lock) {
-            *heard = token.max(*heard);
-        }
-        if self.given.get(&lock).is_some_and(|last| *last < token) {
-            self.given.remove(&lock);
+    pub fn note_token(&mut self, lock: &Lock, token: Token) {
+        let heard = self.heard.entry(lock.clone()).or_default();
+        *heard = token.max(*heard);
+        if self.given.get(lock).is_some_and(|last| *last < token) {
+            self.given.remove(lock);
         }
     }
 
@@ -339,17 +347,16 @@ impl Alone {
     /// The lines that bring all of it back.
     fn all(&self) -> Vec<Line> {
         let mut waits: Vec<(Client, Place)> =
-            self.sessions.iter().filter_map(|(number, session)| Some((*number, session.waits?))).collect();
+            self.sessions.iter().filter_map(|(number, session)| Some((*number, session.waits.clone()?))).collect();
         waits.sort_unstable_by_key(|(_, place)| place.order);
         let waits =
             waits.into_iter().map(|(client, Place { lock, label, .. })| StateLine::Wait { client, lock, label });
         let kept = || self.sessions.iter().filter(|(_, session)| !session.is_left);
         let sessions = kept().map(|(number, it)| Line::Session(*number, it.key, it.lease, it.owner));
         let has = kept().flat_map(|(number, session)| session.lines(*number));
-        let plain = self.plain.iter().enumerate().filter(|(_, is_plain)| **is_plain).map(|(lock, _)| Line::Plain(lock));
-        let given = self.given.iter().map(|(lock, token)| Line::Given(*lock, *token));
+        let given = self.given.iter().map(|(lock, token)| Line::Given(lock.clone(), *token));
         let first = self.boot.iter().cloned().map(Line::Boot).chain([Line::Last(self.last)]);
-        first.chain(sessions).chain(has.chain(waits).map(Line::Has)).chain(plain).chain(given).collect()
+        first.chain(sessions).chain(has.chain(waits).map(Line::Has)).chain(self.plain.lines()).chain(given).collect()
     }
 
     /// The engine is lost, and so are all connections. The client that was first in a queue then, on this board, may have been granted
@@ -357,7 +364,8 @@ impl Alone {
     pub fn lose_engine(&mut self, board: &Board, was_serving: bool) {
         self.start = Start::Serving;
         if was_serving {
-            self.firsts = board.locks().iter().map(|sight| sight.line.front().map(|waiter| waiter.client)).collect();
+            let first = |sight: &Sight| Some((sight.lock.clone(), sight.line.front()?.client));
+            self.firsts = board.locks().iter().filter_map(first).collect();
         }
     }
 
@@ -369,8 +377,8 @@ impl Alone {
         for line in remarks {
             let StateLine::Did { key, number, answer } = line else { continue };
             let label = self.session(key).and_then(|session| session.label(number));
-            self.note_done(key, number, &answer);
-            let lock = self.session(key).and_then(|session| session.unlabelled.as_ref()).map(|it| it.lock);
+            self.read_done(key, number, &answer);
+            let lock = self.session(key).and_then(|session| session.unlabelled.as_ref()).map(|it| it.lock.clone());
             if let (Some(label), Some(lock)) = (label, lock) {
                 self.wait(key, lock, label);
             }
@@ -384,7 +392,7 @@ impl Alone {
         let has_holds = self.sessions.values().any(has_some);
         self.start = if has_holds { Start::Looking } else { Start::Serving };
         if !has_holds {
-            self.plain.fill(false);
+            self.plain = Plain::default();
             self.given.clear();
         }
         self.rewrite()
@@ -396,19 +404,18 @@ impl Alone {
         for session in self.sessions.values_mut() {
             session.holds.retain(|hold| open.contains(hold));
         }
-        let known: HashSet<(Lock, Token)> = self.holds().map(|(_, lock, token)| (lock, token)).collect();
-        let unknown = open.iter().copied().filter(|hold| !known.contains(hold));
-        let mut plain = vec![false; self.plain.len()];
-        for (lock, token) in unknown {
-            match self.heir(lock, token).and_then(|heir| self.sessions.get_mut(&heir)) {
-                Some(session) => session.hold(lock, token),
-                None => plain.get_mut(lock).into_iter().for_each(|it| *it = true),
+        let known: HashSet<(Lock, Token)> = self.holds().map(|(_, lock, token)| (lock.clone(), token)).collect();
+        let mut plain = Plain::default();
+        for (lock, token) in open.iter().filter(|hold| !known.contains(*hold)) {
+            match self.heir(lock, *token).and_then(|heir| self.sessions.get_mut(&heir)) {
+                Some(session) => session.hold(lock.clone(), *token),
+                None => _ = plain.add(lock.clone()),
             }
         }
         self.plain = plain;
         self.given.clear();
         self.sessions.values_mut().for_each(|session| session.unlabelled = None);
-        self.firsts.fill(None);
+        self.firsts.clear();
         self.rewrite()?;
         let lines = self.sessions.iter().flat_map(|(number, session)| session.lines(*number));
         let holds = lines.filter(|line| matches!(line, StateLine::Hold { .. }));
@@ -421,22 +428,22 @@ impl Alone {
 
     /// The holder of an open hold of which no client learned: the client that was first in the queue. If every client has a session, this
     /// is known of each hold that no session has; else only if this server knows all tokens that were answered.
-    fn heir(&self, lock: Lock, token: Token) -> Option<Client> {
+    fn heir(&self, lock: &Lock, token: Token) -> Option<Client> {
         if self.is_given(lock, token) {
             return None;
         }
-        if self.plain.get(lock) == Some(&false) {
+        if !self.plain.has(lock) {
             let places = self.sessions.iter().filter_map(|(number, session)| Some((session.order(lock)?, *number)));
             return places.min().map(|(_, number)| number);
         }
         let is_untold = self.heard.get(lock).is_some_and(|heard| *heard > 0 && token > *heard);
-        let first = self.firsts.get(lock).copied().flatten().filter(|_| is_untold)?;
+        let first = self.firsts.get(lock).copied().filter(|_| is_untold)?;
         self.session(first).filter(|session| session.order(lock).is_some()).map(|_| first)
     }
 
     /// Locks are held since before the engine started, and not by sessions.
     pub fn note_held_before(&mut self, locks: &[Lock]) {
-        locks.iter().for_each(|lock| self.note_plain(*lock));
+        locks.iter().for_each(|lock| self.note_plain(lock));
     }
 
     /// The file with the holds that are sessions'.
@@ -450,8 +457,8 @@ impl Alone {
         let mut waits = Vec::new();
         for (number, session) in &mut self.sessions {
             lines.extend(session.lines(*number).filter(|line| matches!(line, StateLine::Did { .. })));
-            if let Some(Place { lock, label, order }) = session.waits {
-                waits.push((order, StateLine::Wait { client: *number, lock, label }));
+            if let Some(Place { lock, label, order }) = session.waits.clone() {
+                waits.push((order, StateLine::Wait { client: *number, lock: lock.clone(), label }));
                 session.asked.push_back(Ask { client: 0, what: What::Place(lock, label) });
             }
         }
@@ -461,8 +468,8 @@ impl Alone {
     }
 
     /// All sessions with their holds, for a board.
-    pub fn holds(&self) -> impl Iterator<Item = (Client, Lock, Token)> + '_ {
-        self.sessions.iter().flat_map(|(number, it)| it.holds.iter().map(|(lock, token)| (*number, *lock, *token)))
+    pub fn holds(&self) -> impl Iterator<Item = (Client, &Lock, Token)> + '_ {
+        self.sessions.iter().flat_map(|(number, it)| it.holds.iter().map(|(lock, token)| (*number, lock, *token)))
     }
 
     /// How many sessions there are.

@@ -5,7 +5,7 @@
 //! file that has become long is replaced, by one that is on the disk before it gets that name; the server does not wait for that.
 //!
 //! ```text
-//! wozgirt sessions 1
+//! wozgirt sessions 2
 //! boot WORD
 //! last NUMBER
 //! session NUMBER KEY LEASE USER ADDRESS
@@ -15,9 +15,11 @@
 //! free NUMBER LOCK
 //! over NUMBER
 //! plain LOCK
+//! plain *
 //! given LOCK TOKEN
 //! ```
 //!
+//! LOCK is the name of a lock. The first version had numbers of locks: of such a file no line counts.
 //! What was not on the disk when the machine lost its power is not there; WORD is another one then.
 
 use crate::cluster::{NoFolder, Owner};
@@ -32,7 +34,7 @@ use std::time::Duration;
 use wozgirt_engine::{decimal, Client, Lock, NotALine, StateLine, Token};
 use wozgirt_system::{inherit, try_lock};
 
-const FIRST: &str = "wozgirt sessions 1";
+const FIRST: &str = "wozgirt sessions 2";
 /// How often the folder's lock is tried, and the pause between: the engine of a server that was killed may end a moment later.
 const TRIES: u32 = 500;
 const PAUSE: Duration = Duration::from_millis(20);
@@ -54,6 +56,8 @@ pub enum Line {
     Over(Client),
     /// Clients without a session may hold the lock, or wait for it.
     Plain(Lock),
+    /// The same of every lock.
+    AllPlain,
     /// The holder of the lock with this token has given it up; the engine may not know that.
     Given(Lock, Token),
     /// The start of the machine in which all this was written.
@@ -71,6 +75,7 @@ impl fmt::Display for Line {
             Line::Free(number, lock) => write!(f, "free {number} {lock}"),
             Line::Over(number) => write!(f, "over {number}"),
             Line::Plain(lock) => write!(f, "plain {lock}"),
+            Line::AllPlain => f.write_str("plain *"),
             Line::Given(lock, token) => write!(f, "given {lock} {token}"),
             Line::Boot(word) => write!(f, "boot {word}"),
         }
@@ -88,18 +93,15 @@ impl std::str::FromStr for Line {
                 let lease = Duration::from_millis(decimal(lease)?);
                 Ok(Line::Session(decimal(number)?, decimal(key)?, lease, Owner::parse(user, address)?))
             }
-            ["free", number, lock] => Ok(Line::Free(decimal(number)?, lock_of(lock)?)),
+            ["free", number, lock] => Ok(Line::Free(decimal(number)?, lock.parse()?)),
             ["over", number] => Ok(Line::Over(decimal(number)?)),
-            ["plain", lock] => Ok(Line::Plain(lock_of(lock)?)),
-            ["given", lock, token] => Ok(Line::Given(lock_of(lock)?, decimal(token)?)),
+            ["plain", "*"] => Ok(Line::AllPlain),
+            ["plain", lock] => Ok(Line::Plain(lock.parse()?)),
+            ["given", lock, token] => Ok(Line::Given(lock.parse()?, decimal(token)?)),
             ["boot", word] => Ok(Line::Boot(word.into())),
             _ => line.parse().map(Line::Has),
         }
     }
-}
-
-fn lock_of(word: &str) -> Result<Lock, NotALine> {
-    usize::try_from(decimal(word)?).map_err(|_| NotALine::Number)
 }
 
 /// The word that the system has for this start of the machine, if it has one.
@@ -324,22 +326,27 @@ impl Store {
 mod tests {
     use super::*;
 
+    fn lock(name: &str) -> Lock {
+        name.parse().unwrap()
+    }
+
     #[test]
     fn each_line() {
         let second = Duration::from_secs(1);
         for (text, line) in [
             ("last 7", Line::Last(7)),
             ("session 7 70 1000 u1 a::1", Line::Session(7, 70, second, Owner::parse("u1", "a::1").unwrap())),
-            ("free 7 1", Line::Free(7, 1)),
+            ("free 7 a", Line::Free(7, lock("a"))),
             ("over 7", Line::Over(7)),
-            ("plain 1", Line::Plain(1)),
-            ("given 1 2", Line::Given(1, 2)),
+            ("plain 1", Line::Plain(lock("1"))),
+            ("plain *", Line::AllPlain),
+            ("given a 2", Line::Given(lock("a"), 2)),
             ("boot x-1", Line::Boot("x-1".into())),
-            ("hold 1 2 7", Line::Has(StateLine::Hold { lock: 1, token: 2, client: 7 })),
+            ("hold a 2 7", Line::Has(StateLine::Hold { lock: lock("a"), token: 2, client: 7 })),
         ] {
             assert_eq!((text.parse(), line.to_string()), (Ok(line), text.into()));
         }
-        for line in ["", "last", "session 7 70 x - -", "free 7", "over"] {
+        for line in ["", "last", "session 7 70 x - -", "free 7", "over", "plain a*"] {
             assert!(line.parse::<Line>().is_err(), "{line:?}");
         }
     }
@@ -359,15 +366,18 @@ mod tests {
         assert!(!store.write().unwrap());
         assert_eq!(store.read().unwrap(), [Line::Last(9), Line::Over(7)]);
         let text = fs::read_to_string(store.sessions()).unwrap();
-        for (damaged, count) in [(format!("{text}over 8"), 2), (format!("{text}\0\0\nover 8\n"), 2), ("x\n".into(), 0)]
-        {
+        for (damaged, count) in [
+            (format!("{text}over 8"), 2),
+            (format!("{text}\0\0\nover 8\n"), 2),
+            (text.replace("sessions 2", "sessions 1"), 0),
+        ] {
             fs::write(store.sessions(), damaged).unwrap();
             assert_eq!(store.read().unwrap().len(), count);
         }
-        fs::write(journal.join("0000000009.ring"), "done 1\n# 1 1 did 1 busy 0\n").unwrap();
-        fs::write(journal.join("0000000010.ring"), "done 1\n# 7 1 did 7 busy 0\n0 p\n# 7 1 forget\n# 8 2 did ")
+        fs::write(journal.join("0000000009.ring"), "done 1\n# 1 1 did 1 busy a\n").unwrap();
+        fs::write(journal.join("0000000010.ring"), "done 1\n# 7 1 did 7 busy a\n0 p\n# 7 1 forget\n# 8 2 did ")
             .unwrap();
-        assert_eq!(store.remarks().unwrap(), ["7 1 did 7 busy 0".parse().unwrap()]);
+        assert_eq!(store.remarks().unwrap(), ["7 1 did 7 busy a".parse().unwrap()]);
         fs::remove_dir_all(&store.folder).unwrap();
         fs::remove_dir_all(journal).unwrap();
     }
@@ -383,7 +393,7 @@ mod tests {
     #[test]
     fn a_long_file_is_not_written_anew_each_time() {
         let (mut store, journal) = new_store("long");
-        let line = Line::Plain(usize::MAX);
+        let line = Line::Over(u64::MAX);
         let count = LONGEST / line.to_string().len();
         store.replace(&vec![line.clone(); count]).unwrap();
         store.put(&line);
@@ -397,10 +407,10 @@ mod tests {
     #[test]
     fn a_file_is_replaced_while_more_is_written() {
         let (mut store, journal) = new_store("next");
-        store.replace(&[Line::Last(9), Line::Plain(3)]).unwrap();
+        store.replace(&[Line::Last(9), Line::AllPlain]).unwrap();
         store.begin_to_replace(&[Line::Last(9)]).unwrap();
         assert!(store.next.is_some()); // it is not waited for
-        assert_eq!(store.read().unwrap(), [Line::Last(9), Line::Plain(3)]);
+        assert_eq!(store.read().unwrap(), [Line::Last(9), Line::AllPlain]);
         let mut told = vec![Line::Last(9)];
         while store.next.is_some() {
             thread::sleep(Duration::from_millis(1));

@@ -12,9 +12,13 @@ fn journal(name: &str) -> PathBuf {
     journal
 }
 
-/// What is kept beside the journal, of one lock, in this start of the machine.
+/// What is kept beside the journal, in this start of the machine.
 fn alone(journal: &Path, boot: Option<&str>) -> Alone {
-    Alone::new(Some(Store::open(journal).unwrap()), boot.map(String::from), 1, 9).unwrap()
+    Alone::new(Some(Store::open(journal).unwrap()), boot.map(String::from), 9).unwrap()
+}
+
+fn lock() -> Lock {
+    "a".parse().unwrap()
 }
 
 fn remove(journal: &Path) {
@@ -33,7 +37,7 @@ fn what_was_told_last_may_be_missing_after_another_start_of_the_machine() {
         (None, None, true),
     ] {
         alone(&journal, before).prepare().unwrap();
-        assert_eq!(alone(&journal, now).plain, [is_missing], "{before:?} {now:?}");
+        assert_eq!(alone(&journal, now).plain.has(&lock()), is_missing, "{before:?} {now:?}");
         fs::remove_file(journal.with_extension("sessions").join("sessions")).unwrap();
     }
     remove(&journal);
@@ -46,27 +50,27 @@ fn inherited(journal: &Path, is_heard: bool) -> Vec<(Lock, Token)> {
     it.prepare().unwrap();
     for number in 1..=2 {
         it.come(10 * number, Who::Unknown, Duration::from_secs(1), number).unwrap();
-        it.place(number, 0, 5);
+        it.place(number, lock(), 5);
     }
     it.end(1);
     it.forget(1);
     if is_heard {
-        it.note_grant(1, 0, 7);
-        it.note_grant(1, 0, 7);
+        it.note_grant(1, &lock(), 7);
+        it.note_grant(1, &lock(), 7);
     }
     it.write().unwrap();
     drop(it);
     let mut it = alone(journal, Some("x"));
     it.prepare().unwrap();
-    assert_eq!(it.settle(&[(0, 7)]).unwrap(), !is_heard);
-    assert_eq!(it.plain, [is_heard]);
+    assert_eq!(it.settle(&[(lock(), 7)]).unwrap(), !is_heard);
+    assert_eq!(it.plain.has(&lock()), is_heard);
     it.session(2).unwrap().holds.clone()
 }
 
 #[test]
 fn a_grant_to_one_that_is_over_is_nobody_elses() {
     let journal = journal("over");
-    for (is_heard, holds) in [(false, vec![(0, 7)]), (true, vec![])] {
+    for (is_heard, holds) in [(false, vec![(lock(), 7)]), (true, vec![])] {
         assert_eq!(inherited(&journal, is_heard), holds);
         fs::remove_file(journal.with_extension("sessions").join("sessions")).unwrap();
     }

@@ -181,11 +181,11 @@ impl Applied {
                 if is_new {
                     known.last = Some(*number);
                 }
-                let (key, session, number, input) = (*key, known.session, *number, *input);
+                let (key, session, number, input) = (*key, known.session, *number, input.clone());
+                let look =
+                    if let Input::Corrupt { lock, .. } = &input { Some(Given::Stats(lock.clone())) } else { None };
                 step.given.push(Given::Do { key, session, number, input, is_new });
-                if let Input::Corrupt { lock, .. } = input {
-                    step.given.push(Given::Stats(lock));
-                }
+                step.given.extend(look);
             }
             Line::Gone(key) => {
                 // a client without a session has nothing to give up
@@ -268,14 +268,14 @@ mod tests {
         let lines = given(
             &mut applied,
             &[
-                entry("a", 1, 1, &["with s", "here 70 u0", "70 1 acquire 0 5", "here 90 u0", "90 1 acquire 0 6"]),
-                entry("b", 2, 1, &["with s", "here 90 u0", "here 80 u0", "80 4 try 1 0"]),
-                entry("a", 1, 2, &["90 2 cancel 0", "gone 90", "gone 70", "70 1 acquire 0 7"]),
-                entry("a", 1, 3, &["here 70 u0", "70 1 acquire 0 5"]),
+                entry("a", 1, 1, &["with s", "here 70 u0", "70 1 acquire a 5", "here 90 u0", "90 1 acquire a 6"]),
+                entry("b", 2, 1, &["with s", "here 90 u0", "here 80 u0", "80 4 try b 0"]),
+                entry("a", 1, 2, &["90 2 cancel a", "gone 90", "gone 70", "70 1 acquire a 7"]),
+                entry("a", 1, 3, &["here 70 u0", "70 1 acquire a 5"]),
             ],
         );
         let all =
-            ["1 1 1 acquire 0 5", "2 1 2 acquire 0 6", "3 4 3 try 1 0", "1 leave", "1 1 forget", "4 1 4 acquire 0 5"];
+            ["1 1 1 acquire a 5", "2 1 2 acquire a 6", "3 4 3 try b 0", "1 leave", "1 1 forget", "4 1 4 acquire a 5"];
         assert_eq!(lines, all);
         assert_eq!(
             applied.sessions[&90],
@@ -289,13 +289,13 @@ mod tests {
         let lines = given(
             &mut applied,
             &[
-                entry("a", 1, 1, &["with s", "here 70 u7", "70 1 acquire 0 5"]),
-                entry("b", 2, 1, &["with s", "here 70 u8", "70 2 release 0 1"]),
-                entry("b", 2, 2, &["here 70 a10.0.0.1", "70 2 release 0 1"]),
-                entry("a", 1, 2, &["here 70 a10.0.0.2", "here 70 -", "70 3 acquire 0 6"]),
+                entry("a", 1, 1, &["with s", "here 70 u7", "70 1 acquire a 5"]),
+                entry("b", 2, 1, &["with s", "here 70 u8", "70 2 release a 1"]),
+                entry("b", 2, 2, &["here 70 a10.0.0.1", "70 2 release a 1"]),
+                entry("a", 1, 2, &["here 70 a10.0.0.2", "here 70 -", "70 3 acquire a 6"]),
             ],
         );
-        assert_eq!(lines, ["1 1 1 acquire 0 5", "1 2 1 release 0 1"]);
+        assert_eq!(lines, ["1 1 1 acquire a 5", "1 2 1 release a 1"]);
         assert_eq!(applied.sessions[&70].owner, owner_of("u7", "a10.0.0.1"));
         let step = applied.apply(9, 9, Some(&entry("a", 1, 3, &["here 70 u8", "here 70 u7"])));
         assert_eq!(step.given, [Given::Closed(70), Given::Here(70, 1)]);
@@ -304,8 +304,8 @@ mod tests {
     #[test]
     fn an_append_that_was_tried_twice_counts_once() {
         let mut applied = Applied::new(100);
-        let first = entry("a", 1, 1, &["with s", "here 70 u0", "70 1 acquire 0 5"]);
-        let second = entry("a", 1, 2, &["70 2 release 0 1"]);
+        let first = entry("a", 1, 1, &["with s", "here 70 u0", "70 1 acquire a 5"]);
+        let second = entry("a", 1, 2, &["70 2 release a 1"]);
         assert_eq!(given(&mut applied, &[first.clone(), second.clone(), first, second]).len(), 2);
         assert_eq!((applied.position, applied.revision), (4, 12));
     }
@@ -317,13 +317,13 @@ mod tests {
             "a",
             4,
             1,
-            &["with s", "here 70 u0", "70 1 acquire 0 5", "here 30 u0", "here 90 u0", "90 1 acquire 1 5"],
+            &["with s", "here 70 u0", "70 1 acquire a 5", "here 30 u0", "here 90 u0", "90 1 acquire b 5"],
         );
-        let b = entry("b", 5, 1, &["with s", "here 90 u0", "90 2 cancel 1", "server a 4", "server a 3"]);
-        let late = entry("a", 4, 2, &["70 2 release 0 1"]);
-        let again = entry("a", 6, 1, &["with s", "here 70 u0", "70 1 acquire 0 5"]);
+        let b = entry("b", 5, 1, &["with s", "here 90 u0", "90 2 cancel b", "server a 4", "server a 3"]);
+        let late = entry("a", 4, 2, &["70 2 release a 1"]);
+        let again = entry("a", 6, 1, &["with s", "here 70 u0", "70 1 acquire a 5"]);
         let lines = given(&mut applied, &[a, b, late, again]);
-        assert_eq!(lines[3..], ["1 leave", "1 1 forget", "2 leave", "4 1 4 acquire 0 5"]);
+        assert_eq!(lines[3..], ["1 leave", "1 1 forget", "2 leave", "4 1 4 acquire a 5"]);
         assert_eq!(applied.servers.keys().map(Server::to_string).collect::<Vec<_>>(), ["a 6", "b 5"]);
     }
 
@@ -331,7 +331,7 @@ mod tests {
     fn who_begins_with_other_settings_is_not_heard() {
         let mut applied = Applied::new(100);
         let a = entry("a", 1, 1, &["with s"]);
-        let b = [entry("b", 2, 1, &["with t", "70 1 acquire 0 5"]), entry("b", 2, 2, &["70 1 acquire 0 5"])];
+        let b = [entry("b", 2, 1, &["with t", "70 1 acquire a 5"]), entry("b", 2, 2, &["70 1 acquire a 5"])];
         assert!(given(&mut applied, &[a, b[0].clone(), b[1].clone()]).is_empty());
         assert_eq!(applied.settings.as_deref(), Some("s"));
         assert!(!applied.apply(9, 9, None).is_taken);
@@ -354,16 +354,16 @@ mod tests {
     #[test]
     fn what_is_not_new_and_what_needs_a_look() {
         let mut applied = Applied::new(5);
-        let lines = ["with s", "here 70 u0", "70 5 acquire 0 5", "70 4 cancel 0"];
+        let lines = ["with s", "here 70 u0", "70 5 acquire a 5", "70 4 cancel a"];
         let step = applied.apply(1, 1, Some(&entry("a", 1, 1, &lines)));
         assert!(!step.is_checkpoint);
         assert!(matches!(
             step.given[1..],
             [Given::Do { is_new: true, .. }, Given::Do { is_new: false, number: 4, .. }]
         ));
-        let step = applied.apply(2, 2, Some(&entry("a", 1, 2, &["70 6 corrupt 3 1 1"])));
+        let step = applied.apply(2, 2, Some(&entry("a", 1, 2, &["70 6 corrupt d 1 1"])));
         assert!(step.is_checkpoint && applied.lines == 0);
-        assert_eq!(step.given[1], Given::Stats(3));
+        assert_eq!(step.given[1], Given::Stats("d".parse().unwrap()));
         let step = applied.apply(3, 3, Some(&entry("a", 1, 3, &["gone 9", "here 9 u0"])));
         assert_eq!(step.given, [Given::Gone(9), Given::Here(9, 2)]);
     }

@@ -14,7 +14,7 @@ use wozgirt_engine::{decimal, StateLine};
 use wozgirt_system::{inherit, try_lock};
 
 /// Its first line.
-const FIRST: &str = "wozgirt checkpoint 2";
+const FIRST: &str = "wozgirt checkpoint 3";
 
 /// A checkpoint.
 #[derive(Debug, Clone, PartialEq, Eq)]
@@ -306,7 +306,7 @@ mod tests {
 
     fn a_checkpoint() -> Checkpoint {
         let mut applied = Applied::new(5);
-        (applied.position, applied.revision, applied.settings) = (12, 40, Some("5 - 0 a:8:8".into()));
+        (applied.position, applied.revision, applied.settings) = (12, 40, Some("2 5 - 0 a:8:8".into()));
         applied.servers.insert(server("a", "3").unwrap(), 9);
         applied.over.insert("b".into(), 2);
         applied.last_session = 9;
@@ -315,7 +315,7 @@ mod tests {
         applied
             .sessions
             .insert(80, Known { session: 8, home: server("a", "3").unwrap(), last: None, owner: Owner::default() });
-        let state = ["hold 0 3 7", "8 acquire 0 1", "7 4 did 7 granted 0 3", "at 12 00"]
+        let state = ["hold a 3 7", "8 acquire a 1", "7 4 did 7 granted a 3", "at 12 00"]
             .map(|line| line.parse().unwrap())
             .into();
         Checkpoint { identity: "x".into(), segment: 6, applied, state }
@@ -327,12 +327,12 @@ mod tests {
         let text = checkpoint.text();
         assert_eq!(Checkpoint::parse(&text, 5), Ok(checkpoint));
         assert!(text
-            .contains("\nsessions 9\nsession 7 70 a 3 4 u7 a10.0.0.1\nsession 8 80 a 3 - - -\nstate 4\nhold 0 3 7\n"));
-        for (wrong, line) in [("", 1), ("wozgirt checkpoint 1\n", 1), (&text[..text.len() - 1], 15), (&text[..60], 5)] {
+            .contains("\nsessions 9\nsession 7 70 a 3 4 u7 a10.0.0.1\nsession 8 80 a 3 - - -\nstate 4\nhold a 3 7\n"));
+        for (wrong, line) in [("", 1), ("wozgirt checkpoint 2\n", 1), (&text[..text.len() - 1], 15), (&text[..60], 5)] {
             assert_eq!(Checkpoint::parse(wrong, 5), Err(BadCheckpoint(line)), "{wrong}");
         }
         assert_eq!(Checkpoint::parse(&text.replace("over b 2", "over b"), 5), Err(BadCheckpoint(6)));
-        assert_eq!(Checkpoint::parse(&text.replace("8 acquire 0 1", "8 acquire x 1"), 5), Err(BadCheckpoint(12)));
+        assert_eq!(Checkpoint::parse(&text.replace("8 acquire a 1", "8 acquire a x"), 5), Err(BadCheckpoint(12)));
     }
 
     #[test]
@@ -365,7 +365,7 @@ mod tests {
         }
         folder.write(&a_checkpoint().text()).unwrap();
         assert_eq!(Checkpoint::parse(&folder.read().unwrap().unwrap(), 5), Ok(a_checkpoint()));
-        assert_eq!(a_checkpoint().holders(), "hold 0 3 7\n");
+        assert_eq!(a_checkpoint().holders(), "hold a 3 7\n");
         drop(folder);
         fs::write(path.join("0000000001.ring"), "").unwrap();
         assert!(matches!(Folder::open(&path), Err(NoFolder::Alone)));

@@ -1,4 +1,4 @@
-//! What all servers of a log have in common: `CHECKPOINT SEGMENT FAULTS LOCKS`, as the log has it. The list of locks may become longer:
+//! What all servers of a log have in common: `VERSION CHECKPOINT SEGMENT FAULTS LOCKS`, as the log has it. The list of locks may become longer:
 //! a server that begins with more locks after those of the log adds them for all.
 
 /// Whether these settings are the others with more locks after theirs.
@@ -13,7 +13,7 @@ pub fn agrees(own: &str, log: &str) -> bool {
 
 /// The list of locks in these settings.
 pub fn list(settings: &str) -> &str {
-    settings.splitn(4, ' ').nth(3).unwrap_or("")
+    settings.splitn(5, ' ').nth(4).unwrap_or("")
 }
 
 #[cfg(test)]
@@ -22,16 +22,17 @@ mod tests {
 
     #[test]
     fn longer_lists() {
-        let log = "100 - 0 a:8:8,b:8:8";
+        let log = "2 100 - 0 a:8:8,b:8:8";
         assert_eq!(list(log), "a:8:8,b:8:8");
         for (own, is_longer, is_agreed) in [
-            ("100 - 0 a:8:8,b:8:8", false, true),
-            ("100 - 0 a:8:8,b:8:8,c:8:8", true, true),
-            ("100 - 0 a:8:8", false, true),
-            ("100 - 0 a:8:8,b:8:80", false, false),
-            ("100 - 0 b:8:8,a:8:8", false, false),
-            ("100 - 1 a:8:8,b:8:8,c:8:8", false, false),
-            ("10 - 0 a:8:8", false, false),
+            ("2 100 - 0 a:8:8,b:8:8", false, true),
+            ("2 100 - 0 a:8:8,b:8:8,c:8:8", true, true),
+            ("2 100 - 0 a:8:8", false, true),
+            ("2 100 - 0 a:8:8,b:8:80", false, false),
+            ("2 100 - 0 b:8:8,a:8:8", false, false),
+            ("2 100 - 1 a:8:8,b:8:8,c:8:8", false, false),
+            ("2 10 - 0 a:8:8", false, false),
+            ("100 - 0 a:8:8,b:8:8", false, false),
         ] {
             assert_eq!((extends(own, log), agrees(own, log)), (is_longer, is_agreed), "{own}");
         }

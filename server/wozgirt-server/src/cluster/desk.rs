@@ -6,7 +6,7 @@ use crate::desk::{Desk, Then};
 use crate::log::{End, Event};
 use crate::mode::Mode;
 use crate::requests::BadRequest;
-use wozgirt_engine::{Answer, Input, Lock, NotALine, Stats, Token};
+use wozgirt_engine::{Answer, Input, NotALine, Stats, Token};
 
 impl Desk {
     /// The client gives its key. Its session begins, or continues, where the log has it.
@@ -58,15 +58,15 @@ impl Desk {
 
     /// An input goes into the log; a look is answered at once.
     pub(crate) fn put_input(&mut self, connection: &mut Connection, number: Option<u64>, input: Input) {
-        if let Input::Stats { lock } = input {
+        if let Input::Stats { lock } = &input {
             return self.tell_stats(connection, lock);
         }
         let Some(key) = self.key(connection) else { return };
         let number = number.unwrap_or_else(|| connection.next_number());
-        connection.pending.push_back(Pending::Numbered(number, input));
         if let Some(cluster) = self.mode.in_log_mut() {
-            cluster.put(Line::Do(key, number, input));
+            cluster.put(Line::Do(key, number, input.clone()));
         }
+        connection.pending.push_back(Pending::Numbered(number, input));
     }
 
     /// A leave ends the session. What the client says next is another one, or the same from the beginning.
@@ -82,12 +82,12 @@ impl Desk {
         }
     }
 
-    pub(crate) fn tell_stats(&mut self, connection: &mut Connection, lock: Lock) {
+    pub(crate) fn tell_stats(&self, connection: &mut Connection, lock: &str) {
         let Some(sight) = self.board.lock(lock) else { return };
         let (machines, waiters, passes) = (sight.machines, sight.line.len() as u64, sight.passes);
         let (holder, token) = sight.holder.map_or((0, 0), |holder| (holder.client, holder.token));
         let stats = Answer::Stats(Stats { lock, machines, waiters, passes, holder, token });
-        connection.tell_in_order(self.line(&stats));
+        connection.tell_in_order(stats);
     }
 
     /// Sends an operator where this server is in the log.
@@ -106,24 +106,24 @@ impl Desk {
     }
 
     /// Sends the client an answer to its own input, if it waits for that.
-    pub(crate) fn tell_numbered(&mut self, connection: &mut Connection, number: u64, answer: &Answer) {
+    pub(crate) fn tell_numbered(&mut self, connection: &mut Connection, number: u64, answer: &Answer<'_>) {
         if !matches!(connection.pending.front(), Some(Pending::Numbered(first, _)) if *first == number) {
             return;
         }
         if let Some(Pending::Numbered(_, Input::Acquire { lock, .. })) = connection.pending.pop_front() {
-            self.board.asked_no_longer(lock);
+            self.board.asked_no_longer(&lock);
         }
         if let Answer::Refused { why, .. } = answer {
             self.sums.refused(why.word());
         }
-        connection.tell_numbered(number, self.line(answer));
+        connection.tell_numbered(number, answer);
         connection.tell_what_waited();
     }
 
     /// Sends the client the grant of what it waited for. A client whose session is on its way here gets it then.
-    pub(crate) fn tell_grant(&self, connection: &mut Connection, lock: Lock, token: Token) {
+    pub(crate) fn tell_grant(&self, connection: &mut Connection, lock: &str, token: Token) {
         if !matches!(connection.pending.front(), Some(Pending::Opening)) {
-            self.tell(connection, &Answer::Granted { lock, token });
+            connection.tell(Answer::Granted { lock, token });
         }
     }
 
@@ -139,10 +139,10 @@ impl Desk {
         let count = standing.holds.len() + usize::from(standing.waits.is_some());
         connection.tell(format_args!("session {key} {count}"));
         for (lock, token) in standing.holds {
-            connection.tell(format_args!("holds {} {token}", self.names.name(lock)));
+            connection.tell(format_args!("holds {lock} {token}"));
         }
         if let Some(lock) = standing.waits {
-            connection.tell(format_args!("waits {}", self.names.name(lock)));
+            connection.tell(format_args!("waits {lock}"));
         }
         connection.tell_what_waited();
     }
@@ -173,8 +173,7 @@ impl Desk {
         let (Some(cluster), Some(seat)) = (self.mode.in_log_mut(), connection.seat.take()) else {
             return String::new();
         };
-        let held = cluster.standing(seat.key).holds;
-        let held: Vec<&str> = held.into_iter().map(|(lock, _)| self.names.name(lock)).collect();
+        let held = cluster.standing(seat.key).held();
         let is_over = !seat.is_keyed && !matches!(end, End::Engine | End::Stop | End::Log | End::Moved);
         if is_over || matches!(end, End::Lease | End::Kicked) || seat.has_left {
             if cluster.owns.go(seat.key, connection.client) && !seat.has_left {
@@ -191,10 +190,9 @@ impl Desk {
     pub(crate) fn end_late_sessions(&mut self) {
         let Some(cluster) = self.mode.in_log_mut() else { return };
         for key in cluster.owns.take_late(self.now) {
-            let held = cluster.standing(key).holds;
-            let held: Vec<&str> = held.into_iter().map(|(lock, _)| self.names.name(lock)).collect();
+            let held = cluster.standing(key).held().join(",");
             cluster.put(Line::Gone(key));
-            let (session, held) = (cluster.owns.session(key).unwrap_or(0), held.join(","));
+            let session = cluster.owns.session(key).unwrap_or(0);
             self.log.say(&Event::SessionOver { session, held: if held.is_empty() { "nothing" } else { &held } });
         }
     }

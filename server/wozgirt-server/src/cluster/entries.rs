@@ -9,13 +9,17 @@
 //! server NAME INCARNATION
 //! ```
 //!
-//! The lines follow one another, with a tab between them. So an entry is one line of printable ASCII.
+//! The lines follow one another, with a tab between them. So an entry is one line of printable ASCII. SETTINGS begin with [`VERSION`].
 
 use super::owner::Who;
 use std::fmt;
 use std::rc::Rc;
 use std::str::FromStr;
 use wozgirt_engine::{decimal, Client, Input};
+
+/// The version of these lines. In those of the first, whose SETTINGS begin without a version, an INPUT had the number of its lock. A
+/// server begins in no log whose SETTINGS are others, so no engine gets an input that means something else to another one.
+pub const VERSION: u64 = 2;
 
 /// The number of a session, which the log gives: the engine's client, and the key of its inputs. All may know it.
 pub type Session = Client;
@@ -165,11 +169,11 @@ mod tests {
     fn an_entry_is_written_and_read() {
         let zeros = "0".repeat(64);
         let text = format!(
-            "by a 3 1 0 {zeros}\twith 100 - 0 a:8:8\there 7 u0\t7 1 acquire 0 5\t7 2 release 0 1\tgone 7\tserver b.c-d 2"
+            "by a 3 1 0 {zeros}\twith 2 100 - 0 a:8:8\there 7 u0\t7 1 acquire a 5\t7 2 release a 1\tgone 7\tserver b.c-d 2"
         );
         let entry: Entry = text.parse().unwrap();
         assert_eq!((&*entry.writer.name, entry.writer.incarnation, entry.serial), ("a", 3, 1));
-        assert_eq!(entry.lines[2], Line::Do(7, 1, Input::Acquire { lock: 0, label: 5 }));
+        assert_eq!(entry.lines[2], Line::Do(7, 1, Input::Acquire { lock: "a".parse().unwrap(), label: 5 }));
         assert_eq!(entry.to_string(), text);
         let empty = format!("by a 3 2 9 {zeros}");
         assert_eq!(empty.parse::<Entry>().unwrap().to_string(), empty);
@@ -200,9 +204,10 @@ mod tests {
             "server a b",
             "1 2",
             "1 2 leave",
-            "1 2 stats 0",
-            "1 2 jump 0",
-            "1 x cancel 0",
+            "1 2 stats a",
+            "1 2 jump a",
+            "1 2 cancel é",
+            "1 x cancel a",
         ] {
             assert_eq!(format!("{head}\t{line}").parse::<Entry>(), Err(NoEntry), "{line:?}");
         }

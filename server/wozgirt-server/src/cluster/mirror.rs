@@ -19,9 +19,16 @@ pub struct Standing {
     pub waits: Option<Lock>,
 }
 
+impl Standing {
+    /// The locks that it holds.
+    pub fn held(&self) -> Vec<Lock> {
+        self.holds.iter().map(|(lock, _)| lock.clone()).collect()
+    }
+}
+
 /// What a line of the engine says.
 #[derive(Debug, PartialEq, Eq)]
-pub enum Effect {
+pub enum Effect<'a> {
     /// The first line for an input.
     Answered {
         /// Whose it is.
@@ -31,14 +38,14 @@ pub enum Effect {
         /// What was asked.
         input: Input,
         /// What is answered.
-        answer: Answer,
+        answer: Answer<'a>,
     },
     /// A client that waited is granted the lock.
     Granted {
         /// Whose it is.
         session: Session,
         /// The lock.
-        lock: Lock,
+        lock: &'a str,
         /// The token.
         token: Token,
     },
@@ -95,8 +102,13 @@ impl Mirror {
     }
 
     /// Whether the session holds the lock.
-    pub fn holds(&self, session: Session, lock: Lock) -> bool {
+    pub fn holds(&self, session: Session, lock: &str) -> bool {
         self.standing.get(&session).is_some_and(|it| it.holds.iter().any(|(held, _)| *held == lock))
+    }
+
+    /// How many locks the session holds, with the one that it waits for.
+    pub fn count_locks(&self, session: Session) -> usize {
+        self.standing.get(&session).map_or(0, |it| it.holds.len() + usize::from(it.waits.is_some()))
     }
 
     /// The session holds the lock from before.
@@ -125,24 +137,24 @@ impl Mirror {
     }
 
     /// One line of the engine.
-    pub fn hear(&mut self, line: &str, board: &mut Board, now: Instant) -> Result<Vec<Effect>, NotAsked> {
+    pub fn hear<'a>(&mut self, line: &'a str, board: &mut Board, now: Instant) -> Result<Vec<Effect<'a>>, NotAsked> {
         let mut effects = Vec::new();
         self.pass_silent(board, &mut effects);
         if let Some(rest) = line.strip_prefix("at ") {
             effects.push(self.hear_digest(rest)?);
             return Ok(effects);
         }
-        let Answered { client, answer } = line.parse().map_err(|_| NotAsked)?;
+        let Answered { client, answer } = Answered::parse(line).map_err(|_| NotAsked)?;
         let effect = if self.next.is_empty() {
             self.hear_answer(client, answer, board, now)?
         } else {
-            Some(self.hear_grant(client, &answer, board, now)?)
+            Some(self.hear_grant(client, answer, board, now)?)
         };
         effects.extend(effect);
         Ok(effects)
     }
 
-    fn hear_digest(&mut self, rest: &str) -> Result<Effect, NotAsked> {
+    fn hear_digest(&mut self, rest: &str) -> Result<Effect<'static>, NotAsked> {
         let (position, digest) = rest.split_once(' ').ok_or(NotAsked)?;
         let is_asked = matches!(self.items.pop_front(), Some(Item::At(at)) if decimal(position) == Ok(at));
         if !is_asked || !self.next.is_empty() || !is_digest(digest) {
@@ -152,7 +164,7 @@ impl Mirror {
     }
 
     /// What is next and not answered.
-    fn pass_silent(&mut self, board: &mut Board, effects: &mut Vec<Effect>) {
+    fn pass_silent(&mut self, board: &mut Board, effects: &mut Vec<Effect<'_>>) {
         while self.next.is_empty() {
             match self.items.front() {
                 Some(Item::Given(Given::Here(key, session))) => effects.push(Effect::Here(*key, *session)),
@@ -172,56 +184,56 @@ impl Mirror {
 
     fn leave(&mut self, session: Session, board: &mut Board) -> Standing {
         let standing = self.standing.remove(&session).unwrap_or_default();
-        if let Some(lock) = standing.waits {
+        if let Some(lock) = &standing.waits {
             board.waits_no_longer(lock, session);
         }
         for (lock, _) in &standing.holds {
-            board.left(*lock, session);
-            self.expect_next(*lock, board);
+            board.left(lock, session);
+            self.expect_next(lock, board);
         }
         standing
     }
 
     /// The hold of this lock has ended: the first of the line is next.
-    fn expect_next(&mut self, lock: Lock, board: &Board) {
+    fn expect_next(&mut self, lock: &Lock, board: &Board) {
         let first = board.lock(lock).and_then(|sight| sight.line.front());
-        self.next.extend(first.map(|waiter| (lock, waiter.client)));
+        self.next.extend(first.map(|waiter| (lock.clone(), waiter.client)));
     }
 
-    fn hear_grant(
+    fn hear_grant<'a>(
         &mut self,
         client: Session,
-        answer: &Answer,
+        answer: Answer<'a>,
         board: &mut Board,
         now: Instant,
-    ) -> Result<Effect, NotAsked> {
-        let Answer::Granted { lock, token } = *answer else { return Err(NotAsked) };
-        if self.next.remove(&lock) != Some(client) {
+    ) -> Result<Effect<'a>, NotAsked> {
+        let Answer::Granted { lock, token } = answer else { return Err(NotAsked) };
+        let Some((next, _)) = self.next.remove_entry(lock).filter(|(_, first)| *first == client) else {
             return Err(NotAsked);
-        }
+        };
         let standing = self.standing.entry(client).or_default();
         standing.waits = None;
-        standing.holds.push((lock, token));
+        standing.holds.push((next, token));
         board.granted(lock, client, token, None, now);
         Ok(Effect::Granted { session: client, lock, token })
     }
 
-    fn hear_answer(
+    fn hear_answer<'a>(
         &mut self,
         client: Session,
-        answer: Answer,
+        answer: Answer<'a>,
         board: &mut Board,
         now: Instant,
-    ) -> Result<Option<Effect>, NotAsked> {
+    ) -> Result<Option<Effect<'a>>, NotAsked> {
         match self.items.pop_front() {
             Some(Item::Given(Given::Do { session, number, input, is_new, .. })) if session == client => {
                 if is_new {
-                    self.note(session, input, &answer, board, now)?;
+                    self.note(session, &input, &answer, board, now)?;
                 }
                 Ok(Some(Effect::Answered { session, number, input, answer }))
             }
             Some(Item::Given(Given::Stats(lock))) if client == NOBODY => match answer {
-                Answer::Stats(stats) if stats.lock == lock => {
+                Answer::Stats(stats) if lock == stats.lock => {
                     board.note_stats(&stats);
                     Ok(None)
                 }
@@ -236,36 +248,36 @@ impl Mirror {
     fn note(
         &mut self,
         session: Session,
-        input: Input,
-        answer: &Answer,
+        input: &Input,
+        answer: &Answer<'_>,
         board: &mut Board,
         now: Instant,
     ) -> Result<(), NotAsked> {
         let standing = self.standing.entry(session).or_default();
         match (input, answer) {
             (Input::Acquire { lock, label } | Input::Try { lock, label }, Answer::Granted { lock: l, token })
-                if lock == *l =>
+                if lock == l =>
             {
-                standing.holds.push((lock, *token));
-                board.granted(lock, session, *token, Some(label), now);
+                standing.holds.push((lock.clone(), *token));
+                board.granted(lock, session, *token, Some(*label), now);
             }
-            (Input::Acquire { lock, label }, Answer::Waiting { lock: l, .. }) if lock == *l => {
-                standing.waits = Some(lock);
-                board.waits(lock, session, label, now);
+            (Input::Acquire { lock, label }, Answer::Waiting { lock: l, .. }) if lock == l => {
+                standing.waits = Some(lock.clone());
+                board.waits(lock, session, *label, now);
             }
-            (Input::Release { lock, .. }, Answer::Released { lock: l }) if lock == *l => {
-                standing.holds.retain(|(held, _)| *held != lock);
+            (Input::Release { lock, .. }, Answer::Released { lock: l }) if lock == l => {
+                standing.holds.retain(|(held, _)| held != lock);
                 board.released(lock, session);
                 self.expect_next(lock, board);
             }
-            (Input::Cancel { lock }, Answer::Cancelled { lock: l }) if lock == *l => {
+            (Input::Cancel { lock }, Answer::Cancelled { lock: l }) if lock == l => {
                 standing.waits = None;
                 board.waits_no_longer(lock, session);
             }
-            (Input::Corrupt { lock, machine, value }, Answer::Corrupted { lock: l, old }) if lock == *l => {
-                board.fault(lock, machine, value, *old);
+            (Input::Corrupt { lock, machine, value }, Answer::Corrupted { lock: l, old }) if lock == l => {
+                board.fault(lock, *machine, *value, *old);
             }
-            (Input::Try { lock, .. }, Answer::Busy { lock: l }) if lock == *l => {}
+            (Input::Try { lock, .. }, Answer::Busy { lock: l }) if lock == l => {}
             (_, Answer::Refused { .. }) => {}
             _ => return Err(NotAsked),
         }
@@ -284,56 +296,66 @@ mod tests {
         Given::Do { key: session + 100, session, number, input: input.parse().unwrap(), is_new }
     }
 
-    fn told(mirror: &mut Mirror, board: &mut Board, lines: &[&str]) -> Vec<Effect> {
+    fn lock(name: &str) -> Lock {
+        name.parse().unwrap()
+    }
+
+    /// A board of the locks a and b.
+    fn board() -> Board {
+        Board::new(&[lock("a"), lock("b")])
+    }
+
+    fn told<'a>(mirror: &mut Mirror, board: &mut Board, lines: &[&'a str]) -> Vec<Effect<'a>> {
         lines.iter().flat_map(|line| mirror.hear(line, board, Instant::now()).unwrap()).collect()
     }
 
     #[test]
     fn grants_belong_to_what_brought_them() {
-        let (mut mirror, mut board) = (Mirror::default(), Board::new(2));
+        let (mut mirror, mut board) = (Mirror::default(), board());
         for given in [
-            does(1, 1, "acquire 0 5", true),
-            does(2, 1, "acquire 1 5", true),
-            does(3, 1, "acquire 0 6", true),
-            does(4, 1, "acquire 1 6", true),
-            does(1, 2, "release 0 1", true),
+            does(1, 1, "acquire a 5", true),
+            does(2, 1, "acquire b 5", true),
+            does(3, 1, "acquire a 6", true),
+            does(4, 1, "acquire b 6", true),
+            does(1, 2, "release a 1", true),
             Given::Leave(3),
             Given::Leave(2),
             Given::Forget(2, 1),
             Given::Gone(102),
             Given::Here(104, 4),
-            does(4, 1, "acquire 1 6", false),
+            does(4, 1, "acquire b 6", false),
         ] {
             mirror.give(given);
         }
         mirror.give_at(1);
         let lines =
-            ["1 granted 0 1", "2 granted 1 1", "3 waiting 0 0", "4 waiting 1 0", "1 released 0", "3 granted 0 2"];
+            ["1 granted a 1", "2 granted b 1", "3 waiting a 0", "4 waiting b 0", "1 released a", "3 granted a 2"];
         let effects = told(&mut mirror, &mut board, &lines);
-        assert_eq!(effects.last(), Some(&Effect::Granted { session: 3, lock: 0, token: 2 }));
+        assert_eq!(effects.last(), Some(&Effect::Granted { session: 3, lock: "a", token: 2 }));
         let digest = "0".repeat(64);
-        let effects = told(&mut mirror, &mut board, &["4 granted 1 2", "4 waiting 1 0", &format!("at 1 {digest}")]);
-        assert_eq!(effects[0], Effect::Left(3, Standing { holds: vec![(0, 2)], waits: None }));
-        assert_eq!(effects[2], Effect::Granted { session: 4, lock: 1, token: 2 });
+        let at = format!("at 1 {digest}");
+        let effects = told(&mut mirror, &mut board, &["4 granted b 2", "4 waiting b 0", &at]);
+        assert_eq!(effects[0], Effect::Left(3, Standing { holds: vec![(lock("a"), 2)], waits: None }));
+        assert_eq!(effects[2], Effect::Granted { session: 4, lock: "b", token: 2 });
         assert_eq!(effects[3..5], [Effect::Gone(102), Effect::Here(104, 4)]);
         assert!(matches!(effects[5], Effect::Answered { answer: Answer::Waiting { .. }, .. }));
         assert_eq!(effects[6], Effect::Done { position: 1, digest });
-        assert_eq!(mirror.standing(4), Standing { holds: vec![(1, 2)], waits: None });
+        assert_eq!(mirror.standing(4), Standing { holds: vec![(lock("b"), 2)], waits: None });
         assert_eq!((board.locks()[0].holder, board.locks()[1].holder.unwrap().client), (None, 4));
-        assert!(mirror.is_idle() && mirror.holds(4, 1) && !mirror.holds(4, 0));
+        assert!(mirror.is_idle() && mirror.holds(4, "b") && !mirror.holds(4, "a"));
     }
 
     #[test]
     fn what_nobody_asked() {
         for (given, line) in [
-            (does(1, 1, "acquire 0 5", true), "2 granted 0 1"),
-            (does(1, 1, "acquire 0 5", true), "1 granted 1 1"),
-            (does(1, 1, "acquire 0 5", true), "1 released 0"),
-            (does(1, 1, "acquire 0 5", true), "at 1 0"),
-            (Given::Leave(1), "1 granted 0 1"),
-            (Given::Stats(0), "0 stats 1 8 0 0 0 0"),
+            (does(1, 1, "acquire a 5", true), "2 granted a 1"),
+            (does(1, 1, "acquire a 5", true), "1 granted b 1"),
+            (does(1, 1, "acquire a 5", true), "1 released a"),
+            (does(1, 1, "acquire a 5", true), "at 1 0"),
+            (Given::Leave(1), "1 granted a 1"),
+            (Given::Stats(lock("a")), "0 stats b 8 0 0 0 0"),
         ] {
-            let (mut mirror, mut board) = (Mirror::default(), Board::new(2));
+            let (mut mirror, mut board) = (Mirror::default(), board());
             mirror.give(given);
             assert_eq!(mirror.hear(line, &mut board, Instant::now()), Err(NotAsked), "{line}");
         }
@@ -341,10 +363,10 @@ mod tests {
 
     #[test]
     fn a_look_after_repairs() {
-        let (mut mirror, mut board) = (Mirror::default(), Board::new(1));
-        mirror.give(does(1, 1, "corrupt 0 2 3", true));
-        mirror.give(Given::Stats(0));
-        let effects = told(&mut mirror, &mut board, &["1 corrupted 0 0", "0 stats 0 8 0 6 0 0"]);
+        let (mut mirror, mut board) = (Mirror::default(), board());
+        mirror.give(does(1, 1, "corrupt a 2 3", true));
+        mirror.give(Given::Stats(lock("a")));
+        let effects = told(&mut mirror, &mut board, &["1 corrupted a 0", "0 stats a 8 0 6 0 0"]);
         assert_eq!(effects.len(), 1);
         assert_eq!((board.locks()[0].passes, board.locks()[0].machines, board.locks()[0].faults), (6, 8, 1));
     }

@@ -22,6 +22,7 @@ use apply::Given;
 pub use checkpoint::{holders, BadCheckpoint, Checkpoint, Folder, NoFolder};
 pub use common::{agrees, list};
 pub use digests::{Digests, Verdict};
+use entries::VERSION;
 pub use entries::{is_name, Entry, Key, Line, Server, Session};
 pub use log::Told;
 pub use mirror::{Effect, Mirror, Standing};
@@ -85,6 +86,8 @@ pub struct Block {
 pub struct Cluster {
     /// The settings of this server that are those of all; the log may have a longer list of locks.
     pub with: String,
+    /// The list of locks that its engine has.
+    pub list: String,
     /// The folder of the checkpoint.
     pub folder: Folder,
     /// The process that speaks to etcd.
@@ -150,7 +153,8 @@ impl Cluster {
             return Err(NoFolder::Locks);
         }
         Ok(Some(Cluster {
-            with: format!("{} {segment} {faults} {list}", words.checkpoint),
+            with: format!("{VERSION} {} {segment} {faults} {list}", words.checkpoint),
+            list,
             folder: Folder::open(&settings.journal)?,
             log: Engine::new(words.program.clone(), words.words(), LONGEST_LOG_LINE, now),
             place: Place::open(&settings.journal, now)?,

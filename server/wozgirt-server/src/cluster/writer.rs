@@ -135,6 +135,7 @@ impl Writer {
             let Some(line) = self.batch.pop_front() else { break };
             bytes += match &line {
                 Line::With(settings) => settings.len(),
+                Line::Do(_, _, input) => 100 + input.lock().map_or(0, |lock| lock.len()),
                 _ => 100,
             };
             lines.push(line);

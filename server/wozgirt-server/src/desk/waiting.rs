@@ -2,7 +2,6 @@
 
 use super::Desk;
 use crate::connection::{Connection, Door, MOST_PENDING};
-use crate::requests::asks_to_leave;
 use crate::turns::Turn;
 use wozgirt_engine::Client;
 
@@ -12,11 +11,10 @@ impl Desk {
         if !connection.has_line() {
             return false;
         }
-        let may_ask = self.may_ask(connection, connection.input());
+        let may_ask = self.may_ask(connection);
         // one that has its part there gets an answer before long
         if !may_ask && connection.place.is_none() && self.questions.has_part(connection.asked, MOST_PENDING) {
-            let turn = if asks_to_leave(connection.input()) { Turn::AskToLeave } else { Turn::Ask };
-            connection.place = Some(self.questions.turns.line_up(connection.client, connection.tag, turn));
+            connection.place = Some(self.questions.turns.line_up(connection.client, connection.tag, Turn::Ask));
         }
         may_ask
     }
@@ -28,13 +26,12 @@ impl Desk {
         }
     }
 
-    /// Whether one more line of the connection, the first one here, may wait for the engine. Operators may ask when clients may not.
-    pub(super) fn may_ask(&mut self, connection: &Connection, input: &[u8]) -> bool {
+    /// Whether one more line of the connection may wait for the engine. Operators may ask when clients may not.
+    pub(super) fn may_ask(&mut self, connection: &Connection) -> bool {
         self.is_full |= self.waits_for_log(1, 1);
         let is_operator = connection.door == Door::Operators;
         let is_refused = if is_operator { self.waits_for_log(2, 1) } else { self.is_full };
-        let is_permitted =
-            is_operator || self.questions.permits(connection.asked, connection.tag, asks_to_leave(input));
+        let is_permitted = is_operator || self.questions.permits(connection.asked, connection.tag);
         !is_refused && is_permitted && self.questions.has_part(connection.asked, MOST_PENDING)
     }
 
@@ -60,8 +57,7 @@ impl Desk {
 
     /// Whether there is one.
     pub fn has_next_turn(&self, is_ending: bool) -> bool {
-        let has_room = |turn: Turn| is_ending || self.questions.has_room(turn.is_leave());
-        self.questions.turns.first().is_some_and(has_room)
+        self.questions.turns.first().is_some() && (is_ending || self.questions.has_room())
     }
 }
 
@@ -83,50 +79,83 @@ mod tests {
     use std::os::unix::net::UnixStream;
     use std::time::Instant;
 
-    /// A desk of one lock, whose engine is not there.
-    fn desk(now: Instant) -> Desk {
-        let Ok(Words::Run(settings)) = parse(["--journal", "j", "--locks", "a", "--socket", "s"]) else { panic!() };
+    /// A desk of the locks a1, a2 and so on, whose engine is not there.
+    fn desk(locks: usize, now: Instant) -> Desk {
+        let names = (1..=locks).map(|lock| format!("a{lock}")).collect::<Vec<_>>().join(",");
+        let Ok(Words::Run(settings)) = parse(["--journal", "j", "--locks", &names, "--socket", "s"]) else { panic!() };
         Desk {
-            names: Names::parse("a").unwrap(),
             rules: Default::default(),
             engine: Engine::new("none".into(), Vec::new(), ROOM, now),
-            questions: Questions::new(now, 1),
+            questions: Questions::new(now),
             is_full: false,
-            board: Board::new(1),
+            board: Board::new(Names::parse(&names).unwrap().locks()),
             sums: Default::default(),
             log: Log::start().unwrap(),
-            mode: Mode::Alone(Alone::new(None, None, 1, 9).unwrap()),
+            mode: Mode::Alone(Alone::new(None, None, 9).unwrap()),
             now,
             settings: *settings,
         }
     }
 
+    /// Client 1, which says this; and the other end.
+    fn connection(lines: &[u8], now: Instant) -> (Connection, UnixStream) {
+        let (stream, mut other) = UnixStream::pair().unwrap();
+        let visit =
+            Visit { stream: Stream::unix(stream).unwrap(), peer: None, who: String::new(), guest: Guest::User(None) };
+        let mut connection = Connection::new(1, Door::Clients, visit, 1 << 16, now);
+        other.write_all(lines).unwrap();
+        connection.read(&mut [0; SHARE], now).unwrap();
+        (connection, other)
+    }
+
+    #[test]
+    fn a_leave_takes_the_room_of_one_line() {
+        let mut desk = desk(1000, Instant::now());
+        for client in 1..=128 {
+            assert_eq!((desk.questions.waiting() as u64, desk.questions.has_room()), (client - 1, true));
+            desk.say_gone(client, 0, None);
+        }
+        assert_eq!(
+            (desk.questions.waiting(), desk.questions.has_room(), desk.questions.turns.first()),
+            (128, false, None)
+        );
+        desk.say_gone(129, 0, None);
+        assert_eq!((desk.questions.waiting(), desk.questions.turns.first()), (128, Some(Turn::Gone(None))));
+    }
+
     #[test]
     fn many_who_are_gone_at_once_stand_in_the_line() {
-        let now = Instant::now();
-        let mut desk = desk(now);
-        desk.questions = Questions::new(now, 1000);
-        (1..=100).for_each(|session| desk.say_gone(session, 0, Some(7)));
-        let leave = desk.questions.waiting();
-        assert_eq!(desk.questions.turns.first(), Some(Turn::Gone(Some(7))));
-        assert!(leave <= 128 && !desk.has_next_turn(false) && desk.has_next_turn(true) && desk.keeps_out(false));
+        let mut desk = desk(1000, Instant::now());
+        (1..=200).for_each(|session| desk.say_gone(session, 0, Some(7)));
+        assert_eq!((desk.questions.waiting(), desk.questions.turns.first()), (128, Some(Turn::Gone(Some(7)))));
+        assert!(!desk.has_next_turn(false) && desk.has_next_turn(true) && desk.keeps_out(false));
         let rest: Vec<_> = std::iter::from_fn(|| desk.next_turn(true)).collect();
-        assert_eq!((rest.len(), rest[98]), (99, (100, Turn::Gone(Some(7)))));
+        assert_eq!((rest.len(), rest[0], rest[135]), (136, (65, Turn::Gone(Some(7))), (200, Turn::Gone(Some(7)))));
+    }
+
+    #[test]
+    fn who_asks_no_more_than_its_part_may_leave_at_once() {
+        let now = Instant::now();
+        let (mut desk, (mut connection, _other)) = (desk(1000, now), connection(b"leave\ntry a1 1\n", now));
+        (0..128).for_each(|_| {
+            desk.questions.ask();
+        });
+        assert!(!desk.questions.has_room() && desk.has_work(&mut connection));
+        desk.take_lines(&mut connection, now);
+        // the leave, and the question that shows that it is done
+        assert_eq!((connection.asked, connection.tag, desk.questions.waiting()), (1, 2, 130));
+        assert!(!desk.has_work(&mut connection));
+        assert_eq!((connection.place, desk.questions.turns.first()), (Some(2), Some(Turn::Ask)));
     }
 
     #[test]
     fn a_place_in_the_line_goes_with_what_it_is_for() {
         let now = Instant::now();
-        let (mut desk, (stream, mut other)) = (desk(now), UnixStream::pair().unwrap());
-        let visit =
-            Visit { stream: Stream::unix(stream).unwrap(), peer: None, who: String::new(), guest: Guest::User(None) };
-        let mut connection = Connection::new(1, Door::Clients, visit, 1 << 16, now);
+        let (mut desk, (mut connection, _other)) = (desk(1, now), connection(b"try a1 1\n", now));
         connection.tag = 1000;
         (0..1000).for_each(|_| {
             desk.questions.ask();
         });
-        other.write_all(b"try a 1\n").unwrap();
-        connection.read(&mut [0; SHARE], now).unwrap();
         assert!(!desk.has_work(&mut connection) && desk.questions.turns.first() == Some(Turn::Ask));
         desk.questions.forget(now); // the engine has nothing to do
         assert!(desk.has_work(&mut connection) && connection.place.is_some());

@@ -91,9 +91,9 @@ fn escaped(name: &str) -> &str {
     }
 }
 
-/// One lock. Names of locks need no escapes (see `names.rs`), and everything else is a number.
-pub fn row(text: &mut String, name: &str, sight: &Sight, now: Instant) {
-    let _ = write!(text, "<tr><td>{name}</td>");
+/// One lock. Names of locks need no escapes (see `lock.rs` of `wozgirt-engine`), and everything else is a number.
+pub fn row(text: &mut String, sight: &Sight, now: Instant) {
+    let _ = write!(text, "<tr><td>{}</td>", sight.lock);
     match sight.holder {
         None => text.push_str("<td class=\"free\">free</td><td></td><td></td><td></td>"),
         Some(holder) => held(text, &holder, now),
@@ -155,15 +155,14 @@ mod tests {
 
     /// The text, sent in parts of at least this many bytes.
     fn shown(wanted: Wanted, most: usize) -> String {
-        let (mut board, started, mut sums) = (Board::new(2), Instant::now(), Sums::default());
-        board.granted(0, 7, 12, Some(77), started);
-        board.waits(0, 8, 78, started + Duration::from_secs(1));
-        board.fault(0, 2, 1, 0);
+        let mut board = Board::new(Names::parse("deploy,gpu").unwrap().locks());
+        let (started, mut sums) = (Instant::now(), Sums::default());
+        board.granted("deploy", 7, 12, Some(77), started);
+        board.waits("deploy", 8, 78, started + Duration::from_secs(1));
+        board.fault("deploy", 2, 1, 0);
         sums.refused("circle");
         let mut telling = Telling::new(wanted);
-        let names = Names::parse("deploy,gpu").unwrap();
         let view = View {
-            names: &names,
             board: &board,
             sums: &sums,
             connected: 2,

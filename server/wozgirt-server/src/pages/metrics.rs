@@ -4,7 +4,6 @@ use super::{InLog, View};
 use crate::board::{Sight, Waits, WAITS};
 use crate::log::End;
 use std::fmt::{Display, Write};
-use wozgirt_engine::Lock;
 
 /// A family of values, with its help and type in front.
 struct Family<'a> {
@@ -26,7 +25,7 @@ impl<'a> Family<'a> {
         let _ = writeln!(self.text, "{}_bucket{{le=\"{end}\"}} {count}", self.name);
     }
 
-    /// Names of locks and reasons need no escapes: see `names.rs` and `answers.rs`.
+    /// Names of locks and reasons need no escapes: see `lock.rs` and `answers.rs` of `wozgirt-engine`.
     fn labelled(&mut self, label: &str, of: &str, value: impl Display) {
         let _ = writeln!(self.text, "{}{{{label}=\"{of}\"}} {value}", self.name);
     }
@@ -120,9 +119,7 @@ pub const OF_LOCKS: [OfLock; 8] = [
 ];
 
 /// The value of one lock, after the head of its family if it is the first.
-pub fn of_lock(text: &mut String, view: &View<'_>, (name, kind, help, value): &OfLock, lock: Lock) {
-    let mut family = if lock == 0 { Family::new(text, name, kind, help) } else { Family { text, name } };
-    if let Some(sight) = view.board.lock(lock) {
-        family.labelled("lock", view.names.name(lock), value(sight, view));
-    }
+pub fn of_lock(text: &mut String, view: &View<'_>, (name, kind, help, value): &OfLock, sight: &Sight, is_first: bool) {
+    let mut family = if is_first { Family::new(text, name, kind, help) } else { Family { text, name } };
+    family.labelled("lock", &sight.lock, value(sight, view));
 }

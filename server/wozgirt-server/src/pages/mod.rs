@@ -11,7 +11,6 @@ pub use visitor::{Next, Visitor};
 
 use crate::board::Board;
 use crate::journal::JournalSize;
-use crate::names::Names;
 use crate::sums::Sums;
 use std::time::{Duration, Instant};
 
@@ -33,8 +32,6 @@ pub struct InLog {
 
 /// What there is to show.
 pub struct View<'a> {
-    /// The locks' names.
-    pub names: &'a Names,
     /// The locks.
     pub board: &'a Board,
     /// The sums.

@@ -3,7 +3,6 @@
 use super::http::Wanted;
 use super::{html, metrics, View};
 use std::time::Instant;
-use wozgirt_engine::Lock;
 
 /// After this many locks the server looks whether time or room is over.
 const STEP: usize = 32;
@@ -14,7 +13,8 @@ pub struct Telling {
     has_begun: bool,
     /// Of the metrics, the family whose values are sent next.
     family: usize,
-    lock: Lock,
+    /// The place of the lock that is next.
+    lock: usize,
 }
 
 impl Telling {
@@ -46,10 +46,10 @@ impl Telling {
     fn step(&mut self, text: &mut String, view: &View<'_>) {
         let locks = view.board.locks();
         let end = locks.len().min(self.lock + STEP);
-        for (lock, sight) in locks.iter().enumerate().take(end).skip(self.lock) {
+        for (place, sight) in (self.lock..end).zip(&locks[self.lock..end]) {
             match self.wanted {
-                Wanted::Page => html::row(text, view.names.name(lock), sight, view.now),
-                Wanted::Metrics => metrics::of_lock(text, view, &metrics::OF_LOCKS[self.family], lock),
+                Wanted::Page => html::row(text, sight, view.now),
+                Wanted::Metrics => metrics::of_lock(text, view, &metrics::OF_LOCKS[self.family], sight, place == 0),
             }
         }
         self.lock = end;

@@ -196,7 +196,6 @@ impl Server {
 
     pub(super) fn view(&self) -> View<'_> {
         View {
-            names: &self.desk.names,
             board: &self.desk.board,
             sums: &self.desk.sums,
             connected: self.connections.len(),

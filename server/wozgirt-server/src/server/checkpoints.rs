@@ -6,6 +6,7 @@ use crate::board::Board;
 use crate::cluster::{agrees, holders, list, Applied, BadCheckpoint, Checkpoint, Cluster, Phase};
 use crate::log::Event;
 use crate::names::Names;
+use crate::rules::Rules;
 use crate::CannotServe;
 use std::mem;
 use std::rc::Rc;
@@ -57,21 +58,23 @@ impl Server {
     /// The log has this list of locks, which may be longer or shorter than this server's.
     pub(super) fn take_list(&mut self, list: &str) -> Result<(), CannotServe> {
         let desk = &mut self.desk;
-        if list == desk.names.list() && desk.settings.locks.is_some() {
+        let Some(cluster) = desk.mode.in_log_mut() else { return Ok(()) };
+        if list == cluster.list && desk.settings.locks.is_some() {
             return Ok(());
         }
-        let names = Names::parse(list).map_err(CannotServe::Names)?;
-        if names.count() > desk.names.count() {
-            match read_rules(&desk.settings, &names, &self.accounts) {
+        cluster.list = list.into();
+        let (own, before) = (cluster.count(), desk.board.locks().len());
+        desk.board.set_locks(Names::parse(list).map_err(CannotServe::Names)?.locks());
+        let count = desk.board.locks().len();
+        if count > before {
+            match read_rules(&desk.settings, &desk.board, &self.accounts) {
                 Ok(rules) => desk.rules = Rc::new(rules),
                 Err(fault) => desk.log.say(&Event::RulesBad { fault: &fault }),
             }
         }
-        desk.board.resize(names.count());
-        desk.names = names;
+        desk.rules = Rc::new(Rules::clone(&desk.rules).of(&desk.board));
         desk.settings.locks = Some(list.into());
         desk.engine.set_words(desk.settings.engine_words());
-        let (count, own) = (desk.names.count(), desk.mode.in_log().map_or(0, Cluster::count));
         if count > own {
             desk.log.say(&Event::MoreLocks { count, own, list });
         }
@@ -112,14 +115,14 @@ impl Server {
 /// The holders and the waiting clients of a state.
 fn put_state(cluster: &mut Cluster, board: &mut Board, state: &[StateLine], now: Instant) {
     for line in state {
-        match *line {
+        match line {
             StateLine::Hold { lock, token, client } => {
-                cluster.mirror.put_hold(client, lock, token);
-                board.holds(lock, client, token, now);
+                cluster.mirror.put_hold(*client, lock.clone(), *token);
+                board.holds(lock, *client, *token, now);
             }
             StateLine::Wait { client, lock, label } => {
-                cluster.mirror.put_wait(client, lock);
-                board.waits(lock, client, label, now);
+                cluster.mirror.put_wait(*client, lock.clone());
+                board.waits(lock, *client, *label, now);
             }
             StateLine::Did { .. } | StateLine::At { .. } => {}
         }

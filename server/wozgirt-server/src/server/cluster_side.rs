@@ -74,8 +74,8 @@ impl Server {
             self.poller.add(output, ENGINE, Interest::READS)?;
             self.poller.add(input, ENGINE_INPUT, Interest { reads: false, writes: false })?;
         }
-        for lock in 0..desk.names.count() {
-            desk.engine.ask_line(format_args!("{NOBODY} {}", Input::Stats { lock }));
+        for sight in desk.board.locks() {
+            desk.engine.ask_line(format_args!("{NOBODY} {}", Input::Stats { lock: sight.lock.clone() }));
         }
         if cluster.saved.1 == 0 {
             desk.engine.ask_line("at 0");
@@ -90,15 +90,14 @@ impl Server {
 
     /// What the engine has answered.
     pub(super) fn hear_engine_of_cluster(&mut self) -> Result<(), CannotServe> {
-        let mut lines = Vec::new();
-        let heard = self.desk.engine.read_lines(&mut lines);
-        for line in lines {
-            if !self.hear_line(line)? {
-                return Ok(());
+        match self.desk.engine.read() {
+            Ok(lines) => {
+                for line in lines.lines() {
+                    if !self.hear_line(line)? {
+                        return Ok(());
+                    }
+                }
             }
-        }
-        match heard {
-            Ok(()) => {}
             Err(Unheard::Ended) => {
                 let is_planned =
                     self.desk.mode.in_log().is_some_and(|cluster| matches!(cluster.phase, Phase::Ending(_)));
@@ -108,16 +107,13 @@ impl Server {
                     self.lose_engine_of_cluster(true);
                 }
             }
-            Err(Unheard::Unreadable(line, fault)) => {
-                self.desk.log.say(&Event::EngineUnreadable { line, fault: Some(fault) });
-                self.lose_engine_of_cluster(false);
-            }
+            Err(Unheard::Endless) => self.lose_engine_for("a line without an end"),
         }
         self.pump()
     }
 
     /// One line of the engine. False if it is given up.
-    fn hear_line(&mut self, line: String) -> Result<bool, CannotServe> {
+    fn hear_line(&mut self, line: &str) -> Result<bool, CannotServe> {
         let now = self.desk.now;
         let desk = &mut self.desk;
         let Some(cluster) = desk.mode.in_log_mut() else { return Ok(false) };
@@ -125,7 +121,7 @@ impl Server {
         match &mut cluster.phase {
             Phase::Restoring(lines) | Phase::Asking(lines) => {
                 let is_last = line.starts_with("state ");
-                lines.push(line);
+                lines.push(line.into());
                 if is_last {
                     self.hear_state()?;
                 }
@@ -137,7 +133,7 @@ impl Server {
                 return Ok(false);
             }
         }
-        match cluster.mirror.hear(&line, &mut desk.board, now) {
+        match cluster.mirror.hear(line, &mut desk.board, now) {
             Ok(effects) => {
                 for effect in effects {
                     self.tell_effect(effect)?;
@@ -159,12 +155,12 @@ impl Server {
         let (Phase::Restoring(mut lines) | Phase::Asking(mut lines)) = phase else { return Ok(()) };
         let count = lines.pop().and_then(|last| last.strip_prefix("state ").and_then(|count| count.parse().ok()));
         let Some(start) = count.and_then(|count: usize| lines.len().checked_sub(count)) else {
-            self.lose_engine_for("state".into());
+            self.lose_engine_for("state");
             return Ok(());
         };
         let state = lines.split_off(start).iter().map(|line| line.parse()).collect::<Result<Vec<StateLine>, _>>();
         let Ok(state) = state else {
-            self.lose_engine_for("state".into());
+            self.lose_engine_for("state");
             return Ok(());
         };
         if is_asked {
@@ -183,7 +179,7 @@ impl Server {
         let desk = &mut self.desk;
         let Some(cluster) = desk.mode.in_log_mut() else { return Ok(()) };
         for line in lines {
-            if let Ok(Answered { answer: Answer::Stats(stats), .. }) = line.parse() {
+            if let Ok(Answered { answer: Answer::Stats(stats), .. }) = Answered::parse(line) {
                 desk.board.note_stats(&stats);
             }
         }
@@ -200,8 +196,8 @@ impl Server {
         self.pump()
     }
 
-    fn lose_engine_for(&mut self, line: String) {
-        self.desk.log.say(&Event::EngineUnreadable { line, fault: None });
+    fn lose_engine_for(&mut self, line: &str) {
+        self.desk.log.say(&Event::EngineUnreadable { line: line.into(), fault: None });
         self.lose_engine_of_cluster(false);
     }
 
@@ -243,7 +239,7 @@ impl Server {
         if let (true, Some(settings)) = (is_first, cluster.applied.settings.clone()) {
             check_settings(cluster, &settings)?;
             cluster.place.note_settings(&settings)?;
-            if list(&settings) != desk.names.list() {
+            if list(&settings) != cluster.list {
                 self.lose_engine_of_cluster(false); // it begins again, with the list of the log
                 return Ok(());
             }
@@ -288,7 +284,7 @@ impl Server {
     }
 
     /// Sends the answers of the engine to those that they concern.
-    fn tell_effect(&mut self, effect: Effect) -> Result<(), CannotServe> {
+    fn tell_effect(&mut self, effect: Effect<'_>) -> Result<(), CannotServe> {
         let (desk, connections) = (&mut self.desk, &mut self.connections);
         let Some(cluster) = desk.mode.in_log_mut() else { return Ok(()) };
         let client = match &effect {
@@ -309,9 +305,9 @@ impl Server {
             Effect::Gone(key) => cluster.owns.client(*key),
             Effect::Granted { session, .. } => cluster.owns.client_of(*session),
             Effect::Answered { session, input, answer, .. } => {
-                if let (Input::Corrupt { lock, machine, value }, Answer::Corrupted { old, .. }) = (*input, answer) {
-                    let (client, lock, old) = (*session, desk.names.name(lock), *old);
-                    desk.log.say(&Event::Fault { client, who: "a session", lock, machine, value, old });
+                if let (&Input::Corrupt { ref lock, machine, value }, &Answer::Corrupted { old, .. }) = (input, answer)
+                {
+                    desk.log.say(&Event::Fault { client: *session, who: "a session", lock, machine, value, old });
                 }
                 cluster.owns.client_of(*session)
             }
@@ -342,7 +338,7 @@ impl Server {
     }
 
     /// The session has come here. A client may have come twice, and gets what it has where it came last.
-    fn opened(&mut self, key: Key, effect: Effect) -> Result<(), CannotServe> {
+    fn opened(&mut self, key: Key, effect: Effect<'_>) -> Result<(), CannotServe> {
         let (now, lease) = (self.desk.now, self.desk.settings.longest_lease);
         let Some(cluster) = self.desk.mode.in_log_mut() else { return Ok(()) };
         let (Some(client), Effect::Here(_, session)) = (cluster.opening.pop_front(), effect) else { return Ok(()) };

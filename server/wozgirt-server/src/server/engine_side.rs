@@ -1,13 +1,14 @@
 //! The engine: started, heard, lost.
 
 use super::{Server, ENGINE, ENGINE_INPUT};
+use crate::desk::Unasked;
 use crate::engine::{Outcome, Unheard};
 use crate::log::{End, Event};
 use crate::mode::Mode;
 use crate::questions::Own;
 use crate::CannotServe;
 use std::time::{Duration, Instant};
-use wozgirt_engine::{Answer, Answered, Asked, Client, Input, Lock, Token, NOBODY};
+use wozgirt_engine::{Answer, Answered, Client, Input, Lock, NotALine, Token, NOBODY};
 use wozgirt_system::Interest;
 
 /// An engine that leaves a question unanswered for this time is called silent.
@@ -29,73 +30,60 @@ impl Server {
     }
 
     fn hear_engine_alone(&mut self) {
-        let mut answered = Vec::new();
-        let heard = self.desk.engine.read(&mut answered);
-        for it in answered {
-            if !self.answer(it) {
-                return;
-            }
-        }
-        match heard {
-            Ok(()) => {}
-            Err(Unheard::Ended) if self.is_turning() => self.desk.engine.give_up(true, self.desk.now),
-            Err(Unheard::Ended) => self.lose_engine(true),
-            Err(Unheard::Unreadable(line, fault)) => {
-                self.desk.log.say(&Event::EngineUnreadable { line, fault: Some(fault) });
-                self.lose_engine(false);
-            }
-        }
-    }
-
-    /// One answer. False if no line asked for it, and the engine is given up.
-    pub(super) fn answer(&mut self, Answered { client, answer }: Answered) -> bool {
-        let line = if client == NOBODY {
-            match self.answer_own(&answer) {
-                true => return true,
-                false => answer,
-            }
-        } else {
-            let Some(connection) = self.connections.get_mut(&client).filter(|it| it.seat.is_none()) else {
-                return self.answer_session(client, &answer).is_ok() || self.give_up_for(Answered { client, answer });
-            };
-            let kept = answer.clone();
-            match self.desk.tell_answer(connection, answer) {
-                Ok(ended) => {
-                    if let Some((operator, lock, token)) = ended {
-                        self.tell_ended(operator, client, lock, token, &kept);
-                    }
-                    self.queue(client);
-                    self.touch(client);
-                    return true;
-                }
-                Err(_) => kept,
-            }
+        let lines = match self.desk.engine.read() {
+            Ok(lines) => lines,
+            Err(Unheard::Ended) if self.is_turning() => return self.desk.engine.give_up(true, self.desk.now),
+            Err(Unheard::Ended) => return self.lose_engine(true),
+            Err(Unheard::Endless) => return self.give_up_for("a line without an end", Some(NotALine::Syntax)),
         };
-        self.give_up_for(Answered { client, answer: line })
+        for line in lines.lines() {
+            match Answered::parse(line).map(|answered| self.answer(answered)) {
+                Ok(Ok(())) => {}
+                Ok(Err(Unasked)) => return self.give_up_for(line, None),
+                Err(fault) => return self.give_up_for(line, Some(fault)),
+            }
+        }
     }
 
-    /// The engine answers what no line asked, and is given up: false.
-    fn give_up_for(&mut self, answered: Answered) -> bool {
-        let line = answered.to_string();
-        self.desk.log.say(&Event::EngineUnreadable { line, fault: None });
+    /// One answer, if a line asked for it.
+    fn answer(&mut self, Answered { client, answer }: Answered<'_>) -> Result<(), Unasked> {
+        if client == NOBODY {
+            return self.answer_own(&answer);
+        }
+        let Some(connection) = self.connections.get_mut(&client).filter(|it| it.seat.is_none()) else {
+            return self.answer_session(client, &answer);
+        };
+        if let Some((operator, lock, token)) = self.desk.tell_answer(connection, &answer)? {
+            self.tell_ended(operator, client, &lock, token, &answer);
+        }
+        self.queue(client);
+        self.touch(client);
+        Ok(())
+    }
+
+    /// The engine said what is not an answer, or no line asked, and is given up.
+    fn give_up_for(&mut self, line: &str, fault: Option<NotALine>) {
+        let line = line.escape_debug().take(100).collect();
+        self.desk.log.say(&Event::EngineUnreadable { line, fault });
         self.lose_engine(false);
-        false
     }
 
-    /// The answer to a question of the server's own. False if it is none.
-    fn answer_own(&mut self, answer: &Answer) -> bool {
-        let Some(own) = self.desk.questions.answered(answer, self.desk.now) else { return false };
+    /// The answer to a question of the server's own.
+    fn answer_own(&mut self, answer: &Answer<'_>) -> Result<(), Unasked> {
+        let own = self.desk.questions.answered(answer, self.desk.now).ok_or(Unasked)?;
         if let Own::End(operator, lock, token) = own {
             if matches!(answer, Answer::Released { .. }) {
                 self.held_before.retain(|held| *held != lock);
-                self.desk.board.released(lock, NOBODY);
+                self.desk.board.released(&lock, NOBODY);
             }
-            self.tell_ended(operator, NOBODY, lock, token, answer);
+            self.tell_ended(operator, NOBODY, &lock, token, answer);
         } else if let (Own::Begin(lock), Answer::Stats(stats)) = (own, answer) {
+            if stats.token > 0 {
+                self.desk.note_token(&lock, stats.token);
+            }
             if self.desk.board.begin(stats, self.desk.now) {
                 self.held_before.push(lock);
             }
-            self.desk.note_token(lock, stats.token);
             if self.desk.questions.has_begun() && self.has_begun() {
                 self.is_begun = true;
                 self.desk.engine.note_ready();
@@ -108,14 +96,14 @@ impl Server {
                 self.touch_all();
             }
         }
-        true
+        Ok(())
     }
 
     /// An operator has a hold end: of a client that is connected, or of one from before the engine's start.
     pub(super) fn end_hold(&mut self, operator: Client, holder: Client, lock: Lock, token: Token) {
         if holder == NOBODY {
-            self.desk.questions.put(Own::End(operator, lock, token));
-            self.desk.engine.ask(Asked { client: NOBODY, input: Input::Release { lock, token } });
+            self.desk.questions.put(Own::End(operator, lock.clone(), token));
+            self.desk.engine.ask_line(format_args!("{NOBODY} {}", Input::Release { lock, token }));
         } else if let Some(connection) = self.connections.get_mut(&holder).filter(|it| it.seat.is_none()) {
             self.desk.ask_to_end(connection, operator, lock, token);
         } else {
@@ -124,16 +112,22 @@ impl Server {
     }
 
     /// Sends the operator what came of that.
-    pub(super) fn tell_ended(&mut self, operator: Client, holder: Client, lock: Lock, token: Token, answer: &Answer) {
+    pub(super) fn tell_ended(
+        &mut self,
+        operator: Client,
+        holder: Client,
+        lock: &str,
+        token: Token,
+        answer: &Answer<'_>,
+    ) {
         let is_ended = matches!(answer, Answer::Released { .. });
-        let name = self.desk.names.name(lock);
         let by = self.connections.get(&operator).map_or("an operator that is gone", |connection| &connection.who);
         if is_ended {
-            self.desk.log.say(&Event::HoldEnded { by, lock: name, token, client: holder });
+            self.desk.log.say(&Event::HoldEnded { by, lock, token, client: holder });
         }
         if let Some(connection) = self.connections.get_mut(&operator) {
             let word = if is_ended { "ended" } else { "refused holder" };
-            connection.tell_ending(format_args!("{word} {name}"));
+            connection.tell_ending(format_args!("{word} {lock}"));
             self.queue(operator);
             self.touch(operator);
         }
@@ -248,9 +242,9 @@ impl Server {
     /// A holder of a lock when the engine ended knows by now that it lost it, or its lease is over.
     pub(super) fn end_grace(&mut self) {
         self.grace_until = None;
-        self.desk.ask_engine(NOBODY, Input::Leave);
+        self.desk.ask_engine(NOBODY, &Input::Leave);
         for lock in std::mem::take(&mut self.held_before) {
-            self.desk.board.left(lock, NOBODY);
+            self.desk.board.left(&lock, NOBODY);
         }
         self.desk.log.say(&Event::GraceOver);
     }

@@ -43,19 +43,18 @@ impl Server {
 
     /// What the log has reported.
     pub(super) fn hear_log(&mut self) -> Result<(), CannotServe> {
-        let mut lines = Vec::new();
         let Some(cluster) = self.desk.mode.in_log_mut() else { return Ok(()) };
-        let heard = cluster.log.read_lines(&mut lines);
-        for line in lines {
-            if !self.hear_log_line(&line)? {
-                return Ok(());
+        match cluster.log.read() {
+            Ok(lines) => {
+                for line in lines.lines() {
+                    if !self.hear_log_line(line)? {
+                        return Ok(());
+                    }
+                }
             }
-        }
-        match heard {
-            Ok(()) => {}
             Err(Unheard::Ended) => self.lose_log("wozgirt-log ends", true),
-            Err(Unheard::Unreadable(line, _)) => {
-                self.desk.log.say(&Event::LogUnreadable { line: &line });
+            Err(Unheard::Endless) => {
+                self.desk.log.say(&Event::LogUnreadable { line: "a line without an end" });
                 self.lose_log("wozgirt-log is given up", false);
             }
         }

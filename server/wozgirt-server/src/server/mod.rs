@@ -134,11 +134,12 @@ impl Server {
         let mut log = Log::start()?;
         let accounts = Accounts::of_the_system();
         let names = read_names(&settings)?;
-        let rules = Rc::new(read_rules(&settings, &names, &accounts)?);
+        let board = Board::new(names.locks());
+        let rules = Rc::new(read_rules(&settings, &board, &accounts)?);
         check_files(&settings)?;
         let most_unread = most_unread(&settings).map_err(CannotServe::Memory)?;
         let places = Places::new(settings.connections);
-        log.say(&Event::Started { version: env!("CARGO_PKG_VERSION"), locks: names.count() });
+        log.say(&Event::Started { version: env!("CARGO_PKG_VERSION"), locks: board.locks().len() });
         let poller = Poller::new()?;
         poller.add(&signals, SIGNALS, Interest::READS)?;
         let doors = Doors::open(&settings, &poller, &mut log)?;
@@ -147,13 +148,12 @@ impl Server {
             .map_err(|fault| CannotServe::Folder(settings.journal.clone(), fault))?;
         let mode = match cluster {
             Some(cluster) => Mode::InLog(Box::new(cluster)),
-            None => Mode::Alone(open_sessions(&settings, &names, &mut log)?),
+            None => Mode::Alone(open_sessions(&settings, &mut log)?),
         };
         let kept = settings.keep_segments;
         let removals = kept.map(|kept| retention::start(settings.engine_journal(), kept)).transpose()?;
-        let board = Board::new(names.count());
-        let (questions, sums, is_full) = (Questions::new(now, names.count()), Sums::default(), false);
-        let desk = Desk { settings, names, rules, engine, questions, is_full, board, sums, log, mode, now };
+        let (questions, sums, is_full) = (Questions::new(now), Sums::default(), false);
+        let desk = Desk { settings, rules, engine, questions, is_full, board, sums, log, mode, now };
         Ok(Server {
             desk,
             poller,
@@ -376,7 +376,7 @@ impl Server {
     fn read_rules_again(&mut self) {
         let accounts = Accounts::of_the_system();
         if self.desk.settings.rules.is_some() {
-            match read_rules(&self.desk.settings, &self.desk.names, &accounts) {
+            match read_rules(&self.desk.settings, &self.desk.board, &accounts) {
                 Ok(rules) => {
                     self.desk.rules = Rc::new(rules);
                     self.desk.log.say(&Event::RulesRead);

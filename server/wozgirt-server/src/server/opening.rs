@@ -3,6 +3,7 @@
 use super::{MOST_VISITORS, OTHER_FILES};
 use crate::accounts::Accounts;
 use crate::alone::{boot, Alone, Store};
+use crate::board::Board;
 use crate::cluster::{NoFolder, Other, LONGEST_LIST};
 use crate::doors::CannotListen;
 use crate::engine::CannotStart;
@@ -114,7 +115,7 @@ impl fmt::Display for CannotServe {
             CannotServe::Checkpoint(path, line) => write!(f, "{}: line {line} is wrong", path.display()),
             CannotServe::Settings { log, own } => write!(
                 f,
-                "--checkpoint, --segment, --faults and --locks are the same for all servers; in the log they are `{log}`, here `{own}`"
+                "the version of entries, --checkpoint, --segment, --faults and --locks are the same for all servers; in the log they are `{log}`, here `{own}`"
             ),
             CannotServe::OtherLog(why) => write!(
                 f,
@@ -189,14 +190,14 @@ pub(super) fn read_names(settings: &Settings) -> Result<Names, CannotServe> {
     Names::parse(&list).map_err(CannotServe::Names)
 }
 
-pub(super) fn read_rules(settings: &Settings, names: &Names, accounts: &Accounts) -> Result<Rules, CannotServe> {
+pub(super) fn read_rules(settings: &Settings, board: &Board, accounts: &Accounts) -> Result<Rules, CannotServe> {
     let Some(path) = &settings.rules else { return Ok(Rules::default()) };
     let text = fs::read_to_string(path).map_err(|fault| CannotServe::Rules(path.clone(), fault))?;
-    Rules::parse(&text, names, accounts).map_err(|fault| CannotServe::Rule(path.clone(), fault))
+    Rules::parse(&text, board, accounts).map_err(|fault| CannotServe::Rule(path.clone(), fault))
 }
 
 /// The sessions that are kept beside the journal of a single server. If nothing can be kept there, it has none.
-pub(super) fn open_sessions(settings: &Settings, names: &Names, log: &mut Log) -> Result<Alone, CannotServe> {
+pub(super) fn open_sessions(settings: &Settings, log: &mut Log) -> Result<Alone, CannotServe> {
     let store = match Store::open(&settings.journal) {
         Ok(store) => Some(store),
         Err(NoFolder::System(fault)) => {
@@ -205,7 +206,7 @@ pub(super) fn open_sessions(settings: &Settings, names: &Names, log: &mut Log) -
         }
         Err(fault) => return Err(CannotServe::Folder(settings.journal.clone(), fault)),
     };
-    Alone::new(store, boot(), names.count(), SESSIONS_EACH * settings.connections).map_err(CannotServe::Sessions)
+    Alone::new(store, boot(), SESSIONS_EACH * settings.connections).map_err(CannotServe::Sessions)
 }
 
 /// The system's limit of open files, which the server raises to the hard limit at its start.

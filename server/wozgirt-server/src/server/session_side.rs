@@ -8,31 +8,32 @@ use crate::mode::Mode;
 use crate::questions::Own;
 use crate::CannotServe;
 use std::io;
-use wozgirt_engine::{Answer, Asked, Client, Input, Lock, Token, NOBODY};
+use wozgirt_engine::{Answer, Client, Input, Lock, Token, NOBODY};
 
 impl Server {
     /// The engine answers a session.
-    pub(super) fn answer_session(&mut self, number: Client, answer: &Answer) -> Result<(), Unasked> {
+    pub(super) fn answer_session(&mut self, number: Client, answer: &Answer<'_>) -> Result<(), Unasked> {
         let Some(alone) = self.desk.alone() else { return Err(Unasked) };
         if let Answer::Granted { lock, token } = answer {
-            alone.note_grant(number, *lock, *token);
+            alone.note_grant(number, lock, *token);
         }
         let Some(session) = alone.session_mut(number) else {
             return Ok(()); // it is over
         };
         let is_place = matches!(session.asked.front(), Some(Ask { what: What::Place(..), .. }));
-        if let (Answer::Granted { lock, token }, Some(place), false) = (answer, session.waits, is_place) {
-            if *lock == place.lock {
-                self.granted_late(number, *lock, *token);
+        if let (Answer::Granted { lock, token }, Some(place), false) = (answer, &session.waits, is_place) {
+            if place.lock == *lock {
+                let lock = place.lock.clone();
+                self.granted_late(number, lock, *token);
                 return Ok(());
             }
         }
         let Ask { client, what } = session.asked.pop_front().ok_or(Unasked)?;
         match what {
-            What::Place(lock, label) => self.desk.placed(number, (lock, label), answer)?,
+            What::Place(lock, label) => self.desk.placed(number, lock, label, answer)?,
             What::Input(input_number, input, is_new) => {
                 if is_new {
-                    self.desk.done_for(number, input_number, input, answer)?;
+                    self.desk.done_for(number, input_number, &input, answer)?;
                 }
                 if let Some(connection) = self.connections.get_mut(&client) {
                     self.desk.tell_done(connection, input_number, answer);
@@ -59,11 +60,11 @@ impl Server {
     }
 
     fn granted_late(&mut self, session: Client, lock: Lock, token: Token) {
-        self.desk.granted_late(session, lock, token);
+        self.desk.granted_late(session, lock.clone(), token);
         let Some(client) = self.client_of(session) else { return };
         let Some(connection) = self.connections.get_mut(&client) else { return };
         if !connection.is_to_be_opened() {
-            self.desk.tell(connection, &Answer::Granted { lock, token });
+            connection.tell(Answer::Granted { lock: &lock, token });
             self.touch(client);
         }
     }
@@ -77,21 +78,21 @@ impl Server {
         self.touch(client);
     }
 
-    fn ended_for_session(&mut self, session: Client, operator: Client, lock: Lock, token: Token, answer: &Answer) {
+    fn ended_for_session(&mut self, session: Client, operator: Client, lock: Lock, token: Token, answer: &Answer<'_>) {
         if matches!(answer, Answer::Released { .. }) {
+            self.desk.board.released(&lock, session);
             if let Some(alone) = self.desk.alone() {
-                alone.free(session, lock);
+                alone.free(session, lock.clone());
             }
-            self.desk.board.released(lock, session);
         }
-        self.tell_ended(operator, session, lock, token, answer);
+        self.tell_ended(operator, session, &lock, token, answer);
     }
 
     /// Writes what is new of sessions, before a client gets an answer about it. If that cannot be, they end with this server.
     pub(super) fn write_sessions(&mut self) {
         for it in self.desk.alone().map(|alone| alone.take_ended()).unwrap_or_default() {
             // its session has left all
-            self.tell_ended(it.operator, it.session, it.lock, it.token, &Answer::Released { lock: it.lock });
+            self.tell_ended(it.operator, it.session, &it.lock, it.token, &Answer::Released { lock: &it.lock });
         }
         if let Some(fault) = self.desk.alone().and_then(|alone| alone.write().err()) {
             self.say_unkept(&fault);
@@ -134,17 +135,17 @@ impl Server {
                 }
             }
         }
-        for lock in 0..self.desk.names.count() {
-            self.desk.questions.put(Own::Begin(lock));
-            self.desk.engine.ask(Asked { client: NOBODY, input: Input::Stats { lock } });
+        for sight in self.desk.board.locks() {
+            self.desk.engine.ask_line(format_args!("{NOBODY} {}", Input::Stats { lock: sight.lock.clone() }));
+            self.desk.questions.put(Own::Begin(sight.lock.clone()));
         }
     }
 
     /// The engine has answered how all locks are: whether it serves from here on.
     pub(super) fn has_begun(&mut self) -> bool {
         let open = self.held_before.iter().filter_map(|lock| {
-            let holder = self.desk.board.lock(*lock)?.holder?;
-            Some((*lock, holder.token))
+            let holder = self.desk.board.lock(lock)?.holder?;
+            Some((lock.clone(), holder.token))
         });
         let open: Vec<(Lock, Token)> = open.collect();
         let now = self.desk.now;

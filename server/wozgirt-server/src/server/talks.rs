@@ -178,9 +178,8 @@ impl Server {
         let mut text = format!("clients {}", clients.len());
         for it in clients {
             let (holds, waits_for) = self.desk.mode.standing(it);
-            let names: Vec<&str> = holds.iter().map(|lock| self.desk.names.name(*lock)).collect();
-            let holds = if names.is_empty() { "-".into() } else { names.join(",") };
-            let waits = waits_for.map_or("-", |lock| self.desk.names.name(lock));
+            let holds = if holds.is_empty() { "-".into() } else { holds.join(",") };
+            let waits = waits_for.as_deref().unwrap_or("-");
             let lease = it.lease.map_or(0, |lease| lease.as_millis());
             let client = self.desk.mode.number(it);
             text.push_str(&format!("\nclient {client} {lease} {holds} {waits} {}", it.who));
@@ -210,8 +209,8 @@ impl Server {
         if let Some(mut connection) = self.connections.remove(&client) {
             self.places.give_back(connection.door, connection.guest);
             for (operator, lock, token) in connection.ended() {
-                self.tell_ended(operator, client, lock, token, &Answer::Released { lock });
                 // it leaves all
+                self.tell_ended(operator, client, &lock, token, &Answer::Released { lock: &lock });
             }
             self.desk.part(&mut connection, end);
         }

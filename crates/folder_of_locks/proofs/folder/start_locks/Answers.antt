@@ -1,8 +1,9 @@
-use Rattle.std.proofs.Common.{◌∙◌, Bool, List, Ok, ap, codes, inr, subst}
+use Rattle.std.proofs.Common.{◌∙◌, Bool, List, Ok, ap, codes, inr, subst, map}
 use Rattle.std.specs.Option.{option_map}
 use Rattle.disks.specs.declared.disk.FolderEntry.{FolderEntry}
 use Rattle.disks.specs.Folders.{is_among, names_of}
 use Rattle.line_service.specs.SegmentNumbers.{IsRightNumbers}
+use Rattle.folder_of_locks.specs.Holders.{hold_of}
 use Rattle.folder_of_locks.specs.Folders.{AreStartedIn, IsStartRefusal, place_of}
 use Rattle.folder_of_locks.proofs.folder.start_locks.Goals as goal
 
@@ -13,7 +14,7 @@ returns-in-Ok-start_in-clause-ok g c = record {
   range = c.in-Ok-numbers_among.range;
   right = subst (λ (es : List FolderEntry). IsRightNumbers es (Ok c.in-Ok-numbers_among.range)) c.deref.ensures.value c.in-Ok-numbers_among.ensures;
   started =
-      subst (λ (b : Bool). AreStartedIn c.args.folder.now b c.in-Ok-numbers_among.range (option_map (λ w. w.now) c.args.word) c.args.holders.now (g.D.Disk.holds c.args.disk.now) (g.D.Disk.holds c.start_in.new.disk) (place_of c.in-Ok-start_in.start))
+      subst (λ (b : Bool). AreStartedIn c.args.folder.now b c.in-Ok-numbers_among.range (option_map (λ w. w.now) c.args.word) (map hold_of c.args.holders.now) (g.D.Disk.holds c.args.disk.now) (g.D.Disk.holds c.start_in.new.disk) (place_of c.in-Ok-start_in.start))
       (c.has_list-has.ensures ∙ ap (λ (es : List FolderEntry). is_among (names_of es) (codes "locks")) c.deref-2.ensures.value) c.in-Ok-start_in.ensures.ok;
 }
 
@@ -25,7 +26,7 @@ returns-clause-err g c =
       inr (
         c.in-Ok-numbers_among.range,
         subst (λ (es : List FolderEntry). IsRightNumbers es (Ok c.in-Ok-numbers_among.range)) c.deref.ensures.value c.in-Ok-numbers_among.ensures,
-        subst (λ (b : Bool). IsStartRefusal (g.D.Disk.holds c.args.disk.now) c.args.folder.now b c.in-Ok-numbers_among.range (option_map (λ w. w.now) c.args.word) c.args.holders.now c.in-Err-start_in.fault)
+        subst (λ (b : Bool). IsStartRefusal (g.D.Disk.holds c.args.disk.now) c.args.folder.now b c.in-Ok-numbers_among.range (option_map (λ w. w.now) c.args.word) (map hold_of c.args.holders.now) c.in-Err-start_in.fault)
             (c.has_list-has.ensures ∙ ap (λ (es : List FolderEntry). is_among (names_of es) (codes "locks")) c.deref-2.ensures.value) c.in-Err-start_in.ensures.err,
       ),
     )

@@ -1,6 +1,9 @@
-use Rattle.std.proofs.Common.{refl}
-use Rattle.folder_of_locks.proofs.Handed.{handed_next}
+use Rattle.std.proofs.Common.{refl, rules}
+use Rattle.folder_of_locks.proofs.Handed.{handed_next, not_handed}
 use Rattle.folder_of_locks.proofs.handing.hand_all.Goals as goal
 
 pub loop-place-preserved : goal.loop-place-preserved
-loop-place-preserved c = handed_next _ _ _ c.args.holders.now c.loop-place.place _ c.loop-place-test.true c.loop-place.invariant (c.if-not-hand.ensures.yes refl)
+loop-place-preserved c = handed_next c.args.names.now _ _ _ c.args.holders.now c.loop-place.place c.index-holders-place.result c.loop-place-test.true (search rules) c.loop-place.invariant (c.if-not-hand.ensures.yes refl)
+
+pub returns-then-not-hand-clause-err : goal.returns-then-not-hand-clause-err
+returns-then-not-hand-clause-err c = not_handed c.args.names.now _ _ c.args.holders.now c.loop-place.place c.index-holders-place.result c.loop-place-test.true (search rules) c.loop-place.invariant (c.if-not-hand.ensures.no refl)

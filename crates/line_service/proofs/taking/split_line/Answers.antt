@@ -1,18 +1,21 @@
-use Rattle.std.proofs.Common.{sym, subst, arith}
+use Rattle.std.proofs.Common.{◌≤◌, length, take, sym, subst, arith}
+use Rattle.std.proofs.lemmas.Bool.{eqb-true}
 use Rattle.std.proofs.lemmas.List.{append-nil}
-use Rattle.line_service.specs.Answering.{IsLine}
-use Rattle.line_service.proofs.Telling.{no_end_next, no_end_all, line_at}
+use Rattle.line_service.specs.Answering.{IsLine, HasNoEnd}
+use Rattle.line_service.proofs.Telling.{no_end_before, no_end_all, line_at}
 use Rattle.line_service.proofs.taking.split_line.Goals as goal
 
-pub returns-then-byte-eq10-clause-line : goal.returns-then-byte-eq10-clause-line
-returns-then-byte-eq10-clause-line c = λ e.
-    subst IsLine (sym c.split_at.ensures.front) (line_at c.args.bytes.now c.loop-i.i c.loop-i-test.true c.loop-i.invariant c.if-byte-eq10.true)
+pub returns-in-Some-clause-line : goal.returns-in-Some-clause-line
+returns-in-Some-clause-line c = λ e.
+    let first = c.in-Some.ensures in
+    let below = first.0.high in
+    let within : c.in-Some.place ≤ length c.args.bytes.now = omega (arith, below) in
+    let before : HasNoEnd (take c.in-Some.place c.args.bytes.now) = no_end_before c.args.bytes.now c.in-Some.place within first.0.before in
+    subst IsLine (sym c.split_at.ensures.front) (line_at c.args.bytes.now c.in-Some.place below before (eqb-true _ 10 first.1))
 
-pub loop-i-preserved : goal.loop-i-preserved
-loop-i-preserved c = no_end_next c.args.bytes.now c.loop-i.i c.loop-i-test.true c.loop-i.invariant c.if-byte-eq10.false
+pub returns-in-None-clause-split : goal.returns-in-None-clause-split
+returns-in-None-clause-split c = sym (append-nil c.args.bytes.now)
 
-pub returns-clause-split : goal.returns-clause-split
-returns-clause-split c = sym (append-nil c.args.bytes.now)
-
-pub returns-clause-none : goal.returns-clause-none
-returns-clause-none c = λ e. no_end_all c.args.bytes.now c.loop-i.i (omega (arith, c.loop-i-test.false)) c.loop-i.invariant
+pub returns-in-None-clause-none : goal.returns-in-None-clause-none
+returns-in-None-clause-none c = λ e.
+    no_end_all c.args.bytes.now (length c.args.bytes.now) (omega arith) (no_end_before c.args.bytes.now (length c.args.bytes.now) (omega arith) c.in-None.ensures)

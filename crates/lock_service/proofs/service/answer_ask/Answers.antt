@@ -1,19 +1,26 @@
-use Rattle.std.proofs.Common.{◌≡◌, Bool, [], Result, sym, ◌∙◌, subst, refl}
-use Rattle.std.proofs.lemmas.List.{append-nil}
-use Rattle.lock_protocol.specs.declared.answers.Denial.TheVariants as denial
+use Rattle.std.proofs.Common.{◌≡◌, ℕ, List, Option, Result, sym, subst}
+use Rattle.held_locks.specs.Locks.{Ask}
 use Rattle.lock_protocol.specs.Asks.{seen}
-use Rattle.lock_protocol.specs.Answers.{denial_line}
 use Rattle.lock_service.specs.declared.service.Untold.{Untold}
-use Rattle.lock_service.specs.Asking.{is_off}
-use Rattle.lock_service.specs.Serving.{IsAnsweredIf, Leaves}
-use Rattle.lock_service.proofs.Telling.{on_ok, put_leaves}
+use Rattle.lock_service.specs.Asking.{one_ask}
+use Rattle.lock_service.specs.Serving.{IsTold, Leaves}
+use Rattle.lock_service.proofs.Telling.{put_leaves}
 use Rattle.lock_service.proofs.service.answer_ask.Goals as goal
 
-pub returns-then-is_off : goal.returns-then-is_off
-returns-then-is_off c =
-    let off = is_off c.args.terms.faults (seen c.args.ask) in
-    let said = denial_line c.args.client denial.Off in
-    subst (λ (x : Result (Unit {0}) Untold). Leaves x (λ s n. IsAnsweredIf off c.args.terms c.args.client (seen c.args.ask) c.args.segment.now s n c.args.segment.now) (c.args.segment.now ≡ c.args.segment.now) c.args.pending.now (record { answers = c.put_denial.new.text; notes = c.args.pending.now.notes })) (sym c.put.ensures)
-    (put_leaves c.put_denial.result (λ s n. IsAnsweredIf off c.args.terms c.args.client (seen c.args.ask) c.args.segment.now s n c.args.segment.now) (c.args.segment.now ≡ c.args.segment.now) c.args.pending.now (record { answers = c.put_denial.new.text; notes = c.args.pending.now.notes }) said []
-    (subst (λ (b : Bool). IsAnsweredIf b c.args.terms c.args.client (seen c.args.ask) c.args.segment.now said [] c.args.segment.now) (sym (sym c.is_off.ensures ∙ c.if-is_off.true)) (record { says = refl; notes = refl; leaves = refl }))
-    (on_ok c.put_denial.result _ _ c.put_denial.ensures.ok (λ e. (e, sym (append-nil c.args.pending.now.notes.items)))))
+pub returns-in-Some : goal.returns-in-Some
+returns-in-Some c =
+    let old = c.args.segment.now in
+    let new = c.answer_named.new.segment in
+    let t = c.args.terms in
+    subst (λ (x : Option (List ℕ × Ask)). Leaves c.answer_named.result (λ s n. IsTold t.strict t.noting c.args.client x old s n new) (new ≡ old) c.args.pending.now c.answer_named.new.pending) c.in-Some.ensures c.answer_named.ensures
+
+pub returns-in-None : goal.returns-in-None
+returns-in-None c =
+    let old = c.args.segment.now in
+    let new = c.leave.new.segment in
+    let t = c.args.terms in
+    let l = c.leave.ensures in
+    let one = one_ask (seen c.args.ask) in
+    subst (λ (x : Result (Unit {0}) Untold). Leaves x (λ s n. IsTold t.strict t.noting c.args.client one old s n new) (new ≡ old) c.args.pending.now c.leave.new.pending) (sym c.put.ensures)
+    (put_leaves c.leave.result (λ s n. IsTold t.strict t.noting c.args.client one old s n new) (new ≡ old) c.args.pending.now c.leave.new.pending l.0 l.1
+    (subst (λ (x : Option (List ℕ × Ask)). IsTold t.strict t.noting c.args.client x old l.0 l.1 new) c.in-None.ensures l.2) l.3)

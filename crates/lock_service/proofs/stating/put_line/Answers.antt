@@ -13,5 +13,5 @@ waiter-requires c =
 
 pub loop-place-preserved : goal.loop-place-preserved
 loop-place-preserved c v at =
-    line_more c.loop-place.text.items c.put_waiter.new.text.items _ (wait_line c.args.lock c.waiter.result) (wait_lines c.args.lock (drop (c.loop-place.place + 1) v.queue)) _
-    (wait_there c.args.lock v.queue c.loop-place.place c.waiter.result (c.waiter.ensures v at)) (c.loop-place.invariant v at) c.in-Ok.ensures
+    line_more c.loop-place.text.items c.put_waiter.new.text.items _ (wait_line c.args.name.now c.waiter.result) (wait_lines c.args.name.now (drop (c.loop-place.place + 1) v.queue)) _
+    (wait_there c.args.name.now v.queue c.loop-place.place c.waiter.result (c.waiter.ensures v at)) (c.loop-place.invariant v at) c.in-Ok.ensures

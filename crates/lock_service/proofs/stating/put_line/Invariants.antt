@@ -7,4 +7,4 @@ use Rattle.lock_service.proofs.stating.put_line.Given as goal
 -- the lines of those after this place are still to be added
 abbrev pub invariant-loop-place : goal.invariant-loop-place
 invariant-loop-place l =
-    (v : LockView) → slice_get l.locks l.lock ≡ Some v → l.text.items ++ joined_lines (wait_lines l.lock (drop l.place v.queue)) ≡ l.initial.text.items ++ joined_lines (wait_lines l.lock v.queue)
+    (v : LockView) → slice_get l.locks l.lock ≡ Some v → l.text.items ++ joined_lines (wait_lines l.name (drop l.place v.queue)) ≡ l.initial.text.items ++ joined_lines (wait_lines l.name v.queue)

@@ -6,5 +6,6 @@ use Rattle.lock_service.proofs.stating.put_locks.Goals as goal
 pub returns-in-Ok-clause-lines : goal.returns-in-Ok-clause-lines
 returns-in-Ok-clause-lines c =
     let locks = c.args.locks.now in
+    let names = c.args.names.now in
     on_ok c.put_waits.result _ _ c.put_waits.ensures.lines
-    (lines_behind c.args.text.now.items c.put_holds.new.text.items c.put_waits.new.text.items (holds_from 0 locks) (waits_from 0 locks) c.in-Ok.ensures.lines)
+    (lines_behind c.args.text.now.items c.put_holds.new.text.items c.put_waits.new.text.items (holds_from names 0 locks) (waits_from names 0 locks) c.in-Ok.ensures.lines)

@@ -6,6 +6,6 @@ use Rattle.lock_service.proofs.stating.put_waits.Given as goal
 -- the lines of the locks from this one on are still to be added
 abbrev pub invariant-loop-lock : goal.invariant-loop-lock
 invariant-loop-lock l =
-    (l.text.items ++ joined_lines (waits_from l.lock (drop l.lock l.locks)) ≡ l.initial.text.items ++ joined_lines (waits_from 0 l.locks))
-    × (l.count + length (waits_from l.lock (drop l.lock l.locks)) ≡ l.before + length (waits_from 0 l.locks))
+    (l.text.items ++ joined_lines (waits_from l.names l.lock (drop l.lock l.locks)) ≡ l.initial.text.items ++ joined_lines (waits_from l.names 0 l.locks))
+    × (l.count + length (waits_from l.names l.lock (drop l.lock l.locks)) ≡ l.before + length (waits_from l.names 0 l.locks))
     × (l.count < 2 ^ 63)

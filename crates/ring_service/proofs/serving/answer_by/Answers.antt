@@ -1,11 +1,11 @@
 use Rattle.std.proofs.Common.{◌≡◌, ℕ, Bool, true, List, [], ◌++◌, cond, Option, None, Some, refl, sym, ap, ◌∙◌, subst, inl}
 use Rattle.std.specs.Prelude.{is_some, OnOk}
-use Rattle.std.specs.Borrow.{Bor}
 use Rattle.std.specs.Option.{option_map}
 use Rattle.line_service.proofs.Telling.{both_ok}
 use Rattle.ring_service.specs.Answers.{answer_line}
 use Rattle.ring_service.specs.Notes.{notes_of}
-use Rattle.ring_service.specs.Permits.{terms_by, IsTied}
+use Rattle.ring_service.specs.declared.rules.JournalFile.{JournalFile}
+use Rattle.ring_service.specs.Permits.{journal_name, terms_by, IsTied}
 use Rattle.ring_service.specs.Standings.{Standing}
 use Rattle.ring_service.specs.Serving.{IsAnswered, is_stop}
 use Rattle.ring_service.specs.Turns.{recorded_among, turn_seen_among}
@@ -14,7 +14,7 @@ use Rattle.ring_service.proofs.Heeding.{stopped_same, made_by}
 use Rattle.ring_service.proofs.serving.answer_by.Goals as goal
 
 -- a journal is kept just if its name is known
-named : (x : Option (Bor (List ℕ))) → is_some x ≡ is_some (option_map (λ (name : Bor (List ℕ)). name.now) x)
+named : (x : Option JournalFile) → is_some x ≡ is_some (option_map journal_name x)
 named None = refl
 named (Some x) = refl
 

@@ -1,24 +1,22 @@
-use Rattle.std.proofs.Common.{◌≡◌, ◌⊎◌, ℕ, List, Option, Some, refl, sym, subst, inl, inr}
-use Rattle.disks.specs.Held.{Held, Grows, Replaces}
+use Rattle.std.proofs.Common.{◌≡◌, ℕ, List, Option, Some, refl, sym, subst, inl, inr}
+use Rattle.disks.specs.Held.{Held, Replaces}
 use Rattle.journal.specs.Spelling.{journal_head}
 use Rattle.ring_service.specs.declared.permits.Permits.{Permits}
 use Rattle.ring_service.specs.Permits.{terms_of}
 use Rattle.ring_service.specs.Standings.{Standing}
 use Rattle.ring_service.specs.Saved.{content_of}
 use Rattle.tool_parts.specs.declared.faults.ToolError.{ToolError}
-use Rattle.serve_commands.specs.Served.{permits_of, IsNoted, IsServedOn, IsServedNoted, IsServingFault, IsServedPart, IsBrokenOff}
-use Rattle.tool_parts.specs.Worlds.{IsUnserved}
-use Rattle.tool_parts.specs.Locking.{IsUnopenedJournal}
+use Rattle.serve_commands.specs.Served.{permits_of, IsNoted, IsServedBegun, IsServedNoted, IsBegunPart, IsBrokenOff}
 use Rattle.line_service.proofs.SegmentLasting.{replaced_bytes}
 use Rattle.saved_history.specs.declared.saved.Saved.{Saved}
 use Rattle.ring_service.specs.Starting.{AreResumed}
-use Rattle.serve_commands.specs.Lasting.{JournalLasts, FileLasts}
+use Rattle.serve_commands.specs.Lasting.{BegunLasts, FileLasts}
 use Rattle.serve_commands.proofs.Making.{as_before}
 use Rattle.serve_commands.proofs.StillThere.{part_still}
 use Rattle.serve_commands.proofs.serve.run_with_journal.Goals as goal
 
 noted : (permits : Permits) (name : List ℕ) (start end : List Standing) (before begun after : Option Held) (was is old new : Option (List ℕ)) → Replaces before begun name (Some (journal_head (content_of start))) →
-    (first : Option (List ℕ)) × Grows begun name first × IsServedOn permits name start end begun after first was is old new → IsServedNoted permits name start end before after was is old new
+    IsServedBegun permits name start end begun after was is old new → IsServedNoted permits name start end before after was is old new
 noted permits name start end before begun after was is old new put h = record {
   begun = begun;
   ended = h.2.ended;
@@ -31,9 +29,7 @@ noted permits name start end before begun after was is old new put h = record {
 }
 
 broken : (permits : Permits) (name : List ℕ) (start : List Standing) (before begun after : Option Held) (was is old new : Option (List ℕ)) (e : ToolError) → Replaces before begun name (Some (journal_head (content_of start))) →
-    (IsUnserved was is old new × IsUnopenedJournal name e × (after ≡ begun))
-    ⊎ (IsServingFault (Some name) e × (first : Option (List ℕ)) × Grows begun name first × IsServedPart (terms_of (Some name) permits) start begun after first was is old new) →
-    IsBrokenOff permits name start before after was is old new e
+    IsBegunPart permits name start begun after was is old new e → IsBrokenOff permits name start before after was is old new e
 broken permits name start before begun after was is old new e put (inl h) = inl (h.0, h.1, subst (λ (x : Option Held). Replaces before x name (Some (journal_head (content_of start)))) (sym h.2) put)
 broken permits name start before begun after was is old new e put (inr h) = inr (
   h.0,
@@ -67,7 +63,7 @@ returns-clause-err g c =
 -- ---- what a loss of power leaves
 
 file_lasts : (permits : Permits) (name : List ℕ) (saved : Option Saved) (before : Option Held) (was is old new : Option (List ℕ)) (left : Option Held) (from : Saved) (start : List Standing) (begun : Option Held) → IsNoted before name saved from → AreResumed start from.rings.items →
-    Replaces before begun name (Some (journal_head (content_of start))) → IsUnserved was is old new ⊎ JournalLasts permits name start begun (journal_head (content_of start)) was is old new left → FileLasts permits name saved before was is old new left
+    Replaces before begun name (Some (journal_head (content_of start))) → BegunLasts permits name start begun (journal_head (content_of start)) was is old new left → FileLasts permits name saved before was is old new left
 file_lasts permits name saved before was is old new left from start begun noted resumed put (inl h) = inl h
 file_lasts permits name saved before was is old new left from start begun noted resumed put (inr h) = inr (from, start, begun, noted, resumed, put, h)
 

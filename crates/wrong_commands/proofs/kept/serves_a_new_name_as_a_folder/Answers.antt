@@ -15,5 +15,5 @@ returns-in-Ok-close_segment g c = record {
       let nothing = if_some before known.0 (λ (held : Held). is_there held name ≡ false) known.1 c.requires.new in
       let apart = if_some before known.0 (λ (held : Held). IsOneFile held (segment_file name 1) name → ⊥) known.1 c.requires.apart in
       new_name_is_no_folder c.args._words.now name known.0 before after saved end was is old new c.requires.named known.1 nothing
-      (begun_and_closed name c.in-Ok.service c.args.behind known.0 before after _ _ known.1 c.in-Ok-begin_segment.ensures.ok c.in-Ok-begin_segment.ensures.named c.in-Ok-close_segment.ensures.ok nothing apart) h;
+      (begun_and_closed name c.in_segment-service.result c.args.behind known.0 before after _ _ known.1 c.in-Ok.ensures.ok c.in-Ok.ensures.named c.in-Ok-close_segment.ensures.ok nothing apart) h;
 }

@@ -1,0 +1,7 @@
+use Rattle.std.proofs.Common.{subst}
+use Rattle.held_locks.specs.Asked.{asked}
+use Rattle.lock_names.specs.Kept.{NamedView, seen, IsAsked}
+use Rattle.lock_names.proofs.names.Names.ask.Goals as goal
+
+pub returns : goal.returns
+returns c = subst (λ (v : NamedView). IsAsked v (seen c.ask_among.new.rings c.ask_among.new.table) c.args.client c.args.name.now (asked c.args.ask) c.ask_among.result) c.self.view_is c.ask_among.ensures.asked

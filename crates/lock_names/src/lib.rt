@@ -1,0 +1,18 @@
+//! Locks by any name, over the rings of `held_locks`: a name gets a ring with its first hold, and loses it with the last.
+#![tactic(auto)]
+
+mod asks;
+mod growing;
+pub mod laws;
+mod leaving;
+mod names;
+mod replies;
+mod sizes;
+mod starting;
+mod table;
+
+pub use growing::NotGrown;
+pub use names::{Names, TOP_LIMIT};
+pub use replies::{NameAnswers, Reply};
+pub use sizes::{LEAST_POOL, wanted_pool};
+pub use starting::NotBegun;
