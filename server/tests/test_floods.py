@@ -2,6 +2,8 @@
 turns."""
 
 import array
+import collections
+import contextlib
 import fcntl
 import http.client
 import os
@@ -69,6 +71,20 @@ class Stopped:
 
     def __exit__(self, *_):
         os.kill(self.engine, signal.SIGCONT)
+
+
+@contextlib.contextmanager
+def asked_through(server):
+    """The server begins anew, with an engine that writes all that it is asked into a file, which this names."""
+    engine, asked = server.folder + "/engine", server.folder + "/asked"
+    with open(engine, "w", encoding="ascii") as file:
+        file.write(f'#!/bin/sh\ntee {asked} | {ENGINE} "$@"\n')
+    os.chmod(engine, 0o755)
+    server.stop()
+    with open(server.log, "ab") as log:
+        server.process = subprocess.Popen([engine if word == ENGINE else word for word in server.words], stderr=log)
+    server.wait_until_it_answers(server.process)
+    yield asked
 
 
 def unread(sock):
@@ -240,8 +256,8 @@ class Memory(unittest.TestCase):
 class OnTime(unittest.TestCase):
     """A lease ends within a twentieth of its length, or 50 ms, whatever the others do."""
 
-    def lateness(self, server, lease, limit):
-        """How late by the clock the lock of a silent client is free. It is never later because others come before."""
+    def lateness(self, server, lease):
+        """How late the lock of a silent client is free, by the clock or in work if that is less."""
         with server.raw() as silent, server.raw() as other:
             waits = Waits(server)
             self.assertEqual(say(silent, f"lease {int(lease * 1000)}\n"), [f"lease {int(lease * 1000)}"])
@@ -255,14 +271,12 @@ class OnTime(unittest.TestCase):
                 self.assertEqual(select.select([other], [], [], 0)[0], [], "the lock is free before the lease is over")
             self.assertEqual(read_lines(other, 1), [f"granted b {token + 1}"])
             by_clock, work = watch.times()
-            by_clock -= max(0, latest - watch.begun)
-            self.assertLess(min(by_clock, work), limit)
-            return by_clock
+            return min(by_clock - max(0, latest - watch.begun), work)
 
     def on_time(self, server, *leases):
         for lease in leases:
             limit = max(lease / 20, 0.05)
-            self.assertLess(least(lambda lease=lease, limit=limit: self.lateness(server, lease, limit), limit), limit)
+            self.assertLess(least(lambda lease=lease: self.lateness(server, lease), limit), limit)
 
     def test_short_leases_beside_a_long_one(self):
         with Server(lease="30") as server:
@@ -391,16 +405,35 @@ class Turns(unittest.TestCase):
         """Each `wozgirt lock` has one, and many may end at once."""
         self.check("attached", 200)
 
+    def test_each_has_its_turn(self):
+        """Twenty clients have all asked much before one asks little, while the server stands still. The order in which the engine is
+        asked then says whose turn it was, whatever the clock does."""
+        lines = 1000
+        with Server(locks=MANY) as server, asked_through(server) as asked, contextlib.ExitStack() as stack:
+            socks = [stack.enter_context(server.raw()) for _ in range(21)]
+            for sock in socks:
+                self.assertEqual(say(sock, "ping\n"), ["pong"])
+            os.kill(server.process.pid, signal.SIGSTOP)
+            [sock.sendall(b"try a 1\n" * lines) for sock in socks[1:]]
+            socks[0].sendall(b"acquire b 1\nrelease b 1\n" * 5)
+            os.kill(server.process.pid, signal.SIGCONT)
+            self.assertEqual(read_lines(socks[0], 10)[:2], ["granted b 1", "released b"])
+            [read_lines(sock, lines) for sock in socks[1:]]
+            with open(asked, encoding="ascii") as file:
+                order = [words[0] for words in map(str.split, file) if words[1:3] in (["try", "a"], ["acquire", "b"], ["release", "b"])]
+        ours, = {client for client, count in collections.Counter(order).items() if count == 10}
+        places = [place for place, client in enumerate(order) if client == ours]
+        self.assertLess(places[-1], 100 * 20, "who asks little waits for much of what others ask")
+        counts = collections.Counter({client: 0 for client in order})
+        for client in order:
+            counts[client] += 1
+            if counts[client] == lines:
+                break
+        del counts[ours]
+        self.assertGreater(min(counts.values()), lines / 10, "one had all its turns before another had a tenth of them")
+
     def test_who_never_asked_costs_the_engine_nothing(self):
-        with Server() as server:
-            engine = server.folder + "/engine"
-            with open(engine, "w", encoding="ascii") as file:
-                file.write(f'#!/bin/sh\ntee {server.folder}/asked | {ENGINE} "$@"\n')
-            os.chmod(engine, 0o755)
-            server.stop()
-            words = [engine if word == ENGINE else word for word in server.words]
-            process = subprocess.Popen(words, stderr=subprocess.DEVNULL)
-            server.wait_until_it_answers(process)
+        with Server() as server, asked_through(server) as asked:
             for i in range(50):
                 with server.raw() as sock:
                     say(sock, ["ping\n", f"session {i} attached\n", f"session {i}\n"][i % 3])
@@ -408,9 +441,9 @@ class Turns(unittest.TestCase):
                 say(sock, "try a 1\n")
             with server.raw() as sock:
                 say(sock, "try b 1\n")
-            process.terminate()
-            self.assertEqual(process.wait(PATIENCE), 0)
-            with open(server.folder + "/asked", encoding="ascii") as file:
+            server.stop()
+            self.assertEqual(server.process.returncode, 0)
+            with open(asked, encoding="ascii") as file:
                 left = [line for line in file.read().splitlines() if line.endswith(" leave")]
             self.assertIn(len(left), (1, 2))  # the last one may have been closed at the end
 
