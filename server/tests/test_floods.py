@@ -257,14 +257,20 @@ class OnTime(unittest.TestCase):
     """A lease ends within a twentieth of its length, or 50 ms, whatever the others do."""
 
     def lateness(self, server, lease):
-        """How late the lock of a silent client is free, by the clock or in work if that is less."""
+        """How late the lock of a silent client is free, by the clock or in work if that is less; None if this thread was so late itself
+        that the lease may have been over before all was said, or the server has not heard yet that those of the try before are gone."""
         with server.raw() as silent, server.raw() as other:
             waits = Waits(server)
             self.assertEqual(say(silent, f"lease {int(lease * 1000)}\n"), [f"lease {int(lease * 1000)}"])
             earliest = time.monotonic() + lease
-            token = int(say(silent, "acquire b 1\n")[0].split()[2])
-            latest = time.monotonic() + lease  # it was heard in between
-            self.assertEqual(say(other, "acquire b 1\n"), ["waiting b 0"])
+            with contextlib.suppress(ConnectionError):
+                told = say(silent, "acquire b 1\n")
+                latest = time.monotonic() + lease  # it was heard in between
+                told += say(other, "acquire b 1\n")
+            if time.monotonic() >= earliest or told[0] == "waiting b 0":
+                return None
+            token = int(told[0].split()[2])
+            self.assertEqual(told, [f"granted b {token}", "waiting b 0"])
             time.sleep(max(0, earliest - 0.01 - time.monotonic()))
             watch = Watch(waits)
             if watch.begun < earliest - 0.005:
@@ -273,10 +279,14 @@ class OnTime(unittest.TestCase):
             by_clock, work = watch.times()
             return min(by_clock - max(0, latest - watch.begun), work)
 
+    def lateness_once_in_time(self, server, lease):
+        """The same, in the first of many tries in which this thread was in time."""
+        return next(late for late in (self.lateness(server, lease) for _ in range(1000)) if late is not None)
+
     def on_time(self, server, *leases):
         for lease in leases:
             limit = max(lease / 20, 0.05)
-            self.assertLess(least(lambda lease=lease: self.lateness(server, lease), limit), limit)
+            self.assertLess(least(lambda lease=lease: self.lateness_once_in_time(server, lease), limit), limit)
 
     def test_short_leases_beside_a_long_one(self):
         with Server(lease="30") as server:
