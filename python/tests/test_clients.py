@@ -11,6 +11,7 @@ import unittest
 sys.path.insert(0, os.path.join(os.path.dirname(os.path.abspath(__file__)), "..", "..", "server", "tests"))
 
 from harness import PATIENCE, Server, by_the_clock, needs_loopback, needs_programs  # noqa: E402
+from times import patiently  # noqa: E402
 from wozgirt import (Circle, Client, Holds, Lock, LockLost, NoSuchLock, NotHolder, NotInTime, TooMany, Waits,  # noqa: E402
                      aio)
 
@@ -37,8 +38,8 @@ class Threads(unittest.TestCase):
             self.assertEqual(most, [1])
             self.assertEqual(tokens, list(range(1, 1201)))
 
-    @by_the_clock  # a server that is late to answer is left
-    def test_not_in_time_and_try(self, _):
+    @patiently
+    def test_not_in_time_and_try(self):
         with Server() as server, Client(server.path) as one, Client(server.path) as two:
             token = one.acquire("a")
             self.assertIsNone(two.try_acquire("a"))
@@ -214,13 +215,13 @@ class Tasks(unittest.IsolatedAsyncioTestCase):
             await asyncio.gather(*(work() for _ in range(8)))
             self.assertEqual(tokens, list(range(1, 401)))
 
-    @by_the_clock
-    async def test_not_in_time_and_errors(self, longer):
+    @patiently
+    async def test_not_in_time_and_errors(self):
         with Server() as server:
             one, two = await aio.Client.connect(server.path), await aio.Client.connect(server.path)
             token = await one.acquire("a", label=5)
             with self.assertRaises(NotInTime):
-                await two.acquire("a", wait=0.1 * longer)
+                await two.acquire("a", wait=0.1)
             self.assertIsNone(await two.try_acquire("a"))
             with self.assertRaises(NoSuchLock):
                 await two.acquire("nothing")
@@ -235,6 +236,7 @@ class Tasks(unittest.IsolatedAsyncioTestCase):
             await one.close()
             await two.close()
 
+    @patiently
     async def test_cancelled_at_each_moment(self):
         with Server() as server:
             one, two = await aio.Client.connect(server.path), await aio.Client.connect(server.path)

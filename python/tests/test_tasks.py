@@ -12,30 +12,27 @@ import unittest
 
 sys.path.insert(0, os.path.join(os.path.dirname(os.path.abspath(__file__)), "..", "..", "server", "tests"))
 
-from harness import PATIENCE, Server, needs_loopback, needs_programs, wait_until  # noqa: E402
+from harness import PATIENCE, Server, by_the_clock, needs_loopback, needs_programs, wait_until  # noqa: E402
 from test_deadlines import LATE, WAIT, Stopped, silent_door  # noqa: E402
 from test_sessions import Arbiter, Door  # noqa: E402
+from times import or_never, patiently  # noqa: E402
 from wozgirt import Holds, LockLost, NotInTime, aio  # noqa: E402
 
 logging.getLogger("asyncio").setLevel(logging.ERROR)  # that a server is started in between takes long
 
 
 def tried_again(test):
-    """As that of test_deadlines, for a coroutine. It begins anew: what was asked before may be done later."""
+    """As that of test_deadlines, for a coroutine."""
     @functools.wraps(test)
-    async def run(self):
-        for _ in range(3):
-            try:
-                return await test(self)
-            except AssertionError:
-                self.tearDown()
-                self.doCleanups()
-                self.setUp()
+    async def run(self, longer):
+        self.longer = longer
         return await test(self)
-    return run
+    return by_the_clock(or_never(run))
 
 
 class Timed(unittest.IsolatedAsyncioTestCase):
+    longer = 1
+
     async def in_time(self, call, wait=WAIT, error=NotInTime):
         """Awaits it, which has to fail when its time is over; the error."""
         begun = time.monotonic()
@@ -43,7 +40,7 @@ class Timed(unittest.IsolatedAsyncioTestCase):
             await call
         took = time.monotonic() - begun
         self.assertGreaterEqual(took, wait - 0.01)
-        self.assertLess(took, wait + LATE)
+        self.assertLess(took, wait + LATE * self.longer)
         return caught.exception
 
 
@@ -81,6 +78,7 @@ class Tasks(Timed):
                 await client.close()
 
     @tried_again
+    @patiently
     async def test_what_is_withdrawn_leaves_the_client_as_it_was(self):
         with Server() as server:
             async with await aio.Client.connect(server.path) as one, await aio.Client.connect(server.path) as two:
@@ -93,6 +91,7 @@ class Tasks(Timed):
                 await one.release("a", token)
                 self.assertEqual(await two.acquire("a", wait=0), token + 1)
 
+    @patiently
     async def test_cancelled_at_any_moment(self):
         chance = random.Random(5)
         with Server() as server:
@@ -143,8 +142,8 @@ class Tasks(Timed):
                 kept.close()
 
     async def test_every_answer_is_life(self):
-        with Server(lease=2) as server:
-            async with await aio.Client.connect(server.path, lease=2) as client:
+        with Server() as server:
+            async with await aio.Client.connect(server.path, lease=20) as client:
                 before = client._spoken
                 await asyncio.sleep(0.05)
                 await client.try_acquire("a")

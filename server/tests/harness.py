@@ -88,6 +88,7 @@ def by_the_clock(test):
     def begin_anew(self, fault):
         if isinstance(fault, (TooEarly, unittest.SkipTest)):
             raise fault
+        self.tearDown()
         self.doCleanups()
         self.setUp()
 
