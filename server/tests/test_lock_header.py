@@ -26,6 +26,8 @@ WRONG = {
 class Answers(Clients):
     """An answer belongs to its question."""
 
+    is_patient = True
+
     def door(self, *answers):
         it = Door(*answers)
         self.addCleanup(it.close)
@@ -54,8 +56,7 @@ class Answers(Clients):
         self.assertEqual([client.ask("release a 1")[1::4], client.ask("acquire a 1 0")[1::4], client.ask("check")[1::4]],
                          [(REFUSED, "refused holder a"), (REFUSED, "refused memory"), (DONE, "")])
 
-    @by_the_clock
-    def test_a_deadline_and_an_answer_cross(self, _):
+    def test_a_deadline_and_an_answer_cross(self):
         """What a withdrawal is answered: the grant came first, or a refusal, or none of both."""
         for first, second, wanted in (("waiting a 0\n", "cancelled a\n", (LATE, 0)),
                                       ("waiting a 0\n", "granted a 9\nrefused waiter a\n", (DONE, 9)),
@@ -84,6 +85,8 @@ class Answers(Clients):
 class Interrupts(Interrupted):
     """What a handler leaves is not answered to the next call."""
 
+    is_patient = True
+
     def test_a_call_that_is_left(self):
         door = Door("waiting a 0\n", "granted a 9\n")
         self.addCleanup(door.close)
@@ -94,8 +97,7 @@ class Interrupts(Interrupted):
         self.assertEqual(door.heard, ["acquire a 1"])
 
     @needs_programs
-    @by_the_clock
-    def test_a_handler_that_returns(self, _):
+    def test_a_handler_that_returns(self):
         with Server(locks="a,b") as server, server.raw() as holder:
             self.assertEqual(say(holder, "acquire a 1\n"), ["granted a 1"])
             client = self.client(server.path)
