@@ -7,8 +7,10 @@ import logging
 import os
 import random
 import sys
+import threading
 import time
 import unittest
+from unittest import mock
 
 sys.path.insert(0, os.path.join(os.path.dirname(os.path.abspath(__file__)), "..", "..", "server", "tests"))
 
@@ -54,7 +56,8 @@ class Tasks(Timed):
                 self.assertIn("connection is closed", str(await self.in_time(one.acquire("a", wait=WAIT))))
                 with self.assertRaises(LockLost):
                     one.check()
-                await self.in_time(asyncio.wait_for(two.acquire("a"), WAIT), error=asyncio.TimeoutError)
+                with mock.patch("wozgirt.aio.INTERRUPTED", 1):
+                    await self.in_time(asyncio.wait_for(two.acquire("a"), WAIT), error=asyncio.TimeoutError)
                 self.assertIn("nothing was asked", str(await self.in_time(two.acquire("b", wait=WAIT))))
                 await asyncio.sleep(1)
                 with self.assertRaises(LockLost):
@@ -215,6 +218,26 @@ class Several(Timed):
         await asyncio.gather(*(work() for _ in range(4)))
         self.assertEqual(tokens, sorted(set(tokens)))
         wait_until(lambda: self.arbiter.holders == {})
+
+    async def test_a_grant_that_crosses_a_cancellation(self):
+        """It is given back before the next call has its turn, which waits for it."""
+        async with await aio.Session.connect([it.place for it in self.doors]) as client:
+            gate, acquired = threading.Event(), client._client._acquired
+
+            def acquired_late(*words):
+                token = acquired(*words)
+                gate.wait(PATIENCE)
+                return token
+            with mock.patch.object(client._client, "_acquired", acquired_late):
+                task = asyncio.create_task(client.acquire("a"))
+                await asyncio.get_running_loop().run_in_executor(None, wait_until, lambda: self.arbiter.holders)
+                task.cancel()
+                with self.assertRaises(asyncio.CancelledError):
+                    await task
+                later = asyncio.create_task(client.acquire("a", wait=PATIENCE))
+                await asyncio.sleep(0.1)
+                gate.set()
+                self.assertEqual(await later, 2)
 
     @tried_again
     async def test_servers_that_say_nothing(self):

@@ -9,7 +9,7 @@ from harness import PATIENCE
 TO_WITHDRAW = ("client.WITHDRAW", "client.INTERRUPTED", "lock.WITHDRAW", "aio.WITHDRAW", "aio.INTERRUPTED", "aio_session.WITHDRAW")
 #: those of what has no deadline of the caller
 WITHOUT_DEADLINE = ("client.INTERRUPTED", "client.CLOSE", "lock.CONNECT", "session.CONNECT_ONE", "session.ANSWER", "aio.CONNECT",
-                    "aio_session.CLOSE")
+                    "aio.INTERRUPTED", "aio_session.CLOSE")
 #: longer than any test
 NEVER = 1000
 
