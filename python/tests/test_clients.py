@@ -98,7 +98,7 @@ class Threads(unittest.TestCase):
         lease = 0.8 * longer
         with Server(lease=lease) as server, Client(server.path, lease=lease) as client, Client(server.path) as other:
             client.acquire("a")
-            time.sleep(2.5 * lease)
+            time.sleep(1.5 * lease)
             client.check()
             self.assertIsNone(other.try_acquire("a"))
 
@@ -110,7 +110,7 @@ class Threads(unittest.TestCase):
             got = []
             thread = threading.Thread(target=lambda: got.append(two.acquire("a")))
             thread.start()
-            time.sleep(2.5 * lease)
+            time.sleep(1.5 * lease)
             one.release("a", token)
             thread.join(PATIENCE)
             self.assertEqual(got, [2])

@@ -184,7 +184,7 @@ class LockCommand(unittest.TestCase):
             lease = 0.8 * longer
             it = start(server, "lock", "--lease", str(lease), "a", "--", "sh", "-c", "echo up; exec sleep 1000")
             self.assertEqual(it.stdout.readline(), "up\n")
-            time.sleep(2.5 * lease)
+            time.sleep(1.5 * lease)
             self.assertIsNone(it.poll())
             begun = time.monotonic()
             server.process.send_signal(signal.SIGSTOP)  # as if no line got through
