@@ -16,6 +16,7 @@ sys.path.insert(0, os.path.join(os.path.dirname(os.path.abspath(__file__)), ".."
 from harness import PATIENCE, Server, by_the_clock, needs_loopback, needs_programs, wait_until  # noqa: E402
 from times import or_never, patiently  # noqa: E402
 from wozgirt import Client, Lock, LockLost, NotInTime, Session, aio  # noqa: E402
+from wozgirt.client import WITHDRAW  # noqa: E402
 from wozgirt.wire import connected  # noqa: E402
 
 #: how long a call waits, and how much later it may end; on a machine that is busy that is more, see `by_the_clock`
@@ -68,6 +69,12 @@ def silent_door(folder=None):
     door.bind(path)
     door.listen(0)
     return path, door
+
+
+class Times(unittest.TestCase):
+    def test_of_a_withdrawal(self):
+        """What a test that is late may not show."""
+        self.assertLess(WITHDRAW, LATE)
 
 
 @needs_programs

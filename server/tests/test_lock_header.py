@@ -3,13 +3,15 @@ and behind fork()."""
 
 import errno
 import os
+import re
 import signal
 import socket
 import tempfile
 import unittest
 
 from harness import FOLDER, PATIENCE, Server, by_the_clock, needs_programs, say, wait_until
-from header_clients import CHILD, DONE, LATE, LOST, NAME, REFUSED, Clients, Door, FullDoor, Interrupted, margin, needs_c
+from header_clients import CHILD, DONE, LATE, LOST, MARGIN, NAME, REFUSED, Clients, Door, FullDoor, Interrupted, margin, needs_c
+from test_header import INCLUDE
 
 # the answers to a question that are none
 WRONG = {
@@ -129,6 +131,12 @@ class Deadlines(Clients):
         self.assertEqual(it[1:4], (LOST, 0, errno.ETIMEDOUT))
         self.assertLessEqual(it.seconds, seconds + margin(longer))
         self.assertGreaterEqual(it.seconds, seconds - 0.002)
+
+    def test_the_time_of_a_withdrawal(self):
+        """What a test that is late may not show."""
+        with open(os.path.join(INCLUDE, "wozgirt_lock.h"), encoding="ascii") as file:
+            milliseconds = int(re.search(r"\bWOZGIRT_LOCK_WITHDRAWAL = (\d+)", file.read())[1])
+        self.assertLess(milliseconds / 1000, MARGIN)
 
     @by_the_clock
     def test_what_stands_still(self, longer):
