@@ -99,7 +99,8 @@ class Trial:
         other, known = self.inside[name]
         if time.monotonic() - known < float(LEASE):
             self.faults.append(f"{number} is inside {name} while {other} is")
-        self.late += 1
+        else:
+            self.late += 1
 
 
 def disturb(server, draw):
