@@ -124,9 +124,10 @@ class Threads(unittest.TestCase):
             begun = time.monotonic()
             server.process.send_signal(19)
             with self.assertRaises(LockLost):
-                while True:
+                is_over = False
+                while not is_over:
+                    is_over = time.monotonic() > begun + lease  # then it raises
                     client.check()
-                    self.assertLess(time.monotonic() - begun, lease)
                     time.sleep(0.01)
 
     @by_the_clock

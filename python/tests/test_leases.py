@@ -109,7 +109,9 @@ class Given(Trial):
             begun = time.monotonic()
             try:
                 with self.assertRaises(LockLost):
-                    while time.monotonic() < begun + lease:
+                    is_over = False
+                    while not is_over:
+                        is_over = time.monotonic() > begun + lease  # then it raises
                         client.check()
                         time.sleep(0.01)
             finally:

@@ -14,8 +14,9 @@ from test_several import Arbiter, Commands, Door
 
 #: what `--wait` is given, and how much later it may end
 WAIT, LATE = 0.5, 0.2
-ASKED = "wozgirt: not in time: the server does not answer; the connection is closed, so nothing waits for the lock\n"
-NOT_ASKED = "wozgirt: not in time: the server does not answer; the lock was not asked for\n"
+NOT_IN_TIME = "wozgirt: not in time: "
+ASKED = NOT_IN_TIME + "the server does not answer; the connection is closed, so nothing waits for the lock\n"
+NOT_ASKED = NOT_IN_TIME + "the server does not answer; the lock was not asked for\n"
 
 
 def words(wait=WAIT):
@@ -93,7 +94,7 @@ class StandsStill(InTime):
     def test_a_server_that_answers_has_nothing_to_say(self):
         with Server() as server, server.raw() as sock:
             say(sock, "acquire a 1\n")
-            done = unless_late(lambda: run(server, "lock", *words()), lambda it: it.stderr == ASKED)
+            done = unless_late(lambda: run(server, "lock", *words()), lambda it: it.stderr.startswith(NOT_IN_TIME))
             self.assertEqual((done.returncode, done.stdout, done.stderr), (9, "", ""))
             server.wait_for_waiters("a", 0)
 
@@ -193,7 +194,7 @@ class Answers(unittest.TestCase):
             with Double(answers) as server:
                 done = run(server, "lock", *more, "a", "--", "sh", "-c", "echo in $WOZGIRT_TOKEN")
                 return done.returncode, done.stdout, done.stderr
-        return unless_late(once, lambda it: it[2] == ASKED)
+        return unless_late(once, lambda it: it[2].startswith(NOT_IN_TIME))
 
     def test_to_an_acquire(self):
         for line in ("granted b 7", "waiting b 0", "busy a", "released a", "cancelled a", "granted a", "granted a x", "refused holds b"):
@@ -232,7 +233,7 @@ class Answers(unittest.TestCase):
             pings.clear()
             with Double(answers) as server:
                 return run(server, "lock", "--lease", str(longer), "-w", str(0.35 * longer), "a", "--", "sleep", str(longer))
-        done = unless_late(once, lambda it: it.stderr == ASKED, 5)
+        done = unless_late(once, lambda it: it.stderr.startswith(NOT_IN_TIME), 5)
         self.assertEqual((done.returncode, done.stderr), (0, ""))
         self.assertGreater(len(pings), 2)
 
