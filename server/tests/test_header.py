@@ -11,6 +11,8 @@ from harness import PATIENCE, TOP, Server, needs_programs, say
 
 INCLUDE = os.path.join(TOP, "include")
 STRICT = ["-Wall", "-Wextra", "-Wpedantic", "-Werror"]
+#: seconds that a compiler may take, which on a quiet machine takes a few
+TO_BUILD = 10 * PATIENCE
 SOURCE = os.path.join(TOP, "server", "tests", "lock_client.c")
 TOLD = """\
 nowhere 3 0
@@ -36,7 +38,7 @@ gone 3 0
 
 
 def compiles(compiler, *words, include=INCLUDE):
-    it = subprocess.run([compiler, *STRICT, "-I", include, *words], capture_output=True, text=True, timeout=PATIENCE, check=False)
+    it = subprocess.run([compiler, *STRICT, "-I", include, *words], capture_output=True, text=True, timeout=TO_BUILD, check=False)
     return it.returncode == 0, it.stderr
 
 
