@@ -11,6 +11,7 @@ import unittest
 sys.path.insert(0, os.path.join(os.path.dirname(os.path.abspath(__file__)), "..", "..", "server", "tests"))
 
 from harness import PATIENCE, Server, by_the_clock, needs_loopback, needs_programs  # noqa: E402
+from times import patiently  # noqa: E402
 from wozgirt import (Circle, Client, Holds, Lock, LockLost, NoSuchLock, NotHolder, NotInTime, TooMany, Waits,  # noqa: E402
                      aio)
 
@@ -37,8 +38,8 @@ class Threads(unittest.TestCase):
             self.assertEqual(most, [1])
             self.assertEqual(tokens, list(range(1, 1201)))
 
-    @by_the_clock  # a server that is late to answer is left
-    def test_not_in_time_and_try(self, _):
+    @patiently
+    def test_not_in_time_and_try(self):
         with Server() as server, Client(server.path) as one, Client(server.path) as two:
             token = one.acquire("a")
             self.assertIsNone(two.try_acquire("a"))
@@ -97,7 +98,7 @@ class Threads(unittest.TestCase):
         lease = 0.8 * longer
         with Server(lease=lease) as server, Client(server.path, lease=lease) as client, Client(server.path) as other:
             client.acquire("a")
-            time.sleep(2.5 * lease)
+            time.sleep(1.5 * lease)
             client.check()
             self.assertIsNone(other.try_acquire("a"))
 
@@ -109,7 +110,7 @@ class Threads(unittest.TestCase):
             got = []
             thread = threading.Thread(target=lambda: got.append(two.acquire("a")))
             thread.start()
-            time.sleep(2.5 * lease)
+            time.sleep(1.5 * lease)
             one.release("a", token)
             thread.join(PATIENCE)
             self.assertEqual(got, [2])
@@ -123,9 +124,10 @@ class Threads(unittest.TestCase):
             begun = time.monotonic()
             server.process.send_signal(19)
             with self.assertRaises(LockLost):
-                while True:
+                is_over = False
+                while not is_over:
+                    is_over = time.monotonic() > begun + lease  # then it raises
                     client.check()
-                    self.assertLess(time.monotonic() - begun, lease)
                     time.sleep(0.01)
 
     @by_the_clock
@@ -214,13 +216,13 @@ class Tasks(unittest.IsolatedAsyncioTestCase):
             await asyncio.gather(*(work() for _ in range(8)))
             self.assertEqual(tokens, list(range(1, 401)))
 
-    @by_the_clock
-    async def test_not_in_time_and_errors(self, longer):
+    @patiently
+    async def test_not_in_time_and_errors(self):
         with Server() as server:
             one, two = await aio.Client.connect(server.path), await aio.Client.connect(server.path)
             token = await one.acquire("a", label=5)
             with self.assertRaises(NotInTime):
-                await two.acquire("a", wait=0.1 * longer)
+                await two.acquire("a", wait=0.1)
             self.assertIsNone(await two.try_acquire("a"))
             with self.assertRaises(NoSuchLock):
                 await two.acquire("nothing")
@@ -235,6 +237,7 @@ class Tasks(unittest.IsolatedAsyncioTestCase):
             await one.close()
             await two.close()
 
+    @patiently
     async def test_cancelled_at_each_moment(self):
         with Server() as server:
             one, two = await aio.Client.connect(server.path), await aio.Client.connect(server.path)

@@ -13,24 +13,23 @@ import unittest
 
 sys.path.insert(0, os.path.join(os.path.dirname(os.path.abspath(__file__)), "..", "..", "server", "tests"))
 
-from harness import PATIENCE, Server, needs_loopback, needs_programs, wait_until  # noqa: E402
+from harness import PATIENCE, Server, by_the_clock, needs_loopback, needs_programs, wait_until  # noqa: E402
+from times import or_never, patiently  # noqa: E402
 from wozgirt import Client, Lock, LockLost, NotInTime, Session, aio  # noqa: E402
+from wozgirt.client import WITHDRAW  # noqa: E402
 from wozgirt.wire import connected  # noqa: E402
 
+#: how long a call waits, and how much later it may end; on a machine that is busy that is more, see `by_the_clock`
 WAIT, LATE = 0.3, 0.2
 
 
 def tried_again(test):
-    """The test may fail three times: a machine that is busy is late now and then, but not always."""
+    """As `by_the_clock`: calls may end so much later. No other time ends them, see `or_never`."""
     @functools.wraps(test)
-    def run(self):
-        for _ in range(3):
-            try:
-                return test(self)
-            except AssertionError:
-                self.doCleanups()
+    def run(self, longer):
+        self.longer = longer
         return test(self)
-    return run
+    return by_the_clock(or_never(run))
 
 
 class Stopped:
@@ -47,6 +46,8 @@ class Stopped:
 
 
 class Timed(unittest.TestCase):
+    longer = 1
+
     def in_time(self, call, *words, wait=WAIT, error=NotInTime):
         """Calls it, which has to fail when its time is over; the error."""
         begun = time.monotonic()
@@ -54,7 +55,7 @@ class Timed(unittest.TestCase):
             call(*words)
         took = time.monotonic() - begun
         self.assertGreaterEqual(took, wait - 0.01)
-        self.assertLess(took, wait + LATE)
+        self.assertLess(took, wait + LATE * self.longer)
         return caught.exception
 
 
@@ -68,6 +69,12 @@ def silent_door(folder=None):
     door.bind(path)
     door.listen(0)
     return path, door
+
+
+class Times(unittest.TestCase):
+    def test_of_a_withdrawal(self):
+        """What a test that is late may not show."""
+        self.assertLess(WITHDRAW, LATE)
 
 
 @needs_programs
@@ -111,6 +118,7 @@ class StandingStill(Timed):
                     self.in_time(lambda: asyncio.run(aio.Client.connect(server.path, lease=lease, timeout=WAIT)), error=TimeoutError)
 
     @tried_again
+    @patiently
     def test_what_is_withdrawn_leaves_the_client_as_it_was(self):
         with Server() as server, Client(server.path) as one, Client(server.path) as two:
             token, kept = one.acquire("a"), two.acquire("b")
@@ -158,14 +166,12 @@ class FullQueue(Timed):
 
     @tried_again
     def test_of_a_unix_socket(self):
-
         with tempfile.TemporaryDirectory(dir="/tmp") as folder:
             path, _ = self.fill(folder)
             self.in_time(connected, path, WAIT, error=TimeoutError)
             self.in_time(Lock(path, "a", wait=WAIT).acquire)
 
     def test_that_gets_room(self):
-
         with tempfile.TemporaryDirectory(dir="/tmp") as folder:
             path, door = self.fill(folder)
             timer = threading.Timer(0.2, lambda: [door.accept()[0].close() for _ in range(2)])

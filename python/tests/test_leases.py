@@ -58,7 +58,7 @@ def keep_silent(server, lease):
     """Clients that ask for no lease hold a lock each, and say nothing for longer than the server's lease."""
     with Client(server.path) as client, Client(server.path) as other, Lock(server.path, "b", wait=PATIENCE):
         token = client.acquire("a", wait=PATIENCE)
-        time.sleep(2.5 * lease)
+        time.sleep(1.5 * lease)
         client.check()
         found = [other.try_acquire(name) for name in "ab"]
         client.release("a", token)
@@ -70,7 +70,7 @@ async def keep_silent_in_tasks(server, lease):
     client, other = await aio.Client.connect(server.path), await aio.Client.connect(server.path)
     async with client, other, aio.Lock(server.path, "b", wait=PATIENCE):
         token = await client.acquire("a", wait=PATIENCE)
-        await asyncio.sleep(2.5 * lease)
+        await asyncio.sleep(1.5 * lease)
         client.check()
         found = [await other.try_acquire(name) for name in "ab"]
         await client.release("a", token)
@@ -109,7 +109,9 @@ class Given(Trial):
             begun = time.monotonic()
             try:
                 with self.assertRaises(LockLost):
-                    while time.monotonic() < begun + lease:
+                    is_over = False
+                    while not is_over:
+                        is_over = time.monotonic() > begun + lease  # then it raises
                         client.check()
                         time.sleep(0.01)
             finally:

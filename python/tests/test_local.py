@@ -8,12 +8,12 @@ import threading
 import time
 import unittest
 
-sys.path.insert(0, os.path.dirname(os.path.dirname(os.path.abspath(__file__))))
+sys.path.insert(0, os.path.join(os.path.dirname(os.path.abspath(__file__)), "..", "..", "server", "tests"))
 
+from harness import PATIENCE, by_the_clock  # noqa: E402
 from wozgirt import NotInTime, local  # noqa: E402
 from wozgirt.local import Locks  # noqa: E402
 
-PATIENCE = 50
 needs_library = unittest.skipUnless(os.environ.get("WOZGIRT_LIBRARY"), "WOZGIRT_LIBRARY names no library of rings")
 
 
@@ -99,13 +99,14 @@ class LocksOfThreads(unittest.TestCase):
             locks.release(0, token)
             self.assertEqual(locks.try_acquire(0), 2)
 
-    def test_a_grant_that_crosses_the_end_of_the_wait(self):
+    @by_the_clock
+    def test_a_grant_that_crosses_the_end_of_the_wait(self, longer):
         with Locks(1) as locks:
             token = locks.acquire(0)
-            late = Asker(locks, 0.5)
+            late = Asker(locks, 0.5 * longer)
             waiting(locks, 1)
             with locks._mutex:
-                time.sleep(1)  # the time is over, and the thread cannot say so yet
+                time.sleep(longer)  # the time is over, and the thread cannot say so yet
                 locks._ask("release", threading.get_ident(), 0, token)
             waiting(locks, 0)
             late.end()
@@ -123,7 +124,7 @@ class LocksOfThreads(unittest.TestCase):
                 holder = Asker(locks)
                 while holder.token is None:
                     time.sleep(0.001)
-                threading.Timer(0.1, os.kill, (os.getpid(), signal.SIGUSR1)).start()
+                threading.Thread(target=lambda: waiting(locks, 1) or os.kill(os.getpid(), signal.SIGUSR1)).start()
                 with self.assertRaises(KeyboardInterrupt):
                     locks.acquire(0, wait=PATIENCE)
                 self.assertEqual(locks._waiters, {})

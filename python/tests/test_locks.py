@@ -65,6 +65,7 @@ class OfThreads(unittest.TestCase):
             thread.start()
             thread.join(PATIENCE)
             self.assertEqual(got, [True])
+            server.wait_for_waiters("a", 0)
             with self.assertRaises(RuntimeError):
                 lock.acquire()
             lock.release()
@@ -93,6 +94,7 @@ class OfThreads(unittest.TestCase):
             lock = Lock(server.path, "a", wait=0.05)
             with self.assertRaises(NotInTime):
                 lock.acquire()
+            server.wait_for_waiters("a", 0)
             timer = threading.Timer(0.3, other.release, ("a", token))
             timer.start()
             self.assertEqual(lock.acquire(timeout=PATIENCE), token + 1)
@@ -310,12 +312,14 @@ class OfTasks(unittest.IsolatedAsyncioTestCase):
                 await lock.acquire()
             with self.assertRaises(NotInTime):
                 await asyncio.create_task(other.acquire())
+            await asyncio.get_running_loop().run_in_executor(None, server.wait_for_waiters, "a", 0)
             await lock.release()
             with self.assertRaises(RuntimeError):
                 await lock.release()
-            async with other as token:
-                self.assertEqual((token, other.locked), (2, True))
-                await other.release()
+            later = aio.Lock(server.path, "a", wait=PATIENCE)
+            async with later as token:
+                self.assertEqual((token, later.locked), (2, True))
+                await later.release()
 
     @needs_loopback
     async def test_a_place_as_a_text(self):

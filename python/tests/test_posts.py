@@ -1,5 +1,6 @@
 """The part of HTTP by which etcd is asked, with a thread that answers."""
 
+import functools
 import os
 import socket
 import sys
@@ -9,9 +10,11 @@ import unittest
 sys.path.insert(0, os.path.dirname(os.path.dirname(os.path.abspath(__file__))))
 sys.path.insert(0, os.path.join(os.path.dirname(os.path.abspath(__file__)), "..", "..", "server", "tests"))
 
-from harness import PATIENCE, needs_loopback  # noqa: E402
-from wozgirt.etcd import Denied, Member, NoAnswer, Silent  # noqa: E402
+from harness import PATIENCE, by_the_clock, needs_loopback  # noqa: E402
+from wozgirt import etcd  # noqa: E402
+from wozgirt.etcd import Denied, NoAnswer, Silent  # noqa: E402
 
+Member = functools.partial(etcd.Member, patience=PATIENCE)
 CHUNKED = b"HTTP/1.1 200 OK\r\nTransfer-Encoding: chunked\r\n\r\n"
 
 
@@ -98,9 +101,10 @@ class Posts(unittest.TestCase):
             with Door([[CHUNKED + chunks(*parts, b"")]]) as door:
                 self.assertEqual(self.told(door, NoAnswer, "it ended the stream"), [{"n": i} for i in range(5)])
 
-    def test_a_stream_that_is_silent(self):
+    @by_the_clock
+    def test_a_stream_that_is_silent(self, longer):
         with Door([[CHUNKED + chunks(b'{"result": {"n": 1}}\n')], None]) as door:
-            self.assertEqual(self.told(door, Silent, "timed out", patience=0.1), [{"n": 1}])
+            self.assertEqual(self.told(door, Silent, "timed out", patience=0.1 * longer), [{"n": 1}])
 
     def test_a_stream_that_has_an_error(self):
         with Door([[CHUNKED + chunks(b'{"result": {"n": 1}}\n{"error": {"message": "no leader"}}\n')]]) as door:

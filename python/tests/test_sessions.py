@@ -377,7 +377,10 @@ class Sessions(unittest.TestCase):
                     inside[0] -= 1
 
         def disturb():
-            while not is_over.wait(0.02):
+            # not for ever: on a slow machine each connection might be cut before it is of use
+            for _ in range(200):
+                if is_over.wait(0.02):
+                    return
                 self.one.cut()
                 self.two.cut()
         # one thread of each client holds at a time, since a client waits for one lock at a time

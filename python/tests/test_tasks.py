@@ -7,35 +7,34 @@ import logging
 import os
 import random
 import sys
+import threading
 import time
 import unittest
+from unittest import mock
 
 sys.path.insert(0, os.path.join(os.path.dirname(os.path.abspath(__file__)), "..", "..", "server", "tests"))
 
-from harness import PATIENCE, Server, needs_loopback, needs_programs, wait_until  # noqa: E402
+from harness import PATIENCE, Server, by_the_clock, needs_loopback, needs_programs, wait_until  # noqa: E402
 from test_deadlines import LATE, WAIT, Stopped, silent_door  # noqa: E402
 from test_sessions import Arbiter, Door  # noqa: E402
+from times import or_never, patiently  # noqa: E402
 from wozgirt import Holds, LockLost, NotInTime, aio  # noqa: E402
 
 logging.getLogger("asyncio").setLevel(logging.ERROR)  # that a server is started in between takes long
 
 
 def tried_again(test):
-    """As that of test_deadlines, for a coroutine. It begins anew: what was asked before may be done later."""
+    """As that of test_deadlines, for a coroutine."""
     @functools.wraps(test)
-    async def run(self):
-        for _ in range(3):
-            try:
-                return await test(self)
-            except AssertionError:
-                self.tearDown()
-                self.doCleanups()
-                self.setUp()
+    async def run(self, longer):
+        self.longer = longer
         return await test(self)
-    return run
+    return by_the_clock(or_never(run))
 
 
 class Timed(unittest.IsolatedAsyncioTestCase):
+    longer = 1
+
     async def in_time(self, call, wait=WAIT, error=NotInTime):
         """Awaits it, which has to fail when its time is over; the error."""
         begun = time.monotonic()
@@ -43,7 +42,7 @@ class Timed(unittest.IsolatedAsyncioTestCase):
             await call
         took = time.monotonic() - begun
         self.assertGreaterEqual(took, wait - 0.01)
-        self.assertLess(took, wait + LATE)
+        self.assertLess(took, wait + LATE * self.longer)
         return caught.exception
 
 
@@ -57,7 +56,8 @@ class Tasks(Timed):
                 self.assertIn("connection is closed", str(await self.in_time(one.acquire("a", wait=WAIT))))
                 with self.assertRaises(LockLost):
                     one.check()
-                await self.in_time(asyncio.wait_for(two.acquire("a"), WAIT), error=asyncio.TimeoutError)
+                with mock.patch("wozgirt.aio.INTERRUPTED", 1):
+                    await self.in_time(asyncio.wait_for(two.acquire("a"), WAIT), error=asyncio.TimeoutError)
                 self.assertIn("nothing was asked", str(await self.in_time(two.acquire("b", wait=WAIT))))
                 await asyncio.sleep(1)
                 with self.assertRaises(LockLost):
@@ -81,6 +81,7 @@ class Tasks(Timed):
                 await client.close()
 
     @tried_again
+    @patiently
     async def test_what_is_withdrawn_leaves_the_client_as_it_was(self):
         with Server() as server:
             async with await aio.Client.connect(server.path) as one, await aio.Client.connect(server.path) as two:
@@ -93,6 +94,7 @@ class Tasks(Timed):
                 await one.release("a", token)
                 self.assertEqual(await two.acquire("a", wait=0), token + 1)
 
+    @patiently
     async def test_cancelled_at_any_moment(self):
         chance = random.Random(5)
         with Server() as server:
@@ -143,8 +145,8 @@ class Tasks(Timed):
                 kept.close()
 
     async def test_every_answer_is_life(self):
-        with Server(lease=2) as server:
-            async with await aio.Client.connect(server.path, lease=2) as client:
+        with Server() as server:
+            async with await aio.Client.connect(server.path, lease=20) as client:
                 before = client._spoken
                 await asyncio.sleep(0.05)
                 await client.try_acquire("a")
@@ -216,6 +218,26 @@ class Several(Timed):
         await asyncio.gather(*(work() for _ in range(4)))
         self.assertEqual(tokens, sorted(set(tokens)))
         wait_until(lambda: self.arbiter.holders == {})
+
+    async def test_a_grant_that_crosses_a_cancellation(self):
+        """It is given back before the next call has its turn, which waits for it."""
+        async with await aio.Session.connect([it.place for it in self.doors]) as client:
+            gate, acquired = threading.Event(), client._client._acquired
+
+            def acquired_late(*words):
+                token = acquired(*words)
+                gate.wait(PATIENCE)
+                return token
+            with mock.patch.object(client._client, "_acquired", acquired_late):
+                task = asyncio.create_task(client.acquire("a"))
+                await asyncio.get_running_loop().run_in_executor(None, wait_until, lambda: self.arbiter.holders)
+                task.cancel()
+                with self.assertRaises(asyncio.CancelledError):
+                    await task
+                later = asyncio.create_task(client.acquire("a", wait=PATIENCE))
+                await asyncio.sleep(0.1)
+                gate.set()
+                self.assertEqual(await later, 2)
 
     @tried_again
     async def test_servers_that_say_nothing(self):

@@ -8,7 +8,7 @@ import time
 from typing import Callable, List, Optional, TypeVar
 
 from . import session
-from .client import CLOSE, WITHDRAW
+from .client import CLOSE, WITHDRAW, Answer
 from .lines import LockError, LockStatus, Places
 from .wire import CONNECT, Late
 
@@ -27,6 +27,17 @@ class _Stoppable(session.Session):
     def __init__(self, servers: Places, lease: Optional[float], timeout: float):
         self.of_thread = threading.local()
         super().__init__(servers, lease=lease, timeout=timeout)
+
+    def _hand_over(self, taken: List[int], do: Callable[[], Answer], until: Optional[float] = None) -> Answer:
+        stop: Optional[threading.Event] = getattr(self.of_thread, "stop", None)
+
+        def do_unless_called_off() -> Answer:
+            token = do()
+            if token is not None and stop is not None and stop.is_set():
+                self.of_thread.stop = None
+                raise _CalledOff  # before the next call has its turn
+            return token
+        return super()._hand_over(taken, do_unless_called_off, until)
 
     def _pump(self, until: Optional[float]) -> None:
         stop: Optional[threading.Event] = getattr(self.of_thread, "stop", None)
@@ -131,6 +142,8 @@ class Session:
     def _unwanted(self, outcome: "asyncio.Future[Optional[int]]", name: str) -> None:
         if not outcome.cancelled() and outcome.exception() is None and outcome.result() is not None:
             token = outcome.result()
+            if self._client._held.get(name) == token:
+                self._client._unclaimed[name] = token  # type: ignore[assignment] # the next call gives it back, if it is earlier
             _begun(lambda: self._client._give_back(name, token))  # type: ignore[arg-type]
 
 

@@ -2,14 +2,18 @@
 """crash.py [SECONDS [SEED]]: clients take and release locks while the engine or the server is killed at random moments, or a
 fault is written. Then the journal is judged:
 
-- nobody is inside while another is, across restarts too;
-- tokens rise, across restarts, and each that was told is a grant of the journal, with the client's label;
+- nobody is inside while another is, across restarts too, unless that has not looked for as long as a hold outlives a restart: a machine
+  that is busy may let a thread stand still inside;
+- tokens rise, across restarts: one that was asked for when another one had been told is greater. Each that was told is a grant of the
+  journal, with the client's label;
 - in the journal each grant of a hold is followed by its end before the next one;
 - `bench/small_recover.py`, which knows nothing of this program, finds the history of each segment legal;
 - `ring_tool check` finds the chain of segments legal, and counts the grants that the journal has (the engine's double has one segment,
   and checks nothing).
 """
 
+import bisect
+import itertools
 import os
 import random
 import signal
@@ -54,7 +58,8 @@ class Trial:
         self.path = path
         self.stop = threading.Event()
         self.mutex = threading.Lock()
-        self.inside, self.told, self.faults, self.losses = {}, [], [], 0
+        # who is inside, with the time at which it still held the lock; what was told, with the times before and after
+        self.inside, self.told, self.faults, self.losses, self.late = {}, [], [], 0, 0
 
     def work(self, number):
         draw = random.Random(number)
@@ -69,21 +74,33 @@ class Trial:
                 time.sleep(0.01)
 
     def hold(self, client, draw, number):
-        name = draw.choice(NAMES)
+        name, begun = draw.choice(NAMES), time.monotonic()
         token = client.acquire(name, label=number)
         with self.mutex:
-            if name in self.inside:
-                self.faults.append(f"{number} is inside {name} while {self.inside[name]} is")
-            self.inside[name] = number
-            self.told.append((name, token, number))
+            self.told.append((name, token, number, begun, time.monotonic()))
+        is_inside = False
         try:
-            for _ in range(draw.randrange(3)):
-                time.sleep(0.001)
+            for _ in range(1 + draw.randrange(3)):
+                known = time.monotonic()
                 client.check()
+                with self.mutex:
+                    if not is_inside and name in self.inside:
+                        self.meet(name, number)
+                    self.inside[name], is_inside = (number, known), True
+                time.sleep(0.001)
         finally:
             with self.mutex:
-                self.inside.pop(name, None)
+                if self.inside.get(name, (None,))[0] == number:
+                    del self.inside[name]
         client.release(name, token)
+
+    def meet(self, name, number):
+        """Another one is inside. It may be, if it does not know yet that its hold is over."""
+        other, known = self.inside[name]
+        if time.monotonic() - known < float(LEASE):
+            self.faults.append(f"{number} is inside {name} while {other} is")
+        else:
+            self.late += 1
 
 
 def disturb(server, draw):
@@ -121,14 +138,17 @@ def judge_holds(calls, told):
             if not open_.get(ring):
                 wrong.append("an end of no hold: " + line)
             open_[ring] = False
-    last = dict.fromkeys(NAMES, 0)
-    for name, token, label in told:
-        if token <= last[name]:
-            wrong.append(f"token {token} of {name} does not rise")
-        last[name] = token
-        if grants.get((name, token)) != label:
-            wrong.append(f"token {token} of {name} is not in the journal as {label}'s")
-    return wrong
+    wrong += [f"token {token} of {name} is not in the journal as {label}'s" for name, token, label, *_ in told
+              if grants.get((name, token)) != label]
+    return wrong + [it for name in NAMES for it in judge_order([it for it in told if it[0] == name])]
+
+
+def judge_order(told):
+    """What is wrong with the tokens of a lock: one is not greater than one that had been told before it was asked for."""
+    told = sorted(told, key=lambda it: it[4])
+    times, most = [it[4] for it in told], [0, *itertools.accumulate((it[1] for it in told), max)]
+    return [f"token {token} of {name} does not rise" for name, token, _, begun, _ in told
+            if token <= most[bisect.bisect_left(times, begun)]]
 
 
 def said_of(text):
@@ -176,14 +196,14 @@ def main():
             done[what] = done.get(what, 0) + 1
         trial.stop.set()
         for thread in threads:
-            thread.join(30)
+            thread.join(PATIENCE)
         server.stop()
         calls = server.calls()
         verdict, of_chain = judge_chain(server.journal, calls)
         wrong = trial.faults + judge_holds(calls, trial.told) + judge_segments(server.journal) + of_chain
     kills = ", ".join(f"{what} {count}" for what, count in sorted(done.items()))
-    print(f"seed {seed} seconds {seconds:.0f} disturbed: {kills}; connections lost {trial.losses}, grants told {len(trial.told)}; "
-          f"verdict {verdict}")
+    print(f"seed {seed} seconds {seconds:.0f} disturbed: {kills}; connections lost {trial.losses}, grants told {len(trial.told)}, "
+          f"late {trial.late}; verdict {verdict}")
     for line in wrong[:10]:
         print(line)
     print("2 passed, 0 failed" if not wrong and trial.told else "0 passed, 2 failed")

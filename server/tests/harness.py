@@ -88,6 +88,7 @@ def by_the_clock(test):
     def begin_anew(self, fault):
         if isinstance(fault, (TooEarly, unittest.SkipTest)):
             raise fault
+        self.tearDown()
         self.doCleanups()
         self.setUp()
 
@@ -307,6 +308,26 @@ def at_least(seconds, begun):
     """TooEarly if less time has passed since."""
     if time.monotonic() - begun < seconds:
         raise TooEarly(f"after {time.monotonic() - begun:.3f} s, not {seconds}")
+
+
+def soonest(measure, limit, tries=8):
+    """The least of what is measured in so many tries; of one that is within the limit no other is made. What a program does too late, it
+    does too late in each of them, and what a busy machine does in one may be over by the next."""
+    found = measure()
+    for _ in range(tries - 1):
+        if found <= limit:
+            break
+        found = min(found, measure())
+    return found
+
+
+def unless_late(do, is_late, tries=20):
+    """What comes of it. Where that says that the other end did not answer in time, as on a machine that is busy, it is done again."""
+    for _ in range(tries - 1):
+        found = do()
+        if not is_late(found):
+            return found
+    return do()
 
 
 def wait_until(condition, seconds=PATIENCE):

@@ -11,7 +11,7 @@ from typing import NamedTuple
 
 import journals
 from harness import FOLDER, PATIENCE, TOP
-from test_header import compiles
+from test_header import INCLUDE, compiles, patient_headers
 
 DONE, LATE, REFUSED, LOST, NAME, CHILD, SILENT = range(7)
 SOURCE = os.path.join(TOP, "server", "tests", "header_client.c")
@@ -21,8 +21,8 @@ MARGIN = 0.2
 
 
 def margin(longer):
-    """The same in a try of `by_the_clock`: a machine that is busy has more."""
-    return MARGIN * min(longer, 5)
+    """The same in a try of `by_the_clock`: a machine that is busy has more. All that a client waits for else is longer."""
+    return MARGIN * longer
 
 
 needs_c = unittest.skipUnless(shutil.which("cc"), "no C compiler")
@@ -40,9 +40,9 @@ class Answer(NamedTuple):
 
 
 class Clients(unittest.TestCase):
-    """Builds the program, and runs it."""
+    """Builds the program, and runs it; where it is patient, by headers that are."""
 
-    words = []
+    words, is_patient = [], False
 
     @classmethod
     def setUpClass(cls):
@@ -50,7 +50,8 @@ class Clients(unittest.TestCase):
         cls.programs = tempfile.mkdtemp(prefix="wozgirt-", dir=FOLDER)
         cls.addClassCleanup(shutil.rmtree, cls.programs)
         cls.program = os.path.join(cls.programs, "client")
-        built = compiles("cc", "-std=c11", "-O1", *cls.words, "-o", cls.program, SOURCE)
+        cls.include = patient_headers(cls.programs) if cls.is_patient else INCLUDE
+        built = compiles("cc", "-std=c11", "-O1", *cls.words, "-o", cls.program, SOURCE, include=cls.include)
         if built != (True, ""):
             raise AssertionError(built)
 
@@ -59,7 +60,7 @@ class Clients(unittest.TestCase):
         self.addCleanup(it.end)
         return it
 
-    def client(self, place, milliseconds=10000, result=DONE):
+    def client(self, place, milliseconds=PATIENCE * 1000, result=DONE):
         it = self.program_that_runs()
         self.assertEqual(it.ask(f"open {place} {milliseconds}").result, result)
         return it
@@ -71,7 +72,8 @@ class Interrupted(Clients):
     def interrupted(self, places, calls):
         """Runs one program for each place, and keeps the holds that they were told; how often connections were lost."""
         program = os.path.join(self.programs, "interrupted")
-        self.assertEqual(compiles("cc", "-std=c11", "-O1", *self.words, "-o", program, INTERRUPTED), (True, ""))
+        built = compiles("cc", "-std=c11", "-O1", *self.words, "-o", program, INTERRUPTED, include=self.include)
+        self.assertEqual(built, (True, ""))
         all_of_them = [subprocess.Popen([program, place, str(seed), str(calls)], stdout=subprocess.PIPE, text=True)
                        for seed, place in enumerate(places)]
         told = [it.communicate(timeout=2 * PATIENCE)[0].splitlines() for it in all_of_them]

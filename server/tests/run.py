@@ -19,7 +19,7 @@ from concurrent.futures import ThreadPoolExecutor
 
 from harness import FOLDER, stop_all
 
-LIMIT, LAST_LIMIT = 120, 30
+LIMIT, LAST_LIMIT = 180, 30
 # Most tests wait most of their time
 SIDE_BY_SIDE = 2 * len(os.sched_getaffinity(0))
 BUSY = ("test_floods.py", "test_noise.py")

@@ -1,5 +1,6 @@
 """`--wait` ends when it should, whatever the engine, the server or the network does; and answers are those of what was asked."""
 
+import math
 import os
 import signal
 import socket
@@ -8,29 +9,46 @@ import time
 import unittest
 
 from doubles import Double, Full
-from harness import COMMAND, PATIENCE, Server, by_the_clock, needs_loopback, needs_programs, say, wait_until
+from harness import COMMAND, PATIENCE, Server, by_the_clock, needs_loopback, needs_programs, say, soonest, unless_late, wait_until
 from test_command import close, run, start
 from test_several import Arbiter, Commands, Door
 
 #: what `--wait` is given, and how much later it may end
 WAIT, LATE = 0.5, 0.2
-ASKED = "wozgirt: not in time: the server does not answer; the connection is closed, so nothing waits for the lock\n"
-NOT_ASKED = "wozgirt: not in time: the server does not answer; the lock was not asked for\n"
-WORDS = ("--wait", str(WAIT), "-E", "9", "a", "--", "true")
+NOT_IN_TIME = "wozgirt: not in time: "
+ASKED = NOT_IN_TIME + "the server does not answer; the connection is closed, so nothing waits for the lock\n"
+NOT_ASKED = NOT_IN_TIME + "the server does not answer; the lock was not asked for\n"
+
+
+def words(wait=WAIT):
+    return "--wait", str(wait), "-E", "9", "a", "--", "true"
+
+
+def latest(longer, wait=WAIT):
+    """After what time it has ended, in a try of `by_the_clock`. All that it waits for else takes longer, or is told otherwise."""
+    return wait + LATE * min(longer, 5)
 
 
 class InTime(unittest.TestCase):
-    def ends_in_time(self, server, message, longer, *more):
+    def once(self, server, message, *more):
+        """How long it takes to say this, which is not less than it is given; for ever, if it came less far in its time."""
         begun = time.monotonic()
-        it = start(server, "lock", *more, *WORDS)
+        it = start(server, "lock", *more, *words())
         try:
-            self.assertEqual((it.wait(PATIENCE), it.stderr.read()), (9, message))
-            took = time.monotonic() - begun
+            status, told, took = it.wait(PATIENCE), it.stderr.read(), time.monotonic() - begun
         finally:
             it.kill()
             it.wait()
             close(it)
-        self.assertTrue(WAIT <= took <= WAIT + LATE * min(longer, 5), took)
+        self.assertGreaterEqual(took, WAIT)
+        if told == NOT_ASKED != message:
+            return math.inf
+        self.assertEqual((status, told), (9, message))
+        return took
+
+    def ends_in_time(self, server, message, longer, *more):
+        limit = latest(longer)
+        self.assertLessEqual(soonest(lambda: self.once(server, message, *more), limit), limit)
 
 
 @needs_programs
@@ -63,12 +81,12 @@ class StandsStill(InTime):
         with Server() as server, server.raw() as sock:
             say(sock, "acquire a 1\n")
             begun = time.monotonic()
-            it = start(server, "lock", *WORDS)
+            it = start(server, "lock", *words(WAIT * longer))
             try:
-                server.wait_for_waiters("a", 1)
+                wait_until(lambda: server.waiters("a") == 1 or it.poll() is not None)
                 server.process.send_signal(signal.SIGSTOP)
                 self.assertEqual((it.wait(PATIENCE), it.stderr.read()), (9, ASKED))
-                self.assertLessEqual(time.monotonic() - begun, WAIT + LATE * min(longer, 5))
+                self.assertLessEqual(time.monotonic() - begun, latest(longer, WAIT * longer))
             finally:
                 it.kill()
                 it.wait()
@@ -76,13 +94,12 @@ class StandsStill(InTime):
                 server.process.send_signal(signal.SIGCONT)
             server.wait_for_waiters("a", 0)
 
-    @by_the_clock
-    def test_a_server_that_answers_has_nothing_to_say(self, _):
+    def test_a_server_that_answers_has_nothing_to_say(self):
         with Server() as server, server.raw() as sock:
             say(sock, "acquire a 1\n")
-            done = run(server, "lock", *WORDS)
+            done = unless_late(lambda: run(server, "lock", *words()), lambda it: it.stderr.startswith(NOT_IN_TIME))
             self.assertEqual((done.returncode, done.stdout, done.stderr), (9, "", ""))
-            self.assertEqual(server.waiters("a"), 0)
+            server.wait_for_waiters("a", 0)
 
 
 @needs_programs
@@ -139,9 +156,14 @@ class Several(Commands):
     def test_no_server_answers(self, longer):
         for door in self.doors:
             door.is_silent = True
-        status, errors, took = self.timed(*WORDS)
-        self.assertEqual((status, errors), (9, NOT_ASKED))
-        self.assertTrue(WAIT <= took <= WAIT + LATE * min(longer, 5), took)
+
+        def once():
+            status, errors, took = self.timed(*words())
+            self.assertEqual((status, errors), (9, NOT_ASKED))
+            self.assertGreaterEqual(took, WAIT)
+            return took
+        limit = latest(longer)
+        self.assertLessEqual(soonest(once, limit), limit)
 
     @by_the_clock
     def test_none_answers_while_another_holds_the_lock(self, longer):
@@ -149,13 +171,12 @@ class Several(Commands):
         for door in self.doors:
             door.is_silent = False
         begun = time.monotonic()
-        it = self.start("lock", *WORDS)
-        while not self.arbiter.lines["a"]:
-            time.sleep(0.005)
+        it = self.start("lock", *words(WAIT * longer))
+        wait_until(lambda: self.arbiter.lines["a"] or it.poll() is not None)
         for door in self.doors:
             door.is_silent = True
         errors = self.finish(it, 9, "")
-        self.assertLessEqual(time.monotonic() - begun, WAIT + LATE * min(longer, 5))
+        self.assertLessEqual(time.monotonic() - begun, latest(longer, WAIT * longer))
         self.assertIn("what was asked is withdrawn at the end of the lease, of 30 s", errors)
 
     @by_the_clock
@@ -170,10 +191,13 @@ class Several(Commands):
 class Answers(unittest.TestCase):
     """Each is compared with the verb and the lock that was asked for."""
 
-    def said(self, answers, *words):
-        with Double(answers) as server:
-            done = run(server, "lock", *words, "a", "--", "sh", "-c", "echo in $WOZGIRT_TOKEN")
-            return done.returncode, done.stdout, done.stderr
+    def said(self, answers, *more):
+        """What it comes to, if this double of a server answered in time, when that was over."""
+        def once():
+            with Double(answers) as server:
+                done = run(server, "lock", *more, "a", "--", "sh", "-c", "echo in $WOZGIRT_TOKEN")
+                return done.returncode, done.stdout, done.stderr
+        return unless_late(once, lambda it: it[2].startswith(NOT_IN_TIME))
 
     def test_to_an_acquire(self):
         for line in ("granted b 7", "waiting b 0", "busy a", "released a", "cancelled a", "granted a", "granted a x", "refused holds b"):
@@ -190,12 +214,12 @@ class Answers(unittest.TestCase):
 
     @by_the_clock
     def test_to_a_cancel(self, longer):
-        waits, words = {"acquire": ["waiting a 0"], "release": ["released a"]}, ("-w", str(0.1 * longer))
+        waits, more = {"acquire": ["waiting a 0"], "release": ["released a"]}, ("-w", str(0.1 * longer))
         for line in ("cancelled b", "released a", "granted b 7", "waiting a 0"):
-            self.assertEqual(self.said({**waits, "cancel": [line]}, *words), (76, "", f"wozgirt: the server said: {line}\n"))
-        self.assertEqual(self.said({**waits, "cancel": ["cancelled a"]}, *words), (1, "", ""))
+            self.assertEqual(self.said({**waits, "cancel": [line]}, *more), (76, "", f"wozgirt: the server said: {line}\n"))
+        self.assertEqual(self.said({**waits, "cancel": ["cancelled a"]}, *more), (1, "", ""))
         came_first = ["granted a 7", "refused waiter a"]
-        self.assertEqual(self.said({**waits, "cancel": came_first}, *words), (0, "in 7\n", ""))
+        self.assertEqual(self.said({**waits, "cancel": came_first}, *more), (0, "in 7\n", ""))
 
     @by_the_clock
     def test_a_sign_of_life_beside_a_cancel(self, longer):
@@ -207,10 +231,14 @@ class Answers(unittest.TestCase):
             return pings[1:2]  # the first one is answered behind the cancel
         answers = {"lease": [f"lease {1000 * longer}"], "ping": ping, "acquire": ["waiting a 0"], "release": ["released a"],
                    "cancel": ["pong", "granted a 7", "refused waiter a"]}
-        with Double(answers) as server:
-            done = run(server, "lock", "--lease", str(longer), "-w", str(0.35 * longer), "a", "--", "sleep", str(longer))
-            self.assertEqual((done.returncode, done.stderr), (0, ""))
-            self.assertGreater(len(pings), 2)
+
+        def once():
+            pings.clear()
+            with Double(answers) as server:
+                return run(server, "lock", "--lease", str(longer), "-w", str(0.35 * longer), "a", "--", "sleep", str(longer))
+        done = unless_late(once, lambda it: it.stderr.startswith(NOT_IN_TIME), 5)
+        self.assertEqual((done.returncode, done.stderr), (0, ""))
+        self.assertGreater(len(pings), 2)
 
     def said_in_a_session(self, answers):
         """Both of the servers are one; or there is one, and the session is attached."""

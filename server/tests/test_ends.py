@@ -14,9 +14,8 @@ import urllib.request
 
 from harness import FOLDER, PATIENCE, SERVER, Server, by_the_clock, needs_loopback, needs_programs, read_lines, say, wait_until
 
-# seconds in which the server has ended, on a machine that is busy: 10 for what was asked, and some more for what stands still
-LIMIT = 25
-
+# seconds in which the server has ended, on a machine that is busy: 10 for what was asked, and more for what stands still
+LIMIT = 10 + PATIENCE
 
 # the greatest number of 64 bits
 MOST = (1 << 64) - 1
@@ -121,7 +120,7 @@ class Hangs(unittest.TestCase):
             os.kill(engine, signal.SIGSTOP)
             with server.raw() as sock:
                 sock.sendall(b"acquire a 1\n")
-                wait_until(lambda: re.search(r"engine has not answered for [2-9]\.", server.text_of_log()))
+                wait_until(lambda: re.search(r"engine has not answered for ([2-9]|\d\d+)\.", server.text_of_log()))
                 self.assertIn("\nwozgirt_engine_up 0\n", shown("/metrics"))
                 age = float(shown("/metrics").split("\nwozgirt_engine_oldest_question_seconds ")[1].split("\n")[0])
                 self.assertGreater(age, 2)
@@ -133,13 +132,14 @@ class Hangs(unittest.TestCase):
             wait_until(lambda: "engine answers again, after " in server.text_of_log())
             self.assertIn("\nwozgirt_engine_up 1\n", shown("/metrics"))
 
-    def test_it_is_ended_in_the_end(self):
-        with Server("--engine-patience", "1.5", lease="1") as server, server.raw() as sock:
+    @by_the_clock
+    def test_it_is_ended_in_the_end(self, longer):
+        with Server("--engine-patience", str(1.5 * longer), lease="1") as server, server.raw() as sock:
             first = server.engine_number()
             os.kill(first, signal.SIGSTOP)
             self.assertEqual(sock.recv(10), b"")  # what it held is the past of that engine
             wait_until(lambda: server.text_of_log().count("engine ready") == 2)
-            self.assertNotEqual(server.engine_number(), first)
+            wait_until(lambda: server.engine_number() not in (None, first))
             self.assertIn(" s, and is ended\n", server.text_of_log())  # before the second start
             with server.raw() as sock:
                 self.assertEqual(say(sock, "acquire a 1\n"), ["granted a 1"])

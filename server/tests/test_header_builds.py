@@ -11,6 +11,7 @@ import test_lock_header
 import test_session_calls
 from harness import PATIENCE, TOP
 from header_clients import needs_c
+from test_header import TO_BUILD
 
 INCLUDE = os.path.join(TOP, "include")
 STRICT = ["-Wall", "-Wextra", "-Wconversion", "-Wshadow", "-Wpedantic", "-Werror"]
@@ -66,7 +67,7 @@ class Builds(unittest.TestCase):
                 file.write(text)
 
     def compiles(self, compiler, *words):
-        it = subprocess.run([compiler, *STRICT, "-I", INCLUDE, *words], capture_output=True, text=True, timeout=PATIENCE, check=False,
+        it = subprocess.run([compiler, *STRICT, "-I", INCLUDE, *words], capture_output=True, text=True, timeout=TO_BUILD, check=False,
                             cwd=self.folder)
         self.assertEqual((it.returncode, it.stderr), (0, ""))
 
@@ -108,7 +109,7 @@ class Builds(unittest.TestCase):
     def test_it_is_linked_once(self):
         """Declared alone, the functions are not in the program's own files."""
         self.compiles("cc", "-DWOZGIRT_SESSION_LINKED", "-c", "-o", "one.o", "-x", "c", "one")
-        it = subprocess.run(["cc", "-o", "program", "one.o"], capture_output=True, text=True, timeout=PATIENCE, check=False,
+        it = subprocess.run(["cc", "-o", "program", "one.o"], capture_output=True, text=True, timeout=TO_BUILD, check=False,
                             cwd=self.folder)
         self.assertNotEqual(it.returncode, 0)
         self.assertIn("wozgirt_session_open", it.stderr)
@@ -121,7 +122,7 @@ class Builds(unittest.TestCase):
             with open(os.path.join(INCLUDE, name), encoding="ascii") as file:
                 self.assertLess(len(file.readlines()), 500, name)
         subprocess.run(["cc", "-Wall", "-Werror", "-I", self.folder, "-o", "program", "-x", "c", "one", "other"], check=True,
-                       timeout=PATIENCE, cwd=self.folder)
+                       timeout=TO_BUILD, cwd=self.folder)
 
 
 @needs_sanitizers

@@ -3,13 +3,15 @@ and behind fork()."""
 
 import errno
 import os
+import re
 import signal
 import socket
 import tempfile
 import unittest
 
 from harness import FOLDER, PATIENCE, Server, by_the_clock, needs_programs, say, wait_until
-from header_clients import CHILD, DONE, LATE, LOST, NAME, REFUSED, Clients, Door, FullDoor, Interrupted, margin, needs_c
+from header_clients import CHILD, DONE, LATE, LOST, MARGIN, NAME, REFUSED, Clients, Door, FullDoor, Interrupted, margin, needs_c
+from test_header import INCLUDE
 
 # the answers to a question that are none
 WRONG = {
@@ -25,6 +27,8 @@ WRONG = {
 @needs_c
 class Answers(Clients):
     """An answer belongs to its question."""
+
+    is_patient = True
 
     def door(self, *answers):
         it = Door(*answers)
@@ -54,8 +58,7 @@ class Answers(Clients):
         self.assertEqual([client.ask("release a 1")[1::4], client.ask("acquire a 1 0")[1::4], client.ask("check")[1::4]],
                          [(REFUSED, "refused holder a"), (REFUSED, "refused memory"), (DONE, "")])
 
-    @by_the_clock
-    def test_a_deadline_and_an_answer_cross(self, _):
+    def test_a_deadline_and_an_answer_cross(self):
         """What a withdrawal is answered: the grant came first, or a refusal, or none of both."""
         for first, second, wanted in (("waiting a 0\n", "cancelled a\n", (LATE, 0)),
                                       ("waiting a 0\n", "granted a 9\nrefused waiter a\n", (DONE, 9)),
@@ -84,6 +87,8 @@ class Answers(Clients):
 class Interrupts(Interrupted):
     """What a handler leaves is not answered to the next call."""
 
+    is_patient = True
+
     def test_a_call_that_is_left(self):
         door = Door("waiting a 0\n", "granted a 9\n")
         self.addCleanup(door.close)
@@ -94,8 +99,7 @@ class Interrupts(Interrupted):
         self.assertEqual(door.heard, ["acquire a 1"])
 
     @needs_programs
-    @by_the_clock
-    def test_a_handler_that_returns(self, _):
+    def test_a_handler_that_returns(self):
         with Server(locks="a,b") as server, server.raw() as holder:
             self.assertEqual(say(holder, "acquire a 1\n"), ["granted a 1"])
             client = self.client(server.path)
@@ -127,6 +131,12 @@ class Deadlines(Clients):
         self.assertEqual(it[1:4], (LOST, 0, errno.ETIMEDOUT))
         self.assertLessEqual(it.seconds, seconds + margin(longer))
         self.assertGreaterEqual(it.seconds, seconds - 0.002)
+
+    def test_the_time_of_a_withdrawal(self):
+        """What a test that is late may not show."""
+        with open(os.path.join(INCLUDE, "wozgirt_lock.h"), encoding="ascii") as file:
+            milliseconds = int(re.search(r"\bWOZGIRT_LOCK_WITHDRAWAL = (\d+)", file.read())[1])
+        self.assertLess(milliseconds / 1000, MARGIN)
 
     @by_the_clock
     def test_what_stands_still(self, longer):

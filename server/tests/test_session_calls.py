@@ -11,13 +11,18 @@ import time
 import unittest
 
 import header_clients
-from harness import FOLDER, TOP, at_least, by_the_clock, needs_loopback, needs_programs, wait_until
+from harness import FOLDER, PATIENCE, TOP, at_least, by_the_clock, needs_loopback, needs_programs, unless_late, wait_until
 from header_clients import CHILD, DONE, LATE, LOST, NAME, REFUSED, SILENT, Clients, FullDoor, Interrupted, margin, needs_c
 from test_cluster import Trial, needs_strict
 
 sys.path.insert(0, os.path.join(TOP, "python", "tests"))
 
 import test_sessions  # noqa: E402
+
+
+def asked_late(client, line):
+    """What comes of asking for a lock that another holds, where a server says in time that nobody waits for it any more."""
+    return unless_late(lambda: client.ask(line).result, lambda it: it == SILENT)
 
 
 class Door(test_sessions.Door):
@@ -212,7 +217,7 @@ class Interrupts(Calls):
         client.tell("alarms 1")
         for token in range(1, 20):
             self.doors[token % 2].cut()
-            self.assertEqual(client.results("acquire a 1 5000", "check", f"release a {token}"), [DONE] * 3)
+            self.assertEqual(client.results(f"acquire a 1 {PATIENCE * 1000}", "check", f"release a {token}"), [DONE] * 3)
 
 
 class Deadlines(Calls):
@@ -243,12 +248,12 @@ class Deadlines(Calls):
     @by_the_clock
     def test_it_is_withdrawn_at_the_next_server(self, longer):
         self.hold()
-        client = self.session(lease=4000)
+        client = self.session(lease=4000 * longer)
         self.doors[0].is_silent = True
         self.addCleanup(setattr, self.doors[0], "is_silent", False)
         self.is_in_time(client.ask("acquire a 1 100"), SILENT, 0.1, longer)
-        wait_until(lambda: client.ask("check").result != DONE or "leave" in self.verbs(), 3)
-        self.assertEqual(client.ask("acquire a 1 100").result, LATE)
+        wait_until(lambda: client.ask("check").result != DONE or "leave" in self.verbs(), 3 * longer)
+        self.assertEqual(asked_late(client, "acquire a 1 100"), LATE)
 
     @by_the_clock
     def test_a_server_that_says_much(self, longer):
@@ -258,7 +263,7 @@ class Deadlines(Calls):
         self.assertEqual(client.results("check", "acquire b 1 20000"), [DONE, DONE])
         door = header_clients.Door(lambda line: line + " 9999999\n" + "waits a\n" * 3000000)
         self.addCleanup(door.close)
-        client = self.client("tcp:%s:%d," % self.doors[0].place + door.path, 4000)
+        client = self.client("tcp:%s:%d," % self.doors[0].place + door.path, 4000 * longer)
         self.doors[0].close()
         self.is_in_time(client.ask("acquire a 1 100"), SILENT, 0.1, longer)
 
@@ -266,7 +271,7 @@ class Deadlines(Calls):
     def test_a_hold_is_lost_in_time(self, longer):
         """When half of the lease is over, also where a server takes connections and says nothing."""
         for line in ("check", "release a 1"):
-            client, lease = self.session(lease=4000 * longer), 4 * longer
+            client, lease = self.session(lease=2000 * longer), 2 * longer
             begun = time.monotonic()
             it = client.ask("acquire a 1 0")
             self.assertEqual(it.result, DONE)
@@ -288,7 +293,7 @@ class Deadlines(Calls):
                 self.addCleanup(full.close)
                 door = Door(self.arbiter)
                 place = full.place if family == socket.AF_UNIX else "tcp:%s:%d" % full.place
-                client = self.client("tcp:%s:%d" % door.place + "," + place, 4000)
+                client = self.client("tcp:%s:%d" % door.place + "," + place, 4000 * longer)
                 door.close()
                 self.is_in_time(client.ask("acquire a 1 500"), SILENT, 0.5, longer)
                 begun = time.monotonic()
@@ -350,19 +355,18 @@ class Servers(Interrupted, Trial):
         a, b = self.server("a"), self.server("b")
         other = self.client(b.path, 30000)
         self.assertEqual(other.ask("acquire a 1 0").result, DONE)
-        for wait in (1, 500):
+        for wait in (100, 500 * longer):
             client = self.client(f"{a.path},{b.path}", 4000 * longer)
+            if wait == 100:
+                self.assertEqual(asked_late(client, "acquire a 1 1"), LATE)
             client.tell(f"acquire a 1 {wait}")
-            if wait > 1:
-                b.wait_for_waiters("a", 1)
-            else:
-                self.assertEqual(client.hear().result, LATE)
-                client.tell("acquire a 1 100")
+            if wait > 100:
+                wait_until(lambda: b.waiters("a") == 1, wait / 1000)
             os.kill(a.process.pid, signal.SIGSTOP)
             try:
                 it = client.hear()
                 self.assertEqual(it.result, SILENT)
-                self.assertLessEqual(it.seconds, (wait if wait > 1 else 100) / 1000 + margin(longer))
+                self.assertLessEqual(it.seconds, wait / 1000 + margin(longer))
                 it = client.ask("acquire b 1 0")  # the other server answers this one
                 self.assertEqual(it.result, DONE)
                 self.assertEqual(b.waiters("a"), 0)

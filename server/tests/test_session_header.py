@@ -14,7 +14,7 @@ import unittest
 from harness import PATIENCE, TOP, by_the_clock, needs_loopback, needs_programs, say, wait_until
 import test_restarts
 from test_cluster import Trial, needs_strict
-from test_header import compiles
+from test_header import compiles, patient_headers
 
 sys.path.insert(0, os.path.join(TOP, "python", "tests"))
 
@@ -25,7 +25,7 @@ needs_c = unittest.skipUnless(shutil.which("cc"), "no C compiler")
 
 
 class Clients(unittest.TestCase):
-    """Runs the program that does what it is told."""
+    """Runs the program that does what it is told, by patient headers."""
 
     @classmethod
     def setUpClass(cls):
@@ -33,7 +33,7 @@ class Clients(unittest.TestCase):
         cls.programs = tempfile.mkdtemp()
         cls.addClassCleanup(shutil.rmtree, cls.programs)
         cls.program = os.path.join(cls.programs, "session_client")
-        built = compiles("cc", "-std=c11", "-O1", "-o", cls.program, SOURCE)
+        built = compiles("cc", "-std=c11", "-O1", "-o", cls.program, SOURCE, include=patient_headers(cls.programs))
         if built != (True, ""):
             raise AssertionError(built)
 
@@ -63,8 +63,7 @@ class Clients(unittest.TestCase):
 class OfOne(Clients, test_restarts.Trial):
     """One server, and its engine, which are started again."""
 
-    @by_the_clock
-    def test_a_hold_goes_on(self, _):
+    def test_a_hold_goes_on(self):
         server = self.server()
         it = self.client([server.path])
         self.assertEqual(self.ask(it, "acquire a 7 0"), "acquire 0 1")
@@ -81,8 +80,7 @@ class OfOne(Clients, test_restarts.Trial):
 @needs_programs
 @needs_strict
 class Several(Clients, Trial):
-    @by_the_clock
-    def test_a_hold_goes_on(self, _):
+    def test_a_hold_goes_on(self):
         a, b = self.server("a"), self.server("b")
         it, other = self.client([a.path, b.path]), self.raw(b)
         self.assertEqual([self.ask(it, line) for line in ("acquire a 7 0", "check", "acquire b 1 0", "acquire no 1 0", "release a 9", "release b 9")],

@@ -8,7 +8,7 @@ import sys
 import time
 import unittest
 
-from harness import COMMAND, PATIENCE, TOP, Server, by_the_clock, needs_loopback, needs_programs, say, wait_until
+from harness import COMMAND, PATIENCE, TOP, Server, by_the_clock, needs_loopback, needs_programs, say, unless_late, wait_until
 from test_cluster import Trial, needs_strict
 
 sys.path.insert(0, os.path.join(TOP, "python", "tests"))
@@ -16,6 +16,8 @@ sys.path.insert(0, os.path.join(TOP, "python", "tests"))
 from test_sessions import Arbiter, Door  # noqa: E402
 
 UP = ("--", "sh", "-c", "echo up $WOZGIRT_TOKEN; read line; echo down")
+#: what is said where no server withdraws in time what was asked
+LATE = "wozgirt: not in time: "
 
 
 class Commands(unittest.TestCase):
@@ -73,11 +75,11 @@ class Several(Commands, Trial):
         self.catch_up(a, b)
         self.assertEqual(b.operate("clients").split()[1], "2")  # nobody of these is left: the holder, and this one
 
-    @by_the_clock
-    def test_not_in_time(self, longer):
+    def test_not_in_time(self):
         _, b = self.pair()
         self.assertEqual(say(self.raw(b), "acquire a 1\n"), ["granted a 1"])
-        self.assertEqual(self.run_it("lock", "-w", str(0.2 * longer), "-E", "9", "a", "--", "true"), (9, "", ""))
+        done = unless_late(lambda: self.run_it("lock", "-w", "0.2", "-E", "9", "a", "--", "true"), lambda it: it[2].startswith(LATE))
+        self.assertEqual(done, (9, "", ""))
         b.wait_for_waiters("a", 0)
 
     def test_a_command_goes_on_when_its_server_is_killed(self):
@@ -113,7 +115,7 @@ class Several(Commands, Trial):
         it.send_signal(signal.SIGTERM)
         self.finish(it, 143, "")
         b.wait_for_waiters("a", 0)
-        self.assertEqual(a.operate("clients").split()[1], "1")
+        wait_until(lambda: a.operate("clients").split()[1] == "1")
 
     @by_the_clock
     def test_no_server_for_half_of_the_lease(self, longer):
@@ -168,6 +170,11 @@ class Cuts(Commands):
     def verbs(self):
         return [it[2] for it in self.arbiter.done]
 
+    def were_done(self, *verbs):
+        """These, and no other; the last one may come behind the end of the command, which waits for it for a while only."""
+        wait_until(lambda: len(self.arbiter.done) >= len(verbs))
+        self.assertEqual(self.verbs(), list(verbs))
+
     def each_moment(self):
         for moment in ("before", "after"):
             with self.subTest(moment=moment):
@@ -180,7 +187,7 @@ class Cuts(Commands):
             self.doors[0].fails = moment
             token = self.arbiter.tokens.get("a", 0) + 1
             self.assertEqual(self.run_it("lock", "a", *UP), (0, f"up {token}\ndown\n", ""))
-            self.assertEqual(self.verbs(), ["acquire", "release", "leave"])
+            self.were_done("acquire", "release", "leave")
 
     def test_a_release(self):
         for moment in self.each_moment():
@@ -188,27 +195,31 @@ class Cuts(Commands):
             it.stdout.readline()
             self.doors[0].fails = moment
             self.finish(it, 0, "down\n")
-            self.assertEqual(self.verbs(), ["acquire", "release", "leave"])
+            self.were_done("acquire", "release", "leave")
 
     def test_a_try(self):
         self.arbiter.holders["a"] = 9, 5
         for moment in self.each_moment():
             self.doors[0].fails = moment
             self.assertEqual(self.run_it("try", "a", *UP), (1, "", ""))
-            self.assertEqual(self.verbs(), ["try", "leave"])
+            self.were_done("try", "leave")
 
-    @by_the_clock
-    def test_a_cancel(self, longer):
+    def cancelled(self, moment):
+        """What is told where the connection is cut at the end of the wait."""
+        self.arbiter.done.clear()
+        self.doors[1].fails = None
+        it = self.start("lock", "-w", "0.4", "a", *UP)
+        wait_until(lambda: self.arbiter.done or it.poll() is not None)
+        self.doors[0].fails = moment
+        return self.finish(it, 1, "")
+
+    def test_a_cancel(self):
         """The next server has a moment to do it, and then the command ends."""
         self.arbiter.holders["a"] = 9, 5
         for moment in ("before", "after"):
-            self.arbiter.done.clear()
-            self.doors[1].fails = None
-            it = self.start("lock", "-w", str(0.2 * longer), "a", *UP)
-            wait_until(lambda: self.verbs() == ["acquire"])
-            self.doors[0].fails = moment
-            self.finish(it, 1, "")
-            self.assertEqual(self.verbs(), ["acquire", "cancel", "leave"])
+            told = unless_late(lambda moment=moment: self.cancelled(moment), lambda it: it.startswith(LATE))
+            self.assertEqual(told, "")
+            self.were_done("acquire", "cancel", "leave")
 
     def test_a_wait(self):
         """The grant comes before the cut, behind it, or before the answer that says to wait."""
@@ -226,7 +237,7 @@ class Cuts(Commands):
                 self.arbiter._do = granted_at_once if moment == "at once" else do
                 self.doors[0].fails = "after" if moment == "at once" else None
                 it = self.start("lock", "a", *UP)
-                wait_until(lambda: self.verbs() == ["acquire"])
+                wait_until(lambda: self.arbiter.done)
                 if moment != "at once":
                     with self.arbiter.mutex:
                         session = self.arbiter.done[0][0]
@@ -239,7 +250,7 @@ class Cuts(Commands):
                         with self.arbiter.mutex:
                             self.arbiter._pass("a")
                 self.finish(it, 0, "up 6\ndown\n")
-                self.assertEqual(self.verbs(), ["acquire", "release", "leave"])
+                self.were_done("acquire", "release", "leave")
                 self.doors[1].socks.clear()
 
     def test_what_the_session_had_is_gone(self):

@@ -8,7 +8,8 @@ import tempfile
 import time
 import unittest
 
-from harness import COMMAND, ENGINE, FOLDER, PATIENCE, SERVER, Server, a_port, at_least, by_the_clock, needs_loopback, needs_programs
+from harness import (COMMAND, ENGINE, FOLDER, PATIENCE, SERVER, Server, a_port, at_least, needs_loopback, needs_programs, soonest,
+                     unless_late)
 from test_cluster import Trial, needs_strict
 from test_command import close
 
@@ -68,28 +69,43 @@ class Starting(unittest.TestCase):
         with Server("--tcp", place):
             self.both_end(each)
 
-    @by_the_clock
-    def test_who_waits_for_the_lock_has_it_before_who_does_not(self, longer):
-        """Both wait for the server, and the one that does not wait for the lock began first."""
-        path = os.path.join(self.folder, str(longer), "lock.sock")
-        late, first = [start(path, *verb, "--server-wait", str(PATIENCE), "a", "--", "sleep", str(2 * longer)) for verb in (["try"], ["lock"])]
-        time.sleep(0.2 * longer)
-        with Server(folder=os.path.dirname(path)):
-            self.assertEqual((late.wait(PATIENCE), first.wait(PATIENCE)), (1, 0))
-        for it in (late, first):
-            close(it)
+    def is_first(self):
+        """Whether the one that waits for the lock has it, where others that do not began before."""
+        with tempfile.TemporaryDirectory(dir=self.folder) as folder:
+            each = [start(os.path.join(folder, "lock.sock"), verb, "--server-wait", str(PATIENCE), "a", "--", "sleep", "1")
+                    for verb in ["try"] * 4 + ["lock"]]
+            time.sleep(0.2)
+            with Server(folder=folder):
+                *others, status = [it.wait(PATIENCE) for it in each]
+            for it in each:
+                close(it)
+            self.assertEqual(status, 0)
+            return set(others) == {1}
+
+    def test_who_waits_for_the_lock_has_it_before_who_does_not(self):
+        """All wait for the server. A machine that does not run one of them for a fifth of a second changes that, but not mostly."""
+        times = 0
+        while abs(times) < 4:
+            times += 1 if self.is_first() else -1
+        self.assertGreater(times, 0)
+
+    def paste(self):
+        """What is printed of what is pasted into a clean folder, and what is told."""
+        with tempfile.TemporaryDirectory(dir=self.folder) as folder:
+            os.mkdir(os.path.join(folder, "journal"))
+            script = f"""
+                '{SERVER}' --engine '{ENGINE}' --journal journal --locks deploy --socket lock.sock --no-sync 2>log &
+                export WOZGIRT_SOCKET=lock.sock
+                '{COMMAND}' lock deploy -- sh -c 'echo "token $WOZGIRT_TOKEN"'; echo "status $?"
+                kill %1
+                wait"""
+            it = subprocess.run(["bash", "-mc", script], cwd=folder, capture_output=True, text=True, timeout=PATIENCE, check=False)
+            return it.stdout, it.stderr
 
     def test_what_is_pasted_at_once(self):
-        """With the five seconds that nobody asked for."""
-        os.mkdir(os.path.join(self.folder, "journal"))
-        script = f"""
-            '{SERVER}' --engine '{ENGINE}' --journal journal --locks deploy --socket lock.sock --no-sync 2>log &
-            export WOZGIRT_SOCKET=lock.sock
-            '{COMMAND}' lock deploy -- sh -c 'echo "token $WOZGIRT_TOKEN"'; echo "status $?"
-            kill %1
-            wait"""
-        it = subprocess.run(["bash", "-mc", script], cwd=self.folder, capture_output=True, text=True, timeout=PATIENCE, check=False)
-        self.assertEqual(it.stdout, "token 1\nstatus 0\n", it.stderr)
+        """With the five seconds that nobody asked for, if they are enough for the server."""
+        printed, told = unless_late(self.paste, lambda it: it[0].endswith("status 69\n"), 5)
+        self.assertEqual(printed, "token 1\nstatus 0\n", told)
 
 
 @needs_programs
@@ -116,8 +132,8 @@ class Missing(unittest.TestCase):
         return time.monotonic() - begun
 
     def test_it_is_told_after_that_time(self):
-        self.assertLess(self.ends(0, "lock", "--server-wait", "0", "a", "--", "true"), 5)
-        self.assertLess(self.ends(0, "status", "--server-wait", "0"), 5)
+        for words in (("lock", "--server-wait", "0", "a", "--", "true"), ("status", "--server-wait", "0")):
+            self.assertLess(soonest(lambda words=words: self.ends(0, *words), 4), 4)  # it would be five
         self.ends(0.4, "lock", "--server-wait", "0.4", "a", "--", "true")
         self.ends(0.4, "status", "--server-wait=0.4")
         self.ends(0.4, "lock", "--server-wait", "0.4", "a", "--", "true", place="/nonexistent/x," + MISSING)

@@ -163,6 +163,7 @@ pub fn open_tcp(address: SocketAddr) -> Result<TcpListener, CannotListen> {
 #[cfg(test)]
 mod tests {
     use super::*;
+    use std::time::Instant;
 
     fn folder(name: &str) -> PathBuf {
         let folder = std::env::temp_dir().join(format!("wozgirt-doors-{name}-{}", std::process::id()));
@@ -203,13 +204,20 @@ mod tests {
     fn who_listens_a_moment_longer_is_waited_for() {
         let folder = folder("longer");
         let named = Named { path: folder.join("s"), mode: 0o600, group: None };
-        let old = UnixListener::bind(&named.path).unwrap();
-        let goes = thread::spawn(move || {
-            thread::sleep(PAUSE / 2);
-            drop(old);
+        let mut old = Some(UnixListener::bind(&named.path).unwrap());
+        let begun = Instant::now();
+        assert!(UnixDoor::open(&named, &Accounts::default()).is_err());
+        assert!(begun.elapsed() >= (TRIES - 1) * PAUSE);
+        let mut tries = 0;
+        let found = patiently(|| {
+            tries += 1;
+            if tries == 3 {
+                drop(old.take());
+            }
+            is_free(&named.path)
         });
+        assert_eq!((found.is_ok(), tries), (true, 3));
         assert!(UnixDoor::open(&named, &Accounts::default()).is_ok());
-        goes.join().unwrap();
         fs::remove_dir_all(folder).unwrap();
     }
 
