@@ -108,7 +108,7 @@ still_granted os l = by l.granted
     by None = refl
     by (Some h) = refl
 
--- whichever tokens are told, the same names are forgotten
+-- whichever tokens are reported, the same names are forgotten
 told_names : (fixed : ℕ) (ps os : List (Option Bound)) (raw : List Left) → names_left fixed os (map (told_left ps) raw) ≡ names_left fixed os raw
 told_names fixed ps os [] = refl
 told_names fixed ps os (l ∷ raw) =

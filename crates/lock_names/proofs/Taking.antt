@@ -401,7 +401,7 @@ gone_kept vs fixed i v at h =
 
 -- ---- a name that a ring has
 
--- an ask alone tells of nothing that is new or freed
+-- an ask of a ring says of nothing that it is new or freed
 abbrev is_fresh : NameAnswers → Bool
 is_fresh r = r.fresh
 

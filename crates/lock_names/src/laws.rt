@@ -57,8 +57,8 @@ pub fn leaves_are_settled()
 {}
 
 /// Of a state after any inputs the names of the fixed rings, those of the pool, the number of all grants and the locks, as a
-/// restart finds them, are all that is needed: they are the state after a restart, and it is right. What is right is restored,
-/// but for lack of memory.
+/// restart finds them, are all that is needed: they are the state after a restart, and it is right. What is right is refused
+/// only for lack of memory.
 pub fn names_come_back()
     ensures begin { FixedBegin }
     ensures back { NamesComeBack }
