@@ -10,7 +10,7 @@ use Rattle.lock_names.proofs.Found.{found_nowhere}
 use Rattle.lock_names.proofs.Begins.{taken_entry, take_few}
 
 -- the entry of a binding that was read
-entry : (bs : List (Option Binding)) (k : ℕ) (o : Option Binding) → k < length bs → o ≡ get_or bs k o → slice_get (bounds_of bs) k ≡ Some (option_map bound_of o)
+pub entry : (bs : List (Option Binding)) (k : ℕ) (o : Option Binding) → k < length bs → o ≡ get_or bs k o → slice_get (bounds_of bs) k ≡ Some (option_map bound_of o)
 entry bs k o lt is =
     slice_get-map (λ (x : Option Binding). option_map bound_of x) bs k
     ∙ ap (λ (x : Option (Option Binding)). option_map (λ (y : Option Binding). option_map bound_of y) x) (slice_get_read bs (length bs) k o refl lt is)

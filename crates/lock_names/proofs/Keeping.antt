@@ -90,7 +90,7 @@ fixed_name : (s : Named) (c : ℕ) (x : List ℕ) (ask : Ask) (o : Option (ℕ �
 fixed_name s c x ask None = fixed_none s c x ask
 fixed_name s c x ask (Some p) = refl
 
-fixed_step : (s : Named) (i : NamedInput) → (step_named s i).named.fixed ≡ s.fixed
+pub fixed_step : (s : Named) (i : NamedInput) → (step_named s i).named.fixed ≡ s.fixed
 fixed_step s (Of c x ask) = fixed_name s c x ask (found x s.names)
 fixed_step s Again = refl
 fixed_step s (More a) = refl

@@ -1,8 +1,9 @@
 -- A client that leaves all names: what is said to the clients that are granted.
 use Rattle.std.proofs.Common.{◌≡◌, ℕ, zero, suc, ◌≤◌, Bool, true, false, List, [], ◌∷◌, ◌++◌, map, length, Option, None, Some, refl, sym, ◌∙◌, ap, subst, arith}
-use Rattle.std.specs.Prelude.{slice_get, option_map}
+use Rattle.std.specs.Prelude.{slice_get, slice_set, nat_lt, ◌||◌, if◌then◌else◌, is_some, option_map}
 use Rattle.std.proofs.lemmas.List.{length-map, map-append, append_assoc, append-nil}
 use Rattle.held_locks.specs.declared.answers.Waiter.{Waiter}
+use Rattle.held_locks.specs.declared.answers.Holder.{Holder}
 use Rattle.held_locks.specs.declared.answers.Left.{Left}
 use Rattle.held_locks.specs.Queues.{Lock, without, is_held_by}
 use Rattle.held_locks.specs.Locks.{advanced}
@@ -10,7 +11,7 @@ use Rattle.held_locks.specs.Kept.{LockView, lock_of, locks_of, left_at, left_of}
 use Rattle.lock_names.specs.Names.{Bound, Said, told_holder, said_of, said_after, leave_each}
 use Rattle.lock_names.specs.Promises.{IsRightName, IsNamed}
 use Rattle.lock_names.specs.Kept.{NamedView, named_of, grant_said, IsKeptNamed}
-use Rattle.lock_names.specs.Leaves.{bound_or, told_left, said_left, IsLeftByName}
+use Rattle.lock_names.specs.Leaves.{bound_or, told_left, name_left, names_left, said_left, IsLeftByName}
 use Rattle.lock_names.proofs.Found.{some_same, none_some, there_is}
 use Rattle.lock_names.proofs.Asking.{view_lock}
 use Rattle.lock_names.proofs.LeftNames.{one_said, each_said, leaves_say}
@@ -100,6 +101,20 @@ left_said v c raw said n e f =
     ∙ first_all c ls v.names n.many
     ∙ sym (leaves_say (named_of v) c n)
 
+still_granted : (os : List (Option Bound)) (l : Left) → is_some (told_left os l).granted ≡ is_some l.granted
+still_granted os l = by l.granted
+  where
+    by : (o : Option Holder) → is_some (option_map (told_holder (bound_or (slice_get os l.lock))) o) ≡ is_some o
+    by None = refl
+    by (Some h) = refl
+
+-- whichever tokens are reported, the same names are forgotten
+told_names : (fixed : ℕ) (ps os : List (Option Bound)) (raw : List Left) → names_left fixed os (map (told_left ps) raw) ≡ names_left fixed os raw
+told_names fixed ps os [] = refl
+told_names fixed ps os (l ∷ raw) =
+    told_names fixed ps (name_left fixed os (told_left ps l)) raw
+    ∙ ap (λ (q : Bool). names_left fixed (if nat_lt l.lock fixed || q then os else slice_set os l.lock None) raw) (still_granted ps l)
+
 pub left_by_name : (old new : NamedView) (c : ℕ) (raw said : List Left) → IsKeptNamed old → IsDoneLeave old new c raw → said ≡ map (told_left old.names) raw → IsLeftByName old new c said
 left_by_name old new c raw said n d e = record {
   named = left_named old new c raw n.named d;
@@ -107,4 +122,5 @@ left_by_name old new c raw said n d e = record {
   raw = raw;
   locks = d.left;
   told = e;
+  names = d.names ∙ sym (told_names old.fixed old.names old.names raw) ∙ ap (λ (x : List Left). names_left old.fixed old.names x) (sym e);
 }

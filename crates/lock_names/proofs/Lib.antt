@@ -16,3 +16,5 @@ pub mod LeftSaid
 pub mod Copied
 pub mod Grows
 pub mod Sized
+pub mod Restores
+pub mod ComingBack

@@ -1,6 +1,6 @@
 -- A name that is asked, as it is kept: what is done is the step of the machine.
 use Rattle.std.proofs.Common.{◌≡◌, ℕ, zero, suc, ◌+◌, ◌-◌, ◌<◌, ◌≤◌, Bool, true, false, List, [], ◌∷◌, ◌++◌, length, map, Option, None, Some, ◌⊎◌, inl, inr, refl, sym, ◌∙◌, ap, subst, arith}
-use Rattle.std.specs.Prelude.{slice_get, slice_set, not, ◌&&◌, ◌||◌, nat_lt, is_some, option_map}
+use Rattle.std.specs.Prelude.{slice_get, slice_set, not, ◌&&◌, ◌||◌, cond, nat_lt, is_some, option_map}
 use Rattle.std.proofs.lemmas.Bool.{false≢true, ltb-true, ltb-false}
 use Rattle.held_locks.specs.declared.answers.Holder.{Holder}
 use Rattle.held_locks.specs.declared.answers.Answer.{Answer}
@@ -22,9 +22,10 @@ use Rattle.lock_names.specs.declared.table.Counts.{Counts}
 use Rattle.lock_names.specs.Names.{Bound, Named, Of, NamedStep, of_ring, told_holder, as_told, said_of, found, free, grants_at, fresh, kept, stays, at_ring, given, at_none, at_name, step_named}
 use Rattle.lock_names.specs.Promises.{IsRightBound, IsNamed}
 use Rattle.lock_names.specs.Table.{ring_of}
-use Rattle.lock_names.specs.Kept.{NamedView, named_of, top_limit, IsKeptNamed, for_hold, may_pass, unused_answer, bound_by, IsReady, told_of, IsTold, reached_from, reached, at_free, own_said, grant_said, IsRecorded, IsTaken, HasNoRoom, IsWanting, IsAsked}
-use Rattle.lock_names.proofs.Found.{some_same, none_some, not_some, found_at, free_at}
+use Rattle.lock_names.specs.Kept.{NamedView, named_of, top_limit, IsKeptNamed, for_hold, may_pass, unused_answer, bound_by, IsReady, told_of, IsTold, reached_from, reached, at_free, own_said, grant_said, IsRecorded, noted_at, IsTaken, HasNoRoom, IsWanting, IsAsked}
+use Rattle.lock_names.proofs.Found.{own_name, some_same, none_some, not_some, OnlyAt, found_at, free_at}
 use Rattle.lock_names.proofs.Fitting.{Fits, name_after, at_ring_is, fits_found, fits_free, lock_at, named_step}
+use Rattle.lock_names.proofs.Tabled.{found_bound, found_forgot}
 use Rattle.lock_names.proofs.Asking.{view_lock, lock_view, done_locks, done_answers, done_or_lack}
 
 -- ---- bindings by their numbers
@@ -47,7 +48,7 @@ own_by b None = refl
 own_by b (Some a) = ap (λ (x : Answer). Some (reply.Lock x)) (told_by b a)
 
 all_by : (i : ℕ) (b : Bound) (r : Answers) → told_of i (bound_by (numbers_of b)) r ≡ told_of i b r
-all_by i b r = ap (λ (o : Option Reply). record { ring = Some i; fresh = false; own = o; ended = r.ended; granted = option_map (told_holder b) r.granted }) (own_by b r.own)
+all_by i b r = ap (λ (o : Option Reply). record { ring = Some i; fresh = false; freed = false; own = o; ended = r.ended; granted = option_map (told_holder b) r.granted }) (own_by b r.own)
 
 ask_by : (b : Bound) (ask : Ask) → of_ring (bound_by (numbers_of b)) ask ≡ of_ring b ask
 ask_by b (Acquire label) = refl
@@ -88,6 +89,7 @@ pub record Reaches (s : Named) (x : List ℕ) (ask : Ask) (i : ℕ) (b : Bound) 
   pub name : b.name ≡ x
   pub fits : Fits s i b
   pub step : (c : ℕ) → step_named s (Of c x ask) ≡ at_ring s c i b ask
+  pub which : (found x s.names ≡ Some (i, b)) ⊎ ((found x s.names ≡ None) × (slice_get s.names i ≡ Some None) × (b ≡ fresh s x i))
 
 pub reaches_found : (s : Named) (x : List ℕ) (ask : Ask) (i : ℕ) (b : Bound) → IsNamed s → found x s.names ≡ Some (i, b) → Reaches s x ask i b
 reaches_found s x ask i b n e = record {
@@ -95,6 +97,7 @@ reaches_found s x ask i b n e = record {
   name = sym (found_at x s.names (i, b) e).name;
   fits = fits_found s x (i, b) n e;
   step = λ c. ap (λ (o : Option (ℕ × Bound)). at_name s c x ask o) e;
+  which = inl e;
 }
 
 given_hold : (s : Named) (c : ℕ) (x : List ℕ) (ask : Ask) → for_hold ask ≡ true → at_none s c x ask ≡ given s c x ask (free s.names)
@@ -112,6 +115,7 @@ reaches_free s x ask i n e h f = record {
   name = refl;
   fits = fits_free s x i n e f;
   step = λ c. ap (λ (o : Option (ℕ × Bound)). at_name s c x ask o) e ∙ given_hold s c x ask h ∙ ap (λ (o : Option ℕ). given s c x ask o) f;
+  which = inr (e, free_at s.names i f, refl);
 }
 
 -- ---- the state after it
@@ -169,34 +173,103 @@ said_done old new c i b ask r f d =
     ap (λ (x : List (ℕ × Answer)). map (said_of b) x) (done_answers old.locks new.locks c i (of_ring b ask) r f.lock d f.there)
     ∙ sym (ap (λ (x : NamedStep). x.said) (at_ring_is (named_of old) c i b ask f.lock f.there))
 
--- ---- the answers, and whether the name is new
+-- ---- the answers, whether the name is new, and whether it is freed
 
-abbrev pub with_fresh : Bool → NameAnswers → NameAnswers
-with_fresh q r = record { ring = r.ring; fresh = q; own = r.own; ended = r.ended; granted = r.granted }
+abbrev pub with_notes : Bool → Bool → NameAnswers → NameAnswers
+with_notes q d r = record { ring = r.ring; fresh = q; freed = d; own = r.own; ended = r.ended; granted = r.granted }
 
 abbrev pub is_new : List ℕ → List (Option Bound) → List (Option Bound) → Bool
 is_new x os ps = not (is_some (found x os)) && is_some (found x ps)
+
+abbrev pub is_gone : List ℕ → List (Option Bound) → List (Option Bound) → Bool
+is_gone x os ps = is_some (found x os) && not (is_some (found x ps))
 
 not_both : (q : Bool) → (not q && q) ≡ false
 not_both true = refl
 not_both false = refl
 
+both_not : (q : Bool) → (q && not q) ≡ false
+both_not true = refl
+both_not false = refl
+
+abbrev in_ring : Option (ℕ × Bound) → Option ℕ
+in_ring o = option_map (λ (p : ℕ × Bound). p.0) o
+
+pub some_mapped : {X Y : Type 0} (f : X → Y) (o : Option X) → is_some (option_map f o) ≡ is_some o
+some_mapped f None = refl
+some_mapped f (Some x) = refl
+
+ring_some : (o : Option (ℕ × Bound)) → is_some (in_ring o) ≡ is_some o
+ring_some o = some_mapped (λ (p : ℕ × Bound). p.0) o
+
+-- the ring of the name keeps it, or not
+found_kept : (x : List ℕ) (os : List (Option Bound)) (i : ℕ) (b : Bound) (q : Bool) → found x os ≡ Some (i, b) → OnlyAt os i b → is_some (found x (slice_set os i (kept q b))) ≡ q
+found_kept x os i b true e only =
+    ap (λ (ps : List (Option Bound)). is_some (found x ps)) (set_same os i (Some b) (found_at x os (i, b) e).entry) ∙ ap (λ (o : Option (ℕ × Bound)). is_some o) e
+found_kept x os i b false e only =
+    let f = found_at x os (i, b) e in
+    sym (ring_some (found x (slice_set os i None)))
+    ∙ ap (λ (o : Option ℕ). is_some o) (found_forgot os i b x f.entry only)
+    ∙ ap (λ (z : Bool). is_some (cond z None (in_ring (found x os)))) (own_name b.name x (sym f.name))
+
+-- a free ring gets the name, or not
+found_given : (x : List ℕ) (os : List (Option Bound)) (i : ℕ) (b : Bound) (q : Bool) → found x os ≡ None → slice_get os i ≡ Some None → b.name ≡ x → is_some (found x (slice_set os i (kept q b))) ≡ q
+found_given x os i b true e at name =
+    let none : found b.name os ≡ None = ap (λ (y : List ℕ). found y os) name ∙ e in
+    sym (ring_some (found x (slice_set os i (Some b))))
+    ∙ ap (λ (o : Option ℕ). is_some o) (found_bound os i b x at none)
+    ∙ ap (λ (z : Bool). is_some (cond z (Some i) (in_ring (found x os)))) (own_name b.name x name)
+found_given x os i b false e at name =
+    ap (λ (ps : List (Option Bound)). is_some (found x ps)) (set_same os i None at) ∙ ap (λ (o : Option (ℕ × Bound)). is_some o) e
+
+-- so a journal with what is new and what is freed has all names
+noted_bound : (s : Named) (x : List ℕ) (i : ℕ) (b : Bound) (q d z : Bool) (ps : List (Option Bound)) → slice_get s.names i ≡ Some (Some b) → ps ≡ slice_set s.names i (kept z b) → q ≡ false → d ≡ not z →
+    ps ≡ noted_at s x (Some i) q d
+noted_bound s x i b q d true ps at e f g = e ∙ set_same s.names i (Some b) at ∙ ap (λ (y : Bool). noted_at s x (Some i) y false) (sym f) ∙ ap (λ (y : Bool). noted_at s x (Some i) q y) (sym g)
+noted_bound s x i b q d false ps at e f g = e ∙ ap (λ (y : Bool). noted_at s x (Some i) y true) (sym f) ∙ ap (λ (y : Bool). noted_at s x (Some i) q y) (sym g)
+
+noted_free : (s : Named) (x : List ℕ) (i : ℕ) (b : Bound) (q d z : Bool) (ps : List (Option Bound)) → slice_get s.names i ≡ Some None → b ≡ fresh s x i → ps ≡ slice_set s.names i (kept z b) → q ≡ z → d ≡ false →
+    ps ≡ noted_at s x (Some i) q d
+noted_free s x i b q d true ps at new e f g =
+    e ∙ ap (λ (y : Bound). slice_set s.names i (Some y)) new ∙ ap (λ (y : Bool). noted_at s x (Some i) y false) (sym f) ∙ ap (λ (y : Bool). noted_at s x (Some i) q y) (sym g)
+noted_free s x i b q d false ps at new e f g = e ∙ set_same s.names i None at ∙ ap (λ (y : Bool). noted_at s x (Some i) y false) (sym f) ∙ ap (λ (y : Bool). noted_at s x (Some i) q y) (sym g)
+
+noted_is : (s : Named) (x : List ℕ) (ask : Ask) (i : ℕ) (b : Bound) (q d z : Bool) (ps : List (Option Bound)) → IsNamed s → Reaches s x ask i b → ps ≡ slice_set s.names i (kept z b) → q ≡ is_new x s.names ps →
+    d ≡ is_gone x s.names ps → ps ≡ noted_at s x (Some i) q d
+noted_is s x ask i b q d z ps n re e f g = elim re.which [
+  | inl k ↦
+      let at = (found_at x s.names (i, b) k).entry in
+      let there : is_some (found x ps) ≡ z = ap (λ (os : List (Option Bound)). is_some (found x os)) e ∙ found_kept x s.names i b z k (λ j d h same. n.once j i d b h at same) in
+      noted_bound s x i b q d z ps at e
+      (f ∙ ap (λ (o : Option (ℕ × Bound)). not (is_some o) && is_some (found x ps)) k)
+      (g ∙ ap (λ (o : Option (ℕ × Bound)). is_some o && not (is_some (found x ps))) k ∙ ap (λ (y : Bool). not y) there)
+  | inr k ↦
+      let there : is_some (found x ps) ≡ z = ap (λ (os : List (Option Bound)). is_some (found x os)) e ∙ found_given x s.names i b z k.0 k.1 re.name in
+      noted_free s x i b q d z ps k.1 k.2 e
+      (f ∙ ap (λ (o : Option (ℕ × Bound)). not (is_some o) && is_some (found x ps)) k.0 ∙ there)
+      (g ∙ ap (λ (o : Option (ℕ × Bound)). is_some o && not (is_some (found x ps))) k.0)
+]
+
 told_ring : (old new : NamedView) (c : ℕ) (x : List ℕ) (ask : Ask) (i : ℕ) (b : Bound) (r : NameAnswers) → Reaches (named_of old) x ask i b → IsTold old.locks new.locks old.top new.top c i b ask r →
     r.ring ≡ option_map (λ (p : ℕ × Bound). p.0) (reached (named_of old) x ask)
 told_ring old new c x ask i b r re t = ap (λ (z : NameAnswers). z.ring) t.told ∙ sym (ap (λ (o : Option (ℕ × Bound)). option_map (λ (p : ℕ × Bound). p.0) o) re.is)
 
-taken : (old new : NamedView) (c : ℕ) (x : List ℕ) (ask : Ask) (i : ℕ) (b : Bound) (r : NameAnswers) (q : Bool) → Reaches (named_of old) x ask i b → (t : IsTold old.locks new.locks old.top new.top c i b ask r) →
-    IsDone old.locks new.locks c i (of_ring b ask) t.raw → IsSettled old new i b → q ≡ is_new x old.names new.names → IsTaken old new c x ask (with_fresh q r)
-taken old new c x ask i b r q re t d s e = record {
-  named = named_done old new c i b ask t.raw re.fits d s t.top ∙ sym (ap (λ (z : NamedStep). z.named) (re.step c));
+taken : (old new : NamedView) (c : ℕ) (x : List ℕ) (ask : Ask) (i : ℕ) (b : Bound) (r : NameAnswers) (q d : Bool) → IsNamed (named_of old) → Reaches (named_of old) x ask i b → (t : IsTold old.locks new.locks old.top new.top c i b ask r) →
+    IsDone old.locks new.locks c i (of_ring b ask) t.raw → IsSettled old new i b → q ≡ is_new x old.names new.names → d ≡ is_gone x old.names new.names → IsTaken old new c x ask (with_notes q d r)
+taken old new c x ask i b r q d n re t done s e g = record {
+  named = named_done old new c i b ask t.raw re.fits done s t.top ∙ sym (ap (λ (z : NamedStep). z.named) (re.step c));
   said =
       ap (λ (z : NameAnswers). own_said c x z.own ++ grant_said x z.granted) t.told
       ∙ subst (λ (n : List ℕ). own_said c n (option_map (λ (a : Answer). reply.Lock (as_told b a)) t.raw.own) ++ grant_said n (option_map (told_holder b) t.raw.granted) ≡ map (said_of b) (answers_of c t.raw)) re.name
       (said_all b c t.raw.own t.raw.granted)
-      ∙ said_done old new c i b ask t.raw re.fits d
+      ∙ said_done old new c i b ask t.raw re.fits done
       ∙ sym (ap (λ (z : NamedStep). z.said) (re.step c));
-  recorded = subst (λ (o : Option (ℕ × Bound)). IsRecorded old.locks new.locks c ask (with_fresh q r) o) (sym re.is) (t.raw, d, ap (λ (z : NameAnswers). z.ended) t.told);
+  recorded = subst (λ (o : Option (ℕ × Bound)). IsRecorded old.locks new.locks c ask (with_notes q d r) o) (sym re.is) (t.raw, done, ap (λ (z : NameAnswers). z.ended) t.told);
   fresh = e;
+  freed = g;
+  names =
+      noted_is (named_of old) x ask i b q d (stays old.fixed i (locks_of new.locks)) new.names n re s.names e g
+      ∙ ap (λ (o : Option ℕ). noted_at (named_of old) x o q d) (sym (ap (λ (z : NameAnswers). z.ring) t.told));
 }
 
 -- ---- nothing has changed
@@ -258,9 +331,9 @@ want_why old new x ask i b r raw re own w = elim w.why [
   | inr p ↦ inr (own ∙ ap (λ (o : Option Answer). option_map (λ (a : Answer). reply.Lock (as_told b a)) o) p)
 ]
 
-wanting : (old new : NamedView) (c : ℕ) (x : List ℕ) (ask : Ask) (i : ℕ) (b : Bound) (r : NameAnswers) (q : Bool) → Reaches (named_of old) x ask i b → (t : IsTold old.locks new.locks old.top new.top c i b ask r) →
-    may_pass ask ≡ true → IsLack old.locks new.locks i (of_ring b ask) t.raw → new ≡ old → q ≡ is_new x old.names new.names → IsWanting old new x ask (with_fresh q r)
-wanting old new c x ask i b r q re t may w same e = record {
+wanting : (old new : NamedView) (c : ℕ) (x : List ℕ) (ask : Ask) (i : ℕ) (b : Bound) (r : NameAnswers) (q d : Bool) → Reaches (named_of old) x ask i b → (t : IsTold old.locks new.locks old.top new.top c i b ask r) →
+    may_pass ask ≡ true → IsLack old.locks new.locks i (of_ring b ask) t.raw → new ≡ old → q ≡ is_new x old.names new.names → d ≡ is_gone x old.names new.names → IsWanting old new x ask (with_notes q d r)
+wanting old new c x ask i b r q d re t may w same e g = record {
   asks = may;
   why = want_why old new x ask i b r t.raw re (ap (λ (z : NameAnswers). z.own) t.told) w;
   none = (
@@ -268,18 +341,19 @@ wanting old new c x ask i b r q re t may w same e = record {
     ap (λ (z : NameAnswers). z.granted) t.told ∙ ap (λ (h : Option Holder). option_map (told_holder b) h) w.none.1,
     e ∙ ap (λ (v : NamedView). is_new x old.names v.names) same ∙ not_both (is_some (found x old.names)),
   );
+  stays = g ∙ ap (λ (v : NamedView). is_gone x old.names v.names) same ∙ both_not (is_some (found x old.names));
   same = same;
 }
 
 -- ---- a ring that was asked
 
-pub asked_ring : (old new : NamedView) (c : ℕ) (x : List ℕ) (ask : Ask) (i : ℕ) (b : Bound) (r : NameAnswers) (q : Bool) → IsKeptNamed old → Reaches (named_of old) x ask i b →
-    IsTold old.locks new.locks old.top new.top c i b ask r → IsSettled old new i b → q ≡ is_new x old.names new.names → IsAsked old new c x ask (with_fresh q r)
-asked_ring old new c x ask i b r q n re t s e = record {
+pub asked_ring : (old new : NamedView) (c : ℕ) (x : List ℕ) (ask : Ask) (i : ℕ) (b : Bound) (r : NameAnswers) (q d : Bool) → IsKeptNamed old → Reaches (named_of old) x ask i b →
+    IsTold old.locks new.locks old.top new.top c i b ask r → IsSettled old new i b → q ≡ is_new x old.names new.names → d ≡ is_gone x old.names new.names → IsAsked old new c x ask (with_notes q d r)
+asked_ring old new c x ask i b r q d n re t s e g = record {
   ring = told_ring old new c x ask i b r re t;
   answer = elim (done_or_lack old.locks new.locks c i b ask t.raw t.answer) [
-    | inl d ↦ inl (taken old new c x ask i b r q re t d s e)
-    | inr w ↦ inr (wanting old new c x ask i b r q re t w.0 w.1 (view_same old new i b n.named re.fits w.1.same s t.top) e)
+    | inl done ↦ inl (taken old new c x ask i b r q d n.named re t done s e g)
+    | inr w ↦ inr (wanting old new c x ask i b r q d re t w.0 w.1 (view_same old new i b n.named re.fits w.1.same s t.top) e g)
   ];
 }
 
@@ -313,14 +387,37 @@ settle_kept os vs fixed i b v entry at h =
     let q : stays fixed i (locks_of vs) ≡ true = ap (λ (o : Option Lock). nat_lt i fixed || is_some (holder_of o)) (view_lock vs i v at) ∙ stays_held fixed i (lock_of v) h (nat_lt i fixed) refl in
     sym (ap (λ (z : Bool). slice_set os i (kept z b)) q ∙ set_same os i (Some b) entry)
 
+-- whether it is forgotten
+pub gone_free : (vs : List LockView) (fixed i : ℕ) (v : LockView) → slice_get vs i ≡ Some v → fixed ≤ i → is_some v.holder ≡ false → true ≡ not (stays fixed i (locks_of vs))
+gone_free vs fixed i v at le h =
+    let q : stays fixed i (locks_of vs) ≡ false =
+    ap (λ (o : Option Lock). nat_lt i fixed || is_some (holder_of o)) (view_lock vs i v at) ∙ goes_free fixed i (lock_of v) le (not_some v.holder h) (nat_lt i fixed) refl in
+    sym (ap (λ (z : Bool). not z) q)
+
+pub gone_kept : (vs : List LockView) (fixed i : ℕ) (v : LockView) → slice_get vs i ≡ Some v → (fixed ≤ i → is_some v.holder ≡ true) → false ≡ not (stays fixed i (locks_of vs))
+gone_kept vs fixed i v at h =
+    let q : stays fixed i (locks_of vs) ≡ true = ap (λ (o : Option Lock). nat_lt i fixed || is_some (holder_of o)) (view_lock vs i v at) ∙ stays_held fixed i (lock_of v) h (nat_lt i fixed) refl in
+    sym (ap (λ (z : Bool). not z) q)
+
 -- ---- a name that a ring has
 
-pub asked_bound : (old new : NamedView) (c : ℕ) (x : List ℕ) (ask : Ask) (i : ℕ) (b : Bound) (r : NameAnswers) → IsKeptNamed old → found x old.names ≡ Some (i, b) →
-    IsTold old.locks new.locks old.top new.top c i b ask r → IsSettled old new i b → IsAsked old new c x ask r
-asked_bound old new c x ask i b r n e t s =
+-- an ask of a ring says of nothing that it is new or freed
+abbrev is_fresh : NameAnswers → Bool
+is_fresh r = r.fresh
+
+abbrev is_freed : NameAnswers → Bool
+is_freed r = r.freed
+
+pub asked_bound : (old new : NamedView) (c : ℕ) (x : List ℕ) (ask : Ask) (i : ℕ) (b : Bound) (r : NameAnswers) (d : Bool) → IsKeptNamed old → found x old.names ≡ Some (i, b) →
+    IsTold old.locks new.locks old.top new.top c i b ask r → IsSettled old new i b → d ≡ not (stays old.fixed i (locks_of new.locks)) → IsAsked old new c x ask (with_notes r.fresh d r)
+asked_bound old new c x ask i b r d n e t s g =
     let re : Reaches (named_of old) x ask i b = reaches_found (named_of old) x ask i b n.named e in
-    let q : false ≡ is_new x old.names new.names = sym (ap (λ (o : Option (ℕ × Bound)). not (is_some o) && is_some (found x new.names)) e) in
-    subst (λ (z : NameAnswers). IsAsked old new c x ask z) (sym t.told) (subst (λ (z : NameAnswers). IsAsked old new c x ask (with_fresh false z)) t.told (asked_ring old new c x ask i b r false n re t s q))
+    let at = (found_at x old.names (i, b) e).entry in
+    let q : r.fresh ≡ is_new x old.names new.names = ap is_fresh t.told ∙ sym (ap (λ (o : Option (ℕ × Bound)). not (is_some o) && is_some (found x new.names)) e) in
+    let there : is_some (found x new.names) ≡ stays old.fixed i (locks_of new.locks) =
+    ap (λ (os : List (Option Bound)). is_some (found x os)) s.names ∙ found_kept x old.names i b (stays old.fixed i (locks_of new.locks)) e (λ j d h same. n.named.once j i d b h at same) in
+    asked_ring old new c x ask i b r r.fresh d n re t s q
+    (g ∙ ap (λ (z : Bool). not z) (sym there) ∙ sym (ap (λ (o : Option (ℕ × Bound)). is_some o && not (is_some (found x new.names))) e))
 
 -- ---- a name that none has
 
@@ -339,9 +436,9 @@ hold_or_told asks.Cancel e = absurd (none_some (answer.Refused refusal.Waiter) (
 hold_or_told (asks.Corrupt i v) e = absurd (none_some (answer.Refused refusal.Lock) (sym e))
 hold_or_told asks.Stats e = absurd (none_some (answer.Stats (record { machines = 0; waiters = 0; passes = 0; holder = None })) (sym e))
 
-some_mapped : {X Y : Type 0} (f : X → Y) (o : Option X) → is_some (option_map f o) ≡ is_some o
-some_mapped f None = refl
-some_mapped f (Some x) = refl
+pub told_unfreed : (old new : NamedView) (c : ℕ) (x : List ℕ) (ask : Ask) (i : ℕ) (b : Bound) (r : NameAnswers) → IsTold old.locks new.locks old.top new.top c i b ask r → found x old.names ≡ None →
+    r.freed ≡ is_gone x old.names new.names
+told_unfreed old new c x ask i b r t e = ap is_freed t.told ∙ sym (ap (λ (o : Option (ℕ × Bound)). is_some o && not (is_some (found x new.names))) e)
 
 pub new_by : (x : List ℕ) (os ps : List (Option Bound)) (o : Option ℕ) (q : Bool) → found x os ≡ None → o ≡ ring_of x ps → q ≡ is_some o → q ≡ is_new x os ps
 new_by x os ps o q none e s =

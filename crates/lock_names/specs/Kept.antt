@@ -1,5 +1,5 @@
 -- Locks by name as they are kept, and what an ask does to them (this project's own).
-use Rattle.std.specs.Prelude.{◌≡◌, ℕ, ◌+◌, ◌-◌, ◌^◌, ◌==◌, ◌<◌, ◌≤◌, ◌⊎◌, Bool, true, false, not, ◌&&◌, if◌then◌else◌, List, [], ◌∷◌, ◌++◌, length, slice_get, Option, Some, None, is_some, option_map}
+use Rattle.std.specs.Prelude.{◌≡◌, ℕ, ◌+◌, ◌-◌, ◌^◌, ◌==◌, ◌<◌, ◌≤◌, ◌⊎◌, Bool, true, false, not, ◌&&◌, if◌then◌else◌, List, [], ◌∷◌, ◌++◌, length, slice_get, slice_set, Option, Some, None, is_some, option_map}
 use Rattle.held_locks.specs.declared.answers.Holder.{Holder}
 use Rattle.held_locks.specs.declared.answers.Answer.{Answer}
 use Rattle.held_locks.specs.declared.answers.Answer.TheVariants as answer
@@ -114,6 +114,7 @@ abbrev pub told_of : ℕ → Bound → Answers → NameAnswers
 told_of i b r = record {
   ring = Some i;
   fresh = false;
+  freed = false;
   own = option_map (λ (a : Answer). reply.Lock (as_told b a)) r.own;
   ended = r.ended;
   granted = option_map (told_holder b) r.granted;
@@ -164,14 +165,27 @@ IsRecorded old new c ask r None = (new ≡ old) × (r.ended ≡ None)
 IsRecorded old new c ask r (Some p) =
     (raw : Answers) × IsDone old new c p.0 (of_ring p.1 ask) raw × (r.ended ≡ raw.ended)
 
+-- the names after an ask, by what a journal has of it: the ring whose name is new, or that is freed
+abbrev pub noted_at : Named → List ℕ → Option ℕ → Bool → Bool → List (Option Bound)
+noted_at s x None new freed = s.names
+noted_at s x (Some i) true freed = slice_set s.names i (Some (fresh s x i))
+noted_at s x (Some i) false true = slice_set s.names i None
+noted_at s x (Some i) false false = s.names
+
+abbrev pub noted : Named → List ℕ → NameAnswers → List (Option Bound)
+noted s x r = noted_at s x r.ring r.fresh r.freed
+
 -- The step of the machine was made: its state, what it says, and the ring that was asked. The name
--- is new if a ring has it now, and none had it before.
+-- is new if a ring has it now, and none had it before; and freed the other way round. No other name
+-- changes.
 pub record IsTaken (old new : NamedView) (c : ℕ) (x : List ℕ) (ask : Ask) (r : NameAnswers)
     : Type 0 where
   pub named : named_of new ≡ (step_named (named_of old) (Of c x ask)).named
   pub said : said_in c x r ≡ (step_named (named_of old) (Of c x ask)).said
   pub recorded : IsRecorded old.locks new.locks c ask r (reached (named_of old) x ask)
   pub fresh : r.fresh ≡ (not (is_some (found x old.names)) && is_some (found x new.names))
+  pub freed : r.freed ≡ (is_some (found x old.names) && not (is_some (found x new.names)))
+  pub names : new.names ≡ noted (named_of old) x r
 
 -- why there is no room: as many grants were counted as may be, or the ring's segment is full
 abbrev pub HasNoRoom : NamedView → Ask → Option (ℕ × Bound) → Type 0
@@ -188,6 +202,7 @@ pub record IsWanting (old new : NamedView) (x : List ℕ) (ask : Ask) (r : NameA
         × HasNoRoom old ask (reached (named_of old) x ask))
         ⊎ (r.own ≡ Some (reply.Lock (answer.Refused refusal.Memory)))
     pub none : (r.ended ≡ None) × (r.granted ≡ None) × (r.fresh ≡ false)
+    pub stays : r.freed ≡ false
     pub same : new ≡ old
 
 -- An ask is answered as the machine says, or refused for lack of room or of memory; with the ring

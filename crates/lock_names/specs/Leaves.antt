@@ -84,9 +84,11 @@ said_left os (l ∷ ls) =
 
 -- A client left all names: the state, and what is said, are the machine's after it left one
 -- name after the other; and its locks were left so, which is reported with the tokens of the names.
+-- Each ring of the pool of which that says that nobody is granted has no name any more.
 pub record IsLeftByName (old new : NamedView) (c : ℕ) (left : List Left) : Type 0 where
   pub named : named_of new ≡ named_after (named_of old) (leave_each c old.names)
   pub said : said_left old.names left ≡ said_after (named_of old) (leave_each c old.names)
   pub raw : List Left
   pub locks : IsLeft old.locks new.locks c raw
   pub told : left ≡ map (told_left old.names) raw
+  pub names : new.names ≡ names_left old.fixed old.names left

@@ -5,6 +5,7 @@ pub mod Alike
 pub mod Table
 pub mod Kept
 pub mod Begun
+pub mod Restored
 pub mod Leaves
 pub mod Grown
 pub mod Sizes

@@ -150,6 +150,7 @@ fn told(counts: Counts, ring: u32, answers: Answers) -> NameAnswers
     NameAnswers {
         ring: Some(ring),
         fresh: false,
+        freed: false,
         own,
         ended: answers.ended,
         granted,

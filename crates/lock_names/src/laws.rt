@@ -1,9 +1,11 @@
 //! What locks by name promise, over every list of inputs. Each law is the contract of a function that does nothing; the
-//! statements are in `specs/Promises.antt`, `specs/Alike.antt` and `specs/Leaves.antt`, of the machine in `specs/Names.antt`.
+//! statements are in `specs/Promises.antt`, `specs/Alike.antt`, `specs/Leaves.antt` and `specs/Restored.antt`, of the machine in
+//! `specs/Names.antt`.
 
 ghost use Rattle.lock_names.specs.Promises.{NamedStays, NamesBegin, TokensOfNamesRise, WaitedIsKept, WaitedIsHeld, UsedAreHeld, UnusedCostsNothing, MoreIsTakenLast};
 ghost use Rattle.lock_names.specs.Alike.{OwnBegin, NamesAreLocks};
 ghost use Rattle.lock_names.specs.Leaves.{LeavesAreSettled};
+ghost use Rattle.lock_names.specs.Restored.{NamesComeBack, FixedBegin, FixedComeBack, RightIsRestored};
 ghost use Rattle.lock_names.specs.Sizes.{WantedIsOne};
 
 /// The rings are named right in a beginning, and stay so, whatever is asked: of the pool those that are held have a name, and
@@ -52,4 +54,14 @@ pub fn wanted_is_one()
 /// each grant is counted.
 pub fn leaves_are_settled()
     ensures { LeavesAreSettled }
+{}
+
+/// Of a state after any inputs the names of the fixed rings, those of the pool, the number of all grants and the locks, as a
+/// restart finds them, are all that is needed: they are the state after a restart, and it is right. What is right is refused
+/// only for lack of memory.
+pub fn names_come_back()
+    ensures begin { FixedBegin }
+    ensures back { NamesComeBack }
+    ensures again { FixedComeBack }
+    ensures right { RightIsRestored }
 {}

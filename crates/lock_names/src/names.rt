@@ -1,14 +1,17 @@
 //! Locks that are called by names.
 
-ghost use Rattle.std.specs.Prelude.{◌≡◌, ℕ, ◌<◌, ◌≤◌, true, false, length, map, slice_get, slice_set, Some, None, IfOk, IfErr, option_map, string_bytes, vec_capacity};
+ghost use Rattle.std.specs.Prelude.{◌≡◌, ℕ, ◌+◌, ◌<◌, ◌≤◌, true, false, not, length, map, slice_get, slice_set, Option, Some, None, IfOk, IfErr, option_map, string_bytes, vec_capacity};
 ghost use Rattle.held_locks.specs.Asked.{asked};
 ghost use Rattle.held_locks.specs.Cuts.{HaveNoNext};
 ghost use Rattle.held_locks.specs.Kept.{locks_of, IsKeptRing};
 ghost use Rattle.held_locks.specs.declared.answers.Answer.{Answer};
-ghost use Rattle.lock_names.specs.Names.{Bound, kept, stays, found};
+ghost use Rattle.lock_names.specs.Names.{Bound, kept, stays, found, free};
 ghost use Rattle.lock_names.specs.Begun.{IsBegun, CannotBegin};
 ghost use Rattle.lock_names.specs.Kept.{seen, IsKeptNamed, may_pass, top_limit, IsAsked};
 ghost use Rattle.lock_names.specs.Leaves.{IsLeftByName};
+ghost use Rattle.lock_names.specs.Restored.{IsRestored, CannotRestore};
+ghost use Rattle.lock_names.specs.Sizes.{AreUsedUntil};
+ghost use Rattle.lock_names.specs.Table.{bound_of, bounds_of};
 ghost use Rattle.lock_names.specs.Grown.{IsGrown, CannotGrow, AreNextNames};
 ghost use Rattle.lock_names.specs.declared.replies.Reply.{Reply};
 
@@ -16,8 +19,10 @@ use crate::asks::{Rings, ask_ring, may_pass, unused_answer};
 use crate::growing::{NotGrown, add_ring};
 use crate::leaving::leave_among;
 use crate::replies::{NameAnswers, Reply};
+use crate::restoring::{NotRestored, are_counted, check_names, restored_table};
+use crate::sizes::used_among;
 use crate::starting::{NotBegun, begun_table, grants_of};
-use crate::table::{Counts, Table};
+use crate::table::{Binding, Counts, Table};
 use endless_ring::EndlessRing;
 use held_locks::{Answer, Left, Locks, OneAsk, Refusal};
 use std::alloc::Global;
@@ -48,6 +53,7 @@ fn only(ring: Option<u32>, reply: Reply) -> NameAnswers
     ensures { result ≡ record {
       ring = ring;
       fresh = false;
+      freed = false;
       own = Some reply;
       ended = None;
       granted = None;
@@ -56,6 +62,7 @@ fn only(ring: Option<u32>, reply: Reply) -> NameAnswers
     NameAnswers {
         ring,
         fresh: false,
+        freed: false,
         own: Some(reply),
         ended: None,
         granted: None,
@@ -67,6 +74,7 @@ fn refused(ring: Option<u32>, why: Refusal) -> NameAnswers
     ensures { result ≡ record {
       ring = ring;
       fresh = false;
+      freed = false;
       own = Some (Reply.Lock (Answer.Refused why));
       ended = None;
       granted = None;
@@ -83,20 +91,22 @@ fn is_spent(rings: &Rings, ask: OneAsk) -> bool
     may_pass(ask) && rings.top >= TOP_LIMIT
 }
 
-/// A ring of the pool that no client holds loses its name.
-fn settle(table: &mut Table, rings: &Rings, ring: u32)
+/// A ring of the pool that no client holds loses its name: whether it has.
+fn settle(table: &mut Table, rings: &Rings, ring: u32) -> bool
     requires lock { ring < length rings.now.locks }
     requires ring { ring < length table.old }
-    ensures { (b : Bound) → slice_get table.old ring ≡ Some (Some b) → table.new ≡ slice_set
+    ensures names { (b : Bound) → slice_get table.old ring ≡ Some (Some b) → table.new ≡ slice_set
         table.old ring (kept (stays rings.now.fixed ring (locks_of rings.now.locks)) b) }
+    ensures freed { result ≡ not (stays rings.now.fixed ring (locks_of rings.now.locks)) }
 {
     if ring < rings.fixed {
-        return;
+        return false;
     }
     if rings.locks.holder(ring).is_some() {
-        return;
+        return false;
     }
     table.forget(ring);
+    true
 }
 
 /// The ring of a name is asked.
@@ -117,8 +127,8 @@ fn ask_bound(
         return refused(Some(ring), Refusal::Full);
     }
     let counts = table.counts(ring);
-    let answers = ask_ring(rings, client, ring, counts, ask);
-    settle(table, rings, ring);
+    let mut answers = ask_ring(rings, client, ring, counts, ask);
+    answers.freed = settle(table, rings, ring);
     answers
 }
 
@@ -211,6 +221,50 @@ impl Names {
         Ok(Names { rings, table })
     }
 
+    /// Locks get back the names that they had, with the number of all grants: the first ones the names of the list, for ever, and
+    /// the others, which are the pool, one after the other, how they were bound. Of these a client holds just those that
+    /// have a name; the locks are as a restart finds them, or as they were.
+    ///
+    /// # Errors
+    ///
+    /// The first that applies: `Locks`; `Full`; `Top`; `Twice` or `Memory`, whichever comes first; `Unnamed`, `Free`, `Before`,
+    /// `Token` or `Hold`, whichever ring comes first. The locks are let go.
+    pub fn restore(
+        alloc: Global,
+        locks: Locks,
+        fixed: &[String],
+        pool: &[Option<Binding>],
+        top: u64,
+    ) -> Result<Names, NotRestored>
+        ensures ok { IfOk result (λ s.
+            IsRestored locks (map string_bytes fixed.now) (bounds_of pool.now) top s) }
+        ensures why { IfErr result (λ e.
+            CannotRestore locks (map string_bytes fixed.now) (bounds_of pool.now) top e) }
+    {
+        locks.are_kept();
+        let count = locks.count() as usize;
+        if count < fixed.len() || count - fixed.len() != pool.len() {
+            return Err(NotRestored::Locks);
+        }
+        if top >= TOP_LIMIT {
+            return Err(NotRestored::Full);
+        }
+        if !are_counted(&locks, top) {
+            return Err(NotRestored::Top);
+        }
+        let table = match restored_table(alloc, fixed, pool) {
+            Ok(table) => table,
+            Err(why) => return Err(why),
+        };
+        let fixed = fixed.len() as u32;
+        match check_names(&locks, &table, fixed, top) {
+            Ok(()) => {}
+            Err(why) => return Err(why),
+        }
+        let rings = Rings { locks, fixed, top };
+        Ok(Names { rings, table })
+    }
+
     /// One ring more in the pool, of 10 seats: it is repaired first. What is held and waited for stays, and so do the names.
     ///
     /// # Errors
@@ -260,6 +314,51 @@ impl Names {
         ensures { result ≡ length self.now.locks }
     {
         self.rings.locks.count()
+    }
+
+    /// How many rings belong to fixed locks. They come first.
+    pub fn fixed(&self) -> u32
+        ensures { result ≡ self.now.fixed }
+    {
+        self.rings.fixed
+    }
+
+    /// How many grants there were of all rings for ever.
+    pub fn top(&self) -> u64
+        ensures { result ≡ self.now.top }
+    {
+        self.rings.top
+    }
+
+    /// The locks of all rings.
+    pub fn locks(&self) -> &Locks
+        ensures { result.now ≡ self.now.locks }
+    {
+        &self.rings.locks
+    }
+
+    /// The lowest ring that has no name, which the next new name gets.
+    pub fn free(&self) -> Option<u32>
+        ensures { result ≡ free self.now.names }
+    {
+        self.table.lowest_free()
+    }
+
+    /// How many rings of the pool there are up to the last one that has a name.
+    pub fn used(&self) -> u32
+        ensures { AreUsedUntil self.now.names (self.now.fixed + result) }
+    {
+        self.rings.locks.are_kept();
+        used_among(&self.table, self.rings.fixed)
+    }
+
+    /// How a ring is bound, if it has a name.
+    pub fn binding(&self, ring: u32) -> Option<&Binding>
+        ensures there { (o : Option Bound) → slice_get self.now.names ring ≡ Some o
+            → option_map (λ x. bound_of x.now) result ≡ o }
+        ensures far { length self.now.names ≤ ring → result ≡ None }
+    {
+        self.table.binding(ring)
     }
 
     /// The name of a ring, if it has one.

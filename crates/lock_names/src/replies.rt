@@ -18,6 +18,8 @@ pub struct NameAnswers {
     pub ring: Option<u32>,
     /// Whether this ask has bound the name to the ring.
     pub fresh: bool,
+    /// Whether this ask has ended the last hold of the name, so that its ring is free.
+    pub freed: bool,
     /// The reply to the client that asks.
     pub own: Option<Reply>,
     /// The hold that ended, for its record.

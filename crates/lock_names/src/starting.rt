@@ -51,7 +51,7 @@ pub(crate) fn grants_of(locks: &Locks) -> Result<u64, NotBegun>
 }
 
 /// The names of fixed locks.
-fn add_names(table: &mut Table, alloc: Global, names: &[String]) -> Result<(), NotBegun>
+pub(crate) fn add_names(table: &mut Table, alloc: Global, names: &[String]) -> Result<(), NotBegun>
     requires none { table.old ≡ [] }
     requires few { length names.now ≤ 1000000 }
     ensures ok { OnOk result (table.new ≡ fixed_names (map string_bytes names.now)) }

@@ -1,6 +1,6 @@
 //! Which ring each name has, and which rings are free.
 
-ghost use Rattle.std.specs.Prelude.{◌≡◌, ℕ, ◌+◌, ◌^◌, ◌<◌, ◌≤◌, ◌++◌, ◌∷◌, [], List, map, length, slice_get, slice_set, None, Some, IfOk, OnOk, OnErr, option_map, string_bytes};
+ghost use Rattle.std.specs.Prelude.{◌≡◌, ℕ, ◌+◌, ◌^◌, ◌<◌, ◌≤◌, ◌++◌, ◌∷◌, [], List, map, length, slice_get, slice_set, Option, None, Some, IfOk, OnOk, OnErr, option_map, string_bytes};
 ghost use Rattle.std.specs.HashMap.{get_by_text};
 ghost use Rattle.std.specs.BinaryHeap.{heap_capacity, heap_items, heap_len};
 ghost use Rattle.lock_names.specs.Bindings.{Bound, found, free};
@@ -11,12 +11,15 @@ use std::cmp::Reverse;
 use std::collections::{BinaryHeap, HashMap};
 use std::marker::Model;
 
-/// How a name is bound to a ring: how many grants the ring had then, and how many there were of all rings.
+/// How a name is bound to a ring.
 #[derive(Drop)]
-pub(crate) struct Binding {
-    name: String,
-    before: u64,
-    floor: u64,
+pub struct Binding {
+    /// The name.
+    pub name: String,
+    /// How many grants the ring had when it was bound.
+    pub before: u64,
+    /// How many grants there were of all rings then: the ring's grant n has the token `floor + (n - before)`.
+    pub floor: u64,
 }
 
 /// How many grants a ring had when it was bound, and how many there were of all rings.
@@ -167,7 +170,11 @@ fn add_named_among(
 }
 
 /// A ring more, whose name, if it has one, is that of a binding.
-fn copy_ring(copy: &mut Table, alloc: Global, binding: &Option<Binding>) -> Result<(), AllocError>
+pub(crate) fn copy_ring(
+    copy: &mut Table,
+    alloc: Global,
+    binding: &Option<Binding>,
+) -> Result<(), AllocError>
     requires few { length copy.old < 2 ^ 32 }
     requires unused { (b : Binding) → binding.now ≡ Some b
         → found (string_bytes b.name) copy.old ≡ None }
@@ -259,6 +266,21 @@ impl Table {
                 before: 0,
                 floor: 0,
             },
+        }
+    }
+
+    /// How a ring is bound, if it has a name.
+    pub(crate) fn binding(&self, ring: u32) -> Option<&Binding>
+        ensures there { (o : Option Bound) → slice_get self.now ring ≡ Some o
+            → option_map (λ x. bound_of x.now) result ≡ o }
+        ensures far { length self.now ≤ ring → result ≡ None }
+    {
+        if ring as usize >= self.bound.len() {
+            return None;
+        }
+        match &self.bound[ring as usize] {
+            Some(binding) => Some(binding),
+            None => None,
         }
     }
 

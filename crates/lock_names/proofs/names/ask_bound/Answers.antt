@@ -1,5 +1,5 @@
 use Rattle.std.proofs.Common.{ℕ, Some, ◌∙◌, ap}
-use Rattle.std.specs.Prelude.{slice_set}
+use Rattle.std.specs.Prelude.{slice_set, not}
 use Rattle.std.proofs.lemmas.Option.{slice_get_within}
 use Rattle.held_locks.specs.Kept.{locks_of}
 use Rattle.lock_names.specs.Names.{of_ring, kept, stays}
@@ -42,10 +42,10 @@ returns-clause-asked c = λ b e.
     let entry = (found_at b.name c.args.table.now (c.args.ring, b) e).entry in
     let t = told_as c.args.rings.now.locks c.ask_ring-answers.new.rings.locks c.args.rings.now.top c.ask_ring-answers.new.rings.top c.args.client c.args.ring b c.counts-counts.result (asked c.args.ask) c.ask_ring-answers.result
     (c.counts-counts.ensures b entry) c.ask_ring-answers.ensures.told in
-    asked_bound v w c.args.client b.name (asked c.args.ask) c.args.ring b c.ask_ring-answers.result c.requires.kept e t (record {
-      names = c.settle.ensures b entry ∙ ap (λ (n : ℕ). slice_set c.args.table.now c.args.ring (kept (stays n c.args.ring (locks_of c.ask_ring-answers.new.rings.locks)) b)) c.ask_ring-answers.ensures.fixed;
+    asked_bound v w c.args.client b.name (asked c.args.ask) c.args.ring b c.ask_ring-answers.result c.settle.result c.requires.kept e t (record {
+      names = c.settle.ensures.names b entry ∙ ap (λ (n : ℕ). slice_set c.args.table.now c.args.ring (kept (stays n c.args.ring (locks_of c.ask_ring-answers.new.rings.locks)) b)) c.ask_ring-answers.ensures.fixed;
       fixed = c.ask_ring-answers.ensures.fixed;
-    })
+    }) (c.settle.ensures.freed ∙ ap (λ (n : ℕ). not (stays n c.args.ring (locks_of c.ask_ring-answers.new.rings.locks))) c.ask_ring-answers.ensures.fixed)
 
 pub returns-clause-kept : goal.returns-clause-kept
 returns-clause-kept c =
@@ -57,6 +57,6 @@ returns-clause-kept c =
     let t = told_as c.args.rings.now.locks c.ask_ring-answers.new.rings.locks c.args.rings.now.top c.ask_ring-answers.new.rings.top c.args.client c.args.ring b c.counts-counts.result (asked c.args.ask) c.ask_ring-answers.result
     (c.counts-counts.ensures b entry) c.ask_ring-answers.ensures.told in
     asked_kept v w c.args.client b.name (asked c.args.ask) c.args.ring b c.ask_ring-answers.result c.requires.kept re t (record {
-      names = c.settle.ensures b entry ∙ ap (λ (n : ℕ). slice_set c.args.table.now c.args.ring (kept (stays n c.args.ring (locks_of c.ask_ring-answers.new.rings.locks)) b)) c.ask_ring-answers.ensures.fixed;
+      names = c.settle.ensures.names b entry ∙ ap (λ (n : ℕ). slice_set c.args.table.now c.args.ring (kept (stays n c.args.ring (locks_of c.ask_ring-answers.new.rings.locks)) b)) c.ask_ring-answers.ensures.fixed;
       fixed = c.ask_ring-answers.ensures.fixed;
     })

@@ -8,7 +8,7 @@ use Rattle.lock_names.specs.Names.{Bound, of_ring, kept, stays}
 use Rattle.held_locks.specs.Asked.{asked}
 use Rattle.lock_names.specs.Kept.{seen, bound_by}
 use Rattle.lock_names.proofs.Asking.{answer_within}
-use Rattle.lock_names.proofs.Taking.{told_as, ready_fits, free_ring, asked_ring, asked_kept, new_by, settled_bound}
+use Rattle.lock_names.proofs.Taking.{told_as, ready_fits, free_ring, asked_ring, asked_kept, told_unfreed, new_by, settled_bound}
 use Rattle.lock_names.proofs.names.ask_unbound.Goals as goal
 
 pub ring-requires : goal.ring-requires
@@ -57,10 +57,11 @@ returns-clause-asked c =
     let there : slice_get c.bind.new.self i ≡ Some (Some b) = ap (λ (t : List (Option Bound)). slice_get t i) c.in-Ok.ensures.ok ∙ get_set_same c.args.table.now i (Some b) None f.entry in
     let t = told_as c.args.rings.now.locks c.ask_ring-answers.new.rings.locks c.args.rings.now.top c.ask_ring-answers.new.rings.top c.args.client i b (record { before = c.grants.result; floor = c.args.rings.now.top }) (asked c.args.ask)
     c.ask_ring-answers.result refl c.ask_ring-answers.ensures.told in
-    let names = settled_bound c.args.table.now c.bind.new.self c.settle.new.table i b (kept (stays c.ask_ring-answers.new.rings.fixed i (locks_of c.ask_ring-answers.new.rings.locks)) b) c.in-Ok.ensures.ok (c.settle.ensures b there)
+    let names = settled_bound c.args.table.now c.bind.new.self c.settle.new.table i b (kept (stays c.ask_ring-answers.new.rings.fixed i (locks_of c.ask_ring-answers.new.rings.locks)) b) c.in-Ok.ensures.ok (c.settle.ensures.names b there)
     ∙ ap (λ (n : ℕ). slice_set c.args.table.now i (kept (stays n i (locks_of c.ask_ring-answers.new.rings.locks)) b)) c.ask_ring-answers.ensures.fixed in
-    asked_ring v w c.args.client c.args.name.now (asked c.args.ask) i b c.ask_ring-answers.result c.is_some.result c.requires.kept re t (record { names = names; fixed = c.ask_ring-answers.ensures.fixed })
+    asked_ring v w c.args.client c.args.name.now (asked c.args.ask) i b c.ask_ring-answers.result c.is_some.result c.ask_ring-answers.result.freed c.requires.kept re t (record { names = names; fixed = c.ask_ring-answers.ensures.fixed })
     (new_by c.args.name.now c.args.table.now c.settle.new.table c.find.result c.is_some.result c.requires.unused c.find.ensures c.is_some.ensures)
+    (told_unfreed v w c.args.client c.args.name.now (asked c.args.ask) i b c.ask_ring-answers.result t c.requires.unused)
 
 pub returns-clause-kept : goal.returns-clause-kept
 returns-clause-kept c =
@@ -74,6 +75,6 @@ returns-clause-kept c =
     let there : slice_get c.bind.new.self i ≡ Some (Some b) = ap (λ (t : List (Option Bound)). slice_get t i) c.in-Ok.ensures.ok ∙ get_set_same c.args.table.now i (Some b) None f.entry in
     let t = told_as c.args.rings.now.locks c.ask_ring-answers.new.rings.locks c.args.rings.now.top c.ask_ring-answers.new.rings.top c.args.client i b (record { before = c.grants.result; floor = c.args.rings.now.top }) (asked c.args.ask)
     c.ask_ring-answers.result refl c.ask_ring-answers.ensures.told in
-    let names = settled_bound c.args.table.now c.bind.new.self c.settle.new.table i b (kept (stays c.ask_ring-answers.new.rings.fixed i (locks_of c.ask_ring-answers.new.rings.locks)) b) c.in-Ok.ensures.ok (c.settle.ensures b there)
+    let names = settled_bound c.args.table.now c.bind.new.self c.settle.new.table i b (kept (stays c.ask_ring-answers.new.rings.fixed i (locks_of c.ask_ring-answers.new.rings.locks)) b) c.in-Ok.ensures.ok (c.settle.ensures.names b there)
     ∙ ap (λ (n : ℕ). slice_set c.args.table.now i (kept (stays n i (locks_of c.ask_ring-answers.new.rings.locks)) b)) c.ask_ring-answers.ensures.fixed in
     asked_kept v w c.args.client c.args.name.now (asked c.args.ask) i b c.ask_ring-answers.result c.requires.kept re t (record { names = names; fixed = c.ask_ring-answers.ensures.fixed })
