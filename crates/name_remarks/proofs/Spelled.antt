@@ -1,5 +1,5 @@
 -- A remark is read just as it is spelled.
-use Rattle.std.proofs.Common.{◌≡◌, ℕ, zero, suc, ◌<◌, ◌^◌, Bool, cond, List, [], ◌∷◌, ◌++◌, length, drop, Option, Some, None, Result, Ok, Err, inl, inr, refl, ap, sym, subst, ◌∙◌, arith}
+use Rattle.std.proofs.Common.{◌≡◌, ℕ, zero, suc, ◌<◌, ◌^◌, cond, List, [], ◌∷◌, ◌++◌, length, drop, Option, Some, None, Result, Ok, Err, inl, inr, refl, ap, sym, subst, ◌∙◌, arith}
 use Rattle.std.specs.Prelude.{codes, slice_index, nat_lt}
 use Rattle.std.specs.Fmt.{decimal, digits}
 use Rattle.std.proofs.lemmas.Bool.{ne_eqb, lt-ltb, ltb-true}
@@ -17,13 +17,13 @@ use Rattle.lock_protocol.specs.Names.{IsName, name_ended}
 use Rattle.lock_protocol.specs.NameReading.{name_at}
 use Rattle.lock_protocol.proofs.ReadNames.{name_hears}
 use Rattle.lock_protocol.proofs.Fronts.{ok_not_err, bits_of}
-use Rattle.name_remarks.specs.Remarks.{Binding, Remark, bind, free, top, remark_text, Fits, IsRemark, BeginsWith, BeginsAsOne}
+use Rattle.name_remarks.specs.Remarks.{Binding, Remark, bind, free, top, remark_text, IsRemark, BeginsWith, BeginsAsOne}
 use Rattle.name_remarks.specs.Readers.{small_of, small_at, ring_at, bind_of, bind_at, free_at, top_at}
 use Rattle.name_remarks.specs.Views.{Heard, Says, Other, Wrong, IsHeardAs, OneReading, ReadBack, OneTextEach}
 
 -- ---- numbers
 
-same_text : (n : ℕ) → n < 2 ^ 64 → decimal n ≡ number_text n
+pub same_text : (n : ℕ) → n < 2 ^ 64 → decimal n ≡ number_text n
 unfolding number_text digits
 same_text zero lt = refl
 same_text (suc n) lt = decimal-digits_of (suc n) (omega arith) lt ∙ sym (rw (ne_eqb (suc n) 0 (λ e. omega (arith, e))) refl)

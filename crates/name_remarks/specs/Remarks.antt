@@ -1,16 +1,17 @@
 -- Remarks about the names of a folder of locks, and how they are spelled (this project's own).
-use Rattle.std.specs.Prelude.{◌≡◌, ℕ, ◌<◌, ◌^◌, List, ◌++◌, codes, ◌⊎◌}
+use Rattle.std.specs.Prelude.{◌≡◌, ℕ, ◌<◌, ◌^◌, List, [], ◌∷◌, ◌++◌, codes, ◌⊎◌}
+use Rattle.std.specs.List.{AllByRecursion}
 use Rattle.text_lines.specs.Spelling.{spaced, ended}
 use Rattle.lock_protocol.specs.Names.{IsName, name_ended}
 
--- how a ring is bound to a name: there were so many grants of the ring before, and so many of all
--- rings, so the ring's grant n has the token floor + (n - before)
+-- how a ring is bound to a name, with the numbers of grants of the ring, and of all rings for ever,
+-- before: so the ring's grant n has the token floor + (n - before)
 pub record Binding : Type 0 where
   pub before : ℕ
   pub floor : ℕ
   pub name : List ℕ
 
--- The next grant of a ring binds it so; or the ring has no name any more; or there were so many
+-- The next grant of a ring binds it so; or the ring has lost its name; or this is the number of
 -- grants of all rings for ever.
 pub data Remark : Type 0 where
   bind : ℕ → Binding → Remark
@@ -43,3 +44,13 @@ abbrev pub BeginsAsOne : List ℕ → Type 0
 BeginsAsOne line =
     BeginsWith (codes "# name ") line
     ⊎ (BeginsWith (codes "# free ") line ⊎ BeginsWith (codes "# floor ") line)
+
+-- The text is one line: its only LF is the last byte.
+pub record IsOneLine (text : List ℕ) : Type 0 where
+  pub front : List ℕ
+  pub ends : text ≡ front ++ 10 ∷ []
+  pub none : AllByRecursion (λ b. ¬ (b ≡ 10)) front
+
+-- a law: the text of each remark is one line
+abbrev pub RemarksAreLines : Type 0
+RemarksAreLines = (r : Remark) → Fits r → IsOneLine (remark_text r)

@@ -12,7 +12,7 @@ seen (reads.Bind ring before floor name) =
 seen (reads.Free ring) = free ring
 seen (reads.Top grants) = top grants
 
--- the line is this remark's; or no remark about names; or it begins as one, and is none
+-- the line is this remark's; or does not begin as one about names; or begins so, and is not one
 pub data Heard : Type 0 where
   Says : Remark → Heard
   Other : Heard

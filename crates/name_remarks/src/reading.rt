@@ -1,6 +1,6 @@
 //! Reads remarks about names. It takes no memory.
 
-ghost use Rattle.std.specs.Prelude.{◌≡◌, ◌++◌, codes};
+ghost use Rattle.std.specs.Prelude.{◌++◌, codes};
 ghost use Rattle.text_lines.specs.Reading.{end_at, whole_at};
 ghost use Rattle.text_lines.specs.Exact.{Returns};
 ghost use Rattle.name_remarks.specs.Readers.{small_at, ring_at, bind_at, free_at, top_at};
@@ -112,7 +112,7 @@ fn top_line(rest: &[u8]) -> Result<Option<NameRemark<'_>>, Misspelled>
     }
 }
 
-/// What a line, which has its LF, says of names; `None` if it is no remark about them.
+/// What a line, which has its LF, says of names; `None` if it does not begin as a remark.
 ///
 /// # Errors
 ///

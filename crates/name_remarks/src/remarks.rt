@@ -3,7 +3,8 @@
 /// What a remark says of the names of a folder. The bytes of the name are those of the line.
 #[derive(Clone, Copy)]
 pub enum NameRemark<'l> {
-    /// The next grant of the ring binds it to this name. There were `before` grants of the ring, and `floor` of all rings for ever.
+    /// The next grant of the ring binds it to this name. Up to it there were `before` grants of the
+    /// ring, and `floor` of all rings for ever.
     Bind {
         ring: u32,
         before: u64,
@@ -20,6 +21,6 @@ pub enum NameRemark<'l> {
     },
 }
 
-/// The line begins as a remark about names, and is none.
+/// The line begins as a remark about names, and is not one.
 #[derive(Clone, Copy, Debug, PartialEq, Eq)]
 pub struct Misspelled;

@@ -25,7 +25,7 @@ fn bind_front(ring: u32, before: u64, floor: u64) -> Line
     line
 }
 
-/// Adds the parts of a line that ends with a name. The text may have some of them if memory is short.
+/// Adds the parts of a line that ends with a name. If memory is short the text may have some.
 fn put_parts(text: &mut Vec<u8>, front: &[u8], name: &[u8]) -> Result<(), AllocError>
     ensures ok { OnOk result
         (text.new.items ≡ text.old.items ++ (front.now ++ name_ended name.now)) }

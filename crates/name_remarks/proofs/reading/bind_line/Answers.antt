@@ -1,4 +1,4 @@
-use Rattle.std.proofs.Common.{inl, inr, refl}
+use Rattle.std.proofs.Common.{inl, refl}
 use Rattle.name_remarks.specs.Views.{seen}
 use Rattle.name_remarks.proofs.Spelled.{bind_read, bind_refused}
 use Rattle.name_remarks.proofs.reading.bind_line.Goals as goal

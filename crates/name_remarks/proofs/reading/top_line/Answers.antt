@@ -1,4 +1,4 @@
-use Rattle.std.proofs.Common.{inl, inr, refl}
+use Rattle.std.proofs.Common.{inr, refl}
 use Rattle.name_remarks.specs.Views.{seen}
 use Rattle.name_remarks.proofs.Spelled.{top_read, top_refused}
 use Rattle.name_remarks.proofs.reading.top_line.Goals as goal
