@@ -15,6 +15,8 @@ mod farm;
 #[cfg(test)]
 mod loops;
 #[cfg(test)]
+mod name_remarks;
+#[cfg(test)]
 mod named_locks;
 #[cfg(test)]
 mod names;

@@ -1,0 +1,4 @@
+pub mod Remarks
+pub mod Views
+pub mod Readers
+pub mod Bindings
