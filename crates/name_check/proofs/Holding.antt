@@ -143,7 +143,7 @@ Goes x low busy t (Some Ends) = (busy ≡ true) × IsNow x low false t
 idle : (s : Judged) (r : ℕ) (g : Ring) (b : Bound) → IsSound false s → slice_get s.rings r ≡ Some g → slice_get s.names r ≡ Some (Some b) → MayBeGranted s.due s.fixed r g → g.held ≡ false
 idle s r g b h there entry (IsBound e) = (h.each r g (Some b) there entry).1 (ap (λ (d : Due). is_between d r) e ∙ eq-eqb r r refl)
 idle s r g b h there entry (IsHanded e) = (h.each r g (Some b) there entry).1 (ap (λ (d : Due). is_between d r) e ∙ eq-eqb r r refl)
-idle s r g b h there entry (IsFixed e idle lt) = idle
+idle s r g b h there entry (IsFixed e unheld lt) = unheld
 
 -- a name, and whether it is this one
 bound_is : (x : List ℕ) (b : Bound) (q : Bool) → bytes_eq x b.name ≡ q → bound_to x (Some (Some b)) ≡ (if q then Some b else None)

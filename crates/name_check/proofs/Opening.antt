@@ -14,6 +14,7 @@ use Rattle.name_check.specs.declared.lines.Due.TheVariants as due
 use Rattle.name_check.specs.Entries.{Judged, begun, grants_in}
 use Rattle.name_check.specs.Kept.{IsSoundRing, IsSoundDue, IsSound}
 use Rattle.name_check.specs.Laws.{NoneHeld, SoundBegins, TrustEnds}
+use Rattle.name_check.proofs.Starting.{begun_is}
 use Rattle.name_check.proofs.Sounding.{joined, free_name, length_frees, named_before}
 
 abbrev fixed_name : List ℕ → Bound
@@ -97,3 +98,10 @@ trust_ends s h d = record {
 
 pub begun_sound : (t : Judged) (fixed : List (List ℕ)) (rings : List Ring) → t ≡ begun fixed rings → ((i j : ℕ) (x : List ℕ) → slice_get fixed i ≡ Some x → slice_get fixed j ≡ Some x → i ≡ j) → length fixed ≤ length rings → IsSound true t
 begun_sound t fixed rings e apart le = subst (λ (x : Judged). IsSound true x) (sym e) (sound_begins true fixed rings apart le (λ q. absurd (false≢true (sym q))))
+
+pub begun_kept : (rings items : List Ring) (ns : List (List ℕ)) (os : List (Option Bound)) (fixed top : ℕ) → items ≡ rings → fixed ≡ length ns → os ≡ fixed_names ns ++ frees (length rings - fixed) → top ≡ grants_in rings →
+    ((i j : ℕ) (x : List ℕ) → slice_get ns i ≡ Some x → slice_get ns j ≡ Some x → i ≡ j) → fixed ≤ length rings → IsSound true (record { rings = items; names = os; fixed = fixed; top = top; due = due.Top })
+begun_kept rings items ns os fixed top same few e sum apart le =
+    subst (λ (gs : List Ring). IsSound true (record { rings = gs; names = os; fixed = fixed; top = top; due = due.Top })) (sym same)
+    (begun_sound (record { rings = rings; names = os; fixed = fixed; top = top; due = due.Top }) ns rings
+    (begun_is rings ns os fixed top few (e ∙ ap (λ (n : ℕ). fixed_names ns ++ frees (length rings - n)) few) sum) apart (omega arith))

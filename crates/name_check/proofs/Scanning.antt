@@ -1,7 +1,8 @@
 -- The first ring that is held.
-use Rattle.std.proofs.Common.{◌≡◌, ℕ, zero, suc, ◌+◌, ◌<◌, ◌≤◌, Bool, true, false, List, [], ◌∷◌, Option, None, Some, inl, inr, refl, sym, ◌∙◌, ap, subst, arith}
+use Rattle.std.proofs.Common.{◌≡◌, ℕ, zero, suc, ◌+◌, ◌<◌, ◌≤◌, Bool, true, false, List, [], ◌∷◌, length, get_or, Option, None, Some, inl, inr, refl, sym, ◌∙◌, ap, subst, arith}
 use Rattle.std.specs.Prelude.{nat_le, nat_lt, ◌&&◌, if◌then◌else◌, slice_get}
-use Rattle.std.proofs.lemmas.Bool.{le-leb, leb-true, and_parts, and_from, both_ways, cases_Bool, ltb-true, ltb-false}
+use Rattle.std.proofs.lemmas.Bool.{le-leb, leb-true, and_parts, and_from, both_ways, cases_Bool, cases_eq, ltb-true, ltb-false}
+use Rattle.std.proofs.lemmas.Option.{slice_get-get_or, slice_get_within}
 use Rattle.lock_names.proofs.Found.{some_same, none_some}
 use Rattle.name_check.specs.declared.lines.Ring.{Ring}
 use Rattle.name_check.specs.declared.lines.Due.{Due}
@@ -108,3 +109,18 @@ scan_none low at rings all none (Some q) f =
     let is : q ≡ 0 + w.place = w.is in
     let from : low ≤ q = w.from in
     absurd (both_ways w.ring.held (none w.place w.ring (omega arith) (all w.place w.ring w.there) w.there) w.held)
+
+pub scan_here : (low at : ℕ) (rings : List Ring) (d : Ring) → at < length rings → (get_or rings at d).held ≡ true → low ≤ at → NoneBefore low at rings → Some at ≡ first_held low 0 rings
+scan_here low at rings d lt h le none = sym (scan_found low at rings (get_or rings at d) (slice_get-get_or rings at d lt) h le none)
+
+pub scan_more : (low at : ℕ) (rings : List Ring) (d : Ring) → at < length rings → (get_or rings at d).held ≡ false → NoneBefore low at rings → NoneBefore low (at + 1) rings
+scan_more low at rings d lt idle none i g le less e = elim (cases_eq i at) [
+  | inl q ↦
+      let same : g ≡ get_or rings at d = some_same g (get_or rings at d) (sym e ∙ ap (λ (n : ℕ). slice_get rings n) q ∙ slice_get-get_or rings at d lt) in
+      ap (λ (x : Ring). x.held) same ∙ idle
+  | inr q ↦ none i g le (omega (arith, q, less)) e
+]
+
+pub scan_past : (low at : ℕ) (rings : List Ring) → length rings ≤ at → NoneBefore low at rings → None ≡ first_held low 0 rings
+scan_past low at rings past none =
+    sym (scan_none low at rings (λ i g e. let lt : i < length rings = slice_get_within rings i g e in omega arith) none (first_held low 0 rings) refl)

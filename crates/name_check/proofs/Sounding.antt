@@ -466,3 +466,30 @@ line_sound s e t (Err why) h ok err = refused_sound s e t why h err
 pub file_sound : {T : Type 0} (s : Judged) (e : Entry) (t : Judged) (r : Result T Refused) → IsSound true s → OnOk r (IsNoted s e t) → OnOk r (IsSound true t)
 file_sound s e t (Ok x) h ok = noted_sound s e t h ok
 file_sound s e t (Err why) h ok = tt
+
+-- the ring of a hold that ended with the file
+pub handed_within : (s : Judged) → IsSound true s → (q : ℕ) → s.due ≡ due.Handed q → q < length s.names
+handed_within s h q d =
+    let places : (s.fixed ≤ q) × (q < length s.rings) = subst (λ (x : Due). IsSoundDue s.fixed s.rings x) d h.next in
+    let lt : q < length s.rings = places.1 in
+    let many : length s.names ≡ length s.rings = h.many in
+    omega arith
+
+length_closed : (d : Due) (os : List (Option Bound)) → length (closed d os) ≡ length os
+length_closed due.Nothing os = refl
+length_closed due.Top os = refl
+length_closed (due.Restated q) os = refl
+length_closed (due.Granted q) os = refl
+length_closed (due.Handed q) os = length-set os q None
+
+pub file_noted : (s : Judged) (n : ℕ) (rings : List Ring) (mid names : List (Option Bound)) → IsSound true s → refusal s (File n) ≡ None → mid ≡ closed s.due s.names → names ≡ mid ++ frees (n - length mid) →
+    rings ≡ s.rings ++ fresh_rings (n - length s.rings) → IsNoted s (File n) (record { rings = rings; names = names; fixed = s.fixed; top = s.top; due = due.Top })
+file_noted s n rings mid names h r e f k =
+    let size : length mid ≡ length s.rings = ap (λ (os : List (Option Bound)). length os) e ∙ length_closed s.due s.names ∙ h.many in
+    record {
+      right = r;
+      now =
+          ap (λ (os : List (Option Bound)). record { rings = rings; names = os; fixed = s.fixed; top = s.top; due = due.Top })
+          (f ∙ ap (λ (os : List (Option Bound)). os ++ frees (n - length mid)) e ∙ ap (λ (m : ℕ). closed s.due s.names ++ frees (n - m)) size)
+          ∙ ap (λ (gs : List Ring). record { rings = gs; names = closed s.due s.names ++ frees (n - length s.rings); fixed = s.fixed; top = s.top; due = due.Top }) k;
+    }

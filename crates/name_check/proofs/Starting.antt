@@ -1,8 +1,7 @@
 -- Where the judge begins.
-use Rattle.std.proofs.Common.{◌≡◌, ℕ, zero, suc, ◌+◌, ◌-◌, ◌<◌, ◌≤◌, true, false, List, [], ◌∷◌, ◌++◌, length, take, Option, None, Some, ◌⊎◌, inl, inr, refl, sym, ◌∙◌, ap, subst, arith}
-use Rattle.std.specs.Prelude.{slice_get, slice_set}
-use Rattle.std.proofs.lemmas.List.{length-append, append_assoc, append-nil, take_all}
-use Rattle.std.proofs.lemmas.List.Sums.{sum_by-cons}
+use Rattle.std.proofs.Common.{◌≡◌, ℕ, zero, suc, ◌+◌, ◌-◌, ◌<◌, ◌≤◌, true, false, List, [], ◌∷◌, ◌++◌, length, Option, None, Some, ◌⊎◌, inl, inr, refl, sym, ◌∙◌, ap, subst, arith}
+use Rattle.std.specs.Prelude.{Result, Ok, Err, OnOk, slice_get, slice_set}
+use Rattle.std.proofs.lemmas.List.{length-append, append_assoc, append-nil}
 use Rattle.lock_names.specs.Names.{Bound, found}
 use Rattle.lock_names.specs.Begun.{fixed_names, frees}
 use Rattle.lock_names.proofs.Found.{some_same, none_some}
@@ -42,6 +41,10 @@ unused_end x os more e none = ap (λ (y : List (Option Bound)). found x y) e ∙
 pub named_end : (os more last : List (Option Bound)) (ring : ℕ) (b : Bound) → ring ≡ length os → more ≡ os ++ None ∷ [] → last ≡ slice_set more ring (Some b) → last ≡ os ++ Some b ∷ []
 named_end os more last ring b at e f = f ∙ ap (λ (x : List (Option Bound)). slice_set x ring (Some b)) e ∙ ap (λ (n : ℕ). slice_set (os ++ None ∷ []) n (Some b)) at ∙ set_end os None (Some b)
 
+pub on_named_end : {T E : Type 0} (r : Result T E) (os more last : List (Option Bound)) (ring : ℕ) (b : Bound) → ring ≡ length os → more ≡ os ++ None ∷ [] → OnOk r (last ≡ slice_set more ring (Some b)) → OnOk r (last ≡ os ++ Some b ∷ [])
+on_named_end (Ok x) os more last ring b at e h = named_end os more last ring b at e h
+on_named_end (Err x) os more last ring b at e h = tt
+
 -- ---- the beginning
 
 pub begun_is : (rings : List Ring) (ns : List (List ℕ)) (os : List (Option Bound)) (fixed top : ℕ) → fixed ≡ length ns → os ≡ fixed_names ns ++ frees (length rings - length ns) → top ≡ grants_in rings →
@@ -50,43 +53,3 @@ begun_is rings ns os fixed top few e sum =
     ap (λ (x : List (Option Bound)). record { rings = rings; names = x; fixed = fixed; top = top; due = due.Top }) e
     ∙ ap (λ (n : ℕ). record { rings = rings; names = fixed_names ns ++ frees (length rings - length ns); fixed = n; top = top; due = due.Top }) few
     ∙ ap (λ (n : ℕ). record { rings = rings; names = fixed_names ns ++ frees (length rings - length ns); fixed = length ns; top = n; due = due.Top }) sum
-
--- ---- the sum of grants
-
-sum_more : (gs : List Ring) (k : ℕ) (g : Ring) → slice_get gs k ≡ Some g → grants_in (take (suc k) gs) ≡ grants_in (take k gs) + g.grants
-sum_more [] k g e = absurd (none_some g e)
-sum_more (x ∷ gs) zero g e =
-    let same : x.grants ≡ g.grants = ap (λ (y : Ring). y.grants) (some_same x g e) in
-    let sum : grants_in (x ∷ []) ≡ x.grants + grants_in [] = sum_by-cons (λ (y : Ring). y.grants) x [] in
-    let none : grants_in [] ≡ 0 = refl in
-    omega arith
-sum_more (x ∷ gs) (suc k) g e =
-    let rest : grants_in (take (suc k) gs) ≡ grants_in (take k gs) + g.grants = sum_more gs k g e in
-    let more : grants_in (x ∷ take (suc k) gs) ≡ x.grants + grants_in (take (suc k) gs) = sum_by-cons (λ (y : Ring). y.grants) x (take (suc k) gs) in
-    let less : grants_in (x ∷ take k gs) ≡ x.grants + grants_in (take k gs) = sum_by-cons (λ (y : Ring). y.grants) x (take k gs) in
-    omega arith
-
-sum_few : (gs : List Ring) (k : ℕ) → grants_in (take k gs) ≤ grants_in gs
-sum_few gs zero = let none : grants_in [] ≡ 0 = refl in let le : 0 ≤ grants_in gs = omega arith in le
-sum_few [] (suc k) = let le : grants_in [] ≤ grants_in [] = omega arith in le
-sum_few (x ∷ gs) (suc k) =
-    let le : grants_in (take k gs) ≤ grants_in gs = sum_few gs k in
-    let less : grants_in (x ∷ take k gs) ≡ x.grants + grants_in (take k gs) = sum_by-cons (λ (y : Ring). y.grants) x (take k gs) in
-    let all : grants_in (x ∷ gs) ≡ x.grants + grants_in gs = sum_by-cons (λ (y : Ring). y.grants) x gs in
-    omega arith
-
-pub sum_on : (gs : List Ring) (k n sum : ℕ) (g : Ring) → n ≡ k + 1 → slice_get gs k ≡ Some g → sum ≡ grants_in (take k gs) → sum + g.grants ≡ grants_in (take n gs)
-sum_on gs k n sum g e at is =
-    let one : n ≡ suc k = omega arith in
-    let more : grants_in (take (suc k) gs) ≡ grants_in (take k gs) + g.grants = sum_more gs k g at in
-    let same : grants_in (take n gs) ≡ grants_in (take (suc k) gs) = ap (λ (m : ℕ). grants_in (take m gs)) one in
-    omega arith
-
-pub sum_over : (gs : List Ring) (k sum : ℕ) (g : Ring) → slice_get gs k ≡ Some g → sum ≡ grants_in (take k gs) → sum + g.grants ≤ grants_in gs
-sum_over gs k sum g at is =
-    let more : grants_in (take (suc k) gs) ≡ grants_in (take k gs) + g.grants = sum_more gs k g at in
-    let few : grants_in (take (suc k) gs) ≤ grants_in gs = sum_few gs (suc k) in
-    omega arith
-
-pub sum_all : (gs : List Ring) (k sum : ℕ) → length gs ≤ k → sum ≡ grants_in (take k gs) → sum ≡ grants_in gs
-sum_all gs k sum le is = is ∙ ap (λ (x : List Ring). grants_in x) (take_all k gs le)

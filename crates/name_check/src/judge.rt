@@ -1,8 +1,8 @@
 //! The judge: each line is right, or it is refused.
 
-ghost use Rattle.std.specs.Prelude.{◌≡◌, ℕ, ◌<◌, nat_lt, if◌then◌else◌, Some, None, length, map, slice_set, true, IfOk, IfErr, OnOk, OnErr, string_bytes};
+ghost use Rattle.std.specs.Prelude.{◌≡◌, ℕ, ◌<◌, nat_lt, if◌then◌else◌, Some, None, length, map, slice_get, slice_set, true, IfOk, IfErr, OnOk, OnErr, string_bytes};
 ghost use Rattle.name_check.specs.Entries.{Top, Bind, Free, Grant, Repair, End, File, begun};
-ghost use Rattle.name_check.specs.Judged.{due_bound, closed};
+ghost use Rattle.name_check.specs.Judged.{due_bound, closed, refused_bind, refusal};
 ghost use Rattle.name_check.specs.Kept.{seen, entry_of, IsSound, IsNoted, IsRead, IsRefused, IsWrong, IsPut, IsNotNext, CannotBegin};
 
 use crate::begin::{NotJudged, add_pool, add_rings, begun_notes};
@@ -161,6 +161,40 @@ fn due_bound(due: Due, ring: usize, rings: &[Ring]) -> Due
     }
 }
 
+/// A name is bound that may be.
+fn bind_name(
+    notes: &mut Notes,
+    alloc: Global,
+    ring: usize,
+    name: &str,
+    counts: Counts,
+    known: Ring,
+) -> Result<(), Refused>
+    requires sound { IsSound true (seen notes.old) }
+    requires there { slice_get notes.old.rings.items ring ≡ Some known }
+    requires right { refused_bind notes.old.due (seen notes.old) ring (record {
+      name = name.now;
+      before = counts.before;
+      floor = counts.floor;
+    }) known ≡ None }
+    ensures ok { OnOk result (IsNoted (seen notes.old) (Bind ring (record {
+      name = name.now;
+      before = counts.before;
+      floor = counts.floor;
+    })) (seen notes.new)) }
+    ensures err { IfErr result (λ e. IsRefused (seen notes.old) (Bind ring (record {
+      name = name.now;
+      before = counts.before;
+      floor = counts.floor;
+    })) (seen notes.new) e) }
+{
+    let Ok(()) = put_name(&mut notes.names, alloc, ring, name, counts) else {
+        return Err(Refused::Memory);
+    };
+    notes.due = due_bound(notes.due, ring, &notes.rings);
+    Ok(())
+}
+
 /// A name is bound.
 fn read_bind(
     notes: &mut Notes,
@@ -185,14 +219,10 @@ fn read_bind(
         return Err(Refused::Wrong(Wrong::NoRing));
     }
     let known = notes.rings[ring];
-    if let Some(wrong) = refused_bind(notes, ring, name, counts, known) {
-        return Err(Refused::Wrong(wrong));
+    match refused_bind(notes, ring, name, counts, known) {
+        Some(wrong) => Err(Refused::Wrong(wrong)),
+        None => bind_name(notes, alloc, ring, name, counts, known),
     }
-    let Ok(()) = put_name(&mut notes.names, alloc, ring, name, counts) else {
-        return Err(Refused::Memory);
-    };
-    notes.due = due_bound(notes.due, ring, &notes.rings);
-    Ok(())
 }
 
 /// The answer about a line that needs no memory.
@@ -268,15 +298,13 @@ fn read_sound(notes: &mut Notes, alloc: Global, line: Line<'_>) -> Result<(), Re
     read_line(notes, alloc, line)
 }
 
-/// The next file begins, with this number of rings.
-fn read_file(notes: &mut Notes, count: usize) -> Result<(), Refused>
-    requires { IsSound true (seen notes.old) }
+/// The next file begins, which may, with this number of rings.
+fn begin_file(notes: &mut Notes, count: usize) -> Result<(), Refused>
+    requires sound { IsSound true (seen notes.old) }
+    requires right { refusal (seen notes.old) (File count) ≡ None }
     ensures ok { OnOk result (IsNoted (seen notes.old) (File count) (seen notes.new)) }
     ensures err { IfErr result (λ e. IsNotNext (seen notes.old) (File count) e) }
 {
-    if let Some(wrong) = refused_file(notes.due, notes.rings.len(), count) {
-        return Err(Refused::Wrong(wrong));
-    }
     close_hold(&mut notes.names, notes.due);
     let Ok(()) = add_pool(&mut notes.names, count) else {
         return Err(Refused::Memory);
@@ -286,6 +314,18 @@ fn read_file(notes: &mut Notes, count: usize) -> Result<(), Refused>
     };
     notes.due = Due::Top;
     Ok(())
+}
+
+/// The next file begins, with this number of rings.
+fn read_file(notes: &mut Notes, count: usize) -> Result<(), Refused>
+    requires { IsSound true (seen notes.old) }
+    ensures ok { OnOk result (IsNoted (seen notes.old) (File count) (seen notes.new)) }
+    ensures err { IfErr result (λ e. IsNotNext (seen notes.old) (File count) e) }
+{
+    match refused_file(notes.due, notes.rings.len(), count) {
+        Some(wrong) => Err(Refused::Wrong(wrong)),
+        None => begin_file(notes, count),
+    }
 }
 
 /// The same, and what is known stays sound.
