@@ -1,0 +1,11 @@
+pub mod Refusing
+pub mod Scanning
+pub mod Tabling
+pub mod Sounding
+pub mod Holding
+pub mod Starting
+pub mod Opening
+pub mod Remaining
+pub mod Accepting
+pub mod Saying
+pub mod Filing

@@ -1,0 +1,6 @@
+pub mod Entries
+pub mod Judged
+pub mod Tables
+pub mod Kept
+pub mod Laws
+pub mod Written
