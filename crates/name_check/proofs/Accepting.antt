@@ -10,7 +10,7 @@ use Rattle.name_check.specs.declared.lines.Due.{Due}
 use Rattle.name_check.specs.declared.lines.Due.TheVariants as due
 use Rattle.name_check.specs.declared.wrongs.Wrong.{Wrong}
 use Rattle.name_check.specs.declared.wrongs.Wrong.TheVariants as why
-use Rattle.name_check.specs.Entries.{Entry, Bind, Free, Grant, Repair, End, Other, Judged}
+use Rattle.name_check.specs.Entries.{Entry, Bind, Free, Grant, Repair, End, Judged}
 use Rattle.name_check.specs.Judged.{spent, most_grants, taken, refused_bind, refused_free, refused_grant, refused_repair, refused_end, of_ring, refusal, passed, repaired, ended, noted, noted_all, AreRight, AreSaid}
 
 abbrev pub state : List Ring → List (Option Bound) → ℕ → ℕ → Due → Judged

@@ -1,24 +1,23 @@
 -- The judge accepts the beginning of each file, and the lines of all inputs.
-use Rattle.std.proofs.Common.{◌≡◌, ℕ, zero, suc, ◌+◌, ◌-◌, ◌<◌, ◌≤◌, Bool, true, false, List, [], ◌∷◌, ◌++◌, map, length, Option, None, Some, ◌⊎◌, inl, inr, refl, sym, ◌∙◌, ap, subst, arith}
-use Rattle.std.specs.Prelude.{nat_le, nat_lt, ◌==◌, ◌&&◌, if◌then◌else◌, slice_get, slice_set, is_some, option_map}
+use Rattle.std.proofs.Common.{◌≡◌, ℕ, zero, suc, ◌+◌, ◌-◌, ◌<◌, ◌≤◌, Bool, true, false, List, [], ◌∷◌, ◌++◌, map, length, Option, None, Some, inl, inr, refl, sym, ◌∙◌, ap, subst, arith}
+use Rattle.std.specs.Prelude.{nat_le, nat_lt, ◌==◌, ◌&&◌, if◌then◌else◌, slice_get, is_some, option_map}
 use Rattle.std.specs.Str.{bytes_eq}
-use Rattle.std.proofs.lemmas.Bool.{false≢true, ltb-true, ltb-false, lt-ltb, le-ltb, le-leb, lt-leb, eq-eqb, and_from, and_left, and_right, cases_Bool, cases_eq}
+use Rattle.std.proofs.lemmas.Bool.{false≢true, ltb-true, ltb-false, le-ltb, le-leb, lt-leb, eq-eqb, and_from, and_right, cases_Bool, cases_eq}
 use Rattle.std.proofs.lemmas.List.{length-map, length-append, append-nil, map-append}
-use Rattle.std.proofs.lemmas.Option.{slice_get-map, slice_get_within}
+use Rattle.std.proofs.lemmas.Option.{slice_get_within}
 use Rattle.ring_model.specs.History.{State}
 use Rattle.held_locks.specs.declared.answers.Holder.{Holder}
 use Rattle.held_locks.specs.Queues.{Lock}
 use Rattle.held_locks.specs.Locks.{Ask, Acquire, Try, Release, Cancel, Leave, Corrupt, Stats, restarted}
 use Rattle.lock_names.specs.Names.{Bound, Named, NamedInput, Of, Again, More, found, free, free_lock, grown, restarted_named, given, at_none, at_name, step_named, named_after}
 use Rattle.lock_names.specs.Begun.{frees}
-use Rattle.lock_names.specs.Promises.{IsRightName, IsNamed, IsAllowed, AreAllowed}
+use Rattle.lock_names.specs.Promises.{IsNamed, IsAllowed}
 use Rattle.lock_names.proofs.Found.{some_same, none_some, own_name, there_is}
-use Rattle.lock_names.proofs.Fitting.{named_step}
+use Rattle.lock_names.proofs.Fitting.{zeroth, named_step}
 use Rattle.name_check.specs.declared.lines.Ring.{Ring}
-use Rattle.name_check.specs.declared.lines.Due.{Due}
 use Rattle.name_check.specs.declared.lines.Due.TheVariants as due
 use Rattle.name_check.specs.declared.wrongs.Wrong.TheVariants as why
-use Rattle.name_check.specs.Entries.{Entry, Top, Bind, File, Judged, fresh_ring, fresh_rings}
+use Rattle.name_check.specs.Entries.{Top, Bind, File, Judged, fresh_ring, fresh_rings}
 use Rattle.name_check.specs.Judged.{most_grants, same_bound, refused_bind, refused_again, of_ring, refusal, first_held, restated, noted, AreSaid}
 use Rattle.name_check.specs.Written.{ring_seen, state_seen, restated_lines, file_lines, lines_of, lines_after, AreFresh, LinesAreSaid, FilesAreSaid}
 use Rattle.name_check.proofs.Scanning.{scan_found, scan_none}
@@ -112,6 +111,9 @@ no_rest names k r = elim (cases_Bool (nat_lt k (length names))) [
 ring_there : (rings : List Ring) (names : List (Option Bound)) (k : ℕ) (o : Option Bound) → length names ≡ length rings → slice_get names k ≡ Some o → (g : Ring) × (slice_get rings k ≡ Some g)
 ring_there rings names k o many e = there_is rings k (let lt : k < length names = slice_get_within names k o e in omega arith)
 
+zero_on : (j k : ℕ) → 0 + j ≡ k → j ≡ k
+zero_on j k e = omega (arith, e)
+
 restates : (rings : List Ring) (names : List (Option Bound)) (fixed top : ℕ) → IsPool rings names fixed → (os : List (Option Bound)) (k low : ℕ) → IsRest names k os → IsLow fixed k low →
     AreSaid (state rings names fixed top (restated (first_held low 0 rings))) (restated_lines fixed k os) (state rings names fixed top due.Nothing)
 restates rings names fixed top p [] k low r w =
@@ -127,7 +129,7 @@ restates rings names fixed top p (None ∷ os) k low r w =
     let at : low ≡ k = low_there fixed k low w idle.0 in
     let next : first_held low 0 rings ≡ first_held (suc k) 0 rings =
     ap (λ (n : ℕ). first_held n 0 rings) at
-    ∙ passed_over k 0 rings (λ j x f e. ap (λ (y : Ring). y.held) (some_same x g.0 (sym f ∙ ap (λ (n : ℕ). slice_get rings n) e ∙ g.1)) ∙ idle.1) in
+    ∙ passed_over k 0 rings (λ j x f e. ap (λ (y : Ring). y.held) (some_same x g.0 (sym f ∙ ap (λ (n : ℕ). slice_get rings n) (zero_on j k e) ∙ g.1)) ∙ idle.1) in
     subst (λ (o : Option ℕ). AreSaid (state rings names fixed top (restated o)) (restated_lines fixed (suc k) os) (state rings names fixed top due.Nothing)) (sym next)
     (restates rings names fixed top p os (suc k) (suc k) (rest_on names k None os r) (Pool refl (let le : fixed ≤ k = idle.0 in omega arith)))
 restates rings names fixed top p (Some b ∷ os) k low r w = elim (cases_Bool (nat_lt k fixed)) [
@@ -201,7 +203,7 @@ nothing_more s =
 pub files_are_said : FilesAreSaid
 files_are_said s n = file_said s s n (omega arith) (nothing_more s)
 
-still_held : (o : Option Holder) → is_some (option_map (λ (h : Holder). record { client = 0; token = h.token }) o) ≡ is_some o
+still_held : (o : Option Holder) → is_some (option_map zeroth o) ≡ is_some o
 still_held None = refl
 still_held (Some h) = refl
 
