@@ -17,7 +17,7 @@ mod judged_names;
 #[cfg(test)]
 mod loops;
 #[cfg(test)]
-mod name_remarks;
+mod noted_names;
 #[cfg(test)]
 mod named_locks;
 #[cfg(test)]
