@@ -1,5 +1,6 @@
 """Calls that a signal handler breaks off. interrupts.py runs the same for longer."""
 
+import functools
 import os
 import signal
 import sys
@@ -43,6 +44,96 @@ def interrupted_after(case, seconds, call, *words, signals=1, **more):
             timer.join()
         except Interrupt:
             timer.join()
+
+
+class Moments:
+    """Raises at some moments: the first one so many after it is set, each other one so many after the one before."""
+
+    def __init__(self):
+        self.left = []
+
+    def __call__(self):
+        if self.left:
+            self.left[0] -= 1
+            if self.left[0] < 0:
+                del self.left[0]
+                raise Interrupt
+
+    def of(self, kind, *but):
+        """The same class, where these are the moments: before and after each of its own methods, but for some. There handlers run."""
+        def broken(method):
+            @functools.wraps(method)
+            def run(*words, **more):
+                self()
+                answer = method(*words, **more)
+                self()
+                return answer
+            return run
+        names = {name for it in kind.__mro__ for name, what in vars(it).items()
+                 if name.startswith("_") and not name.startswith("__") and callable(what) and name not in but}
+        return type(kind.__name__, (kind,), {name: broken(getattr(kind, name)) for name in sorted(names)})
+
+
+@needs_programs
+class AtEachMoment(unittest.TestCase):
+    """A call is broken off at each moment, and what cleans up then at each of the next ones, and again. Then nothing is held that its
+    caller does not know of, as soon as the client has been called again, or has closed itself."""
+
+    LATER = [(), *((it,) for it in range(14)), *((it, more) for it in range(6) for more in range(4))]
+
+    def break_off(self, kind, but, begin, call, undo):
+        """`begin` makes ready what is called, and `undo` gives back what a call has that was not broken off."""
+        moments, broken_off = Moments(), 0
+        kind = moments.of(kind, *but)
+        with Server() as server, Client(server.path) as other:
+            client = kind(server.path)
+            for later in self.LATER:
+                is_over, first = False, 0
+                while not is_over:
+                    what = begin(client)
+                    moments.left = [first, *later]
+                    try:
+                        call(client, what)
+                        # no moment came; one may have, and have closed the client on the way
+                        is_over = len(moments.left) == 1 + len(later)
+                    except (Interrupt, LockLost):
+                        pass
+                    moments.left = []
+                    if is_over:
+                        undo(client, what)
+                    broken_off += 1
+                    if self.is_open(client):
+                        token = other.try_acquire("a")
+                        self.assertIsNotNone(token, f"it is kept after moments {first}, {later}")
+                    else:
+                        client.close()
+                        client, token = kind(server.path), other.acquire("a", wait=PATIENCE)
+                    other.release("a", token)
+                    first += 1
+            client.close()
+        self.assertGreater(broken_off, 10 * len(self.LATER))
+
+    @staticmethod
+    def is_open(client):
+        try:
+            client.check()
+            client.status()
+            return True
+        except LockLost:
+            return False
+
+    def test_an_acquire(self):
+        self.break_off(Client, (), lambda _: None, lambda client, _: client.acquire("a"), lambda client, _: client.leave())
+
+    def test_an_acquire_with_a_deadline(self):
+        self.break_off(Client, (), lambda _: None, lambda client, _: client.acquire("a", wait=PATIENCE), lambda client, _: client.leave())
+
+    def test_a_try(self):
+        self.break_off(Client, (), lambda _: None, lambda client, _: client.try_acquire("a"), lambda client, _: client.leave())
+
+    def test_a_release(self):
+        self.break_off(Client, ("_release",), lambda client: client.acquire("a"), lambda client, token: client.release("a", token),
+                       lambda *_: None)
 
 
 @needs_programs

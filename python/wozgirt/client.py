@@ -84,7 +84,9 @@ class Client(Turns):
         except Late:
             raise NotInTime(f"{name}: this client was busy all the time, so nothing was asked") from None
         except BaseException:
-            self._disown(name, taken)
+            if taken:
+                self._unclaimed[name] = taken[0]  # before any call, at whose begin another handler may run
+                self._give_back(name, taken[0])
             raise
 
     def try_acquire(self, name: str, *, label: int = 0) -> Optional[int]:
@@ -93,7 +95,9 @@ class Client(Turns):
         try:
             return self._hand_over(taken, lambda: self._tried(line))
         except BaseException:
-            self._disown(name, taken)
+            if taken:
+                self._unclaimed[name] = taken[0]
+                self._give_back(name, taken[0])
             raise
 
     def release(self, name: str, token: int) -> None:
@@ -108,6 +112,8 @@ class Client(Turns):
         except LockError:
             raise
         except BaseException:
+            if name in self._held and self._held[name] == token:
+                self._unclaimed[name] = token
             self._give_back(name, token)
             raise
 
@@ -168,12 +174,6 @@ class Client(Turns):
                 self._grant = None
             return token
         return self._in_turn(take, until)
-
-    def _disown(self, name: str, taken: List[int]) -> None:
-        """Ends the hold of which the caller did not learn, if there is one."""
-        if taken:
-            self._unclaimed[name] = taken[0]
-            self._give_back(name, taken[0])
 
     def _acquired(self, line: bytes, name: str, until: Optional[float]) -> int:
         try:

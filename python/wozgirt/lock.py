@@ -127,7 +127,9 @@ class Lock(Settings):
             if not is_shared:
                 client._close_within(WITHDRAW)
             elif self.token is not None:
-                client._give_back(self.name, self._let_go())
+                token, self.token, self._hold = self.token, None, None
+                client._unclaimed[self.name] = token  # before any call, at whose begin another handler may run
+                client._give_back(self.name, token)
             raise
 
     def release(self) -> None:

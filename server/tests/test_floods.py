@@ -2,6 +2,8 @@
 turns."""
 
 import array
+import collections
+import contextlib
 import fcntl
 import http.client
 import math
@@ -18,7 +20,7 @@ import unittest
 
 from flood import Flood
 from harness import ENGINE, PATIENCE, Server, by_the_clock, needs_loopback, needs_programs, read_lines, say, soonest, wait_until
-from waits import Waits, Watch, least
+from waits import Waits, Watch
 
 MANY = "a,b," + ",".join(f"n{i}" for i in range(998))
 MIB = 1 << 20
@@ -70,6 +72,20 @@ class Stopped:
 
     def __exit__(self, *_):
         os.kill(self.engine, signal.SIGCONT)
+
+
+@contextlib.contextmanager
+def asked_through(server):
+    """The server begins anew, with an engine that writes all that it is asked into a file, which this names."""
+    engine, asked = server.folder + "/engine", server.folder + "/asked"
+    with open(engine, "w", encoding="ascii") as file:
+        file.write(f'#!/bin/sh\ntee {asked} | {ENGINE} "$@"\n')
+    os.chmod(engine, 0o755)
+    server.stop()
+    with open(server.log, "ab") as log:
+        server.process = subprocess.Popen([engine if word == ENGINE else word for word in server.words], stderr=log)
+    server.wait_until_it_answers(server.process)
+    yield asked
 
 
 def unread(sock):
@@ -326,14 +342,15 @@ class OnTime(unittest.TestCase):
 
 @needs_programs
 class Turns(unittest.TestCase):
-    """Beside 20 clients that flood, 99 of 100 acquires of another one are answered within 20 ms, none of them takes ten times as long, and
-    who comes new has a turn. An acquire takes as long as it does by the clock, or as the server or its engine worked meanwhile if that
-    is less: who lets others come before does their work first, so it takes longer in both. A machine that is busy, or that has its
-    processors for a part of the time only, as a virtual one, is slow by the clock alone; and where one of the two waits for a
-    processor while the other one works on, which is no fault, that wait is not counted by the clock. Half of the acquires are in time
-    by the clock, since a server that sleeps while somebody waits does no work."""
+    """Beside 20 clients that flood, half of the acquires of another one are answered within 20 ms, and nine of ten too where time is not
+    counted in which nobody worked; all of them are answered, and who comes new has a turn. A server that lets others come before does so
+    each time, and takes as long in each try. A machine that is slow takes longer: so it does for an acquire beside which nobody
+    floods, and as much longer it may take here. One that has its processors for a part of the time only, as a virtual one, is late now
+    and then by any amount, which says nothing of the server."""
 
-    WITHIN, AT_MOST = 0.02, 0.2
+    WITHIN = 0.02
+    #: so many times as long as where nobody floods it may take, if that is more
+    TIMES = 50
 
     def acquire(self, sock, waits):
         """Takes the lock and gives it back: how long the first takes, by the clock and in work."""
@@ -343,22 +360,25 @@ class Turns(unittest.TestCase):
         self.assertEqual(say(sock, f"release b {token}\n"), ["released b"])
         return times
 
-    def check(self, kind, clients=20):
+    def lateness(self, kind, clients):
+        """How many times as long as they may take the acquires take: half of them by the clock, or nine of ten in time or work."""
         with Server(locks=MANY) as server, server.raw() as sock:
             waits = Waits(server)
-            self.acquire(sock, waits)
+            alone = statistics.median(max(self.acquire(sock, waits)) for _ in range(50))
             with Flood(server, kind, clients):
                 time.sleep(0.5)
                 times, end = [], time.monotonic() + 3
                 while time.monotonic() < end or len(times) < 20:
                     times.append(self.acquire(sock, waits))
-                    self.assertLess(min(times[-1]), self.AT_MOST)
-                # of fewer than a hundred, on a slow machine, one may be late
-                self.assertLess(sorted(map(min, times))[-1 - max(1, len(times) // 100)], self.WITHIN)
-                self.assertLess(statistics.median(by_clock for by_clock, _ in times), self.WITHIN)
                 for _ in range(5):
                     with server.raw() as newcomer:
-                        self.assertLess(min(self.acquire(newcomer, waits)), 2)
+                        self.acquire(newcomer, waits)
+            half = statistics.median(by_clock for by_clock, _ in times)
+            most = sorted(map(min, times))[len(times) * 9 // 10]
+            return max(half, most) / max(self.WITHIN, self.TIMES * alone)
+
+    def check(self, kind, clients=20):
+        self.assertLess(soonest(lambda: self.lateness(kind, clients), 1), 1)
 
     def test_beside_long_answers(self):
         self.check("status")
@@ -391,16 +411,35 @@ class Turns(unittest.TestCase):
         """Each `wozgirt lock` has one, and many may end at once."""
         self.check("attached", 200)
 
+    def test_each_has_its_turn(self):
+        """Twenty clients have all asked much before one asks little, while the server stands still. The order in which the engine is
+        asked then says whose turn it was, whatever the clock does."""
+        lines = 1000
+        with Server(locks=MANY) as server, asked_through(server) as asked, contextlib.ExitStack() as stack:
+            socks = [stack.enter_context(server.raw()) for _ in range(21)]
+            for sock in socks:
+                self.assertEqual(say(sock, "ping\n"), ["pong"])
+            os.kill(server.process.pid, signal.SIGSTOP)
+            [sock.sendall(b"try a 1\n" * lines) for sock in socks[1:]]
+            socks[0].sendall(b"acquire b 1\nrelease b 1\n" * 5)
+            os.kill(server.process.pid, signal.SIGCONT)
+            self.assertEqual(read_lines(socks[0], 10)[:2], ["granted b 1", "released b"])
+            [read_lines(sock, lines) for sock in socks[1:]]
+            with open(asked, encoding="ascii") as file:
+                order = [words[0] for words in map(str.split, file) if words[1:3] in (["try", "a"], ["acquire", "b"], ["release", "b"])]
+        ours, = {client for client, count in collections.Counter(order).items() if count == 10}
+        places = [place for place, client in enumerate(order) if client == ours]
+        self.assertLess(places[-1], 100 * 20, "who asks little waits for much of what others ask")
+        counts = collections.Counter({client: 0 for client in order})
+        for client in order:
+            counts[client] += 1
+            if counts[client] == lines:
+                break
+        del counts[ours]
+        self.assertGreater(min(counts.values()), lines / 10, "one had all its turns before another had a tenth of them")
+
     def test_who_never_asked_costs_the_engine_nothing(self):
-        with Server() as server:
-            engine = server.folder + "/engine"
-            with open(engine, "w", encoding="ascii") as file:
-                file.write(f'#!/bin/sh\ntee {server.folder}/asked | {ENGINE} "$@"\n')
-            os.chmod(engine, 0o755)
-            server.stop()
-            words = [engine if word == ENGINE else word for word in server.words]
-            process = subprocess.Popen(words, stderr=subprocess.DEVNULL)
-            server.wait_until_it_answers(process)
+        with Server() as server, asked_through(server) as asked:
             for i in range(50):
                 with server.raw() as sock:
                     say(sock, ["ping\n", f"session {i} attached\n", f"session {i}\n"][i % 3])
@@ -408,9 +447,9 @@ class Turns(unittest.TestCase):
                 say(sock, "try a 1\n")
             with server.raw() as sock:
                 say(sock, "try b 1\n")
-            process.terminate()
-            self.assertEqual(process.wait(PATIENCE), 0)
-            with open(server.folder + "/asked", encoding="ascii") as file:
+            server.stop()
+            self.assertEqual(server.process.returncode, 0)
+            with open(asked, encoding="ascii") as file:
                 left = [line for line in file.read().splitlines() if line.endswith(" leave")]
             self.assertIn(len(left), (1, 2))  # the last one may have been closed at the end
 

@@ -49,14 +49,3 @@ class Watch:
         if len(ran) < len(self.waits.paths):
             return by_clock, by_clock
         return by_clock, max(now - before for now, before in zip(ran[:2], ran_before))
-
-
-def least(measure, limit, tries=3):
-    """The least of what is measured in so many tries; of one that is below the limit no other is made. What the server does wrong, it
-    does in each of them, and what a machine does in one may be over by the next."""
-    found = measure()
-    for _ in range(tries - 1):
-        if found < limit:
-            break
-        found = min(found, measure())
-    return found
