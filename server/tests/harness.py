@@ -201,6 +201,11 @@ class Server:
         with open(self.log, encoding="utf-8", errors="replace") as file:
             return file.read()
 
+    def wait_for_log(self, *texts):
+        """Until it has logged these, by a thread of its own that may be late."""
+        for text in texts:
+            wait_until(lambda text=text: text in self.text_of_log())
+
     def own_log(self):
         """What this one has logged."""
         with open(self.log, "rb") as file:

@@ -140,7 +140,7 @@ class Hangs(unittest.TestCase):
             self.assertEqual(sock.recv(10), b"")  # what it held is the past of that engine
             wait_until(lambda: server.text_of_log().count("engine ready") == 2)
             wait_until(lambda: server.engine_number() not in (None, first))
-            self.assertIn(" s, and is ended\n", server.text_of_log())  # before the second start
+            server.wait_for_log(" s, and is ended\n")
             with server.raw() as sock:
                 self.assertEqual(say(sock, "acquire a 1\n"), ["granted a 1"])
 
