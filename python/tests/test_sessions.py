@@ -107,7 +107,8 @@ class Door:
         self.door = socket.create_server(("127.0.0.1", 0))
         self.place = self.door.getsockname()
         arbiter.doors.append(self)
-        threading.Thread(target=self._open, daemon=True).start()
+        self.opens = threading.Thread(target=self._open, daemon=True)
+        self.opens.start()
 
     def _open(self):
         while True:
@@ -125,6 +126,7 @@ class Door:
 
     def close(self):
         end(self.door)
+        self.opens.join(PATIENCE)  # else it might accept what comes to the next door, at the same number of a file
         self.door.close()
         self.cut()
 

@@ -6,7 +6,33 @@ import socket
 import tempfile
 import threading
 
-from harness import FOLDER
+from harness import FOLDER, PATIENCE
+
+
+def begin(threads, work, *given):
+    """Begins a thread, and keeps it."""
+    threads.append(threading.Thread(target=work, args=given, daemon=True))
+    threads[-1].start()
+
+
+def end_all(threads, door, socks):
+    """Closes the sockets when their threads, of which the first one opens the door, have ended: else one of them might go on with a
+    socket of another test, at the same number of a file."""
+    end(door)
+    threads[0].join(PATIENCE)
+    for sock in socks:
+        end(sock)
+    for it in threads:
+        it.join(PATIENCE)
+    for sock in [door, *socks]:
+        sock.close()
+
+
+def end(sock):
+    try:
+        sock.shutdown(socket.SHUT_RDWR)
+    except OSError:
+        pass  # the other end is gone
 
 
 class Double:
@@ -24,7 +50,8 @@ class Double:
             self.door, self.path = socket.socket(socket.AF_UNIX), os.path.join(self.folder, "lock.sock")
             self.door.bind(self.path)
             self.door.listen()
-        threading.Thread(target=self._accept, daemon=True).start()
+        self.threads = []
+        begin(self.threads, self._accept)
 
     def _accept(self):
         while True:
@@ -33,7 +60,7 @@ class Double:
             except OSError:
                 return
             self.socks.append(sock)
-            threading.Thread(target=self._serve, args=(sock,), daemon=True).start()
+            begin(self.threads, self._serve, sock)
 
     def _serve(self, sock):
         try:
@@ -57,12 +84,7 @@ class Double:
         return self
 
     def __exit__(self, *_):
-        for sock in [self.door, *self.socks]:
-            try:
-                sock.shutdown(socket.SHUT_RDWR)
-            except OSError:
-                pass  # the other end is gone
-            sock.close()
+        end_all(self.threads, self.door, self.socks)
         shutil.rmtree(self.folder, ignore_errors=True)
 
 

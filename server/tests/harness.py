@@ -81,6 +81,10 @@ class TooEarly(Exception):
     """Something came before its time, which no busy machine explains."""
 
 
+#: by how much the times of a test are longer in each of its tries; the last one is tried twice
+TIMES = (1, 5, 15)
+
+
 def by_the_clock(test):
     """The test, which may be a coroutine, is passed a number by which its times are longer: 1, and a greater one if it fails, as on a
     machine that is late. It then begins anew: what it has added to be cleaned up is, and it is set up again. (What fails in a subTest is
@@ -94,21 +98,21 @@ def by_the_clock(test):
 
     @functools.wraps(test)
     def run(self):
-        for longer in (1, 5):
+        for longer in TIMES:
             try:
                 return test(self, longer)
             except Exception as fault:  # pylint: disable=broad-except
                 begin_anew(self, fault)
-        return test(self, 15)
+        return test(self, TIMES[-1])
 
     @functools.wraps(test)
     async def run_coroutine(self):
-        for longer in (1, 5):
+        for longer in TIMES:
             try:
                 return await test(self, longer)
             except Exception as fault:  # pylint: disable=broad-except
                 begin_anew(self, fault)
-        return await test(self, 15)
+        return await test(self, TIMES[-1])
     return run_coroutine if inspect.iscoroutinefunction(test) else run
 
 
@@ -196,6 +200,11 @@ class Server:
     def text_of_log(self):
         with open(self.log, encoding="utf-8", errors="replace") as file:
             return file.read()
+
+    def wait_for_log(self, *texts):
+        """Until it has logged these, by a thread of its own that may be late."""
+        for text in texts:
+            wait_until(lambda text=text: text in self.text_of_log())
 
     def own_log(self):
         """What this one has logged."""

@@ -5,11 +5,11 @@ import shutil
 import socket
 import subprocess
 import tempfile
-import threading
 import unittest
 from typing import NamedTuple
 
 import journals
+from doubles import begin, end_all
 from harness import FOLDER, PATIENCE, TOP
 from test_header import INCLUDE, compiles, patient_headers
 
@@ -143,7 +143,8 @@ class Door:
         self.door = socket.socket(socket.AF_UNIX)
         self.door.bind(self.path)
         self.door.listen()
-        threading.Thread(target=self._open, daemon=True).start()
+        self.threads = []
+        begin(self.threads, self._open)
 
     def _open(self):
         while True:
@@ -152,7 +153,7 @@ class Door:
             except OSError:
                 return
             self.socks.append(sock)
-            threading.Thread(target=self._serve, args=(sock,), daemon=True).start()
+            begin(self.threads, self._serve, sock)
 
     def _serve(self, sock):
         try:
@@ -164,12 +165,7 @@ class Door:
             pass  # the other end is gone
 
     def close(self):
-        for sock in [self.door, *self.socks]:
-            try:
-                sock.shutdown(socket.SHUT_RDWR)
-            except OSError:
-                pass
-            sock.close()
+        end_all(self.threads, self.door, self.socks)
         shutil.rmtree(self.folder, ignore_errors=True)
 
 

@@ -210,7 +210,7 @@ class Ends(Trial):
         self.log.end_lease("a")
         self.assertEqual(sock.recv(10), b"")
         wait_until(lambda: "cluster a 3 " in a.operate("cluster"))
-        self.assertIn("out of the log (its lease in etcd is over): all connections end", a.text_of_log())
+        a.wait_for_log("out of the log (its lease in etcd is over): all connections end")
         self.hand_over(a)
         self.assertEqual(say(self.raw(b), "try a 1\n"), ["busy a"])  # until the grace is over
 

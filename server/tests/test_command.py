@@ -138,7 +138,8 @@ class LockCommand(unittest.TestCase):
         close(it)
         return time.monotonic() - begun
 
-    def test_a_lost_lock_ends_the_command(self):
+    @by_the_clock  # what it says of the loss has a tenth of a second, in which a thread may stand still
+    def test_a_lost_lock_ends_the_command(self, _):
         with Server() as server:
             self.lose(server, start(server, "lock", "a", "--", "sh", "-c", "echo up; exec sleep 1000"))
 
@@ -162,7 +163,8 @@ class LockCommand(unittest.TestCase):
             os.close(reads)
             os.close(writes)
 
-    def test_a_command_that_does_not_end_is_killed(self):
+    @by_the_clock
+    def test_a_command_that_does_not_end_is_killed(self, _):
         with Server() as server:
             words = ("sh", "-c", "trap '' TERM; echo up; while :; do sleep 0.05; done")
             took = self.lose(server, start(server, "lock", "--kill-after", "0.5", "a", "--", *words))

@@ -120,7 +120,8 @@ class Commands(Trial):
                 self.assertEqual(granted(sock), f"granted a {token + 1}")
             os.kill(command, signal.SIGKILL)
 
-    def test_a_server_without_sessions(self):
+    @by_the_clock
+    def test_a_server_without_sessions(self, _):
         """It ends what its clients hold; COMMAND is ended, as it was before there were sessions."""
         with open(os.path.join(self.folder, "journal.sessions"), "w", encoding="ascii"):
             pass

@@ -12,7 +12,8 @@ import time
 import unittest
 import urllib.request
 
-from harness import FOLDER, PATIENCE, SERVER, Server, by_the_clock, needs_loopback, needs_programs, read_lines, say, wait_until
+from harness import (FOLDER, PATIENCE, SERVER, Server, by_the_clock, needs_loopback, needs_programs, read_lines, say, unless_late,
+                     wait_until)
 
 # seconds in which the server has ended, on a machine that is busy: 10 for what was asked, and more for what stands still
 LIMIT = 10 + PATIENCE
@@ -140,7 +141,7 @@ class Hangs(unittest.TestCase):
             self.assertEqual(sock.recv(10), b"")  # what it held is the past of that engine
             wait_until(lambda: server.text_of_log().count("engine ready") == 2)
             wait_until(lambda: server.engine_number() not in (None, first))
-            self.assertIn(" s, and is ended\n", server.text_of_log())  # before the second start
+            server.wait_for_log(" s, and is ended\n")
             with server.raw() as sock:
                 self.assertEqual(say(sock, "acquire a 1\n"), ["granted a 1"])
 
@@ -232,7 +233,9 @@ class Files(unittest.TestCase):
 @needs_programs
 class Words(unittest.TestCase):
     def refused(self, *words):
-        it = subprocess.run([SERVER, "--journal", "/nonexistent", "--locks", "a", *words], capture_output=True, timeout=PATIENCE, check=False)
+        words = [SERVER, "--journal", "/nonexistent", "--locks", "a", *words]
+        # it gives what it says a second, in which a thread may stand still
+        it = unless_late(lambda: subprocess.run(words, capture_output=True, timeout=PATIENCE, check=False), lambda it: not it.stderr, 5)
         self.assertEqual(it.returncode, 64, it.stderr)
         return it.stderr.decode()
 

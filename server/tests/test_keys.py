@@ -108,7 +108,7 @@ class Sessions(Trial):
         self.assertEqual(say(silent, "lease\nacquire a 1\n", 2), [told, "granted a 1"])
         self.assertEqual(say(other, "lease 100000\nlease\nacquire a 2\n", 3), [told, told, "waiting a 0"])
         self.assertEqual((granted_late(other), silent.recv(10)), ("granted a 2", b""))
-        self.assertIn(" went (lease): ", a.text_of_log())
+        a.wait_for_log(" went (lease): ")
         with Server() as alone, alone.raw() as sock:
             self.assertEqual(say(sock, "lease\nlease 7\nlease\n", 3), ["lease 0", "lease 7", "lease 7"])
 
@@ -129,7 +129,7 @@ class Sessions(Trial):
                 it = subprocess.run(["setpriv", "--reuid=65534", "--clear-groups", sys.executable, "-c", OTHER_USER, server.path],
                                     capture_output=True, text=True, timeout=PATIENCE, check=False)
                 self.assertEqual(it.stdout.split("\n")[:2], ["refused session", "granted b 1" if server is a else "granted b 2"], it.stderr)
-                self.assertIn("refused, the session belongs to another user: nobody, process ", server.text_of_log())
+                server.wait_for_log("refused, the session belongs to another user: nobody, process ")
         self.assertEqual(say(one, "ping\n"), ["pong"])
         self.assertEqual(over_tcp("127.0.0.1"), ["session 77 1", "holds a 1"])  # its client may go from the socket to TCP
         self.assertEqual(over_tcp("127.0.0.2"), ["refused session", "pong"])

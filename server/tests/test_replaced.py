@@ -182,9 +182,8 @@ class NoRoom(Trial):
         self.assertIn("\nwozgirt_log_full 1\n", metrics)
         self.assertIn("\nwozgirt_in_log 0\n", metrics)
         self.assertIn("etcd has no room for entries.", page)
-        text = a.text_of_log()
-        self.assertIn("etcd has no room for entries: the server grants nothing until it has", text)
-        self.assertIn("out of the log (etcd has no room): all connections end", text)
+        a.wait_for_log("etcd has no room for entries: the server grants nothing until it has",
+                       "out of the log (etcd has no room): all connections end")
         time.sleep(0.3)
         self.log.fill(False)
         wait_until(lambda: "\nwozgirt_in_log 1\n" in self.shown(a)[0])

@@ -148,7 +148,7 @@ class Restarts(Trial):
         self.assertEqual(lines, ["waits a"])
         self.assertEqual(granted_late(two), f"granted a {token + 1}")
         at_least(lease, begun)
-        self.assertIn("did not come back; it held a", server.text_of_log())
+        server.wait_for_log("did not come back; it held a")
         self.session(server, 2 * longer)
         self.end(server)
 
@@ -406,7 +406,7 @@ class Restarts(Trial):
         self.assertEqual(say(one, "1 acquire a 5\n"), ["1 granted a 1"])
         os.mkdir(os.path.join(self.folder, "journal.sessions", "holders"))
         server = self.again(server, signal.SIGKILL, lease=lease)
-        self.assertIn("sessions-unkept", server.text_of_log())
+        server.wait_for_log("sessions-unkept")
         one, _ = self.session(server, 1)
         self.assertEqual(say(one, "1 acquire a 5\n"), ["1 waiting a 0"])
         self.assertEqual(granted_late(one), "granted a 2")
@@ -420,7 +420,7 @@ class Restarts(Trial):
             pass
         server = self.server()
         self.assertEqual(say(self.raw(server), "session 1\nacquire a 1\n", 2), ["refused session", "granted a 1"])
-        self.assertIn("sessions-unkept", server.text_of_log())
+        server.wait_for_log("sessions-unkept")
 
 
 if __name__ == "__main__":

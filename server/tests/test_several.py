@@ -253,7 +253,8 @@ class Cuts(Commands):
                 self.were_done("acquire", "release", "leave")
                 self.doors[1].socks.clear()
 
-    def test_what_the_session_had_is_gone(self):
+    @by_the_clock
+    def test_what_the_session_had_is_gone(self, _):
         it = self.start("lock", "--lease", "30", "a", *UP)
         it.stdout.readline()
         with self.arbiter.mutex:
