@@ -15,11 +15,11 @@ mod farm;
 #[cfg(test)]
 mod loops;
 #[cfg(test)]
-mod name_remarks;
-#[cfg(test)]
 mod named_locks;
 #[cfg(test)]
 mod names;
+#[cfg(test)]
+mod remarks_of_names;
 #[cfg(test)]
 mod replicas;
 #[cfg(test)]
