@@ -17,11 +17,11 @@ mod judged_names;
 #[cfg(test)]
 mod loops;
 #[cfg(test)]
-mod noted_names;
-#[cfg(test)]
 mod named_locks;
 #[cfg(test)]
 mod names;
+#[cfg(test)]
+mod remarks_of_names;
 #[cfg(test)]
 mod replicas;
 #[cfg(test)]
