@@ -1,8 +1,9 @@
 #!/usr/bin/env python3
-"""run.py FOLDER SECONDS [FILE]: runs the unittests of a folder, or of a file in it, each for at most LIMIT seconds: one that hangs fails,
-and the next begins. When SECONDS are over, a test that runs is given up, and no other is begun: these are skipped, since a busy
-machine is no fault. The files of a folder run side by side, in processes of their own, but for those that keep a machine busy:
-they come last, one after the other. The last line is `N passed, M failed, K skipped`."""
+"""run.py FOLDER SECONDS [FILE [TEST..]]: runs the unittests of a folder, or of a file in it, each for at most LIMIT seconds: one that
+hangs fails, and the next begins. When SECONDS are over, a test that runs is given up, and no other is begun: these are skipped, since
+a busy machine is no fault. The files of a folder run side by side, in processes of their own, but for those that keep a machine busy:
+they come last, one after the other. Where no more than FEW tests have failed, each is then tried once more with nothing beside it, and
+counts as that ends; what it said at first stays printed. The last line is `N passed, M failed, K skipped`."""
 
 import collections
 import contextlib
@@ -23,6 +24,10 @@ LIMIT, LAST_LIMIT = 180, 30
 # Most tests wait most of their time
 SIDE_BY_SIDE = 2 * len(os.sched_getaffinity(0))
 BUSY = ("test_floods.py", "test_noise.py")
+
+#: more failed tests than these are no chance
+FEW = 3
+FAILED = "failed: "
 
 #: groups of the processes that run files, and the folder for what they make
 RUNNING, ROOM = set(), []
@@ -65,15 +70,18 @@ class Result(unittest.TextTestResult):
         why.update(reason for _, reason in self.skipped)
         for reason, times in why.items():
             print(f"skipped: {times} of {self.folder}: {reason}")
+        for test, _ in self.failures + self.errors:
+            print(FAILED + getattr(test, "test_case", test).id())
         failed = len(self.failures) + len(self.errors) + len(self.unexpectedSuccesses) + hung
         skipped = sum(why.values())
         print(f"{max(0, self.count - failed - skipped)} passed, {failed} failed, {skipped} skipped", flush=True)
         os._exit(1 if failed else 0)
 
 
-def run_file(folder, file, end):
-    """Runs the tests of a file in a process of its own, and ends what that leaves behind. Returns what it prints, and its counts."""
-    words = [sys.executable, os.path.realpath(__file__), folder, str(end - time.monotonic()), file]
+def run_file(folder, file, end, tests=()):
+    """Runs the tests of a file, or these, in a process of its own, and ends what that leaves behind. Returns what it prints, and its
+    counts."""
+    words = [sys.executable, os.path.realpath(__file__), folder, str(end - time.monotonic()), file, *tests]
     with tempfile.TemporaryFile("w+", encoding="utf-8", errors="replace") as told:
         ran = subprocess.Popen(words, stdin=subprocess.DEVNULL, stdout=told, stderr=subprocess.STDOUT, start_new_session=True)
         RUNNING.add(ran.pid)
@@ -86,6 +94,19 @@ def run_file(folder, file, end):
     if not counts:
         return [*lines, f"{file} ended with status {ran.returncode}, and no counts"], (0, 1, 0)
     return lines[:-1], tuple(map(int, counts.groups()))
+
+
+def run_again(folder, ran, end):
+    """The counts of what has failed in a folder and passes with nothing beside it, if it was little."""
+    failed = [line.removeprefix(FAILED) for lines, _ in ran for line in lines if line.startswith(FAILED)]
+    if not 0 < sum(counts[1] for _, counts in ran) == len(set(failed)) <= FEW:
+        return 0
+    passed = 0
+    for test in failed:
+        lines, counts = run_file(folder, test.split(".")[0] + ".py", end, [test])
+        passed += counts == (1, 0, 0)
+        print(*lines, f"tried again: {test}: {'passed' if counts == (1, 0, 0) else 'failed'}", sep="\n")
+    return passed
 
 
 def end_group(group):
@@ -136,6 +157,7 @@ def run_folder(folder, seconds):
         with ThreadPoolExecutor(SIDE_BY_SIDE) as pool:
             ran = list(pool.map(lambda file: run_file(folder, file, end), (it for it in files if it not in BUSY)))
         ran += [run_file(folder, file, end) for file in files if file in BUSY]
+        again = run_again(folder, ran, end)
     reasons = collections.Counter()
     for lines, _ in ran:
         for line in lines:
@@ -147,6 +169,7 @@ def run_folder(folder, seconds):
     for reason, times in reasons.items():
         print(f"skipped: {times} of {folder}: {reason}")
     passed, failed, skipped = map(sum, zip(*(counts for _, counts in ran)))
+    passed, failed = passed + again, failed - again
     print(f"{passed} passed, {failed} failed, {skipped} skipped", flush=True)
     return 1 if failed else 0
 
@@ -157,6 +180,8 @@ def main():
         sys.exit(run_folder(folder, float(seconds)))
     signal.signal(signal.SIGTERM, give_up_file)
     tests = unittest.defaultTestLoader.discover(folder, pattern=files[0], top_level_dir=folder)
+    if files[1:]:
+        tests = unittest.defaultTestLoader.loadTestsFromNames(files[1:])
     result = Result(folder, tests, time.monotonic() + float(seconds))
     tests.run(result)
     result.finish({}, 0)
