@@ -1,0 +1,18 @@
+use Rattle.std.proofs.Common.{◌≡◌, ℕ, ◌-◌, List, map, length, Option, Some, sym, subst}
+use Rattle.std.specs.Prelude.{slice_get, string_bytes}
+use Rattle.std.proofs.lemmas.List.{length-map}
+use Rattle.lock_names.specs.Names.{Bound}
+use Rattle.lock_names.specs.Begun.{frees}
+use Rattle.lock_names.proofs.Begins.{begun_both, distinct}
+use Rattle.name_check.proofs.begin.begun_table.Goals as goal
+
+pub returns-clause-ok : goal.returns-clause-ok
+returns-clause-ok c =
+    begun_both (map string_bytes c.args.names.now) (length c.args.names.now) c.args.count c.add_names.new.table c.add_pool.new.table c.in-Ok.ensures.ok c.in-Ok-add_pool.ensures (sym (length-map c.args.names.now string_bytes))
+
+pub returns-clause-apart : goal.returns-clause-apart
+returns-clause-apart c =
+    let ns : List (List ℕ) = map string_bytes c.args.names.now in
+    let is = begun_both ns (length c.args.names.now) c.args.count c.add_names.new.table c.add_pool.new.table c.in-Ok.ensures.ok c.in-Ok-add_pool.ensures (sym (length-map c.args.names.now string_bytes)) in
+    distinct ns (frees (c.args.count - length c.args.names.now))
+    (subst (λ (t : List (Option Bound)). (i j : ℕ) (b d : Bound) → slice_get t i ≡ Some (Some b) → slice_get t j ≡ Some (Some d) → b.name ≡ d.name → i ≡ j) is c.are_apart.ensures)

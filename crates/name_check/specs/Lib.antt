@@ -1,0 +1,5 @@
+pub mod Entries
+pub mod Judged
+pub mod Tables
+pub mod Kept
+pub mod Laws
