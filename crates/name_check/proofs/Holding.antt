@@ -1,22 +1,22 @@
 -- The holds of a name are one after the other.
-use Rattle.std.proofs.Common.{◌≡◌, ◌≢◌, ℕ, zero, suc, ◌+◌, ◌-◌, ◌<◌, ◌≤◌, Bool, true, false, List, [], ◌∷◌, ◌++◌, length, Option, None, Some, ◌⊎◌, inl, inr, refl, sym, ◌∙◌, ap, subst, arith}
+use Rattle.std.proofs.Common.{◌≡◌, ℕ, zero, suc, ◌+◌, ◌-◌, ◌<◌, ◌≤◌, Bool, true, false, List, [], ◌∷◌, ◌++◌, length, Option, None, Some, ◌⊎◌, inl, inr, refl, sym, ◌∙◌, ap, subst, arith}
 use Rattle.std.specs.Prelude.{if◌then◌else◌, slice_get, slice_set}
 use Rattle.std.specs.List.{cons_option}
 use Rattle.std.specs.Str.{bytes_eq}
 use Rattle.std.proofs.lemmas.Bool.{cases_Bool, both_ways, eq-eqb, false≢true}
 use Rattle.std.proofs.lemmas.Option.{slice_get_within}
 use Rattle.held_locks.proofs.Standing.{get_set, get_set_same, get_set_other}
-use Rattle.lock_names.specs.Names.{Bound, token_in, found}
+use Rattle.lock_names.specs.Names.{Bound, token_in}
 use Rattle.lock_names.specs.Begun.{frees}
 use Rattle.lock_names.proofs.Found.{same_name, own_name, some_same, none_some, unlike, there_is}
 use Rattle.name_check.specs.declared.lines.Ring.{Ring}
 use Rattle.name_check.specs.declared.lines.Due.{Due}
 use Rattle.name_check.specs.declared.lines.Due.TheVariants as due
 use Rattle.name_check.specs.Entries.{Entry, Top, Bind, Free, Grant, Repair, End, Other, File, Judged, fresh_rings}
-use Rattle.name_check.specs.Judged.{refused_bind, refused_free, refused_grant, refused_repair, refused_end, refusal, passed, repaired, ended, closed, noted, noted_all, AreRight}
+use Rattle.name_check.specs.Judged.{refused_bind, refused_free, refused_grant, refused_repair, refused_end, refusal, passed, repaired, ended, closed, noted}
 use Rattle.name_check.specs.Kept.{is_between, IsSoundRing, IsSoundDue, IsSound}
 use Rattle.name_check.specs.Laws.{Sign, Begins, Ends, bound_to, begins, ends, sign_of, signs_of, AreHolds, IsNow, JudgedAreNamed, SoundStays}
-use Rattle.name_check.proofs.Refusing.{no_ring, free_due, repair_due, end_due, MayBeGranted, IsBound, IsHanded, IsFixed, grant_due, file_due, IsNew, MayBeBound, New, Again, Trusted}
+use Rattle.name_check.proofs.Refusing.{no_ring, free_due, end_due, MayBeGranted, IsBound, IsHanded, IsFixed, grant_due, file_due, IsNew, MayBeBound, New, Again, Trusted}
 use Rattle.name_check.proofs.Sounding.{name_at, may_bind, sound_free, sound_stays, set_same, joined, named_before}
 
 -- ---- a binding

@@ -6,3 +6,6 @@ pub mod Holding
 pub mod Starting
 pub mod Opening
 pub mod Remaining
+pub mod Accepting
+pub mod Saying
+pub mod Filing

@@ -5,14 +5,14 @@ use Rattle.std.proofs.lemmas.Bool.{false≢true}
 use Rattle.std.proofs.lemmas.List.{length-append, length-map}
 use Rattle.std.proofs.lemmas.List.Sums.{sum_by-cons}
 use Rattle.std.proofs.lemmas.Option.{slice_get_within}
-use Rattle.lock_names.specs.Names.{Bound, token_in}
+use Rattle.lock_names.specs.Names.{Bound}
 use Rattle.lock_names.specs.Begun.{fixed_names, frees}
 use Rattle.lock_names.proofs.Found.{some_same, none_some}
 use Rattle.name_check.specs.declared.lines.Ring.{Ring}
 use Rattle.name_check.specs.declared.lines.Due.{Due}
 use Rattle.name_check.specs.declared.lines.Due.TheVariants as due
 use Rattle.name_check.specs.Entries.{Judged, begun, grants_in}
-use Rattle.name_check.specs.Kept.{IsSoundRing, IsSoundDue, IsSound}
+use Rattle.name_check.specs.Kept.{IsSoundRing, IsSound}
 use Rattle.name_check.specs.Laws.{NoneHeld, SoundBegins, TrustEnds}
 use Rattle.name_check.proofs.Starting.{begun_is}
 use Rattle.name_check.proofs.Sounding.{joined, free_name, length_frees, named_before}

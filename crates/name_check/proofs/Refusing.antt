@@ -1,5 +1,5 @@
 -- What follows from it that a line is not refused.
-use Rattle.std.proofs.Common.{◌≡◌, ℕ, ◌<◌, ◌≤◌, Bool, true, false, List, Option, None, Some, ◌⊎◌, inl, inr, refl, sym, ◌∙◌, ap, subst, arith}
+use Rattle.std.proofs.Common.{◌≡◌, ℕ, ◌<◌, ◌≤◌, Bool, true, false, List, Option, None, Some, ◌⊎◌, inl, inr, refl, sym, ◌∙◌, ap, subst}
 use Rattle.std.specs.Prelude.{nat_le, nat_lt, ◌==◌, ◌&&◌, if◌then◌else◌, slice_get, option_map}
 use Rattle.std.specs.Str.{bytes_eq}
 use Rattle.std.proofs.lemmas.Bool.{eqb-true, ltb-true, ltb-false, leb-true, leb-false, and_parts}
@@ -12,7 +12,7 @@ use Rattle.name_check.specs.declared.lines.Due.TheVariants as due
 use Rattle.name_check.specs.declared.wrongs.Wrong.{Wrong}
 use Rattle.name_check.specs.declared.wrongs.Wrong.TheVariants as why
 use Rattle.name_check.specs.Entries.{Judged}
-use Rattle.name_check.specs.Judged.{owed, spent, most_grants, refused_top, taken, refused_new, same_bound, refused_trust, refused_again, refused_bind, refused_free, refused_grant, refused_repair, refused_end, refused_file, of_ring}
+use Rattle.name_check.specs.Judged.{spent, most_grants, refused_top, taken, refused_new, same_bound, refused_trust, refused_again, refused_bind, refused_free, refused_grant, refused_repair, refused_end, refused_file, of_ring}
 
 -- a refusal is none
 pub some_none : {X : Type 0} (x : X) → ◌≡◌ {A = Option X} (Some x) None → ⊥

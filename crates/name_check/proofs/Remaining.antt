@@ -1,8 +1,8 @@
 -- Lines are judged alike without the files before them.
-use Rattle.std.proofs.Common.{◌≡◌, ◌≢◌, ℕ, zero, suc, ◌+◌, ◌-◌, ◌<◌, ◌≤◌, Bool, true, false, List, [], ◌∷◌, ◌++◌, length, Option, None, Some, ◌⊎◌, inl, inr, refl, sym, ◌∙◌, ap, subst, arith}
+use Rattle.std.proofs.Common.{◌≡◌, ◌≢◌, ℕ, zero, suc, ◌<◌, ◌≤◌, Bool, true, false, List, [], ◌∷◌, length, Option, None, Some, ◌⊎◌, inl, inr, refl, sym, ◌∙◌, ap, subst, arith}
 use Rattle.std.specs.Prelude.{nat_le, nat_lt, ◌==◌, ◌&&◌, if◌then◌else◌, slice_get, slice_set, option_map}
 use Rattle.std.specs.Str.{bytes_eq}
-use Rattle.std.proofs.lemmas.Bool.{false≢true, leb-true, le-leb, lt-ltb, eq-eqb, cases_Bool, cases_eq, and_from}
+use Rattle.std.proofs.lemmas.Bool.{false≢true, leb-true, le-leb, lt-ltb, eq-eqb, cases_Bool, and_from}
 use Rattle.std.proofs.lemmas.List.{length-set}
 use Rattle.std.proofs.lemmas.Option.{slice_get_within}
 use Rattle.held_locks.proofs.Standing.{get_set, get_set_same, get_set_other}
@@ -15,10 +15,10 @@ use Rattle.name_check.specs.declared.lines.Due.TheVariants as due
 use Rattle.name_check.specs.declared.wrongs.Wrong.{Wrong}
 use Rattle.name_check.specs.declared.wrongs.Wrong.TheVariants as why
 use Rattle.name_check.specs.Entries.{Entry, Top, Bind, Free, Grant, Repair, End, Other, File, Judged}
-use Rattle.name_check.specs.Judged.{taken, same_bound, refused_bind, refused_free, refused_grant, refused_repair, refused_end, refused_trust, refused_again, of_ring, refusal, first_held, restated, due_bound, noted, noted_all, AreRight}
+use Rattle.name_check.specs.Judged.{taken, same_bound, refused_bind, refused_free, refused_grant, refused_repair, refused_end, refused_again, of_ring, refusal, first_held, restated, due_bound, noted, noted_all, AreRight}
 use Rattle.name_check.specs.Kept.{is_unknown, is_between, IsSoundRing, IsSoundDue, IsSound}
-use Rattle.name_check.specs.Laws.{fixed_only, forgotten, RemaindersAreNamed}
-use Rattle.name_check.proofs.Refusing.{no_ring, top_due, free_due, repair_due, end_due, MayBeGranted, IsBound, IsHanded, IsFixed, grant_due, file_due, IsNew, MayBeBound, New, Again, Trusted}
+use Rattle.name_check.specs.Laws.{fixed_only, RemaindersAreNamed}
+use Rattle.name_check.proofs.Refusing.{no_ring, top_due, free_due, repair_due, end_due, MayBeGranted, IsBound, IsHanded, IsFixed, grant_due, file_due, MayBeBound, New, Again, Trusted}
 use Rattle.name_check.proofs.Scanning.{unknown_from}
 use Rattle.name_check.proofs.Sounding.{may_bind, sound_stays}
 

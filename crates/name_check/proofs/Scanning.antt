@@ -5,11 +5,8 @@ use Rattle.std.proofs.lemmas.Bool.{le-leb, leb-true, and_parts, and_from, both_w
 use Rattle.std.proofs.lemmas.Option.{slice_get-get_or, slice_get_within}
 use Rattle.lock_names.proofs.Found.{some_same, none_some}
 use Rattle.name_check.specs.declared.lines.Ring.{Ring}
-use Rattle.name_check.specs.declared.lines.Due.{Due}
-use Rattle.name_check.specs.declared.lines.Due.TheVariants as due
 use Rattle.name_check.specs.Judged.{first_held, restated}
 use Rattle.name_check.specs.Kept.{is_unknown, is_between, IsSoundDue}
-use Rattle.name_check.proofs.Refusing.{some_none}
 
 -- it is held, and not before this place
 pub record FoundHeld (low at : ℕ) (gs : List Ring) (q : ℕ) : Type 0 where

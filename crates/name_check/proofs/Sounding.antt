@@ -1,11 +1,11 @@
 -- What is sound stays so after each right line.
 use Rattle.std.proofs.Common.{◌≡◌, ◌≢◌, ℕ, zero, suc, ◌+◌, ◌-◌, ◌<◌, ◌≤◌, Bool, true, false, List, [], ◌∷◌, ◌++◌, length, Option, None, Some, ◌⊎◌, inl, inr, refl, sym, ◌∙◌, ap, subst, arith}
-use Rattle.std.specs.Prelude.{Result, Ok, Err, OnOk, IfErr, nat_le, nat_lt, ◌==◌, if◌then◌else◌, slice_get, slice_set}
+use Rattle.std.specs.Prelude.{Result, Ok, Err, OnOk, IfErr, nat_lt, if◌then◌else◌, slice_get, slice_set}
 use Rattle.std.proofs.lemmas.Bool.{eq-eqb, eqb-true, ne_eqb, leb-true, ltb-true, ltb-false, false≢true}
 use Rattle.std.proofs.lemmas.List.{length-set, length-append}
 use Rattle.std.proofs.lemmas.Option.{slice_get_within}
 use Rattle.held_locks.proofs.Standing.{get_set}
-use Rattle.lock_names.specs.Names.{Bound, token_in, found}
+use Rattle.lock_names.specs.Names.{Bound, token_in}
 use Rattle.lock_names.specs.Table.{AreNamedOnce}
 use Rattle.lock_names.specs.Begun.{frees}
 use Rattle.lock_names.proofs.Found.{some_same, none_some, there_is}
@@ -17,7 +17,7 @@ use Rattle.name_check.specs.Judged.{refused_bind, refused_free, refused_grant, r
 use Rattle.name_check.specs.declared.wrongs.Refused.{Refused}
 use Rattle.name_check.specs.declared.wrongs.Refused.TheVariants as refused
 use Rattle.name_check.specs.Kept.{is_unknown, is_between, IsBoundWithin, IsSoundRing, IsSoundDue, IsSound, IsPut, IsNoted, IsRefused}
-use Rattle.name_check.proofs.Refusing.{some_none, no_ring, top_due, free_due, repair_due, end_due, MayBeGranted, IsBound, IsHanded, IsFixed, grant_due, file_due, IsNew, IsTrusted, MayBeBound, New, Again, Trusted, bind_due}
+use Rattle.name_check.proofs.Refusing.{no_ring, top_due, free_due, repair_due, end_due, MayBeGranted, IsBound, IsHanded, IsFixed, grant_due, file_due, IsNew, IsTrusted, MayBeBound, New, Again, Trusted, bind_due}
 use Rattle.name_check.proofs.Scanning.{never_between, unknown_from, due_from}
 use Rattle.name_check.proofs.Tabling.{once_bound, once_forgot}
 

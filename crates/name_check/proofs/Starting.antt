@@ -1,14 +1,13 @@
 -- Where the judge begins.
-use Rattle.std.proofs.Common.{◌≡◌, ℕ, zero, suc, ◌+◌, ◌-◌, ◌<◌, ◌≤◌, true, false, List, [], ◌∷◌, ◌++◌, length, Option, None, Some, ◌⊎◌, inl, inr, refl, sym, ◌∙◌, ap, subst, arith}
+use Rattle.std.proofs.Common.{◌≡◌, ℕ, suc, ◌+◌, ◌-◌, ◌<◌, ◌≤◌, List, [], ◌∷◌, ◌++◌, length, Option, None, Some, refl, sym, ◌∙◌, ap, arith}
 use Rattle.std.specs.Prelude.{Result, Ok, Err, OnOk, slice_get, slice_set}
 use Rattle.std.proofs.lemmas.List.{length-append, append_assoc, append-nil}
 use Rattle.lock_names.specs.Names.{Bound, found}
 use Rattle.lock_names.specs.Begun.{fixed_names, frees}
-use Rattle.lock_names.proofs.Found.{some_same, none_some}
 use Rattle.lock_names.proofs.Tabled.{found_added}
 use Rattle.name_check.specs.declared.lines.Ring.{Ring}
 use Rattle.name_check.specs.declared.lines.Due.TheVariants as due
-use Rattle.name_check.specs.Entries.{Judged, fresh_ring, fresh_rings, grants_in, begun}
+use Rattle.name_check.specs.Entries.{fresh_ring, fresh_rings, grants_in, begun}
 
 -- a ring more, and one less to come
 pub rings_more : (now later : List Ring) (count : ℕ) → later ≡ now ++ fresh_ring ∷ [] → length now < count → later ++ fresh_rings (count - length later) ≡ now ++ fresh_rings (count - length now)

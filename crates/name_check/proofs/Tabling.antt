@@ -6,7 +6,7 @@ use Rattle.std.proofs.lemmas.List.{length-map}
 use Rattle.std.proofs.lemmas.Option.{slice_get_within, slice_get_read, slice_get-map}
 use Rattle.held_locks.proofs.Standing.{get_set}
 use Rattle.lock_names.specs.Bindings.{Bound, found}
-use Rattle.lock_names.specs.Table.{ring_of, AreNamedOnce}
+use Rattle.lock_names.specs.Table.{AreNamedOnce}
 use Rattle.lock_names.proofs.Found.{some_same, none_some, unlike, pushed}
 use Rattle.lock_names.proofs.Tabled.{found_bound, found_forgot, found_added}
 use Rattle.name_check.specs.declared.table.Binding.{Binding}

@@ -1,6 +1,6 @@
 -- What the lines of the files of a folder say of names, and what is known after them (this project's
 -- own).
-use Rattle.std.specs.Prelude.{ℕ, zero, suc, ◌-◌, ◌++◌, false, List, [], ◌∷◌, map, length, Option, Some, None}
+use Rattle.std.specs.Prelude.{ℕ, zero, suc, ◌-◌, ◌++◌, false, List, [], ◌∷◌, length, Option}
 use Rattle.std.specs.List.{sum_by}
 use Rattle.lock_names.specs.Bindings.{Bound}
 use Rattle.lock_names.specs.Begun.{fixed_names, frees}

@@ -1,5 +1,5 @@
 -- Which lines are right (this project's own).
-use Rattle.std.specs.Prelude.{◌≡◌, ℕ, suc, ◌+◌, ◌-◌, ◌^◌, nat_le, nat_lt, ◌==◌, ◌&&◌, Bool, true, false, if◌then◌else◌, List, [], ◌∷◌, ◌++◌, length, slice_get, slice_set, Option, Some, None}
+use Rattle.std.specs.Prelude.{◌≡◌, ℕ, suc, ◌+◌, ◌-◌, nat_le, nat_lt, ◌==◌, ◌&&◌, Bool, true, false, if◌then◌else◌, List, [], ◌∷◌, ◌++◌, length, slice_get, slice_set, Option, Some, None}
 use Rattle.std.specs.Str.{bytes_eq}
 use Rattle.lock_names.specs.Names.{Bound, token_in}
 use Rattle.lock_names.specs.Table.{ring_of}
@@ -216,3 +216,8 @@ AreRight s (e ∷ es) = (refusal s e ≡ None) × AreRight (noted s e) es
 abbrev pub noted_all : Judged → List Entry → Judged
 noted_all s [] = s
 noted_all s (e ∷ es) = noted_all (noted s e) es
+
+-- they are right, and this is known after them
+pub record AreSaid (s : Judged) (es : List Entry) (t : Judged) : Type 0 where
+  pub right : AreRight s es
+  pub now : noted_all s es ≡ t

@@ -5,7 +5,6 @@ use Rattle.std.specs.Str.{bytes_eq}
 use Rattle.lock_names.specs.Names.{Bound, token_in}
 use Rattle.lock_names.specs.Promises.{AreDistinct}
 use Rattle.name_check.specs.declared.lines.Ring.{Ring}
-use Rattle.name_check.specs.declared.lines.Due.{Due}
 use Rattle.name_check.specs.declared.lines.Due.TheVariants as due
 use Rattle.name_check.specs.Entries.{Entry, Grant, End, Judged, begun}
 use Rattle.name_check.specs.Judged.{noted, noted_all, AreRight}

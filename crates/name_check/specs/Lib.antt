@@ -3,3 +3,4 @@ pub mod Judged
 pub mod Tables
 pub mod Kept
 pub mod Laws
+pub mod Written

@@ -1,4 +1,4 @@
-use Rattle.std.proofs.Common.{◌≡◌, ◌≤◌, ℕ, List, map, length, sym, arith}
+use Rattle.std.proofs.Common.{◌≤◌, ℕ, List, map, length, sym, arith}
 use Rattle.std.specs.Prelude.{string_bytes}
 use Rattle.std.proofs.lemmas.List.{length-map}
 use Rattle.name_check.proofs.Opening.{begun_kept}

@@ -1,4 +1,4 @@
-use Rattle.std.proofs.Common.{Bool, Option, Some, None, inl, inr, sym, ◌∙◌, ap}
+use Rattle.std.proofs.Common.{Bool, Option, Some, inl, inr, sym, ◌∙◌, ap}
 use Rattle.std.specs.Prelude.{is_some}
 use Rattle.std.proofs.lemmas.Bool.{false≢true}
 use Rattle.name_check.proofs.Sounding.{set_same}
