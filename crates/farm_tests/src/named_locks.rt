@@ -421,7 +421,7 @@ fn not_restored(
     let mut all = Vec::new(alloc);
     for one in pool {
         let one = match one {
-            Some((name, before, floor)) => Some(bind(rt, alloc, name, *before, *floor)),
+            Some((name, before, floor)) => Some(bind(rt, alloc, *name, *before, *floor)),
             None => None,
         };
         assert!(rt; all.push(one).is_ok());
