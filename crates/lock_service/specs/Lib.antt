@@ -23,3 +23,9 @@ pub mod Around
 pub mod Started
 pub mod Runs
 pub mod OneLife
+pub mod Naming
+pub mod NameNoting
+pub mod NameServing
+pub mod NameSegmented
+pub mod NameState
+pub mod RingLines
