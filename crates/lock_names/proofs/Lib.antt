@@ -15,4 +15,5 @@ pub mod LeftRings
 pub mod LeftSaid
 pub mod Copied
 pub mod Grows
+pub mod HandedNames
 pub mod Sized

@@ -7,4 +7,5 @@ pub mod Kept
 pub mod Begun
 pub mod Leaves
 pub mod Grown
+pub mod Handed
 pub mod Sizes
