@@ -1,6 +1,7 @@
 -- Locks by any name in a segment, with what its journal has had (this project's own).
-use Rattle.std.specs.Prelude.{◌≡◌, ℕ, ◌-◌, nat_lt, Bool, not, ◌||◌, ◌&&◌, List, length, Option, None, Some, is_some}
+use Rattle.std.specs.Prelude.{◌≡◌, ℕ, ◌-◌, nat_lt, Bool, not, ◌||◌, ◌&&◌, List, length, slice_get, Option, None, Some, is_some}
 use Rattle.held_locks.specs.declared.answers.Left.{Left}
+use Rattle.held_locks.specs.Asked.{events_at}
 use Rattle.lock_names.specs.declared.replies.NameAnswers.{NameAnswers}
 use Rattle.lock_names.specs.Bindings.{free}
 use Rattle.lock_names.specs.Kept.{NamedView}
@@ -24,6 +25,11 @@ pub record IsNameCounted (old new : NamingView) (lines : ℕ) : Type 0 where
 abbrev pub count_at : Option ℕ → NamedView → NamedView → NameAnswers → ℕ
 count_at None old new r = 0
 count_at (Some ring) old new r = count_about ring old.locks new.locks r.ended
+
+-- how many events the segment of the ring that was asked had
+abbrev pub events_before : NamedView → Option ℕ → ℕ
+events_before v None = 0
+events_before v (Some ring) = events_at (slice_get v.locks ring)
 
 -- no ring is free, and the pool may have this number of them and has fewer
 abbrev pub is_wanting : ℕ → NamedView → Bool

@@ -7,6 +7,9 @@ mod counting;
 mod due;
 pub mod laws;
 mod lines;
+mod name_noting;
+mod name_segment;
+mod name_service;
 mod noting;
 pub mod room_laws;
 mod segment;
@@ -15,4 +18,5 @@ mod service;
 mod stating;
 mod texts;
 
+pub use name_service::{NameService, NameTerms};
 pub use service::{LockService, Terms};

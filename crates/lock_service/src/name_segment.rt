@@ -6,7 +6,7 @@ ghost use Rattle.lock_names.specs.Kept.{IsAsked};
 ghost use Rattle.lock_names.specs.Leaves.{IsLeftByName};
 ghost use Rattle.lock_service.specs.Due.{is_due, has_short};
 ghost use Rattle.lock_service.specs.Counting.{lines_at_start, count_of_all};
-ghost use Rattle.lock_service.specs.Naming.{IsNameCounted, count_at, is_wanting};
+ghost use Rattle.lock_service.specs.Naming.{IsNameCounted, count_at, events_before, is_wanting};
 
 use crate::counting::{after_end, after_events, after_left, after_start};
 use crate::due::{has_short, has_short_left, is_short_at};
@@ -54,22 +54,42 @@ pub(crate) fn is_wanting(names: &Names, most: u32) -> bool
 }
 
 impl NameSegment {
-    /// Asks a name. Only its ring is looked at, and nothing changes if the asker is refused for lack of room or memory. The journal's
-    /// lines are counted: `answers.place` says how many events the segment of the ring had before.
-    pub(crate) fn ask(&mut self, client: u64, name: &str, ask: OneAsk) -> NameAnswers
-        ensures answer { IsAsked self.old.named self.new.named client name.now (asked ask) result }
+    /// Asks a name. Only its ring is looked at, and nothing changes if the asker is refused for lack of room or memory. It says too
+    /// how many events the segment of the ring had before; 0 if no ring was asked.
+    pub(crate) fn ask(&mut self, client: u64, name: &str, ask: OneAsk) -> (NameAnswers, usize)
+        ensures answer { IsAsked self.old.named self.new.named client name.now (asked ask)
+            result.0 }
+        ensures before { result.1 ≡ events_before self.old.named result.0.ring }
         ensures counted { IsNameCounted self.old self.new
-            (count_at result.ring self.old.named self.new.named result) }
+            (count_at result.0.ring self.old.named self.new.named result.0) }
     {
+        let before = match self.names.reach(name, ask) {
+            Some(ring) => events_at(self.names.locks(), ring),
+            None => 0,
+        };
         let answers = self.names.ask(self.alloc, client, name, ask);
         let Some(ring) = answers.ring else {
-            return answers;
+            return (answers, before);
         };
         let remaining = after_end(self.remaining, answers.ended);
         let after = events_at(self.names.locks(), ring);
-        self.remaining = after_events(remaining, answers.place, after);
+        self.remaining = after_events(remaining, before, after);
         self.short = self.short || is_short_at(self.names.locks(), ring);
-        answers
+        (answers, before)
+    }
+
+    /// The locks with their names.
+    pub(crate) fn names(&self) -> &Names
+        ensures { result.now ≡ self.now.named }
+    {
+        &self.names
+    }
+
+    /// What the client that left last held.
+    pub(crate) fn left(&self) -> &[Left]
+        ensures { result.now ≡ self.now.left }
+    {
+        self.left.as_slice()
     }
 
     /// A client leaves all names. It takes no memory.

@@ -57,7 +57,7 @@ fn note_end(lock: u32, ended: Option<HoldEnd>, notes: &mut Vec<u8>) -> Result<()
 }
 
 /// Adds what a journal gets of a lock whose ring had `place` events.
-fn note(
+pub(crate) fn note(
     locks: &Locks,
     lock: u32,
     ended: Option<HoldEnd>,

@@ -88,7 +88,7 @@ pub(crate) fn end_fault(why: Refusal) -> EndFault
 }
 
 /// The answer is pending, if there was memory for it. The line is answered in any case.
-fn put(told: Result<(), AllocError>) -> Result<(), Untold>
+pub(crate) fn put(told: Result<(), AllocError>) -> Result<(), Untold>
     ensures { result ≡ put told }
 {
     match told {
@@ -201,7 +201,7 @@ fn answer_ask(
 }
 
 /// The refusal of a line that has a fault.
-fn denial_of(why: Fault) -> Denial
+pub(crate) fn denial_of(why: Fault) -> Denial
     ensures { result ≡ denial_of why }
 {
     match why {
@@ -243,7 +243,7 @@ fn is_past(terms: Terms, segment: &Segment) -> bool
 }
 
 /// Whether lines are answered after a line.
-fn stage_after(stage: Stage, past: bool) -> Stage
+pub(crate) fn stage_after(stage: Stage, past: bool) -> Stage
     ensures { result ≡ stage_after stage past }
 {
     match stage {
@@ -263,7 +263,7 @@ pub(crate) fn is_to_end(stage: Stage) -> bool
 }
 
 /// Whether no line is answered since the segment is to end, on strict terms.
-fn is_stopped(strict: bool, stage: Stage) -> bool
+pub(crate) fn is_stopped(strict: bool, stage: Stage) -> bool
     ensures { result ≡ (strict && is_to_end stage) }
 {
     strict && is_to_end(stage)
