@@ -90,7 +90,7 @@ class AtEachMoment(unittest.TestCase):
             for later in self.LATER:
                 is_over, first = False, 0
                 while not is_over:
-                    what = begin(client)
+                    what = begin(client, moments)
                     moments.left = [first, *later]
                     try:
                         call(client, what)
@@ -123,17 +123,28 @@ class AtEachMoment(unittest.TestCase):
             return False
 
     def test_an_acquire(self):
-        self.break_off(Client, (), lambda _: None, lambda client, _: client.acquire("a"), lambda client, _: client.leave())
+        self.break_off(Client, (), lambda *_: None, lambda client, _: client.acquire("a"), lambda client, _: client.leave())
 
     def test_an_acquire_with_a_deadline(self):
-        self.break_off(Client, (), lambda _: None, lambda client, _: client.acquire("a", wait=PATIENCE), lambda client, _: client.leave())
+        self.break_off(Client, (), lambda *_: None, lambda client, _: client.acquire("a", wait=PATIENCE), lambda client, _: client.leave())
 
     def test_a_try(self):
-        self.break_off(Client, (), lambda _: None, lambda client, _: client.try_acquire("a"), lambda client, _: client.leave())
+        self.break_off(Client, (), lambda *_: None, lambda client, _: client.try_acquire("a"), lambda client, _: client.leave())
 
     def test_a_release(self):
-        self.break_off(Client, ("_release",), lambda client: client.acquire("a"), lambda client, token: client.release("a", token),
+        self.break_off(Client, ("_release",), lambda client, _: client.acquire("a"), lambda client, token: client.release("a", token),
                        lambda *_: None)
+
+    def test_a_lock_over_a_client_that_is_shared(self):
+        self.break_off(Client, (), lambda client, moments: moments.of(Lock)(client, "a"), lambda _, lock: lock.acquire(),
+                       lambda _, lock: lock.release())
+
+    def test_a_lock_over_a_client_that_is_shared_is_released(self):
+        def begin(client, moments):
+            lock = moments.of(Lock, "_let_go")(client, "a")
+            lock.acquire()
+            return lock
+        self.break_off(Client, (), begin, lambda _, lock: lock.release(), lambda *_: None)
 
 
 @needs_programs

@@ -120,14 +120,15 @@ class Lock(Settings):
         deadline = self._deadline(timeout)
         is_shared = isinstance(self._place, Client)
         nesting.refuse(self._place.servers if is_shared else lines.places(self._place), self.name, is_task=False)
-        client = self._place if is_shared else self._connected(deadline)
+        client, token = self._place if is_shared else self._connected(deadline), None
         try:
-            return self._take(client, client.acquire(self.name, label=self._label, wait=left(deadline)))
+            token = client.acquire(self.name, label=self._label, wait=left(deadline))
+            return self._take(client, token)
         except BaseException:
             if not is_shared:
                 client._close_within(WITHDRAW)
-            elif self.token is not None:
-                token, self.token, self._hold = self.token, None, None
+            elif token is not None:
+                self.token = self._hold = None
                 client._unclaimed[self.name] = token  # before any call, at whose begin another handler may run
                 client._give_back(self.name, token)
             raise
@@ -140,6 +141,8 @@ class Lock(Settings):
         except LockError:
             raise
         except BaseException:
+            if self.name in client._held and client._held[self.name] == token:
+                client._unclaimed[self.name] = token
             client._give_back(self.name, token)  # where an interrupt came before the client knew
             raise
         finally:
