@@ -69,10 +69,17 @@ class Lines(unittest.TestCase):
             question.hear(line.split())
         self.assertEqual((question.is_answered, [it.name for it in question.locks]), (True, ["a", "b"]))
 
+    def test_a_lock_that_was_gone_before_its_line_was_sent(self):
+        question = lines.Question(b"status\n", 0.0)
+        for line in ("status 2", "lock * free - - - - 0 0 0 0", "lock order/4711 held 7 77 8813 0 0 0 1 0"):
+            question.hear(line.split())
+        self.assertEqual((question.is_answered, [it.name for it in question.named_locks]), (True, ["order/4711"]))
+
     def test_refusals_have_their_class(self):
         for word, kind in (("holds", wozgirt.Holds), ("waits", wozgirt.Waits), ("circle", wozgirt.Circle),
                            ("holder", wozgirt.NotHolder), ("waiter", wozgirt.NotWaiter), ("lock", wozgirt.NoSuchLock),
                            ("permission", wozgirt.NotPermitted), ("waiters", wozgirt.TooMany), ("many", wozgirt.TooMany),
+                           ("names", wozgirt.TooMany),
                            ("other", wozgirt.Refused)):
             error = lines.refusal(["refused", word, "a"])
             self.assertIs(type(error), kind)

@@ -117,7 +117,7 @@ class Client(OfOneProcess):
 
     async def status(self) -> list[LockStatus]:
         """How the locks are that this client may use."""
-        return (await asyncio.shield(self._send(STATUS))).locks
+        return (await asyncio.shield(self._send(STATUS))).named_locks
 
     def check(self) -> None:
         """Raises `LockLost` if others may hold what this client held."""

@@ -123,7 +123,7 @@ class Client(Turns):
 
     def status(self) -> list[LockStatus]:
         """How the locks are that this client may use."""
-        return self._call(STATUS).locks
+        return self._call(STATUS).named_locks
 
     def check(self) -> None:
         """Raises `LockLost` if others may hold what this client held. Never waits."""

@@ -79,11 +79,16 @@ class NotWaiter(Refused):
 
 
 class TooMany(Refused):
-    """There are too many connections, too many clients wait for the lock, or this one has as many locks as it may."""
+    """There are too many connections, too many clients wait for the lock, this one has as many locks as it may, or as many locks of any
+    name are held as may be."""
 
 
 _BY_WORD = {"lock": NoSuchLock, "permission": NotPermitted, "holds": Holds, "waits": Waits, "circle": Circle,
-            "holder": NotHolder, "waiter": NotWaiter, "connections": TooMany, "waiters": TooMany, "many": TooMany}
+            "holder": NotHolder, "waiter": NotWaiter, "connections": TooMany, "waiters": TooMany, "many": TooMany,
+            "names": TooMany}
+
+#: For its name, where a lock was gone before the server had sent how it was.
+GONE = "*"
 
 
 @dataclass(frozen=True)
@@ -225,6 +230,11 @@ class Question:
     def data(self) -> bytes:
         """What is sent."""
         return b"%d %s" % (self.number, self.line) if self.number else self.line
+
+    @property
+    def named_locks(self) -> List[LockStatus]:
+        """Those of which the server knew the name when it sent how they are."""
+        return [it for it in self.locks if it.name != GONE]
 
     @property
     def is_answered(self) -> bool:

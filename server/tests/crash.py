@@ -1,5 +1,5 @@
 #!/usr/bin/env python3
-"""crash.py [SECONDS [SEED]]: clients take and release locks while the engine or the server is killed at random moments, or a
+"""crash.py [SECONDS [SEED]] [--any-name]: clients take and release locks while the engine or the server is killed at random moments, or a
 fault is written. Then the journal is judged:
 
 - nobody is inside while another is, across restarts too, unless that has not looked for as long as a hold outlives a restart: a machine
@@ -8,9 +8,15 @@ fault is written. Then the journal is judged:
   journal, with the client's label;
 - in the journal each grant of a hold is followed by its end before the next one;
 - `bench/small_recover.py`, which knows nothing of this program, finds the history of each segment legal;
+- a token of a name is greater than those before it, and no two rings have one name at once;
 - `ring_tool check` finds the chain of segments legal, and counts the grants that the journal has (the engine's double has one segment,
   and checks nothing).
+
+With --any-name the list is one lock and `*`, and clients draw names: a few that others draw too, or one that nobody has had. Where the
+engine takes a list alone, that is skipped.
 """
+
+import argparse
 
 import bisect
 import itertools
@@ -24,38 +30,64 @@ import threading
 import time
 
 import journals
-from harness import ENGINE, IS_DOUBLE, PATIENCE, TOP, Server, room
+from harness import ENGINE, IS_DOUBLE, NO_ANY_NAME, PATIENCE, TOP, Server, room, takes_any_name
 
 from wozgirt import Client, LockError
 
-NAMES, MACHINES, CLIENTS, LEASE, LINES = "ab", 5, 8, "0.3", "20000"
+CLIENTS, LEASE, LINES = 8, "0.3", "20000"
 
 
-def start(folder):
+class Listed:
+    """The locks of a list."""
+
+    locks = "a:5,b:5"
+
+    def draw(self, chance):
+        return chance.choice("ab")
+
+    def fault(self, chance):
+        """A lock, a machine of its ring and a value."""
+        return self.draw(chance), chance.randrange(5), chance.randrange(5)
+
+
+class AnyName:
+    """One, and any other name."""
+
+    locks = "a:5,*"
+
+    def draw(self, chance):
+        if chance.random() < 0.3:
+            return f"new/{chance.randrange(1 << 40)}"
+        return chance.choice(("a", "order/1", "order/2", "order/3"))
+
+    def fault(self, chance):
+        return chance.choice(("a", "order/1", "order/2", "order/3")), chance.randrange(2), chance.randrange(2)
+
+
+def start(folder, kind):
     """A server in this folder. It ends if the engine of a server that was killed has the journal still, and is then started again."""
     end = time.monotonic() + PATIENCE
     while True:
         try:
-            return start_once(folder)
+            return start_once(folder, kind)
         except RuntimeError as fault:
             said = str(fault).rpartition(" started wozgirt-server ")[2]
             if "/journal is in use" not in said or time.monotonic() > end:
                 raise
 
 
-def start_once(folder):
+def start_once(folder, kind):
     """A server in this folder, if it comes up."""
-    locks = ",".join(f"{name}:{MACHINES}" for name in NAMES)
     # (the double counts grants over all its segments, where each is to be judged by itself)
     words = [] if IS_DOUBLE else ["--segment", LINES]
-    return Server(*words, folder=folder, locks=locks, lease=LEASE)
+    return Server(*words, folder=folder, locks=kind.locks, lease=LEASE)
 
 
 class Trial:
     """What the clients saw."""
 
-    def __init__(self, path):
-        self.path = path
+    def __init__(self, path, kind):
+        self.path, self.kind = path, kind
         self.stop = threading.Event()
         self.mutex = threading.Lock()
         # who is inside, with the time at which it still held the lock; what was told, with the times before and after
@@ -74,7 +106,7 @@ class Trial:
                 time.sleep(0.01)
 
     def hold(self, client, draw, number):
-        name, begun = draw.choice(NAMES), time.monotonic()
+        name, begun = self.kind.draw(draw), time.monotonic()
         token = client.acquire(name, label=number)
         with self.mutex:
             self.told.append((name, token, number, begun, time.monotonic()))
@@ -103,13 +135,13 @@ class Trial:
             self.late += 1
 
 
-def disturb(server, draw):
+def disturb(server, draw, kind):
     """One disturbance: the server, which may be a new one, and what was done."""
     what = draw.choice(["server", "engine", "engine", "fault", "fault"])
     if what == "server":
         server.process.send_signal(signal.SIGKILL)
         server.process.wait()
-        server = start(server.folder)
+        server = start(server.folder, kind)
     elif what == "engine":
         try:
             server.kill_engine()
@@ -117,30 +149,31 @@ def disturb(server, draw):
             what = "nothing"  # it is being started again
     else:
         try:
-            server.operate(f"corrupt {draw.choice(NAMES)} {draw.randrange(MACHINES)} {draw.randrange(MACHINES)}")
+            server.operate("corrupt %s %d %d" % kind.fault(draw))
         except OSError:
             what = "nothing"
     return server, what
 
 
-def judge_holds(calls, told):
+def judge_holds(holds, told):
     """What is wrong with the holds of the journal, and with what the clients were told of them."""
-    wrong, open_, grants = [], {}, {}
-    for line in calls:
-        words = line.split(" ")
-        ring, kind, seat = words[:3]
-        if kind == "p" and seat == "0":
-            if open_.get(ring):
-                wrong.append("granted while a hold is open: " + line)
-            open_[ring] = True
-            grants[NAMES[int(ring)], int(words[6])] = int(words[4])
-        elif kind == "s" and seat in "12":
-            if not open_.get(ring):
-                wrong.append("an end of no hold: " + line)
-            open_[ring] = False
+    wrong, open_, last, grants = [], set(), {}, {}
+    for is_grant, name, *more in holds:
+        if not is_grant:
+            if name not in open_:
+                wrong.append(f"an end of no hold of {name}")
+            open_.discard(name)
+            continue
+        token, label = more
+        if name in open_:
+            wrong.append(f"granted while a hold is open: {name} {token}")
+        if token <= last.get(name, 0):
+            wrong.append(f"the journal's token {token} of {name} does not rise")
+        open_.add(name)
+        grants[name, token], last[name] = label, token
     wrong += [f"token {token} of {name} is not in the journal as {label}'s" for name, token, label, *_ in told
               if grants.get((name, token)) != label]
-    return wrong + [it for name in NAMES for it in judge_order([it for it in told if it[0] == name])]
+    return wrong + [it for name in {it[0] for it in told} for it in judge_order([it for it in told if it[0] == name])]
 
 
 def judge_order(told):
@@ -179,30 +212,41 @@ def judge_chain(folder, calls):
     return verdict.partition(" head ")[0], [] if is_right else [f"the chain, with {count} passes that were granted: {verdict}"]
 
 
+def parsed():
+    """The words of the command line."""
+    parser = argparse.ArgumentParser("crash.py")
+    parser.add_argument("seconds", nargs="?", type=float, default=30)
+    parser.add_argument("seed", nargs="?", type=int, default=random.randrange(1 << 32))
+    parser.add_argument("--any-name", action="store_true")
+    return parser.parse_args()
+
+
 def main():
-    seconds = float(sys.argv[1]) if len(sys.argv) > 1 else 30
-    seed = int(sys.argv[2]) if len(sys.argv) > 2 else random.randrange(1 << 32)
-    draw, done = random.Random(seed), {}
+    words = parsed()
+    if words.any_name and not takes_any_name():
+        print(f"skipped: crash with any name: {NO_ANY_NAME}\n0 passed, 0 failed")
+        return 0
+    kind = AnyName() if words.any_name else Listed()
+    draw, done = random.Random(words.seed), {}
     with room("crash") as folder:
-        server = start(folder)
-        trial = Trial(server.path)
+        server = start(folder, kind)
+        trial = Trial(server.path, kind)
         threads = [threading.Thread(target=trial.work, args=(number,), daemon=True) for number in range(1, CLIENTS + 1)]
         for thread in threads:
             thread.start()
-        end = time.monotonic() + seconds
+        end = time.monotonic() + words.seconds
         while time.monotonic() < end:
             time.sleep(draw.uniform(0.2, 0.9))
-            server, what = disturb(server, draw)
+            server, what = disturb(server, draw, kind)
             done[what] = done.get(what, 0) + 1
         trial.stop.set()
         for thread in threads:
             thread.join(PATIENCE)
         server.stop()
-        calls = server.calls()
-        verdict, of_chain = judge_chain(server.journal, calls)
-        wrong = trial.faults + judge_holds(calls, trial.told) + judge_segments(server.journal) + of_chain
+        verdict, of_chain = judge_chain(server.journal, server.calls())
+        wrong = trial.faults + judge_holds(journals.holds(server.journal), trial.told) + judge_segments(server.journal) + of_chain
     kills = ", ".join(f"{what} {count}" for what, count in sorted(done.items()))
-    print(f"seed {seed} seconds {seconds:.0f} disturbed: {kills}; connections lost {trial.losses}, grants told {len(trial.told)}, "
+    print(f"seed {words.seed} seconds {words.seconds:.0f} disturbed: {kills}; connections lost {trial.losses}, grants told {len(trial.told)}, "
           f"late {trial.late}; verdict {verdict}")
     for line in wrong[:10]:
         print(line)

@@ -27,6 +27,7 @@ TOP = os.path.dirname(os.path.dirname(os.path.dirname(os.path.abspath(__file__))
 BIN = os.environ.get("WOZGIRT_BIN", os.path.join(TOP, "server", "out", "release"))
 PROVED = os.path.join(TOP, "crates", "ring_tool", "out", "ring_tool")
 ENGINE = os.environ.get("WOZGIRT_ENGINE") or (PROVED if os.access(PROVED, os.X_OK) else os.path.join(BIN, "engine-double"))
+DOUBLE = os.path.join(BIN, "engine-double")
 IS_DOUBLE = os.path.basename(ENGINE) == "engine-double"
 COMMAND = os.path.join(BIN, "wozgirt")
 SERVER = os.path.join(BIN, "wozgirt-server")
@@ -58,6 +59,21 @@ def why_not():
     except OSError as fault:
         return f"no socket in {FOLDER}: {fault}"
     return None
+
+
+@functools.lru_cache(maxsize=None)
+def takes_any_name():
+    """Whether the engine takes `*` at the end of a list of locks: locks of any name."""
+    return IS_DOUBLE or "--most-names" in subprocess.run([ENGINE, "locks", "--help"], capture_output=True, text=True, check=False).stdout
+
+
+def engine_of_any_name():
+    """The engine, or its double as long as it takes a list alone."""
+    return ENGINE if takes_any_name() or not os.access(DOUBLE, os.X_OK) else DOUBLE
+
+
+#: why a trial of locks of any name is left out
+NO_ANY_NAME = "the engine takes no `*` at the end of a list of locks: its locks has no option --most-names"
 
 
 needs_programs = unittest.skipIf(why_not() is not None, why_not())
@@ -161,14 +177,14 @@ def room(name):
 class Server:
     """A server that runs; a context manager that ends it and removes its folder."""
 
-    def __init__(self, *words, locks="a,b,c", lease="30", folder=None, faults=True):
+    def __init__(self, *words, locks="a,b,c", lease="30", folder=None, faults=True, engine=None):
         self.is_own = folder is None
         self.folder = folder or tempfile.mkdtemp(prefix="wozgirt-", dir=FOLDER)
         self.path, self.operators = os.path.join(self.folder, "lock.sock"), os.path.join(self.folder, "operators.sock")
         self.journal, self.log = os.path.join(self.folder, "journal"), os.path.join(self.folder, "log")
         os.makedirs(self.journal, exist_ok=True)
         more = ["--faults"] if faults else []
-        self.words = [SERVER, "--engine", ENGINE, "--journal", self.journal, "--locks", locks, "--no-sync", "--socket", self.path,
+        self.words = [SERVER, "--engine", engine or ENGINE, "--journal", self.journal, "--locks", locks, "--no-sync", "--socket", self.path,
                       "--operators", self.operators, "--longest-lease", str(lease), *more, *words]
         STARTING.append(self)
         with open(self.log, "ab") as log:

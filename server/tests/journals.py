@@ -38,6 +38,39 @@ def calls_of(text):
     return [counted(line, grants) for line in found]
 
 
+def listed(folder):
+    """The names of the list of locks, in the order of their rings; `*` is none."""
+    with open(os.path.join(folder, "locks"), encoding="ascii") as file:
+        return [name for name in (line.split()[0] for line in file) if name != "*"]
+
+
+def holds(folder):
+    """What the journal tells of holds, by the names of their locks: `(True, NAME, TOKEN, LABEL)` for a grant, and for the end of a hold
+    `(False, NAME)`. Rings behind those of the list have the names that remarks give them."""
+    names = listed(folder)
+    return [it for text in texts(folder) for it in holds_of(text, names)]
+
+
+def holds_of(text, listed_names):
+    """The same of a segment."""
+    lines = text.split("\n")[:-1]
+    done = next(i for i, line in enumerate(lines) if line.startswith("done "))
+    bases = [int(line.split()[2]) for line in lines[:done] if line.startswith("base ")]
+    # of a ring its name, and the numbers with which it got that: its own last grant's, and that of all grants
+    bound = {ring: (name, 0, 0) for ring, name in enumerate(listed_names)}
+    for line in [*history(lines[:done]), *lines[done + 1:]]:
+        words = line.split(" ")
+        if words[:2] == ["#", "name"]:
+            bound[int(words[2])] = words[5], int(words[3]), int(words[4])
+        elif words[0] == "#" or words[1] not in "ps":
+            continue
+        elif words[1] == "p" and words[2] == "0":
+            name, before, floor = bound[int(words[0])]
+            yield True, name, floor + int(words[6]) + bases[int(words[0])] - before, int(words[4])
+        elif words[1] == "s" and words[2] in "12":
+            yield False, bound[int(words[0])][0]
+
+
 def history(lines):
     """The calls of the history that a segment begins with: a survey is put where it was made."""
     ring, events, surveys = None, [], []

@@ -12,6 +12,7 @@ from concurrent.futures import ThreadPoolExecutor
 
 from harness import PATIENCE, Server, granted, has_loopback, needs_programs
 
+import journals
 from crash import judge_holds
 
 WORDS = ["acquire", "try", "release", "cancel", "leave", "ping", "lease", "stats", "status", "corrupt", "clients", "a", "b", "c", "q", "",
@@ -112,7 +113,7 @@ class Noise(unittest.TestCase):
             server.stop()
             self.assertEqual(server.process.returncode, 0)
             self.assertGreater(len(server.calls()), 1000)
-            self.assertEqual(judge_holds(server.calls(), []), [])
+            self.assertEqual(judge_holds(journals.holds(server.journal), []), [])
 
 
 if __name__ == "__main__":

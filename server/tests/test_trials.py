@@ -7,7 +7,7 @@ import sys
 import tempfile
 import unittest
 
-from harness import FOLDER, PATIENCE, needs_programs, wait_until
+from harness import FOLDER, NO_ANY_NAME, PATIENCE, needs_programs, takes_any_name, wait_until
 
 HERE = os.path.dirname(os.path.abspath(__file__))
 #: A test that makes a folder, and then waits.
@@ -68,12 +68,24 @@ class EndedEarly(unittest.TestCase):
         self.leaves_nothing("lock.sock", "crash.py", "60")
 
     @needs_programs
+    @unittest.skipUnless(takes_any_name(), NO_ANY_NAME)
+    def test_kills_with_any_name(self):
+        self.leaves_nothing("lock.sock", "crash.py", "60", "--any-name")
+
+    @needs_programs
     def test_restarts(self):
         self.leaves_nothing("lock.sock", "restarts.py", "full")
 
     @needs_programs
     def test_load(self):
         self.leaves_nothing("lock.sock", "load.py")
+
+
+class LeftOut(unittest.TestCase):
+    @unittest.skipIf(takes_any_name(), "the engine takes `*`")
+    def test_any_name(self):
+        it = subprocess.run([sys.executable, "crash.py", "60", "--any-name"], cwd=HERE, capture_output=True, text=True, timeout=PATIENCE, check=False)
+        self.assertEqual((it.returncode, it.stdout), (0, f"skipped: crash with any name: {NO_ANY_NAME}\n0 passed, 0 failed\n"))
 
 
 class Parts(unittest.TestCase):

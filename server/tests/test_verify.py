@@ -10,6 +10,7 @@ import unittest
 
 sys.path.insert(0, os.path.join(os.path.dirname(os.path.abspath(__file__)), "cluster"))
 
+import journals  # noqa: E402
 import verify  # noqa: E402
 from harness import FOLDER  # noqa: E402
 
@@ -64,6 +65,15 @@ class Verify(unittest.TestCase):
         self.assertEqual(reading.locks.grants, [("l0", 1, 7, 5), ("l0", 2, 8, 6)])
         self.assertEqual((reading.done, reading.again, reading.ignored), (4, 3, 1))
 
+    def test_the_second_reading_of_any_name(self):
+        """A name has tokens above all grants before it was in use; those of the list count from 1."""
+        asks = ["7 1 acquire l0 5", "7 2 acquire x 1", "8 1 acquire x 2", "7 3 release x 2", "7 4 try y 3", "8 2 release x 3", "7 5 try x 4",
+                "7 6 release l0 1", "8 3 try l0 6"]
+        entry = HEAD.format("a 1 1") + "\t".join(["with 2 9 - 0 l0:8:8,*:2:2 65536", "here 7 u0", "here 8 u0", *asks])
+        self.wrong(entries=[entry])
+        reading = verify.Run(self.folder, ["l0", "*"]).reading
+        self.assertEqual(reading.locks.grants, [("l0", 1, 7, 5), ("x", 2, 7, 1), ("x", 3, 8, 2), ("y", 4, 7, 3), ("x", 5, 7, 4), ("l0", 2, 8, 6)])
+
     def test_a_gap_in_the_log(self):
         self.assertEqual(self.wrong(entries=[*ENTRIES[:3], "", *ENTRIES[4:]]), ["entries"])
 
@@ -98,6 +108,22 @@ class Verify(unittest.TestCase):
         self.assertEqual(self.wrong(files={"kept/b/0000000001.ring": ["another"]}), ["segments"])
         self.assertEqual(self.wrong(files={"server.c/journal/0000000001.ring": ["a"]}), ["segments"])
         self.assertEqual(self.wrong(files={"server.c/journal/0000000002.ring": ["one", "three"]}), ["segments"])
+
+
+class Journals(unittest.TestCase):
+    def test_holds_of_any_name(self):
+        first = ("ringsegment 1 1 3\nbehind 0\nbase 0 0 0 0\nbase 0 0 0 0\nbase 0 0 0 0\nringjournal 1\nringfarm 2\ndone 3\n# floor 0\n"
+                 "0 p 0 0 5 g 1 5\n# name 1 0 1 x\n1 p 0 0 6 g 1 6\n1 s 1 1 1 1 1 0\n1 p 0 1 7 g 2 13\n# name 2 0 3 y\n2 p 0 0 8 g 1 8\n"
+                 "1 s 2 2 1 0 2 0\n# free 1\n0 c 8 1 1 0\n0 p 9 0 0 g 2 5\n")
+        second = ("ringsegment 1 2 3\nbehind 0\nbase 3 2 0 5\nbase 2 2 0 13\nbase 1 1 0 8\nringjournal 1\nringfarm 2\ndone 3\n# floor 5\n"
+                  "# name 2 0 3 y\n2 s 1 1 1 1 1 0\n# free 2\n# name 1 2 5 y\n1 p 0 0 9 g 1 9\n# name 2 1 6 z")
+        with tempfile.TemporaryDirectory(dir=FOLDER) as folder:
+            for name, text in (("locks", "a 8 8\n* 2 2\n"), ("0000000001.ring", first), ("0000000002.ring", second)):
+                with open(os.path.join(folder, name), "w", encoding="ascii") as file:
+                    file.write(text)
+            self.assertEqual(journals.holds(folder), [
+                (True, "a", 1, 5), (True, "x", 2, 6), (False, "x"), (True, "x", 3, 7), (True, "y", 4, 8), (False, "x"), (False, "y"),
+                (True, "y", 6, 9)])
 
 
 if __name__ == "__main__":

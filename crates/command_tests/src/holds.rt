@@ -1,14 +1,16 @@
-//! Histories of locks that are not legal, which the command `holds` refuses before it reads them, and the sums of a chain.
+//! Histories of locks that are not legal, which the command `holds` refuses before it reads them; the sums of a chain; and the names
+//! of a folder's locks in its lines.
 
-use chain_readers::{ChainHoldError, Choice, HoldChain, holds_of_saved, put_holds};
+use crate::files::memory::{make_folder, no_files, put};
+use chain_readers::{ChainHoldError, Hold, HoldChain, holds_of_saved, put_rest};
+use lock_commands::holds;
 use saved_history::{Saved, read_saved};
 use std::alloc::Global;
+use std::io;
 use std::process::Abort;
-
-const ALL: Choice = Choice {
-    lock: None,
-    label: None,
-};
+use std::test::Fail;
+use tool_parts::faults::ToolError;
+use tool_parts::requests::HoldsWords;
 
 /// The saved history of one ring of three machines with these lines after its start.
 fn saved_of(rt: &impl Abort, alloc: Global, lines: &str) -> Saved {
@@ -25,6 +27,13 @@ fn saved_of(rt: &impl Abort, alloc: Global, lines: &str) -> Saved {
     saved
 }
 
+/// The hold has this token, and its line ends so.
+fn is_told(rt: &impl Abort, alloc: Global, hold: &Hold, token: u64, rest: &str) {
+    let mut text = Vec::new(alloc);
+    assert!(rt; put_rest(&mut text, hold).is_ok());
+    assert!(rt; (hold.token, text.as_slice()) == (token, rest.as_bytes()));
+}
+
 // The carrying of a hold, at the start and in the middle.
 #[test]
 fn tells_of_a_hold_that_is_carried(rt: HostRuntime) {
@@ -34,11 +43,12 @@ fn tells_of_a_hold_that_is_carried(rt: HostRuntime) {
     let Ok(locks) = holds_of_saved(alloc, &saved) else {
         panic!(&rt; "refused");
     };
-    let mut text = Vec::new(alloc);
-    assert!(&rt; put_holds(&mut text, ALL, &locks).is_ok());
-    let lines = "lock 0 token 812 label - from - to 3 left\n\
-        lock 0 token 813 label 6 from 3 to - open\n";
-    assert!(&rt; text.as_slice() == lines.as_bytes());
+    assert!(&rt; locks.len() == 1);
+    let [carried, open] = locks[0].as_slice() else {
+        panic!(&rt; "two holds");
+    };
+    is_told(&rt, alloc, carried, 812, " label - from - to 3 left\n");
+    is_told(&rt, alloc, open, 813, " label 6 from 3 to - open\n");
 }
 
 fn refuses(rt: &impl Abort, alloc: Global, history: &str, place: u64) {
@@ -97,4 +107,51 @@ fn a_chain_has_sums(rt: HostRuntime) {
         panic!(&rt; "second");
     };
     assert!(&rt; two.sums().segments == 2 && two.sums().events == 3);
+}
+
+/// How `holds` ends for the folder `f`, which has the first segment and this file of locks, and what it prints.
+fn holds_of_folder(
+    alloc: Global,
+    list: Option<&str>,
+) -> io::Result<(Result<(), ToolError<'static>>, Vec<u8>)> {
+    let mut disk = no_files(alloc);
+    make_folder(&mut disk, "f")?;
+    put(&mut disk, "f/0000000001.ring", FIRST.as_bytes())?;
+    if let Some(list) = list {
+        put(&mut disk, "f/locks", list.as_bytes())?;
+    }
+    let words = HoldsWords {
+        file: "f",
+        lock: None,
+        label: None,
+        by_label: false,
+    };
+    let mut input: &[u8] = b"";
+    let mut out = Vec::new(alloc);
+    let ended = holds::run(alloc, &disk, &words, &mut input, &mut out);
+    Ok((ended, out))
+}
+
+#[test]
+fn a_line_has_the_name_of_its_lock(rt: HostRuntime) -> Result<(), Fail> {
+    let rows = [
+        (
+            Some("order/4711 3 3\n"),
+            "lock order/4711 token 1 label 77 from 0 to - open\n",
+        ),
+        (
+            Some("7\nb 2\n"),
+            "lock 7 token 1 label 77 from 0 to - open\n",
+        ),
+        (None, "lock 0 token 1 label 77 from 0 to - open\n"),
+    ];
+    for (list, lines) in rows {
+        let (ended, out) = holds_of_folder(rt.alloc(), list)?;
+        assert!(rt; ended.is_ok() && out.as_slice() == lines.as_bytes());
+    }
+    for list in ["order/4711 3 3", "", "a!\n", "a\na\n"] {
+        let (ended, out) = holds_of_folder(rt.alloc(), Some(list))?;
+        assert!(rt; matches!(ended, Err(ToolError::BadLocks("f"))) && out.is_empty());
+    }
+    Ok(())
 }

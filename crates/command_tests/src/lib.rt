@@ -3,6 +3,8 @@
 #![tactic(auto)]
 
 #[cfg(test)]
+mod any_names;
+#[cfg(test)]
 mod faults;
 #[cfg(test)]
 mod files;
@@ -17,9 +19,13 @@ mod lines;
 #[cfg(test)]
 mod lists;
 #[cfg(test)]
+mod name_starts;
+#[cfg(test)]
 mod names;
 #[cfg(test)]
 mod orders;
+#[cfg(test)]
+mod pool_lists;
 #[cfg(test)]
 mod power;
 #[cfg(test)]

@@ -6,6 +6,16 @@ mod Texts
 mod Cuts
 mod Pieces
 mod Marks
+mod Stars
+mod PoolSizes
+mod Written
 mod Lines
 mod Handed
 mod OneReading
+mod LineEnds
+mod TornBindings
+mod TakenLines
+mod HeldNames
+mod PoolWords
+mod NameRefused
+mod NameHanded

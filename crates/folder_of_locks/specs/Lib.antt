@@ -2,5 +2,11 @@ pub mod Rings
 pub mod Folders
 pub mod Lists
 pub mod ListSteps
+pub mod Pools
+pub mod PoolSteps
 pub mod Holders
 pub mod HolderSteps
+pub mod Fronts
+pub mod NameRings
+pub mod NameHolders
+pub mod NameFolders

@@ -2,7 +2,13 @@ pub mod Refusals
 pub mod HoldersFile
 pub mod Totals
 pub mod Locks
+pub mod NamesStarted
+pub mod NameRuns
+pub mod NamesLasting
+pub mod Lending
 pub mod Lasting
 pub mod Life
+pub mod HoldNames
+pub mod ToldHolds
 pub mod HoldsAnswer
 pub mod HoldSteps

@@ -205,13 +205,15 @@ pub fn run<W: Write>(
 {
     let states = read_list(alloc, words.states)?;
     let choices = choices_of(alloc, words.choices)?;
-    step_lines(
+    match step_lines(
         alloc,
         words.n,
         words.k,
         states.as_slice(),
         choices.as_slice(),
         out,
-    )?;
-    Ok(())
+    ) {
+        Ok(()) => Ok(()),
+        Err(fault) => Err(fault),
+    }
 }

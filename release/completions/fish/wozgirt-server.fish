@@ -3,7 +3,8 @@
 complete -c wozgirt-server -f
 complete -c wozgirt-server -l engine -rF -d "The program of the engine"
 complete -c wozgirt-server -l journal -x -a "(__fish_complete_directories)" -d "Where the engine keeps its journal"
-complete -c wozgirt-server -l locks -x -d "The locks, as NAME[:N[:K]],.."
+complete -c wozgirt-server -l locks -x -d "The locks, as NAME[:N[:K]],..[,*]"
+complete -c wozgirt-server -l most-names -x -d "How many locks of other names may be held at once"
 complete -c wozgirt-server -l segment -x -d "How many lines a file of the journal has"
 complete -c wozgirt-server -l keep-segments -x -d "How many files of the journal are kept"
 complete -c wozgirt-server -l engine-patience -x -d "Within what time the engine has to answer, in seconds"

@@ -99,6 +99,8 @@ pub enum Refusal<'a> {
     Value,
     /// Faults are not permitted.
     Off,
+    /// As many locks are held as may be, of those that are not in the list.
+    Names,
     /// The journal has no room.
     Full,
     /// There is not enough memory.
@@ -110,7 +112,7 @@ pub enum Refusal<'a> {
 }
 
 impl<'a> Refusal<'a> {
-    const NAMED: [(&'static str, Refusal<'static>); 14] = [
+    const NAMED: [(&'static str, Refusal<'static>); 15] = [
         ("syntax", Refusal::Syntax),
         ("number", Refusal::Number),
         ("lock", Refusal::Lock),
@@ -122,6 +124,7 @@ impl<'a> Refusal<'a> {
         ("machine", Refusal::Machine),
         ("value", Refusal::Value),
         ("off", Refusal::Off),
+        ("names", Refusal::Names),
         ("full", Refusal::Full),
         ("memory", Refusal::Memory),
         ("file", Refusal::File),
@@ -248,6 +251,7 @@ mod tests {
             ("1 stats a 8 2 41 7 40", Answer::Stats(stats)),
             ("1 refused syntax", Answer::Refused { why: Refusal::Syntax, lock: None }),
             ("1 refused lock b", Answer::Refused { why: Refusal::Lock, lock: Some("b") }),
+            ("1 refused names order/4711", Answer::Refused { why: Refusal::Names, lock: Some("order/4711") }),
             ("1 refused past 7", Answer::Refused { why: Refusal::Other("past"), lock: Some("7") }),
         ];
         for (line, answer) in lines {

@@ -33,6 +33,13 @@ pub(crate) fn name(text: &str) -> Result<&str, NotALine> {
     is_name.then_some(text).ok_or(NotALine::Syntax)
 }
 
+impl Lock {
+    /// A name, where any is as good as another: of a question whose answer only shows that all before it is done.
+    pub fn some() -> Lock {
+        Lock("-".into())
+    }
+}
+
 impl FromStr for Lock {
     type Err = NotALine;
 
@@ -78,6 +85,7 @@ mod tests {
             let lock: Lock = text.parse().unwrap();
             assert_eq!((lock.to_string().as_str(), lock == text), (text, true));
         }
+        assert_eq!("-".parse(), Ok(Lock::some()));
         for text in ["", "a b", "é", "*", "a:8", "a\n", &format!("{longest}n")] {
             assert_eq!(text.parse::<Lock>(), Err(NotALine::Syntax), "{text:?}");
         }

@@ -115,6 +115,9 @@ mod tests {
             "7 4 did",
             "7 did x",
             "state 4",
+            "name 17 41 8812 order/4711",
+            "free 17",
+            "floor 8812",
         ] {
             assert_eq!(line.parse::<StateLine>(), Err(NotALine::Syntax), "{line:?}");
         }

@@ -4,6 +4,8 @@ three of them, `wozgirt lock` beside them, and a fault each few seconds, in an o
 no time for is left out. The last line is `N passed, M failed`; where no hosts can be made it says why it is skipped. 120 seconds by
 ./test, 1200 before a release.
 
+With --any-name the list is one lock and `*`, and clients draw names. Where the engine takes a list alone, that is skipped.
+
 With --every a fault begins just so often, and is over by then. With --answers no fault comes any more when clients were told so many, or
 after SECONDS. `faults.py 3600 1 96 /tmp/million --every 4 --answers 1000000` is the longest trial."""
 
@@ -20,7 +22,7 @@ import threading
 import time
 
 from bed import NAMES, Bed, why_not
-from harness import COMMAND
+from harness import COMMAND, NO_ANY_NAME, takes_any_name
 from recorder import Recorder
 from verify import verify
 
@@ -253,11 +255,12 @@ def disturb(bed, workers, words, answers, chance):
 def run(words, locks):
     """What happened, in the folder."""
     chance, clients, folder = random.Random(words.seed), words.clients, words.folder
-    with Bed(folder, checkpoint=250 * clients, locks=",".join(locks)) as bed:
+    listed = locks[:1] + ["*"] if words.any_name else locks
+    with Bed(folder, checkpoint=250 * clients, locks=",".join(listed)) as bed:
         bed.start()
         recorder = Recorder(bed.members.urls(), os.path.join(folder, "log.txt"))
         servers = ["tcp:%s:%d" % it for it in bed.places()]
-        commands = Commands(words, servers, locks)
+        commands = Commands(words, servers, [it for it in locks if it != "*"])
         share = SHARE if clients > 12 else 1
         workers = [subprocess.Popen([sys.executable, os.path.join(HERE, "worker.py"), str(first), str(min(share, clients - first)),
                                      ",".join(servers), ",".join(locks), str(words.seconds), folder, str(words.seed)]) for first in range(0, clients, share)]
@@ -292,12 +295,13 @@ def parsed():
     parser.add_argument("folder", nargs="?")
     parser.add_argument("--every", type=float, metavar="SECONDS")
     parser.add_argument("--answers", type=int, metavar="N")
+    parser.add_argument("--any-name", action="store_true")
     return parser.parse_args()
 
 
 def main():
     words = parsed()
-    reason = why_not()
+    reason = why_not() or (NO_ANY_NAME if words.any_name and not takes_any_name() else None)
     if reason is not None:
         print(f"skipped: cluster: {reason}\n0 passed, 0 failed")
         return 0
@@ -305,6 +309,8 @@ def main():
     words.folder = words.folder or tempfile.mkdtemp(prefix="wozgirt-cluster-")
     print(f"seed {words.seed}, {words.seconds:.0f} seconds, {words.clients} clients, folder {words.folder}", flush=True)
     locks = [f"l{i}" for i in range(max(1, words.clients // 3))]
+    if words.any_name:
+        locks.append("*")
     try:
         bad = run(words, locks)
         passed, failed = verify(words.folder, locks)

@@ -9,16 +9,23 @@ import sys
 
 
 class Locks:
-    """Locks with holders, lines of those who wait, and tokens that rise by one."""
+    """Locks with holders, lines of those who wait, and tokens that rise by one. Behind the list, of which `listed` has the names if there
+    are others, a name has its first token above all grants of all locks, from the grant that finds it unused to its last hold's end."""
 
     def __init__(self):
+        self.listed, self.top = None, 0
         self.holders, self.waiting, self.tokens = collections.defaultdict(lambda: None), collections.defaultdict(collections.deque), collections.Counter()
+        self.used = set()  # the names that are held, or were granted to somebody who waited
         self.waits = {}  # the lock that a client waits for
         self.held = collections.defaultdict(set)  # the locks that a client holds
         self.grants = []  # (lock, token, client, label)
 
     def _give(self, lock, client, label):
+        if self.listed is not None and lock not in self.listed and lock not in self.used:
+            self.used.add(lock)
+            self.tokens[lock] = self.top
         self.tokens[lock] += 1
+        self.top += 1
         self.holders[lock] = client, self.tokens[lock]
         self.held[client].add(lock)
         self.grants.append((lock, self.tokens[lock], client, label))
@@ -31,6 +38,8 @@ class Locks:
             client, label = self.waiting[lock].popleft()
             del self.waits[client]
             self._give(lock, client, label)
+        else:
+            self.used.discard(lock)
 
     def _wait_no_longer(self, client):
         line = self.waiting[self.waits.pop(client)]
@@ -111,6 +120,9 @@ class Reading:
             if not lines or not lines[0].startswith("with ") or self.settings not in (None, lines[0]):
                 return False
             self.settings, self.servers[writer] = lines[0], serial
+            listed = [it.split(":")[0] for it in lines[0].split(" ")[5].split(",")]
+            if "*" in listed:
+                self.locks.listed = set(listed) - {"*"}
             return True
         is_later = serial > self.servers[writer]
         self.servers[writer] = max(serial, self.servers[writer])

@@ -141,14 +141,6 @@ def judge_files(run):
     run.judge(f"segments ({pairs} pairs of hosts compared), the same byte for byte; of the last one each host has a beginning", wrong, len(segments))
 
 
-def holds_of(folder):
-    """The holds that a folder of segments tells, one after the other: lock, token, label."""
-    for text in journals.texts(folder):
-        for words in map(str.split, journals.calls_of(text)):
-            if words[1] == "p" and words[2] == "0" and words[5] == "g":
-                yield int(words[0]), int(words[6]), int(words[4])
-
-
 def judge_histories(run):
     """Each host's history is legal, and has the holds of the log."""
     expected = collections.defaultdict(list)
@@ -159,11 +151,10 @@ def judge_histories(run):
         folder = f"{run.folder}/server.{name}/journal"
         if int(journals.segments(folder)[0].split(".")[0]) == 1:
             found = collections.defaultdict(list)
-            for lock, token, label in holds_of(folder):
-                found[lock].append((token, label))
+            for lock, *hold in (more for is_grant, *more in journals.holds(folder) if is_grant):
+                found[lock].append(tuple(hold))
                 count += 1
-            named = ((run.locks[lock], holds) for lock, holds in found.items())
-            wrong += [f"{folder}: lock {lock}" for lock, holds in named if holds != expected[lock][:len(holds)]]
+            wrong += [f"{folder}: lock {lock}" for lock, holds in found.items() if holds != expected[lock][:len(holds)]]
         illegal += illegal_in(folder)
     run.judge("holds of the histories, those of the log", wrong, count)
     by = "bench/small_recover.py of the first segment, since the engine is a double" if IS_DOUBLE else "ring_tool check and holds"

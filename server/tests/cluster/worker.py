@@ -3,6 +3,8 @@
 they were answered. They end after SECONDS, or when the file `enough` is in FOLDER. `worker.py inside FOLDER NUMBER` is what `wozgirt lock` runs while it
 holds a lock.
 
+Where LOCKS has `*`, a name is drawn there that nobody has had.
+
 `client.N.txt` has a line for each, with its session's key: `did KEY NUMBER SENT GOT INPUT | ANSWER`, `granted KEY LOCK TOKEN`, `inside LOCK TOKEN FROM TO`
 (the client knew that it held the lock, by one clock of the machine), `lost KEY WHY`. What is shared is written to `store.LOCK`, which
 refuses a token that is lower than one it has seen: `wrote LOCK TOKEN` or `refused LOCK TOKEN`."""
@@ -75,6 +77,8 @@ def inside(client, folder, name, token, note, chance):
 def once(client, locks, folder, note, chance):
     """One lock, taken in one way or another."""
     name, kind = chance.choice(locks), chance.random()
+    if name == "*":
+        name = f"new.{chance.randrange(1 << 40)}"
     if kind < 0.2:
         token = client.try_acquire(name, label=chance.randrange(1000))
     else:

@@ -1,8 +1,12 @@
 //! What the engine answered about each lock, for readers: `status`, the page, the metrics. It decides nothing, except
 //! how many clients may wait.
 
+mod any;
+
+pub use any::Any;
+
 use crate::log::Utc;
-use crate::names::ByName;
+use crate::names::{ByName, Names};
 use std::collections::{HashMap, VecDeque};
 use std::time::{Duration, Instant};
 use wozgirt_engine::{Client, Label, Lock, Stats, Token, NOBODY};
@@ -69,6 +73,11 @@ pub struct Sight {
     pub last_fault: Option<Fault>,
     /// How many acquires the engine has not answered yet.
     asked: usize,
+    /// The greatest token that the engine has answered of it since it came into use.
+    pub told: Token,
+    /// Whether it is of the list; the number of one of another name.
+    is_listed: bool,
+    number: u64,
 }
 
 impl Sight {
@@ -85,7 +94,20 @@ impl Sight {
             faults: 0,
             last_fault: None,
             asked: 0,
+            told: 0,
+            is_listed: true,
+            number: 0,
         }
+    }
+
+    /// Of a name that is not in the list, with this many machines.
+    fn of_other(lock: Lock, machines: u64) -> Sight {
+        Sight { machines, is_listed: false, ..Sight::new(lock) }
+    }
+
+    /// Whether a client has something of it, or asks for it.
+    pub fn is_used(&self) -> bool {
+        self.holder.is_some() || !self.line.is_empty() || self.asked > 0
     }
 
     /// Whether one more client might be too many in the queue. The first that asks for a free lock does not wait.
@@ -94,9 +116,34 @@ impl Sight {
         waiting >= most.saturating_add(usize::from(self.holder.is_none()))
     }
 
-    /// An acquire goes to the engine.
-    pub fn asked(&mut self) {
-        self.asked += 1;
+    /// No client has anything of it.
+    fn forget(&mut self) {
+        self.holder = None;
+        self.line.clear();
+        self.asked = 0;
+    }
+
+    /// What the engine said of its tokens and passes says nothing of its next use.
+    fn forget_tokens(&mut self) {
+        (self.passes, self.told) = (0, 0);
+    }
+
+    /// The client holds it: how long that had waited.
+    fn grant(&mut self, client: Client, token: Token, label: Option<Label>, now: Instant) -> Duration {
+        let waiter = self.take_waiter(client);
+        let waited = waiter.map_or(Duration::ZERO, |waiter| now.saturating_duration_since(waiter.since));
+        self.hold(Holder { client, token, label: label.or(waiter.map(|it| it.label)), since: now });
+        self.grants += 1;
+        self.waited += waited;
+        self.longest_wait = self.longest_wait.max(waited);
+        waited
+    }
+
+    /// Its ring has had a pass: a token is the number of it, or, where the name is not of the list, only rises with it.
+    fn hold(&mut self, holder: Holder) {
+        self.passes = if self.is_listed { self.passes.max(holder.token) } else { self.passes + 1 };
+        self.told = self.told.max(holder.token);
+        self.holder = Some(holder);
     }
 
     fn take_waiter(&mut self, client: Client) -> Option<Waiter> {
@@ -126,20 +173,38 @@ impl Waits {
     }
 }
 
+/// Where a reader of all locks is: those of the list come first, then others that are in use, and then the last that were.
+#[derive(Debug, Clone, Copy, PartialEq, Eq)]
+pub enum Place {
+    /// The lock at this place of the list.
+    Listed(usize),
+    /// One in use, after that with this number.
+    Used(u64),
+    /// One that is in use no longer, after that with this number.
+    Unused(u64),
+}
+
+impl Place {
+    /// Before all.
+    pub const FIRST: Place = Place::Listed(0);
+}
+
 /// All locks.
 #[derive(Debug, Default)]
 pub struct Board {
     /// In the order of the list.
     locks: Vec<Sight>,
     places: ByName<usize>,
+    /// Those of other names, if there may be any.
+    any: Option<Any>,
     waits: Waits,
 }
 
 impl Board {
     /// For these locks, of which nothing is known.
-    pub fn new<'a>(locks: impl IntoIterator<Item = &'a Lock>) -> Board {
+    pub fn new(names: &Names) -> Board {
         let mut board = Board::default();
-        board.set_locks(locks);
+        board.take(names);
         board
     }
 
@@ -149,86 +214,138 @@ impl Board {
     }
 
     /// There are these locks now, in this order; nothing is known of those that are new.
-    pub fn set_locks<'a>(&mut self, locks: impl IntoIterator<Item = &'a Lock>) {
+    pub fn take(&mut self, names: &Names) {
         let mut known: HashMap<Lock, Sight> = self.locks.drain(..).map(|it| (it.lock.clone(), it)).collect();
-        let sights = locks.into_iter().map(|lock| known.remove(lock).unwrap_or_else(|| Sight::new(lock.clone())));
+        let sights = names.locks().map(|lock| known.remove(lock).unwrap_or_else(|| Sight::new(lock.clone())));
         self.locks = sights.collect();
         self.places = self.locks.iter().enumerate().map(|(place, sight)| (sight.lock.clone(), place)).collect();
+        let any = self.any.take();
+        self.any = names.any().map(|machines| any.unwrap_or_else(|| Any::new(machines.into())));
     }
 
-    /// Each lock, in order.
+    /// Each lock of the list, in order.
     pub fn locks(&self) -> &[Sight] {
         &self.locks
     }
 
-    /// One lock, by its name.
+    /// Locks of other names, if there may be any.
+    pub fn any(&self) -> Option<&Any> {
+        self.any.as_ref()
+    }
+
+    /// Each lock that a client may have something of.
+    pub fn in_use(&self) -> impl Iterator<Item = &Sight> {
+        self.locks.iter().chain(self.any.iter().flat_map(Any::in_use))
+    }
+
+    /// Whether the lock is one of the list.
+    pub fn is_listed(&self, name: &str) -> bool {
+        self.any.is_none() || self.places.contains_key(name)
+    }
+
+    /// The lock of this name, if there may be one.
+    pub fn name(&self, name: &str) -> Option<Lock> {
+        let known = self.lock(name).map(|sight| sight.lock.clone());
+        known.or_else(|| self.any.as_ref().and_then(|_| name.parse().ok()))
+    }
+
+    /// A name of which the engine can say how its lock is: the first of the list, or one that is as good as any.
+    pub fn some_name(&self) -> Lock {
+        self.locks.first().map_or_else(Lock::some, |sight| sight.lock.clone())
+    }
+
+    /// What is known of a lock, by its name.
     pub fn lock(&self, name: &str) -> Option<&Sight> {
-        self.places.get(name).map(|place| &self.locks[*place])
+        let listed = self.places.get(name).map(|place| &self.locks[*place]);
+        listed.or_else(|| self.any.as_ref()?.lock(name))
     }
 
-    /// The same, to be changed.
-    pub fn lock_mut(&mut self, name: &str) -> Option<&mut Sight> {
-        self.places.get(name).map(|place| &mut self.locks[*place])
-    }
-
-    fn with(&mut self, lock: &str, change: impl FnOnce(&mut Sight)) {
-        if let Some(sight) = self.lock_mut(lock) {
-            change(sight);
+    /// The lock at this place, or the next one, with the place after it. Of other names those that had a number up to `last`.
+    pub fn next(&self, place: Place, last: u64) -> Option<(&Sight, Place)> {
+        let after = |number, is_used| self.any.as_ref()?.after(number, is_used).filter(|(_, number)| *number <= last);
+        match place {
+            Place::Listed(place) => {
+                let listed = self.locks.get(place).map(|sight| (sight, Place::Listed(place + 1)));
+                listed.or_else(|| self.next(Place::Used(0), last))
+            }
+            Place::Used(number) => {
+                let used = after(number, true).map(|(sight, number)| (sight, Place::Used(number)));
+                used.or_else(|| self.next(Place::Unused(0), last))
+            }
+            Place::Unused(number) => after(number, false).map(|(sight, number)| (sight, Place::Unused(number))),
         }
+    }
+
+    /// The last number that a lock of another name has.
+    pub fn last(&self) -> u64 {
+        self.any.as_ref().map_or(0, Any::last)
+    }
+
+    /// Changes a lock: if it is to come into use, one that is not known too.
+    fn change<R>(&mut self, lock: &str, is_new: bool, change: impl FnOnce(&mut Sight) -> R) -> Option<R> {
+        match self.places.get(lock) {
+            Some(place) => Some(change(&mut self.locks[*place])),
+            None => self.any.as_mut()?.change(lock, is_new, change),
+        }
+    }
+
+    /// Whether one more client might be too many in the queue.
+    pub fn is_full(&self, lock: &str, most: usize) -> bool {
+        self.lock(lock).is_some_and(|sight| sight.is_full(most))
+    }
+
+    /// An acquire goes to the engine.
+    pub fn asked(&mut self, lock: &Lock) {
+        self.change(lock, true, |sight| sight.asked += 1);
     }
 
     /// An acquire was answered, or its client is gone.
     pub fn asked_no_longer(&mut self, lock: &str) {
-        self.with(lock, |sight| sight.asked = sight.asked.saturating_sub(1));
+        self.change(lock, false, |sight| sight.asked = sight.asked.saturating_sub(1));
     }
 
     /// The client is at the end of the queue.
     pub fn waits(&mut self, lock: &str, client: Client, label: Label, now: Instant) {
-        self.with(lock, |sight| sight.line.push_back(Waiter { client, label, since: now }));
+        self.change(lock, true, |sight| sight.line.push_back(Waiter { client, label, since: now }));
     }
 
     /// The client waits no longer.
     pub fn waits_no_longer(&mut self, lock: &str, client: Client) {
-        self.with(lock, |sight| {
-            sight.take_waiter(client);
-        });
+        self.change(lock, false, |sight| sight.take_waiter(client));
     }
 
     /// The client holds the lock. The label of one that waited is known.
     pub fn granted(&mut self, lock: &str, client: Client, token: Token, label: Option<Label>, now: Instant) {
-        let Board { locks, places, waits } = self;
-        if let Some(sight) = places.get(lock).map(|place| &mut locks[*place]) {
-            let waiter = sight.take_waiter(client);
-            let waited = waiter.map_or(Duration::ZERO, |waiter| now.saturating_duration_since(waiter.since));
-            sight.holder = Some(Holder { client, token, label: label.or(waiter.map(|it| it.label)), since: now });
-            sight.passes = sight.passes.max(token);
-            sight.grants += 1;
-            sight.waited += waited;
-            sight.longest_wait = sight.longest_wait.max(waited);
-            waits.count(waited);
-        }
+        let waited = self.change(lock, true, |sight| sight.grant(client, token, label, now));
+        waited.into_iter().for_each(|waited| self.waits.count(waited));
     }
 
     /// The client holds the lock since before this server started.
     pub fn holds(&mut self, lock: &str, client: Client, token: Token, now: Instant) {
-        self.with(lock, |sight| sight.holder = Some(Holder { client, token, label: None, since: now }));
+        self.change(lock, true, |sight| {
+            sight.told = sight.told.max(token);
+            sight.holder = Some(Holder { client, token, label: None, since: now });
+        });
+    }
+
+    /// The engine has granted this token to a client that is gone.
+    pub fn told(&mut self, lock: &str, token: Token) {
+        self.change(lock, false, |sight| sight.told = sight.told.max(token));
     }
 
     /// The client's hold ended.
     pub fn released(&mut self, lock: &str, client: Client) {
-        self.with(lock, |sight| {
-            sight.holder.take_if_held_by(client);
-        });
+        self.left(lock, client);
     }
 
     /// The hold ended without a release: whether there was one.
     pub fn left(&mut self, lock: &str, client: Client) -> bool {
-        self.lock_mut(lock).is_some_and(|sight| sight.holder.take_if_held_by(client))
+        self.change(lock, false, |sight| sight.holder.take_if_held_by(client)).unwrap_or(false)
     }
 
     /// A fault was written and repaired.
     pub fn fault(&mut self, lock: &str, machine: u64, value: u64, old: u64) {
-        self.with(lock, |sight| {
+        self.change(lock, false, |sight| {
             sight.faults += 1;
             sight.last_fault = Some(Fault { at: Utc::now(), machine, value, old });
         });
@@ -236,19 +353,27 @@ impl Board {
 
     /// The engine ended: nothing is known of holds and lines.
     pub fn forget(&mut self) {
-        for sight in &mut self.locks {
-            sight.holder = None;
-            sight.line.clear();
-            sight.asked = 0;
-        }
+        self.locks.iter_mut().for_each(Sight::forget);
+        self.any.iter_mut().for_each(Any::forget);
     }
 
     /// What the engine says of a lock's ring.
     pub fn note_stats(&mut self, stats: &Stats<'_>) {
-        self.with(stats.lock, |sight| {
+        self.change(stats.lock, false, |sight| {
             sight.machines = stats.machines;
             sight.passes = stats.passes;
         });
+    }
+
+    /// How a lock is, as far as the engine said. One of another name that is not in use is as one that never was.
+    pub fn stats<'a>(&self, lock: &'a str) -> Option<Stats<'a>> {
+        let known = self.lock(lock).filter(|sight| sight.is_listed || sight.is_used());
+        let Some(sight) = known else {
+            return self.any.as_ref().map(|_| Stats { lock, machines: 0, waiters: 0, passes: 0, holder: 0, token: 0 });
+        };
+        let (holder, token) = sight.holder.map_or((0, 0), |holder| (holder.client, holder.token));
+        let (machines, waiters, passes) = (sight.machines, sight.line.len() as u64, sight.passes);
+        Some(Stats { lock, machines, waiters, passes, holder, token })
     }
 
     /// What the engine says of a lock when it starts: whether it is held from before.
@@ -283,14 +408,14 @@ mod tests {
     use super::*;
 
     fn board() -> Board {
-        Board::new(&["a", "b"].map(|name| name.parse().unwrap()))
+        Board::new(&Names::parse("a,b").unwrap())
     }
 
     #[test]
     fn a_hand_over() {
         let (mut board, start) = (board(), Instant::now());
         board.granted("a", 1, 1, Some(77), start);
-        board.lock_mut("a").unwrap().asked();
+        board.asked(&"a".parse().unwrap());
         assert!(board.locks()[0].is_full(1) && !board.locks()[0].is_full(2));
         assert!(!board.locks()[1].is_full(0));
         board.asked_no_longer("a");
@@ -333,8 +458,7 @@ mod tests {
         let mut board = board();
         board.granted("b", 5, 9, Some(1), Instant::now());
         for list in [&["a", "b", "c"][..], &["b"], &["x", "b"]] {
-            let locks: Vec<Lock> = list.iter().map(|name| name.parse().unwrap()).collect();
-            board.set_locks(&locks);
+            board.take(&Names::parse(&list.join(",")).unwrap());
             assert_eq!(board.locks().iter().map(|sight| &*sight.lock).collect::<Vec<_>>(), list);
             assert!(list.iter().all(|name| board.lock(name).unwrap().lock == *name));
             assert_eq!((board.lock("b").unwrap().grants, board.lock("d").is_none()), (1, true));

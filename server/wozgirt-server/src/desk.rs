@@ -120,9 +120,9 @@ impl Desk {
         self.engine.ask_line(format_args!("{NOBODY} {}", self.look()));
     }
 
-    /// A look at the first lock, whose answer shows that all that was asked before is done.
+    /// A look at a lock, whose answer shows that all that was asked before is done.
     pub(crate) fn look(&self) -> Input {
-        Input::Stats { lock: self.board.locks()[0].lock.clone() }
+        Input::Stats { lock: self.board.some_name() }
     }
 
     /// How long the oldest question of the server's own has been unanswered.
@@ -251,21 +251,20 @@ impl Desk {
 
     /// The engine's input, or why the server refuses it.
     fn input(&mut self, connection: &Connection, name: &str, verb: Verb) -> Result<Input, &'static str> {
-        let sight = self.board.lock_mut(name).ok_or("lock")?;
+        let lock = self.board.name(name).ok_or("lock")?;
         if connection.door != Door::Operators && !self.rules.permits(name, connection.peer.as_ref()) {
             return Err("permission");
         }
-        let lock = sight.lock.clone();
         let is_for_it = matches!(verb, Verb::Acquire(_) | Verb::Try(_));
         if is_for_it && self.mode.has_enough(connection, name, self.settings.most_holds) {
             return Err("many");
         }
         match verb {
             Verb::Acquire(label) => {
-                if sight.is_full(self.settings.waiters) && !self.mode.has(connection, name) {
+                if self.board.is_full(name, self.settings.waiters) && !self.mode.has(connection, name) {
                     return Err("waiters");
                 }
-                sight.asked();
+                self.board.asked(&lock);
                 Ok(Input::Acquire { lock, label })
             }
             Verb::Try(label) => Ok(Input::Try { lock, label }),
@@ -282,7 +281,7 @@ impl Desk {
     fn end_hold(&mut self, connection: &mut Connection, name: &str, token: Token) -> Then {
         let why = match self.board.lock(name).map(|sight| (&sight.lock, sight.holder)) {
             _ if self.mode.in_log().is_some() => "cluster",
-            None => "lock",
+            None if self.board.name(name).is_none() => "lock",
             Some((lock, Some(holder))) if holder.token == token => {
                 connection.pending.push_back(Pending::Ending);
                 return Then::EndHold(holder.client, lock.clone(), token);

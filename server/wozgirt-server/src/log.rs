@@ -75,7 +75,7 @@ impl End {
 /// Something that happened.
 #[allow(missing_docs)] // the texts below say what they are
 pub enum Event<'a> {
-    Started { version: &'a str, locks: usize },
+    Started { version: &'a str, locks: usize, has_others: bool },
     Listening { what: &'a str, place: &'a dyn fmt::Display },
     EngineStarted { process: u32, grace: Duration },
     EngineReady { held: usize },
@@ -164,7 +164,10 @@ impl Event<'_> {
 impl fmt::Display for Event<'_> {
     fn fmt(&self, f: &mut fmt::Formatter<'_>) -> fmt::Result {
         match self {
-            Event::Started { version, locks } => write!(f, "wozgirt-server {version}, {locks} locks"),
+            Event::Started { version, locks, has_others } => {
+                let others = if *has_others { ", and those of any other name" } else { "" };
+                write!(f, "wozgirt-server {version}, {locks} locks{others}")
+            }
             Event::Listening { what, place } => write!(f, "{what} at {place}"),
             Event::EngineStarted { process, grace } => {
                 write!(f, "engine started, process {process}; what was held stays held for {} s", grace.as_secs_f64())

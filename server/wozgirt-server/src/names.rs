@@ -5,7 +5,7 @@ use std::fmt;
 use std::hash::{BuildHasherDefault, Hasher};
 use wozgirt_engine::{Lock, LONGEST_NAME};
 
-/// What is kept of locks, by their names.
+/// What is kept of the locks of a list, by their names.
 pub type ByName<T> = HashMap<Lock, T, BuildHasherDefault<Fnv>>;
 
 /// FNV-1a, which is quick for short names. Which names there are says the list: no client can have them collide.
@@ -27,9 +27,21 @@ impl Hasher for Fnv {
     }
 }
 
-/// All locks with their sizes, in the order of the list. Not empty.
+/// What a list has for the locks of any other name.
+const ANY: &str = "*";
+/// How many machines a lock has, if nothing is said: one of the list, and one of any other name.
+const MACHINES: u32 = 8;
+const MACHINES_OF_ANY: u32 = 2;
+
+/// All locks with their sizes, in the order of the list; and the size of those of any other name, if there may be any. One of the two is
+/// there.
 #[derive(Debug)]
-pub struct Names(Vec<(Lock, u32, u32)>);
+pub struct Names {
+    listed: Vec<(Lock, u32, u32)>,
+    any: Option<(u32, u32)>,
+    /// The names of the list, if there may be others.
+    fixed: ByName<()>,
+}
 
 /// Why a text is not a list of locks.
 #[derive(Debug, PartialEq, Eq)]
@@ -40,6 +52,8 @@ pub enum BadNames {
     Lock(String),
     /// Two locks have this name.
     Twice(String),
+    /// Something comes after `*`.
+    AfterAny,
 }
 
 impl fmt::Display for BadNames {
@@ -51,6 +65,7 @@ impl fmt::Display for BadNames {
                 "`{text}` is not NAME, NAME:N or NAME:N:K; a name has 1 to {LONGEST_NAME} letters, digits, `.`, `_`, `-`, `/`"
             ),
             BadNames::Twice(name) => write!(f, "two locks are named {name}"),
+            BadNames::AfterAny => write!(f, "`{ANY}`, which is any other name, comes last"),
         }
     }
 }
@@ -58,42 +73,60 @@ impl fmt::Display for BadNames {
 impl std::error::Error for BadNames {}
 
 impl Names {
-    /// The names in a list `NAME[:N[:K]],..`, or in a text with such a lock, or `NAME N K`, in each line.
+    /// The names in a list `NAME[:N[:K]],..`, or in a text with such a lock, or `NAME N K`, in each line. The last one may be `*`.
     pub fn parse(list: &str) -> Result<Names, BadNames> {
-        let (mut locks, mut known) = (Vec::new(), HashSet::new());
+        let (mut listed, mut known, mut any) = (Vec::new(), HashSet::new(), None);
         for lock in list.split([',', '\n']).map(str::trim).filter(|lock| !lock.is_empty()) {
-            let Some((name, n, k)) = read(lock) else {
-                return Err(BadNames::Lock(lock.chars().take(2 * LONGEST_NAME).collect()));
-            };
-            if !known.insert(name.clone()) {
+            let bad = || BadNames::Lock(lock.chars().take(2 * LONGEST_NAME).collect());
+            if any.is_some() {
+                return Err(BadNames::AfterAny);
+            }
+            let name = lock.split([':', ' ']).next().unwrap_or(lock);
+            if name == ANY {
+                any = Some(size(lock, MACHINES_OF_ANY).ok_or_else(bad)?);
+                continue;
+            }
+            let (name, (n, k)) = (name.parse().map_err(|_| bad())?, size(lock, MACHINES).ok_or_else(bad)?);
+            if !known.insert(Lock::clone(&name)) {
                 return Err(BadNames::Twice(name.to_string()));
             }
-            locks.push((name, n, k));
+            listed.push((name, n, k));
         }
-        if locks.is_empty() {
+        if listed.is_empty() && any.is_none() {
             return Err(BadNames::None);
         }
-        Ok(Names(locks))
+        let fixed = if any.is_some() { known.into_iter().map(|lock| (lock, ())).collect() } else { ByName::default() };
+        Ok(Names { listed, any, fixed })
     }
 
-    /// Each lock, in order.
+    /// Each lock of the list, in order.
     pub fn locks(&self) -> impl Iterator<Item = &Lock> {
-        self.0.iter().map(|(lock, ..)| lock)
+        self.listed.iter().map(|(lock, ..)| lock)
+    }
+
+    /// How many machines a lock of any other name has, if there may be one.
+    pub fn any(&self) -> Option<u32> {
+        self.any.map(|(n, _)| n)
+    }
+
+    /// Whether the lock, if there may be one of this name, is one of the list.
+    pub fn is_listed(&self, name: &str) -> bool {
+        self.any.is_none() || self.fixed.contains_key(name)
     }
 
     /// The list with all sizes.
     pub fn list(&self) -> String {
-        self.0.iter().map(|(lock, n, k)| format!("{lock}:{n}:{k}")).collect::<Vec<_>>().join(",")
+        let any = self.any.map(|(n, k)| format!("{ANY}:{n}:{k}"));
+        self.listed.iter().map(|(lock, n, k)| format!("{lock}:{n}:{k}")).chain(any).collect::<Vec<_>>().join(",")
     }
 }
 
-/// A lock with its size.
-fn read(text: &str) -> Option<(Lock, u32, u32)> {
-    let mut parts = text.split([':', ' ']);
-    let lock = parts.next()?.parse().ok()?;
-    let n = parts.next().map_or(Some(8), |n| n.parse().ok())?;
+/// The size of a lock, with what follows its name.
+fn size(text: &str, machines: u32) -> Option<(u32, u32)> {
+    let mut parts = text.split([':', ' ']).skip(1);
+    let n = parts.next().map_or(Some(machines), |n| n.parse().ok())?;
     let k = parts.next().map_or(Some(n), |k| k.parse().ok())?;
-    parts.next().is_none().then_some((lock, n, k))
+    parts.next().is_none().then_some((n, k))
 }
 
 #[cfg(test)]
@@ -106,17 +139,35 @@ mod tests {
             let names = Names::parse(text).unwrap();
             assert_eq!(names.locks().map(|lock| &**lock).collect::<Vec<_>>(), ["deploy", "gpu/0", "db"]);
             assert_eq!(names.list(), "deploy:8:8,gpu/0:3:3,db:3:5");
+            assert!(names.any().is_none() && names.is_listed("db"));
         }
         let longest = "n".repeat(128);
         assert_eq!(Names::parse(&longest).unwrap().list(), format!("{longest}:8:8"));
     }
 
     #[test]
+    fn any_other_name() {
+        for (text, list, machines) in [
+            ("*", "*:2:2", 2),
+            ("*:3", "*:3:3", 3),
+            ("a,b:3,*:2:5", "a:8:8,b:3:3,*:2:5", 2),
+            ("a 8 8\nb 3 3\n* 4 5\n", "a:8:8,b:3:3,*:4:5", 4),
+        ] {
+            let names = Names::parse(text).unwrap();
+            assert_eq!((names.list().as_str(), names.any()), (list, Some(machines)));
+            assert_eq!((names.is_listed("b"), names.is_listed("c")), (list.contains("b:"), false));
+        }
+    }
+
+    #[test]
     fn refusals() {
         assert_eq!(Names::parse("").unwrap_err(), BadNames::None);
         assert_eq!(Names::parse("a,b,a:3").unwrap_err(), BadNames::Twice("a".into()));
-        for text in ["*", "a b", "a:x", "a:1:2:3", "é", "a=1", ":3", &"n".repeat(129)] {
+        for text in ["a b", "a:x", "a:1:2:3", "é", "a=1", ":3", "*:x", "*:1:2:3", "**", "a*", &"n".repeat(129)] {
             assert_eq!(Names::parse(text).unwrap_err(), BadNames::Lock(text.into()));
+        }
+        for text in ["*,a", "a,*,b", "*,*", "* 2 2\na 8 8\n"] {
+            assert_eq!(Names::parse(text).unwrap_err(), BadNames::AfterAny);
         }
     }
 }

@@ -8,6 +8,7 @@ pub enum Name {
     Engine,
     Journal,
     Locks,
+    MostNames,
     Segment,
     KeepSegments,
     NoSync,
@@ -75,7 +76,18 @@ pub static SECTIONS: [Section; 5] = [
         options: &[
             valued(Name::Engine, "--engine", "PROGRAM", "the program of the engine [ring_tool]"),
             valued(Name::Journal, "--journal", "FOLDER", "where the engine keeps its journal"),
-            valued(Name::Locks, "--locks", "NAME[:N[:K]],..", "the locks; without it those of FOLDER"),
+            valued(
+                Name::Locks,
+                "--locks",
+                "NAME[:N[:K]],..[,*]",
+                "the locks; without it those of FOLDER; with `*` at the end also those of any other name",
+            ),
+            valued(
+                Name::MostNames,
+                "--most-names",
+                "COUNT",
+                "how many locks of other names may be held at once [65536]",
+            ),
             valued(Name::Segment, "--segment", "LINES", "how many lines a file of the journal has"),
             valued(
                 Name::KeepSegments,
@@ -190,7 +202,7 @@ pub static SECTIONS: [Section; 5] = [
 ];
 
 const HEAD: &str = "\
-wozgirt-server --journal FOLDER [--locks NAME[:N[:K]],..] [OPTION ..]
+wozgirt-server --journal FOLDER [--locks NAME[:N[:K]],..[,*]] [OPTION ..]
 
 Gives the locks of one engine to clients on sockets. It decides nothing about locks: the engine does.
 ";

@@ -27,10 +27,18 @@ const PERIOD: Duration = Duration::from_secs(1);
 pub enum Own {
     /// How this lock is, when the engine starts.
     Begin(Lock),
+    /// Which locks are held that are not in the list, when it starts: its state, of which each line comes by itself.
+    State,
     /// Whether it is there: how many lines were asked by then, how many it had before it, and when.
     Mark(u64, usize, Instant),
     /// An operator ends a hold that was open when the engine started.
     End(Client, Lock, Token),
+}
+
+impl Own {
+    fn is_of_a_start(&self) -> bool {
+        matches!(self, Own::Begin(_) | Own::State)
+    }
 }
 
 /// What the engine was asked since it started.
@@ -85,7 +93,7 @@ impl Questions {
 
     /// A question of the server's own goes to the engine.
     pub fn put(&mut self, own: Own) {
-        self.begins += usize::from(matches!(own, Own::Begin(_)));
+        self.begins += usize::from(own.is_of_a_start());
         self.own.push_back(own);
     }
 
@@ -103,6 +111,9 @@ impl Questions {
 
     /// What the engine's answer to client 0 is the answer to, if it can be one.
     pub fn answered(&mut self, answer: &Answer<'_>, now: Instant) -> Option<Own> {
+        if self.is_for_state() {
+            return None; // each line of that is heard by itself
+        }
         let own = self.own.pop_front()?;
         let is_right = match (&own, answer) {
             (Own::Begin(lock), Answer::Stats(stats)) => *lock == stats.lock,
@@ -117,8 +128,21 @@ impl Questions {
                 self.note_time(before, now.saturating_duration_since(asked), now);
             }
         }
-        self.begins -= usize::from(matches!(own, Own::Begin(_)));
+        self.begins -= usize::from(own.is_of_a_start());
         is_right.then_some(own)
+    }
+
+    /// Whether the engine reports its state now.
+    pub fn is_for_state(&self) -> bool {
+        matches!(self.own.front(), Some(Own::State))
+    }
+
+    /// The engine has reported all of it.
+    pub fn state_is_over(&mut self) {
+        if self.is_for_state() {
+            self.own.pop_front();
+            self.begins -= 1;
+        }
     }
 
     /// A mark that had this many lines before it took this long.
@@ -131,7 +155,7 @@ impl Questions {
         (self.wanted, self.wanted_since) = (wanted, now);
     }
 
-    /// Whether the engine has answered how all locks are.
+    /// Whether the engine has reported how all locks are.
     pub fn has_begun(&self) -> bool {
         self.begins == 0
     }
@@ -208,6 +232,20 @@ mod tests {
         assert!(questions.answered(&stats("b"), now).is_some() && questions.has_begun());
         questions.put(Own::Begin(lock("b")));
         assert!(questions.answered(&stats("a"), now).is_none());
+    }
+
+    #[test]
+    fn a_state_is_over_when_all_of_it_was_reported() {
+        let now = Instant::now();
+        let mut questions = Questions::new(now);
+        questions.put(Own::Begin(lock("a")));
+        questions.put(Own::State);
+        assert!(!questions.is_for_state() && questions.answered(&stats("a"), now).is_some());
+        assert!(questions.is_for_state() && !questions.has_begun() && questions.next_mark().is_none());
+        assert_eq!(questions.answered(&stats("a"), now), None);
+        questions.state_is_over();
+        questions.state_is_over();
+        assert!(questions.has_begun() && !questions.is_for_state());
     }
 
     #[test]

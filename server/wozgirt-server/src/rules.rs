@@ -106,8 +106,8 @@ impl Rules {
                 }
                 Some(beginning) => rules.patterns.insert(beginning, rule),
                 None => {
-                    let sight = board.lock(name).ok_or_else(|| bad(WhyBad::Lock(name.into())))?;
-                    rules.rules.insert(sight.lock.clone(), rule).is_some()
+                    let lock = board.name(name).ok_or_else(|| bad(WhyBad::Lock(name.into())))?;
+                    rules.rules.insert(lock, rule).is_some()
                 }
             };
             if was_there {
@@ -117,7 +117,7 @@ impl Rules {
         Ok(rules.of(board))
     }
 
-    /// The same rules where the locks are these.
+    /// The same rules where the locks of the list are these.
     pub fn of(mut self, board: &Board) -> Rules {
         let Rules { rules, patterns, .. } = &mut self;
         rules.values_mut().chain(patterns.rules.values_mut()).for_each(|rule| rule.locks = 0);
@@ -134,7 +134,7 @@ impl Rules {
         rule.unwrap_or(&self.others).permits(peer)
     }
 
-    /// How many of this many locks this one may use.
+    /// How many of this many locks, those of the list, this one may use.
     pub fn count(&self, locks: usize, peer: Option<&Peer>) -> usize {
         let rules = || self.rules.values().chain(self.patterns.rules.values());
         let permitted: usize = rules().filter(|rule| rule.permits(peer)).map(|rule| rule.locks).sum();
@@ -213,7 +213,7 @@ mod tests {
     }
 
     fn board(list: &str) -> Board {
-        Board::new(Names::parse(list).unwrap().locks())
+        Board::new(&Names::parse(list).unwrap())
     }
 
     fn peer(user: u32, groups: &[u32]) -> Option<Peer> {
@@ -270,6 +270,24 @@ mod tests {
         assert_eq!((rules.count(9, None), rules.count(9, peer(1, &[]).as_ref())), (3, 5));
         assert!(!rules.permits("db/3", None) && !rules.permits("gpu/1", None));
         assert_eq!(rules.of(&board("deploy")).count(1, None), 1);
+    }
+
+    #[test]
+    fn rules_of_names_that_are_not_in_the_list() {
+        let board = board("deploy,*");
+        let text = "lock order/4711: 1\nlock order/*: 2\nlock deploy: 1 2";
+        let rules = Rules::parse(text, &board, &Accounts::default()).unwrap();
+        let [one, two] = [1, 2].map(|user| peer(user, &[]));
+        for (name, first, second) in [("order/4711", true, false), ("order/4712", false, true), ("x", true, true)] {
+            assert_eq!(
+                (rules.permits(name, one.as_ref()), rules.permits(name, two.as_ref())),
+                (first, second),
+                "{name}"
+            );
+        }
+        assert_eq!((rules.count(1, one.as_ref()), rules.count(1, None)), (1, 0));
+        let bad = Rules::parse("lock a b: *", &board, &Accounts::default());
+        assert_eq!(bad.unwrap_err().to_string(), "line 1: there is no lock a b");
     }
 
     #[test]

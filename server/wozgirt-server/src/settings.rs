@@ -30,6 +30,8 @@ pub struct Settings {
     pub journal: PathBuf,
     /// The list of locks, if it is given.
     pub locks: Option<String>,
+    /// How many locks may be held of names that are not in the list, if it is given.
+    pub most_names: Option<u32>,
     /// How many lines a segment has, if it is given.
     pub segment: Option<u64>,
     /// How many segments are kept, if not all.
@@ -160,6 +162,7 @@ struct Reading {
     engine: Option<String>,
     journal: Option<PathBuf>,
     locks: Option<String>,
+    most_names: Option<u32>,
     segment: Option<u64>,
     keep_segments: Option<usize>,
     is_not_synced: bool,
@@ -189,6 +192,7 @@ impl Reading {
             Name::Engine => self.engine = Some(value.into()),
             Name::Journal => self.journal = Some(value.into()),
             Name::Locks => self.locks = Some(value.into()),
+            Name::MostNames => self.most_names = Some(u32::try_from(count(value)?).ok()?),
             Name::Segment => self.segment = Some(value.parse().ok().filter(|&lines| lines > 0)?),
             Name::KeepSegments => self.keep_segments = Some(count(value).filter(|&count| count > 1)?),
             Name::NoSync => self.is_not_synced = true,
@@ -239,6 +243,7 @@ impl Reading {
             engine: self.engine.unwrap_or_else(|| "ring_tool".into()),
             journal: self.journal.ok_or(BadWords::Missing("--journal"))?,
             locks: self.locks,
+            most_names: self.most_names,
             segment: self.segment,
             keep_segments: self.keep_segments,
             is_synced: !self.is_not_synced,
@@ -299,6 +304,9 @@ impl Settings {
         let mut words = vec!["locks".into(), "--journal".into(), self.engine_journal().to_string_lossy().into_owned()];
         if let Some(locks) = &self.locks {
             words.extend(["--locks".into(), locks.clone()]);
+        }
+        if let Some(most) = self.most_names {
+            words.extend(["--most-names".into(), most.to_string()]);
         }
         if let Some(segment) = self.segment {
             words.extend(["--segment".into(), segment.to_string()]);
@@ -369,6 +377,12 @@ mod tests {
     }
 
     #[test]
+    fn any_name() {
+        let words = read("--journal j --locks a,* --most-names 1000").unwrap().engine_words();
+        assert_eq!(words, ["locks", "--journal", "j", "--locks", "a,*", "--most-names", "1000", "--sync"]);
+    }
+
+    #[test]
     fn one_of_several() {
         let settings = read("--journal /j --etcd http://a,http://b --name x").unwrap();
         let words = ["locks", "--journal", "/j/journal", "--no-sync", "--strict", "--holders", "/j/holders"];
@@ -410,6 +424,7 @@ mod tests {
             ),
             ("--journal j --memory 0", "--memory: bad value `0`"),
             ("--journal j --most-holds 0", "--most-holds: bad value `0`"),
+            ("--journal j --most-names 1000001", "--most-names: bad value `1000001`"),
             ("--journal j --etcd e", "--name is missing"),
             ("--journal j --etcd e --name a:b", "--name: bad value `a:b`"),
             ("--journal j --etcd e --name a --host-lease 0.5", "--host-lease: bad value `0.5`"),

@@ -102,6 +102,7 @@ mod tests {
             ("refused waiter a", Answer::Refused("waiter"), Some(Verb::Cancel)),
             ("refused syntax", Answer::Refused("syntax"), Some(Verb::Try)),
             ("refused many a", Answer::Refused("many"), Some(Verb::Acquire)),
+            ("refused names a", Answer::Refused("names"), Some(Verb::Try)),
             ("refused past 9", Answer::Refused("past"), Some(Verb::Release)),
             ("pong", Answer::Pong, None),
         ] {

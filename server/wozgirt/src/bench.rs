@@ -4,6 +4,7 @@
 use crate::answers::{Answer, Verb};
 use crate::client::{fault_of, question, soon, Client, Fault};
 use crate::places::Place;
+use crate::status::GONE;
 use crate::words::Load;
 use std::sync::atomic::{AtomicBool, AtomicU64, AtomicUsize, Ordering};
 use std::sync::Mutex;
@@ -61,11 +62,7 @@ impl From<Fault> for Wrong {
 
 /// Measures: one line.
 pub fn run(place: &Place, load: &Load) -> Result<String, Wrong> {
-    let lines = Client::open(place, soon(None))?.list("status", soon(None))?;
-    let names: Vec<&str> = lines.iter().filter_map(|line| line.split(' ').nth(1)).collect();
-    if names.len() < load.locks {
-        return Err(Wrong::Locks(names.len()));
-    }
+    let names = names(place, load.locks)?;
     let clients = (0..load.clients).map(|_| Client::open(place, soon(None))).collect::<Result<Vec<_>, _>>()?;
     let inside: Vec<Inside> = (0..load.locks).map(|_| Inside::default()).collect();
     let run = Run { gate: Mutex::new(()), away: AtomicUsize::new(load.clients), is_over: AtomicBool::new(false) };
@@ -74,7 +71,7 @@ pub fn run(place: &Place, load: &Load) -> Result<String, Wrong> {
         let mut threads = Vec::new();
         for (c, client) in clients.into_iter().enumerate() {
             let (l, run) = (c % load.locks, &run);
-            let (name, inside) = (names[l], &inside[l]);
+            let (name, inside) = (names[l].as_str(), &inside[l]);
             let work = move || {
                 drop(run.gate.lock());
                 if run.is_over.load(Ordering::Relaxed) {
@@ -94,6 +91,26 @@ pub fn run(place: &Place, load: &Load) -> Result<String, Wrong> {
         measure(&run, threads, load.time)
     })?;
     Ok(summary(load, &each, took) + "\n")
+}
+
+/// The server's first locks. If it has fewer, and takes any name, there are others after them.
+fn names(place: &Place, count: usize) -> Result<Vec<String>, Wrong> {
+    let mut client = Client::open(place, soon(None))?;
+    let lines = client.list("status", soon(None))?;
+    let there = lines.iter().filter_map(|line| line.split(' ').nth(1)).filter(|name| *name != GONE);
+    let mut names: Vec<String> = there.take(count).map(String::from).collect();
+    let mut others = 0..;
+    while names.len() < count {
+        let Some(name) = others.next().map(|i| format!("bench/{i}")) else { break };
+        client.send(&format!("stats {name}"))?;
+        if !client.line(Some(soon(None)))?.starts_with("stats ") {
+            return Err(Wrong::Locks(names.len()));
+        }
+        if !names.contains(&name) {
+            names.push(name);
+        }
+    }
+    Ok(names)
 }
 
 /// The times of each client, and how long all took part.

@@ -13,6 +13,9 @@ const HEAD: [&str; 9] = ["LOCK", "STATE", "CLIENT", "LABEL", "TOKEN", "FOR", "WA
 /// To the first line, and nothing below it.
 const CLEAR: &str = "\x1b[H\x1b[J";
 
+/// For NAME, where a lock was gone before the server had sent its line.
+pub const GONE: &str = "*";
+
 /// Of several servers, how long one may take to be there.
 const SOON: Duration = Duration::from_secs(2);
 
@@ -22,7 +25,8 @@ pub fn run(look: &Look) -> Result<(), CannotDo> {
     let (mut client, mut lines) = while_starting(there, || first(look))?;
     let clear = if look.every.is_some() && io::stdout().is_terminal() { CLEAR } else { "" };
     loop {
-        let rows = lines.iter().map(|line| row(line)).collect::<Option<Vec<_>>>();
+        let there = lines.iter().filter(|line| line.split(' ').nth(1) != Some(GONE));
+        let rows = there.map(|line| row(line)).collect::<Option<Vec<_>>>();
         let rows = rows.ok_or_else(|| Fault::Unexpected("a lock that cannot be read".into()))?;
         print(&format!("{clear}{}", table(&HEAD, &rows)))?;
         let Some(time) = look.every else { return Ok(()) };

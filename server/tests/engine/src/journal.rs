@@ -1,8 +1,9 @@
 //! The folder with the journal: `locks`, names and sizes, and segments. An engine goes on in the last one, or, with `--strict`, begins
-//! a new one. Grants are counted over all of them, so their bases are 0.
+//! a new one. Grants are counted over all of them, so their bases are 0. Names of the pool are in remarks.
 
 use crate::keys::{digest, Keyed};
 use crate::locks::{Holder, Listed, Locks};
+use crate::pool::Pool;
 use crate::ring::{HOLD, LEFT, RELEASED};
 use std::fmt::Write as _;
 use std::fs::{self, File, OpenOptions};
@@ -10,16 +11,31 @@ use std::io::{self, Write};
 use std::path::{Path, PathBuf};
 use wozgirt_engine::{decimal, NOBODY};
 
-/// The locks in a list, `NAME[:N[:K]],..`: eight machines, and as many values, if there is nothing else.
-pub fn listed(list: &str) -> Option<Vec<Listed>> {
-    let lock = |lock: &str| {
-        let mut parts = lock.split([':', ' ']);
-        let name = parts.next()?.parse().ok()?;
-        let n = parts.next().map_or(Some(8), |n| n.parse().ok())?;
+/// The locks in a list, `NAME[:N[:K]],..`: eight machines, and as many values, if there is nothing else. If the last one is `*`, with two
+/// machines, others of any name may be held, but not more than `most`.
+pub fn listed(list: &str, most: usize) -> Option<(Vec<Listed>, Option<Pool>)> {
+    let size = |lock: &str, machines: usize| {
+        let mut parts = lock.split([':', ' ']).skip(1);
+        let n = parts.next().map_or(Some(machines), |n| n.parse().ok())?;
         let k = parts.next().map_or(Some(n as u64), |k| k.parse().ok())?;
-        (n >= 2 && k >= n as u64 && parts.next().is_none()).then_some((name, n, k))
+        (n >= 2 && k >= n as u64 && parts.next().is_none()).then_some((n, k))
     };
-    list.split(',').map(lock).collect()
+    let mut locks: Vec<&str> = list.split(',').collect();
+    let mut pool = None;
+    if let Some(any) = locks.last().copied().filter(|last| name(last) == "*") {
+        let (n, k) = size(any, 2)?;
+        pool = Some(Pool { n, k, most });
+        locks.pop();
+    }
+    let lock = |lock: &&str| {
+        let (n, k) = size(lock, 8)?;
+        Some((name(lock).parse().ok()?, n, k))
+    };
+    Some((locks.iter().map(lock).collect::<Option<_>>()?, pool))
+}
+
+fn name(lock: &str) -> &str {
+    lock.split([':', ' ']).next().unwrap_or(lock)
 }
 
 fn wrong(what: String) -> io::Error {
@@ -42,19 +58,31 @@ impl Journal {
     /// Opens the folder, and does again what stands there, without what stands after the last end of a line.
     pub fn open(folder: &Path, list: &str, locks: &mut Locks, most_lines: u64, is_synced: bool) -> io::Result<Journal> {
         claim(folder)?;
-        let names: Vec<&str> = list.split(',').map(|lock| lock.split([':', ' ']).next().unwrap_or(lock)).collect();
+        let names: Vec<&str> = list.split(',').map(name).collect();
         fs::write(folder.join("locks"), names.join("\n") + "\n")?;
         let (mut number, mut whole, mut lines) = (0, 0, 0);
         while let Ok(text) = fs::read_to_string(path(folder, number + 1)) {
             number += 1;
             whole = text.rfind('\n').map_or(0, |i| i + 1);
+            locks.fill(rings_of(&text).ok_or_else(|| wrong("a segment has no number of rings".into()))?);
             let calls = text[..whole].split_once("\ndone ").ok_or_else(|| wrong("a segment has no head".into()))?.1;
             lines = 0;
-            for line in calls.lines().skip(1).filter(|line| is_call(line)) {
+            for line in calls.lines().skip(1) {
+                if let Some(remark) = line.strip_prefix("# ") {
+                    hear_name(locks, remark);
+                    continue;
+                }
                 replay(locks, line).ok_or_else(|| wrong(format!("call {lines} of segment {number} is wrong")))?;
                 lines += 1;
             }
         }
+        // of a name that was not granted, or whose end has no remark, the file was cut off there
+        (0..locks.locks.len())
+            .filter(|&l| locks.locks[l].holder.is_none())
+            .collect::<Vec<_>>()
+            .into_iter()
+            .for_each(|l| locks.unbind(l));
+        locks.fill(0);
         let folder = folder.to_owned();
         if number == 0 {
             let file = begin(&folder, 1, locks, "")?;
@@ -66,8 +94,11 @@ impl Journal {
     }
 
     /// Begins the next segment.
-    pub fn turn(&mut self, keyed: &Keyed) -> io::Result<()> {
+    pub fn turn(&mut self, keyed: &mut Keyed) -> io::Result<()> {
         self.number += 1;
+        if keyed.locks.is_short_of_rings() {
+            keyed.locks.grow();
+        }
         self.file = begin(&self.folder, self.number, &keyed.locks, &keyed.remarks())?;
         self.lines = 0;
         Ok(())
@@ -86,9 +117,9 @@ impl Journal {
         Ok(())
     }
 
-    /// Writes the calls if the segment is full with them, and begins the next one.
+    /// Writes the calls if the segment is full with them, or no ring of a pool is free that may have more, and begins the next one.
     pub fn turn_if_full(&mut self, keyed: &mut Keyed) -> io::Result<()> {
-        if self.lines + calls_in(&keyed.locks.journal) >= self.most_lines {
+        if self.lines + calls_in(&keyed.locks.journal) >= self.most_lines || keyed.locks.is_short_of_rings() {
             self.write(&mut keyed.locks)?;
             self.turn(keyed)?;
         }
@@ -121,10 +152,33 @@ fn begin(folder: &Path, number: u64, locks: &Locks, remarks: &str) -> io::Result
         let _ = writeln!(head, "ring {} {n} {k}\nstart{}\nend 0", ring.number, ring.values_text());
     }
     let _ = writeln!(head, "done {count}");
+    head.push_str(&locks.names());
     head.push_str(remarks);
     let mut file = File::create(path(folder, number))?;
     file.write_all(head.as_bytes())?;
     Ok(file)
+}
+
+/// How many rings a segment has, by its first line.
+fn rings_of(text: &str) -> Option<usize> {
+    text.lines().next()?.split(' ').nth(3)?.parse().ok()
+}
+
+/// What a remark says of names; others are not about them.
+fn hear_name(locks: &mut Locks, remark: &str) {
+    let words: Vec<&str> = remark.split(' ').collect();
+    let number = |word: &str| decimal(word).ok();
+    let ring = words.get(1).and_then(|word| usize::try_from(number(word)?).ok());
+    let Some(ring) = ring.filter(|&ring| ring >= locks.listed && ring < locks.locks.len()) else { return };
+    match words[..] {
+        ["name", _, before, floor, name] => {
+            if let (Some(before), Some(floor), Ok(name)) = (number(before), number(floor), name.parse()) {
+                locks.bind(ring, before, floor, name);
+            }
+        }
+        ["free", _] => locks.unbind(ring),
+        _ => {}
+    }
 }
 
 /// One line of the journal, done again. Nothing if it is not this ring's.
@@ -140,7 +194,7 @@ fn replay(locks: &mut Locks, line: &str) -> Option<()> {
             }
             lock.ring.move_first(number(4)?);
             if seat == HOLD {
-                lock.holder = Some(Holder { client: NOBODY, token: lock.ring.passes });
+                lock.holder = Some(Holder { client: NOBODY, token: lock.token() });
             }
             (number(6)? == lock.ring.passes && number(7)? == lock.ring.amount).then_some(())
         }

@@ -137,10 +137,12 @@ impl Keyed {
     fn state(&mut self) {
         let mut lines = Vec::new();
         for lock in &self.locks.locks {
-            lines.extend(lock.holder.map(|it| format!("hold {} {} {}", lock.name, it.token, it.client)));
+            let name = lock.name.iter();
+            lines.extend(name.zip(lock.holder).map(|(name, it)| format!("hold {name} {} {}", it.token, it.client)));
         }
         for lock in &self.locks.locks {
-            lines.extend(lock.line.iter().map(|it| format!("{} acquire {} {}", it.client, lock.name, it.label)));
+            let Some(name) = &lock.name else { continue };
+            lines.extend(lock.line.iter().map(|it| format!("{} acquire {name} {}", it.client, it.label)));
         }
         lines.extend(self.own_lines());
         for line in &lines {
@@ -161,7 +163,7 @@ mod tests {
 
     #[test]
     fn what_was_done_is_not_done_again() {
-        let mut keyed = Keyed::new(Locks::new(&[("a".parse().unwrap(), 8, 8)], false));
+        let mut keyed = Keyed::new(Locks::new(&[("a".parse().unwrap(), 8, 8)], None, false));
         for (line, told) in [
             ("at 0", format!("at 0 {}\n", "0".repeat(64))),
             ("7 1 7 acquire a 5", "7 granted a 1\n".into()),
@@ -197,7 +199,7 @@ mod tests {
 
     #[test]
     fn what_brings_keys_and_positions_back_is_noted() {
-        let mut keyed = Keyed::new(Locks::new(&[("a".parse().unwrap(), 8, 8)], false));
+        let mut keyed = Keyed::new(Locks::new(&[("a".parse().unwrap(), 8, 8)], None, false));
         let lines = "7 1 7 cancel a\n7 1 7 cancel a\n9 3 did 9 busy a\n8 2 did \n9 2 forget\n9 3 forget\nstate\nat 5\n";
         for line in lines.lines() {
             keyed.line(line);

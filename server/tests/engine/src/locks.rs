@@ -1,5 +1,10 @@
 //! The machine of locks: who holds, who waits. Written from its description, and not the proved one.
+//!
+//! Behind the locks of the list may come the rings of a pool, for locks of any other name. A name has the lowest free ring from the grant
+//! that finds it without one to the end of a hold that is handed to nobody. `before` is what number of grants the ring had then, and
+//! `floor` all rings together: so the tokens of a name rise, whichever rings it has.
 
+use crate::pool::Pool;
 use crate::ring::{Ring, LEFT, RELEASED};
 use std::collections::{BTreeSet, HashMap, VecDeque};
 use std::fmt::Write as _;
@@ -19,14 +24,27 @@ pub struct Holder {
 /// A lock of the list: its name, its machines, their values.
 pub type Listed = (Name, usize, u64);
 
+/// What a ring is at.
 pub struct Lock {
-    pub name: Name,
+    /// A ring of the pool that is free has none.
+    pub name: Option<Name>,
+    pub before: u64,
+    pub floor: u64,
     pub ring: Ring,
     pub holder: Option<Holder>,
     pub line: VecDeque<Waiter>,
 }
 
 impl Lock {
+    pub fn new(name: Option<Name>, ring: Ring) -> Lock {
+        Lock { name, before: 0, floor: 0, ring, holder: None, line: VecDeque::new() }
+    }
+
+    /// The token of the ring's last grant.
+    pub fn token(&self) -> Token {
+        self.floor + (self.ring.passes - self.before)
+    }
+
     fn is_held_by(&self, client: Client) -> bool {
         self.holder.is_some_and(|holder| holder.client == client)
     }
@@ -40,7 +58,10 @@ impl Lock {
 
 pub struct Locks {
     pub locks: Vec<Lock>,
-    numbers: HashMap<Name, usize>,
+    /// How many of these are of the list, and what there is besides.
+    pub listed: usize,
+    pub pool: Option<Pool>,
+    pub numbers: HashMap<Name, usize>,
     /// The locks that a client may hold or wait for.
     touched: HashMap<Client, BTreeSet<usize>>,
     waits_for: HashMap<Client, usize>,
@@ -50,15 +71,12 @@ pub struct Locks {
 }
 
 impl Locks {
-    pub fn new(list: &[Listed], permits_faults: bool) -> Locks {
-        let lock = |(number, (name, n, k)): (usize, &Listed)| Lock {
-            name: name.clone(),
-            ring: Ring::new(number, *n, *k),
-            holder: None,
-            line: VecDeque::new(),
-        };
+    pub fn new(list: &[Listed], pool: Option<Pool>, permits_faults: bool) -> Locks {
+        let lock = |(number, (name, n, k)): (usize, &Listed)| Lock::new(Some(name.clone()), Ring::new(number, *n, *k));
         Locks {
             locks: list.iter().enumerate().map(lock).collect(),
+            listed: list.len(),
+            pool,
             numbers: list.iter().enumerate().map(|(number, (name, ..))| (name.clone(), number)).collect(),
             touched: HashMap::new(),
             waits_for: HashMap::new(),
@@ -90,7 +108,7 @@ impl Locks {
         is_open
     }
 
-    fn answer(&mut self, client: Client, answer: Answer<'_>) {
+    pub fn answer(&mut self, client: Client, answer: Answer<'_>) {
         let _ = writeln!(self.answers, "{}", Answered { client, answer });
     }
 
@@ -118,7 +136,7 @@ impl Locks {
             self.leave(client);
             return Ok(());
         };
-        let l = *self.numbers.get(name).ok_or(Refusal::Lock)?;
+        let Some(&l) = self.numbers.get(name) else { return self.ask_of_no_ring(client, name, input) };
         match *input {
             Input::Leave => Ok(()),
             Input::Acquire { label, .. } => self.acquire(client, l, label),
@@ -132,11 +150,17 @@ impl Locks {
 
     fn grant(&mut self, client: Client, l: usize, label: Label) {
         let lock = &mut self.locks[l];
-        let token = lock.ring.grant(label, &mut self.journal);
+        lock.ring.grant(label, &mut self.journal);
+        let token = lock.token();
         lock.holder = Some(Holder { client, token });
-        let name = lock.name.clone();
         self.touched.entry(client).or_default().insert(l);
+        let name = self.name(l);
         self.answer(client, Answer::Granted { lock: &name, token });
+    }
+
+    /// The name of a lock that has one.
+    fn name(&self, l: usize) -> Name {
+        self.locks[l].name.clone().unwrap_or_else(Name::some)
     }
 
     fn end_hold(&mut self, l: usize, seat: u64) {
@@ -149,7 +173,14 @@ impl Locks {
         if let Some(head) = self.locks[l].line.pop_front() {
             self.waits_for.remove(&head.client);
             self.grant(head.client, l, head.label);
+        } else {
+            self.free(l);
         }
+    }
+
+    /// Whether the client waits for any lock.
+    pub fn waits(&self, client: Client) -> bool {
+        self.waits_for.contains_key(&client)
     }
 
     /// Would the client, if it waited for lock l, wait step by step for itself?
@@ -166,7 +197,7 @@ impl Locks {
         false
     }
 
-    fn acquire(&mut self, client: Client, l: usize, label: Label) -> Result<(), Refusal<'static>> {
+    pub fn acquire(&mut self, client: Client, l: usize, label: Label) -> Result<(), Refusal<'static>> {
         if self.locks[l].is_held_by(client) {
             return Err(Refusal::Holds);
         }
@@ -184,12 +215,12 @@ impl Locks {
         self.locks[l].line.push_back(Waiter { client, label });
         self.waits_for.insert(client, l);
         self.touched.entry(client).or_default().insert(l);
-        let name = self.locks[l].name.clone();
+        let name = self.name(l);
         self.answer(client, Answer::Waiting { lock: &name, before });
         Ok(())
     }
 
-    fn attempt(&mut self, client: Client, l: usize, label: Label) -> Result<(), Refusal<'static>> {
+    pub fn attempt(&mut self, client: Client, l: usize, label: Label) -> Result<(), Refusal<'static>> {
         if self.locks[l].is_held_by(client) {
             return Err(Refusal::Holds);
         }
@@ -197,7 +228,7 @@ impl Locks {
             return Err(Refusal::Waits);
         }
         if self.locks[l].holder.is_some() {
-            let name = self.locks[l].name.clone();
+            let name = self.name(l);
             self.answer(client, Answer::Busy { lock: &name });
         } else {
             self.grant(client, l, label);
@@ -210,7 +241,7 @@ impl Locks {
             return Err(Refusal::Holder);
         }
         self.end_hold(l, RELEASED);
-        let name = self.locks[l].name.clone();
+        let name = self.name(l);
         self.answer(client, Answer::Released { lock: &name });
         self.advance(l);
         Ok(())
@@ -221,7 +252,7 @@ impl Locks {
             return Err(Refusal::Waiter);
         }
         self.waits_for.remove(&client);
-        let name = self.locks[l].name.clone();
+        let name = self.name(l);
         self.answer(client, Answer::Cancelled { lock: &name });
         Ok(())
     }
@@ -238,8 +269,7 @@ impl Locks {
     }
 
     fn corrupt(&mut self, client: Client, l: usize, machine: u64, value: u64) -> Result<(), Refusal<'static>> {
-        let Lock { name, ring, .. } = &mut self.locks[l];
-        let name = name.clone();
+        let (name, ring) = (self.name(l), &mut self.locks[l].ring);
         let machine = usize::try_from(machine).ok().filter(|&machine| machine < ring.n()).ok_or(Refusal::Machine)?;
         if value >= ring.k {
             return Err(Refusal::Value);
@@ -253,7 +283,7 @@ impl Locks {
         let lock = &self.locks[l];
         let Holder { client: holder, token } = lock.holder.unwrap_or(Holder { client: NOBODY, token: 0 });
         let (machines, waiters) = (lock.ring.n() as u64, lock.line.len() as u64);
-        let (name, passes) = (lock.name.clone(), lock.ring.passes);
+        let (name, passes) = (self.name(l), lock.ring.passes - lock.before);
         self.answer(client, Answer::Stats(Stats { lock: &name, machines, waiters, passes, holder, token }));
         Ok(())
     }

@@ -1,14 +1,15 @@
 //! A test double of the lock engine, never shipped: it speaks the lines of `ring_tool locks`, takes the same words, and
 //! writes a true journal, so that the server can be tried without the proved engine. Nothing of it is proved.
 //!
-//!     engine-double locks --journal FOLDER --locks NAME[:N[:K]],.. [--segment LINES] [--faults] [--sync | --no-sync]
-//!                         [--strict] [--holders FILE]
+//!     engine-double locks --journal FOLDER --locks NAME[:N[:K]],..[,*] [--most-names COUNT] [--segment LINES] [--faults]
+//!                         [--sync | --no-sync] [--strict] [--holders FILE]
 
 #![allow(missing_docs)]
 
 mod journal;
 mod keys;
 mod locks;
+mod pool;
 mod ring;
 
 use journal::Journal;
@@ -21,6 +22,7 @@ use wozgirt_engine::decimal;
 struct Settings {
     folder: PathBuf,
     list: String,
+    most_names: usize,
     most_lines: u64,
     permits_faults: bool,
     is_synced: bool,
@@ -33,11 +35,12 @@ fn settings(mut words: impl Iterator<Item = String>) -> Option<Settings> {
         return None;
     }
     let (mut folder, mut list, mut permits_faults, mut is_synced) = (None, None, false, true);
-    let (mut most_lines, mut is_strict, mut holders) = (u64::MAX, false, None);
+    let (mut most_names, mut most_lines, mut is_strict, mut holders) = (65_536, u64::MAX, false, None);
     while let Some(word) = words.next() {
         match word.as_str() {
             "--journal" => folder = words.next(),
             "--locks" => list = words.next(),
+            "--most-names" => most_names = words.next()?.parse().ok()?,
             "--segment" => most_lines = words.next()?.parse().ok()?,
             "--faults" => permits_faults = true,
             "--sync" => is_synced = true,
@@ -50,7 +53,7 @@ fn settings(mut words: impl Iterator<Item = String>) -> Option<Settings> {
     let folder = PathBuf::from(folder?);
     let list =
         list.or_else(|| std::fs::read_to_string(folder.join("locks")).ok().map(|text| text.trim().replace('\n', ",")))?;
-    Some(Settings { folder, list, most_lines, permits_faults, is_synced, is_strict, holders })
+    Some(Settings { folder, list, most_names, most_lines, permits_faults, is_synced, is_strict, holders })
 }
 
 /// Gives open holds to those who are named in a file.
@@ -80,8 +83,9 @@ fn write(keyed: &mut Keyed, journal: &mut Journal) -> io::Result<()> {
 }
 
 fn open(settings: &Settings) -> io::Result<(Keyed, Journal)> {
-    let list = journal::listed(&settings.list).ok_or_else(|| io::Error::other("bad list of locks"))?;
-    let mut locks = Locks::new(&list, settings.permits_faults);
+    let listed = journal::listed(&settings.list, settings.most_names);
+    let (list, pool) = listed.ok_or_else(|| io::Error::other("bad list of locks"))?;
+    let mut locks = Locks::new(&list, pool, settings.permits_faults);
     let mut journal =
         Journal::open(&settings.folder, &settings.list, &mut locks, settings.most_lines, settings.is_synced)?;
     locks.begin();
@@ -89,9 +93,9 @@ fn open(settings: &Settings) -> io::Result<(Keyed, Journal)> {
     if let Some(path) = &settings.holders {
         give_holds(&mut locks, &std::fs::read_to_string(path)?)?;
     }
-    let keyed = Keyed::new(locks);
+    let mut keyed = Keyed::new(locks);
     if settings.is_strict && journal.was_there {
-        journal.turn(&keyed)?;
+        journal.turn(&mut keyed)?;
     }
     Ok((keyed, journal))
 }
@@ -122,8 +126,8 @@ fn run(settings: &Settings) -> io::Result<()> {
 fn main() {
     let Some(settings) = settings(std::env::args().skip(1)) else {
         eprintln!(
-            "engine-double locks --journal FOLDER --locks NAME[:N[:K]],.. [--segment LINES] [--faults] [--sync | --no-sync] \
-             [--strict] [--holders FILE]"
+            "engine-double locks --journal FOLDER --locks NAME[:N[:K]],..[,*] [--most-names COUNT] [--segment LINES] [--faults] \
+             [--sync | --no-sync] [--strict] [--holders FILE]"
         );
         std::process::exit(2);
     };

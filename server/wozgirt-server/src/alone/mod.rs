@@ -17,9 +17,10 @@ pub use store::{boot, Line, Store};
 
 use crate::board::{Board, Sight};
 use crate::cluster::{Key, Owner, Who};
-use crate::names::ByName;
+use crate::names::{ByName, Names};
 use std::collections::{BTreeMap, HashMap, HashSet};
 use std::io;
+use std::rc::Rc;
 use std::time::{Duration, Instant};
 use wozgirt_engine::{Answer, Answered, Client, Label, Lock, StateLine, Token};
 
@@ -46,6 +47,9 @@ pub enum NoSession {
 /// The sessions of a single server.
 pub struct Alone {
     store: Option<Store>,
+    /// The list of locks. Of names that are not there nothing is kept but what sessions have: so for each of them a client without a
+    /// session may have been answered.
+    names: Rc<Names>,
     /// The system's word for this start of the machine, if it has one.
     boot: Option<String>,
     sessions: BTreeMap<Client, Session>,
@@ -57,13 +61,14 @@ pub struct Alone {
     last_order: u64,
     /// What the engine runs for.
     pub start: Start,
-    /// The greatest token of each lock that this server has heard of.
+    /// The greatest token of each lock of the list that this server has heard of.
     heard: ByName<Token>,
-    /// The first client in the queue of each lock when the engine was lost, if there was one.
-    firsts: ByName<Client>,
+    /// The first client in the queue of each lock when the engine was lost, if there was one, and the greatest token that this server had
+    /// heard of since the lock was in use.
+    firsts: HashMap<Lock, (Client, Token)>,
     /// Of which locks the server may have answered clients without a session since the engine started, or before.
     plain: Plain,
-    /// Holds that were given up, where the engine may not have heard that: of each lock the last.
+    /// Holds that were given up, where the engine may not have heard that: of each lock of the list the last.
     given: BTreeMap<Lock, Token>,
     /// Holds of sessions that are over, and the operators that wait for an answer about them.
     ended: Vec<Ended>,
@@ -71,8 +76,9 @@ pub struct Alone {
 
 impl Alone {
     /// With the sessions of this store; without one there are none. `boot` is the system's word for this start of the machine.
-    pub fn new(store: Option<Store>, boot: Option<String>, most: usize) -> io::Result<Alone> {
+    pub fn new(store: Option<Store>, boot: Option<String>, most: usize, names: Rc<Names>) -> io::Result<Alone> {
         let mut alone = Alone {
+            names,
             boot,
             sessions: BTreeMap::new(),
             keys: HashMap::new(),
@@ -81,7 +87,7 @@ impl Alone {
             last_order: 0,
             start: Start::Serving,
             heard: ByName::default(),
-            firsts: ByName::default(),
+            firsts: HashMap::new(),
             plain: Plain::default(),
             given: BTreeMap::new(),
             ended: Vec::new(),
@@ -141,7 +147,7 @@ impl Alone {
 
     /// A client without a session asks for the lock.
     pub fn note_plain(&mut self, lock: &Lock) {
-        if self.plain.add(lock.clone()) {
+        if self.names.is_listed(lock) && self.plain.add(lock.clone()) {
             self.put(&Line::Plain(lock.clone()));
         }
     }
@@ -301,7 +307,8 @@ impl Alone {
 
     /// The engine grants the lock to a client that may be gone: no client learns of it, and the engine may not know that.
     pub fn note_grant(&mut self, number: Client, lock: &str, token: Token) {
-        if self.sessions.get(&number).is_some_and(|session| !session.is_left) || self.is_given(lock, token) {
+        let is_known = self.sessions.get(&number).is_some_and(|session| !session.is_left);
+        if is_known || self.is_given(lock, token) || !self.names.is_listed(lock) {
             return;
         }
         let Ok(lock) = lock.parse() else { return };
@@ -311,6 +318,9 @@ impl Alone {
     }
 
     fn give(&mut self, lock: Lock, token: Token) {
+        if !self.names.is_listed(&lock) {
+            return;
+        }
         let last = self.given.entry(lock).or_insert(token);
         *last = token.max(*last);
     }
@@ -321,6 +331,9 @@ impl Alone {
 
     /// A client was granted the lock.
     pub fn note_token(&mut self, lock: &Lock, token: Token) {
+        if !self.names.is_listed(lock) {
+            return;
+        }
         let heard = self.heard.entry(lock.clone()).or_default();
         *heard = token.max(*heard);
         if self.given.get(lock).is_some_and(|last| *last < token) {
@@ -364,8 +377,8 @@ impl Alone {
     pub fn lose_engine(&mut self, board: &Board, was_serving: bool) {
         self.start = Start::Serving;
         if was_serving {
-            let first = |sight: &Sight| Some((sight.lock.clone(), sight.line.front()?.client));
-            self.firsts = board.locks().iter().filter_map(first).collect();
+            let first = |sight: &Sight| Some((sight.lock.clone(), (sight.line.front()?.client, sight.told)));
+            self.firsts = board.in_use().filter_map(first).collect();
         }
     }
 
@@ -409,7 +422,8 @@ impl Alone {
         for (lock, token) in open.iter().filter(|hold| !known.contains(*hold)) {
             match self.heir(lock, *token).and_then(|heir| self.sessions.get_mut(&heir)) {
                 Some(session) => session.hold(lock.clone(), *token),
-                None => _ = plain.add(lock.clone()),
+                None if self.names.is_listed(lock) => _ = plain.add(lock.clone()),
+                None => {}
             }
         }
         self.plain = plain;
@@ -432,13 +446,14 @@ impl Alone {
         if self.is_given(lock, token) {
             return None;
         }
-        if !self.plain.has(lock) {
+        if self.names.is_listed(lock) && !self.plain.has(lock) {
             let places = self.sessions.iter().filter_map(|(number, session)| Some((session.order(lock)?, *number)));
             return places.min().map(|(_, number)| number);
         }
-        let is_untold = self.heard.get(lock).is_some_and(|heard| *heard > 0 && token > *heard);
-        let first = self.firsts.get(lock).copied().filter(|_| is_untold)?;
-        self.session(first).filter(|session| session.order(lock).is_some()).map(|_| first)
+        let (first, told) = self.firsts.get(lock).copied()?;
+        let heard = if self.names.is_listed(lock) { self.heard.get(lock).copied().unwrap_or(0) } else { told };
+        let is_untold = heard > 0 && token > heard;
+        self.session(first).filter(|session| is_untold && session.order(lock).is_some()).map(|_| first)
     }
 
     /// Locks are held since before the engine started, and not by sessions.

@@ -4,7 +4,7 @@ use super::Line;
 use crate::names::ByName;
 use wozgirt_engine::Lock;
 
-/// Some locks, or all.
+/// Some locks of the list, or all.
 #[derive(Debug, Default, PartialEq, Eq)]
 pub struct Plain {
     locks: ByName<()>,

@@ -375,8 +375,9 @@ mod tests {
             assert_eq!(store.read().unwrap().len(), count);
         }
         fs::write(journal.join("0000000009.ring"), "done 1\n# 1 1 did 1 busy a\n").unwrap();
-        fs::write(journal.join("0000000010.ring"), "done 1\n# 7 1 did 7 busy a\n0 p\n# 7 1 forget\n# 8 2 did ")
-            .unwrap();
+        let names = "# floor 9\n# name 1 4 9 order/4711\n";
+        let text = format!("done 1\n{names}# 7 1 did 7 busy a\n0 p\n# free 1\n# 7 1 forget\n# 8 2 did ");
+        fs::write(journal.join("0000000010.ring"), text).unwrap();
         assert_eq!(store.remarks().unwrap(), ["7 1 did 7 busy a".parse().unwrap()]);
         fs::remove_dir_all(&store.folder).unwrap();
         fs::remove_dir_all(journal).unwrap();

@@ -349,6 +349,11 @@ mod tests {
         assert_eq!(begin("b", "9 - 0 x:8:8,y:8:8"), (true, true, "9 - 0 x:8:8,y:8:8".into()));
         assert_eq!(begin("c", "9 - 0 x:8:8"), (true, false, "9 - 0 x:8:8,y:8:8".into()));
         assert_eq!(begin("d", "9 - 0 x:8:8,z:8:8"), (false, false, "9 - 0 x:8:8,y:8:8".into()));
+        let all = "9 - 0 x:8:8,y:8:8,*:2:2 100";
+        assert_eq!(begin("e", all), (true, true, all.into()));
+        assert_eq!(begin("f", "9 - 0 x:8:8"), (true, false, all.into()));
+        assert_eq!(begin("g", "9 - 0 x:8:8,y:8:8,*:2:2 99"), (false, false, all.into()));
+        assert_eq!(begin("h", "9 - 0 x:8:8,y:8:8,z:8:8,*:2:2 100"), (false, false, all.into()));
     }
 
     #[test]

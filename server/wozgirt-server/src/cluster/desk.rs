@@ -6,7 +6,7 @@ use crate::desk::{Desk, Then};
 use crate::log::{End, Event};
 use crate::mode::Mode;
 use crate::requests::BadRequest;
-use wozgirt_engine::{Answer, Input, NotALine, Stats, Token};
+use wozgirt_engine::{Answer, Input, NotALine, Token};
 
 impl Desk {
     /// The client gives its key. Its session begins, or continues, where the log has it.
@@ -83,11 +83,8 @@ impl Desk {
     }
 
     pub(crate) fn tell_stats(&self, connection: &mut Connection, lock: &str) {
-        let Some(sight) = self.board.lock(lock) else { return };
-        let (machines, waiters, passes) = (sight.machines, sight.line.len() as u64, sight.passes);
-        let (holder, token) = sight.holder.map_or((0, 0), |holder| (holder.client, holder.token));
-        let stats = Answer::Stats(Stats { lock, machines, waiters, passes, holder, token });
-        connection.tell_in_order(stats);
+        let Some(stats) = self.board.stats(lock) else { return };
+        connection.tell_in_order(Answer::Stats(stats));
     }
 
     /// Sends an operator where this server is in the log.

@@ -208,6 +208,9 @@ mod tests {
             "1 2 jump a",
             "1 2 cancel é",
             "1 x cancel a",
+            "name 17 41 8812 order/4711",
+            "free 17",
+            "floor 8812",
         ] {
             assert_eq!(format!("{head}\t{line}").parse::<Entry>(), Err(NoEntry), "{line:?}");
         }

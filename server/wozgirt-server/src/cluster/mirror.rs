@@ -291,6 +291,7 @@ impl Mirror {
 #[cfg(test)]
 mod tests {
     use super::*;
+    use crate::names::Names;
 
     fn does(session: Session, number: u64, input: &str, is_new: bool) -> Given {
         Given::Do { key: session + 100, session, number, input: input.parse().unwrap(), is_new }
@@ -302,7 +303,7 @@ mod tests {
 
     /// A board of the locks a and b.
     fn board() -> Board {
-        Board::new(&[lock("a"), lock("b")])
+        Board::new(&Names::parse("a,b").unwrap())
     }
 
     fn told<'a>(mirror: &mut Mirror, board: &mut Board, lines: &[&'a str]) -> Vec<Effect<'a>> {
@@ -343,6 +344,30 @@ mod tests {
         assert_eq!(mirror.standing(4), Standing { holds: vec![(lock("b"), 2)], waits: None });
         assert_eq!((board.locks()[0].holder, board.locks()[1].holder.unwrap().client), (None, 4));
         assert!(mirror.is_idle() && mirror.holds(4, "b") && !mirror.holds(4, "a"));
+    }
+
+    #[test]
+    fn names_that_are_not_in_the_list() {
+        let (mut mirror, mut board) = (Mirror::default(), Board::new(&Names::parse("a,*").unwrap()));
+        for given in [
+            does(1, 1, "acquire x/1 5", true),
+            does(2, 1, "acquire x/1 6", true),
+            does(2, 2, "try x/2 7", true),
+            does(3, 1, "try x/3 8", true),
+            Given::Leave(1),
+            does(2, 3, "release x/1 8", true),
+            does(2, 4, "release x/1 8", true),
+        ] {
+            mirror.give(given);
+        }
+        mirror.give_at(1);
+        let at = format!("at 1 {}", "0".repeat(64));
+        let lines = ["1 granted x/1 7", "2 waiting x/1 0", "2 refused names x/2", "3 granted x/3 9", "2 granted x/1 8"];
+        let effects = told(&mut mirror, &mut board, &lines);
+        assert_eq!(effects.last(), Some(&Effect::Granted { session: 2, lock: "x/1", token: 8 }));
+        told(&mut mirror, &mut board, &["2 released x/1", "2 refused holder x/1", &at]);
+        assert!(mirror.is_idle() && mirror.standing(2) == Standing::default() && mirror.holds(3, "x/3"));
+        assert_eq!((board.any().unwrap().used(), board.lock("x/1").unwrap().is_used()), (1, false));
     }
 
     #[test]

@@ -20,7 +20,7 @@ mod writer;
 pub use apply::Applied;
 use apply::Given;
 pub use checkpoint::{holders, BadCheckpoint, Checkpoint, Folder, NoFolder};
-pub use common::{agrees, list};
+pub use common::{agrees, list, most_names};
 pub use digests::{Digests, Verdict};
 use entries::VERSION;
 pub use entries::{is_name, Entry, Key, Line, Server, Session};
@@ -47,6 +47,8 @@ use wozgirt_engine::{Client, StateLine};
 const LONGEST_LOG_LINE: usize = 8 << 20;
 /// The longest list of locks, which has to go into an entry.
 pub const LONGEST_LIST: usize = 200_000;
+/// How many locks may be held of names that are not in the list, if nothing is said.
+const MOST_NAMES: u32 = 65_536;
 /// With this many entries unread, or bytes for the engine, no more is read of the log.
 const MOST_UNREAD: usize = 64;
 const MOST_FOR_ENGINE: usize = 1 << 20;
@@ -152,8 +154,10 @@ impl Cluster {
         if list.len() > LONGEST_LIST {
             return Err(NoFolder::Locks);
         }
+        let most = names.any().map(|_| format!(" {}", settings.most_names.unwrap_or(MOST_NAMES)));
+        let most = most.unwrap_or_default();
         Ok(Some(Cluster {
-            with: format!("{VERSION} {} {segment} {faults} {list}", words.checkpoint),
+            with: format!("{VERSION} {} {segment} {faults} {list}{most}", words.checkpoint),
             list,
             folder: Folder::open(&settings.journal)?,
             log: Engine::new(words.program.clone(), words.words(), LONGEST_LOG_LINE, now),

@@ -77,21 +77,23 @@ mod tests {
     use crate::stream::Stream;
     use std::io::Write;
     use std::os::unix::net::UnixStream;
+    use std::rc::Rc;
     use std::time::Instant;
 
     /// A desk of the locks a1, a2 and so on, whose engine is not there.
     fn desk(locks: usize, now: Instant) -> Desk {
         let names = (1..=locks).map(|lock| format!("a{lock}")).collect::<Vec<_>>().join(",");
+        let listed = Names::parse(&names).unwrap();
         let Ok(Words::Run(settings)) = parse(["--journal", "j", "--locks", &names, "--socket", "s"]) else { panic!() };
         Desk {
             rules: Default::default(),
             engine: Engine::new("none".into(), Vec::new(), ROOM, now),
             questions: Questions::new(now),
             is_full: false,
-            board: Board::new(Names::parse(&names).unwrap().locks()),
+            board: Board::new(&listed),
             sums: Default::default(),
             log: Log::start().unwrap(),
-            mode: Mode::Alone(Alone::new(None, None, 9).unwrap()),
+            mode: Mode::Alone(Alone::new(None, None, 9, Rc::new(listed)).unwrap()),
             now,
             settings: *settings,
         }

@@ -49,15 +49,18 @@ fn summary(text: &mut String, view: &View<'_>) {
         }
         true => String::from("answers"),
     };
-    let held = view.board.locks().iter().filter(|sight| sight.holder.is_some()).count();
-    let waiting: usize = view.board.locks().iter().map(|sight| sight.line.len()).sum();
+    let locks = view.board.locks();
+    let held = locks.iter().filter(|sight| sight.holder.is_some()).count();
+    let others = view.board.any().map(|any| *any.sums());
+    let waiting = locks.iter().map(|sight| sight.line.len()).sum::<usize>() + others.map_or(0, |sums| sums.waiting);
+    let others = others.map_or(String::new(), |sums| format!(", and {} of other names", sums.held));
     let _ = writeln!(
         text,
-        "<h1>Locks</h1>\n<p>The engine {engine} (start {}). Clients: {}, locks held: {held} of {}, waiting: {waiting}. \
+        "<h1>Locks</h1>\n<p>The engine {engine} (start {}). Clients: {}, locks held: {held} of {}{others}, waiting: {waiting}. \
          Up for {}. Journal: {} bytes, segments: {}, the last is {}.</p>",
         view.engine_starts,
         view.connected,
-        view.board.locks().len(),
+        locks.len(),
         time(view.now.saturating_duration_since(view.started)),
         view.journal.bytes,
         view.journal.segments,
@@ -123,6 +126,13 @@ pub fn row(text: &mut String, sight: &Sight, now: Instant) {
     text.push_str("</td></tr>\n");
 }
 
+/// Instead of these rows, if there are any.
+pub fn more(text: &mut String, count: usize) {
+    if count > 0 {
+        let _ = writeln!(text, "<tr><td colspan=\"9\">and {count} more that are in use</td></tr>");
+    }
+}
+
 fn held(text: &mut String, holder: &Holder, now: Instant) {
     if holder.client == NOBODY {
         text.push_str("<td class=\"before\">a client of before</td>");
@@ -153,17 +163,38 @@ mod tests {
     use crate::pages::Telling;
     use crate::sums::Sums;
 
-    /// The text, sent in parts of at least this many bytes.
-    fn shown(wanted: Wanted, most: usize) -> String {
-        let mut board = Board::new(Names::parse("deploy,gpu").unwrap().locks());
-        let (started, mut sums) = (Instant::now(), Sums::default());
+    /// Two locks.
+    fn listed(started: Instant) -> Board {
+        let mut board = Board::new(&Names::parse("deploy,gpu").unwrap());
         board.granted("deploy", 7, 12, Some(77), started);
         board.waits("deploy", 8, 78, started + Duration::from_secs(1));
         board.fault("deploy", 2, 1, 0);
+        board
+    }
+
+    /// Some of any name.
+    fn others(started: Instant, list: &str) -> Board {
+        let mut board = Board::new(&Names::parse(list).unwrap());
+        for i in 0..1200 {
+            board.granted(&format!("x/{i}"), 7, 12, Some(77), started + Duration::from_millis(i));
+        }
+        board.waits("x/3", 8, 78, started + Duration::from_secs(1));
+        (0..2).for_each(|i| board.released(&format!("x/{i}"), 7));
+        board
+    }
+
+    fn shown(wanted: Wanted, most: usize) -> String {
+        let started = Instant::now();
+        shown_of(wanted, most, &listed(started), started)
+    }
+
+    /// The text, sent in parts of at least this many bytes.
+    fn shown_of(wanted: Wanted, most: usize, board: &Board, started: Instant) -> String {
+        let mut sums = Sums::default();
         sums.refused("circle");
         let mut telling = Telling::new(wanted);
         let view = View {
-            board: &board,
+            board,
             sums: &sums,
             connected: 2,
             engine_starts: 1,
@@ -245,6 +276,37 @@ mod tests {
             "# TYPE wozgirt_grants_total counter",
         ] {
             assert!(text.lines().any(|it| it == line), "{line} in {text}");
+        }
+    }
+    #[test]
+    fn of_other_names_the_page_has_those_in_use_and_the_metrics_sums() {
+        let started = Instant::now();
+        for list in ["deploy,*", "*"] {
+            let board = others(started, list);
+            let [page, text] = [Wanted::Page, Wanted::Metrics].map(|wanted| shown_of(wanted, 1 << 20, &board, started));
+            for part in [
+                ", and 1198 of other names, waiting: 1.",
+                "<td>x/3</td><td class=\"held\">client 7</td>",
+                "<td>x/1001</td>",
+                "<tr><td colspan=\"9\">and 198 more that are in use</td></tr>",
+                "<td>x/1</td><td class=\"free\">free</td>",
+            ] {
+                assert!(page.contains(part), "{part} in {page}");
+            }
+            assert_eq!((page.matches("<tr><td>x/").count(), page.contains("<td>x/1002</td>")), (1002, false));
+            for line in [
+                "wozgirt_held{lock=\"*\"} 1198",
+                "wozgirt_held_seconds{lock=\"*\"} 2.998",
+                "wozgirt_waiting{lock=\"*\"} 1",
+                "wozgirt_oldest_wait_seconds{lock=\"*\"} 2",
+                "wozgirt_grants_total{lock=\"*\"} 1200",
+                "# TYPE wozgirt_grants_total counter",
+            ] {
+                assert_eq!(text.lines().filter(|it| *it == line).count(), 1, "{line} in {text}");
+            }
+            assert!(!text.contains("x/"));
+            assert_eq!(shown_of(Wanted::Page, 1, &board, started), page);
+            assert_eq!(shown_of(Wanted::Metrics, 1, &board, started), text);
         }
     }
 }

@@ -1,9 +1,10 @@
 //! `GET /metrics`: the text format of Prometheus.
 
 use super::{InLog, View};
-use crate::board::{Sight, Waits, WAITS};
+use crate::board::{Any, Sight, Waits, WAITS};
 use crate::log::End;
 use std::fmt::{Display, Write};
+use std::time::{Duration, Instant};
 
 /// A family of values, with its help and type in front.
 struct Family<'a> {
@@ -99,27 +100,96 @@ fn log(text: &mut String, it: &InLog) {
     }
 }
 
-/// A family with a value of each lock: its name, kind and help, and the value.
-type OfLock = (&'static str, &'static str, &'static str, fn(&Sight, &View<'_>) -> f64);
+/// A family with a value of each lock of the list, and one of all others together.
+pub struct OfLocks {
+    name: &'static str,
+    kind: &'static str,
+    help: &'static str,
+    of_lock: fn(&Sight, Instant) -> f64,
+    of_others: fn(&Any, Instant) -> f64,
+}
+
+fn since(begun: Option<Instant>, now: Instant) -> f64 {
+    begun.map_or(Duration::ZERO, |begun| now.saturating_duration_since(begun)).as_secs_f64()
+}
 
 /// All of them.
-pub const OF_LOCKS: [OfLock; 8] = [
-    ("wozgirt_held", "gauge", "1 if the lock is held.", |it, _| f64::from(u8::from(it.holder.is_some()))),
-    ("wozgirt_held_seconds", "gauge", "Age of the hold.", |it, view| {
-        it.holder.map_or(0.0, |holder| view.now.saturating_duration_since(holder.since).as_secs_f64())
-    }),
-    ("wozgirt_waiting", "gauge", "Clients that wait.", |it, _| it.line.len() as f64),
-    ("wozgirt_oldest_wait_seconds", "gauge", "How long the first client in the queue has waited.", |it, view| {
-        it.line.front().map_or(0.0, |waiter| view.now.saturating_duration_since(waiter.since).as_secs_f64())
-    }),
-    ("wozgirt_grants_total", "counter", "Grants.", |it, _| it.grants as f64),
-    ("wozgirt_waited_seconds_total", "counter", "Time that clients waited.", |it, _| it.waited.as_secs_f64()),
-    ("wozgirt_longest_wait_seconds", "gauge", "The longest wait for a grant.", |it, _| it.longest_wait.as_secs_f64()),
-    ("wozgirt_faults_total", "counter", "Faults that were written.", |it, _| it.faults as f64),
+pub static OF_LOCKS: [OfLocks; 8] = [
+    OfLocks {
+        name: "wozgirt_held",
+        kind: "gauge",
+        help: "1 if the lock is held.",
+        of_lock: |it, _| f64::from(u8::from(it.holder.is_some())),
+        of_others: |any, _| any.sums().held as f64,
+    },
+    OfLocks {
+        name: "wozgirt_held_seconds",
+        kind: "gauge",
+        help: "Age of the hold.",
+        of_lock: |it, now| since(it.holder.map(|holder| holder.since), now),
+        of_others: |any, now| since(any.oldest_hold(), now),
+    },
+    OfLocks {
+        name: "wozgirt_waiting",
+        kind: "gauge",
+        help: "Clients that wait.",
+        of_lock: |it, _| it.line.len() as f64,
+        of_others: |any, _| any.sums().waiting as f64,
+    },
+    OfLocks {
+        name: "wozgirt_oldest_wait_seconds",
+        kind: "gauge",
+        help: "How long the first client in the queue has waited.",
+        of_lock: |it, now| since(it.line.front().map(|waiter| waiter.since), now),
+        of_others: |any, now| since(any.oldest_wait(), now),
+    },
+    OfLocks {
+        name: "wozgirt_grants_total",
+        kind: "counter",
+        help: "Grants.",
+        of_lock: |it, _| it.grants as f64,
+        of_others: |any, _| any.sums().grants as f64,
+    },
+    OfLocks {
+        name: "wozgirt_waited_seconds_total",
+        kind: "counter",
+        help: "Time that clients waited.",
+        of_lock: |it, _| it.waited.as_secs_f64(),
+        of_others: |any, _| any.sums().waited.as_secs_f64(),
+    },
+    OfLocks {
+        name: "wozgirt_longest_wait_seconds",
+        kind: "gauge",
+        help: "The longest wait for a grant.",
+        of_lock: |it, _| it.longest_wait.as_secs_f64(),
+        of_others: |any, _| any.sums().longest_wait.as_secs_f64(),
+    },
+    OfLocks {
+        name: "wozgirt_faults_total",
+        kind: "counter",
+        help: "Faults that were written.",
+        of_lock: |it, _| it.faults as f64,
+        of_others: |any, _| any.sums().faults as f64,
+    },
 ];
 
+/// For which lock the value of all other names is: no lock of the list has this name.
+const OTHERS: &str = "*";
+
+fn family<'a>(text: &'a mut String, it: &'static OfLocks, is_first: bool) -> Family<'a> {
+    if is_first {
+        Family::new(text, it.name, it.kind, it.help)
+    } else {
+        Family { text, name: it.name }
+    }
+}
+
 /// The value of one lock, after the head of its family if it is the first.
-pub fn of_lock(text: &mut String, view: &View<'_>, (name, kind, help, value): &OfLock, sight: &Sight, is_first: bool) {
-    let mut family = if is_first { Family::new(text, name, kind, help) } else { Family { text, name } };
-    family.labelled("lock", &sight.lock, value(sight, view));
+pub fn of_lock(text: &mut String, view: &View<'_>, it: &'static OfLocks, sight: &Sight, is_first: bool) {
+    family(text, it, is_first).labelled("lock", &sight.lock, (it.of_lock)(sight, view.now));
+}
+
+/// The value of all whose names are not in the list.
+pub fn of_others(text: &mut String, view: &View<'_>, it: &'static OfLocks, any: &Any, is_first: bool) {
+    family(text, it, is_first).labelled("lock", OTHERS, (it.of_others)(any, view.now));
 }

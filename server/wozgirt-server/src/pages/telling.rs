@@ -2,10 +2,13 @@
 
 use super::http::Wanted;
 use super::{html, metrics, View};
+use crate::board::Place;
 use std::time::Instant;
 
 /// After this many locks the server looks whether time or room is over.
 const STEP: usize = 32;
+/// How many locks in use the page has whose names are not in the list.
+const MOST_USED: usize = 1000;
 
 /// How far a text is sent.
 pub struct Telling {
@@ -13,14 +16,17 @@ pub struct Telling {
     has_begun: bool,
     /// Of the metrics, the family whose values are sent next.
     family: usize,
-    /// The place of the lock that is next.
-    lock: usize,
+    /// The lock that is next.
+    next: Place,
+    /// The last number of another name when it began, and how many in use were sent.
+    last: u64,
+    used: usize,
 }
 
 impl Telling {
     /// Nothing is sent.
     pub fn new(wanted: Wanted) -> Telling {
-        Telling { wanted, has_begun: false, family: 0, lock: 0 }
+        Telling { wanted, has_begun: false, family: 0, next: Place::FIRST, last: 0, used: 0 }
     }
 
     /// Puts the next part into `text`, until that has this many bytes or it is this time: whether it is the last.
@@ -30,6 +36,7 @@ impl Telling {
             Wanted::Metrics => (metrics::head, metrics::OF_LOCKS.len(), ""),
         };
         if !std::mem::replace(&mut self.has_begun, true) {
+            self.last = view.board.last();
             head(text, view);
         }
         while self.family < families {
@@ -44,17 +51,41 @@ impl Telling {
 
     /// Some locks.
     fn step(&mut self, text: &mut String, view: &View<'_>) {
-        let locks = view.board.locks();
-        let end = locks.len().min(self.lock + STEP);
-        for (place, sight) in (self.lock..end).zip(&locks[self.lock..end]) {
-            match self.wanted {
-                Wanted::Page => html::row(text, sight, view.now),
-                Wanted::Metrics => metrics::of_lock(text, view, &metrics::OF_LOCKS[self.family], sight, place == 0),
+        for _ in 0..STEP {
+            let is_there = match self.wanted {
+                Wanted::Page => self.row(text, view),
+                Wanted::Metrics => self.value(text, view),
+            };
+            if !is_there {
+                (self.family, self.next) = (self.family + 1, Place::FIRST);
+                break;
             }
         }
-        self.lock = end;
-        if end == locks.len() {
-            (self.family, self.lock) = (self.family + 1, 0);
+    }
+
+    /// One lock of the page: whether there was one.
+    fn row(&mut self, text: &mut String, view: &View<'_>) -> bool {
+        if self.used == MOST_USED {
+            html::more(text, view.board.any().map_or(0, |any| any.used()).saturating_sub(MOST_USED));
+            (self.next, self.used) = (Place::Unused(0), MOST_USED + 1);
         }
+        let Some((sight, next)) = view.board.next(self.next, self.last) else { return false };
+        html::row(text, sight, view.now);
+        self.used += usize::from(matches!(next, Place::Used(_)));
+        self.next = next;
+        true
+    }
+
+    /// One value of a family: of a lock of the list, or of all others together. Whether there is another one.
+    fn value(&mut self, text: &mut String, view: &View<'_>) -> bool {
+        let Place::Listed(place) = self.next else { return false };
+        let family = &metrics::OF_LOCKS[self.family];
+        if let Some(sight) = view.board.locks().get(place) {
+            metrics::of_lock(text, view, family, sight, place == 0);
+            self.next = Place::Listed(place + 1);
+            return true;
+        }
+        view.board.any().into_iter().for_each(|any| metrics::of_others(text, view, family, any, place == 0));
+        false
     }
 }

@@ -3,7 +3,7 @@
 use super::opening::read_rules;
 use super::Server;
 use crate::board::Board;
-use crate::cluster::{agrees, holders, list, Applied, BadCheckpoint, Checkpoint, Cluster, Phase};
+use crate::cluster::{agrees, holders, list, most_names, Applied, BadCheckpoint, Checkpoint, Cluster, Phase};
 use crate::log::Event;
 use crate::names::Names;
 use crate::rules::Rules;
@@ -36,7 +36,7 @@ impl Server {
         let settings = applied.settings.clone().or_else(|| cluster.place.known().and_then(|it| it.settings.clone()));
         let settings = settings.unwrap_or_else(|| cluster.with.clone());
         check_settings(cluster, &settings)?;
-        self.take_list(list(&settings))?;
+        self.take_list(&settings)?;
         let desk = &mut self.desk;
         let Some(cluster) = desk.mode.in_log_mut() else { return Ok(()) };
         cluster.place.begin(applied.position);
@@ -55,25 +55,27 @@ impl Server {
         Ok(())
     }
 
-    /// The log has this list of locks, which may be longer or shorter than this server's.
-    pub(super) fn take_list(&mut self, list: &str) -> Result<(), CannotServe> {
+    /// The log has these settings, with a list of locks that may be longer or shorter than this server's.
+    pub(super) fn take_list(&mut self, settings: &str) -> Result<(), CannotServe> {
+        let (list, most_names) = (list(settings), most_names(settings));
         let desk = &mut self.desk;
         let Some(cluster) = desk.mode.in_log_mut() else { return Ok(()) };
-        if list == cluster.list && desk.settings.locks.is_some() {
+        if list == cluster.list && desk.settings.locks.is_some() && desk.settings.most_names == most_names {
             return Ok(());
         }
+        let is_longer = list.len() > cluster.list.len();
         cluster.list = list.into();
-        let (own, before) = (cluster.count(), desk.board.locks().len());
-        desk.board.set_locks(Names::parse(list).map_err(CannotServe::Names)?.locks());
-        let count = desk.board.locks().len();
-        if count > before {
+        let own = cluster.count();
+        desk.board.take(&Names::parse(list).map_err(CannotServe::Names)?);
+        let count = list.split(',').count();
+        if is_longer {
             match read_rules(&desk.settings, &desk.board, &self.accounts) {
                 Ok(rules) => desk.rules = Rc::new(rules),
                 Err(fault) => desk.log.say(&Event::RulesBad { fault: &fault }),
             }
         }
         desk.rules = Rc::new(Rules::clone(&desk.rules).of(&desk.board));
-        desk.settings.locks = Some(list.into());
+        (desk.settings.locks, desk.settings.most_names) = (Some(list.into()), most_names);
         desk.engine.set_words(desk.settings.engine_words());
         if count > own {
             desk.log.say(&Event::MoreLocks { count, own, list });
@@ -105,7 +107,7 @@ impl Server {
         }
         self.desk.log.say(&Event::Checkpoint { position, segment });
         if let Some(settings) = settings {
-            self.take_list(list(&settings))?;
+            self.take_list(&settings)?;
         }
         self.desk.engine.start_at_once(now);
         Ok(())

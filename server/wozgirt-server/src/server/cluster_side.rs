@@ -236,6 +236,9 @@ impl Server {
         let Read { position, revision, entry } = read;
         let is_first = cluster.applied.settings.is_none();
         let step = cluster.applied.apply(position, revision, entry.as_ref());
+        if let (true, Some(settings)) = (step.has_more_locks, &cluster.applied.settings) {
+            check_settings(cluster, settings)?; // one that begins with others is not heard
+        }
         if let (true, Some(settings)) = (is_first, cluster.applied.settings.clone()) {
             check_settings(cluster, &settings)?;
             cluster.place.note_settings(&settings)?;

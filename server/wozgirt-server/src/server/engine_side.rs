@@ -8,7 +8,7 @@ use crate::mode::Mode;
 use crate::questions::Own;
 use crate::CannotServe;
 use std::time::{Duration, Instant};
-use wozgirt_engine::{Answer, Answered, Client, Input, Lock, NotALine, Token, NOBODY};
+use wozgirt_engine::{decimal, Answer, Answered, Client, Input, Lock, NotALine, StateLine, Token, NOBODY};
 use wozgirt_system::Interest;
 
 /// An engine that leaves a question unanswered for this time is called silent.
@@ -37,7 +37,12 @@ impl Server {
             Err(Unheard::Endless) => return self.give_up_for("a line without an end", Some(NotALine::Syntax)),
         };
         for line in lines.lines() {
-            match Answered::parse(line).map(|answered| self.answer(answered)) {
+            let heard = if self.desk.questions.is_for_state() {
+                self.hear_line_of_state(line).map(Ok)
+            } else {
+                Answered::parse(line).map(|answered| self.answer(answered))
+            };
+            match heard {
                 Ok(Ok(())) => {}
                 Ok(Err(Unasked)) => return self.give_up_for(line, None),
                 Err(fault) => return self.give_up_for(line, Some(fault)),
@@ -84,19 +89,40 @@ impl Server {
             if self.desk.board.begin(stats, self.desk.now) {
                 self.held_before.push(lock);
             }
-            if self.desk.questions.has_begun() && self.has_begun() {
-                self.is_begun = true;
-                self.desk.engine.note_ready();
-                self.desk.log.say(&Event::EngineReady { held: self.held_before.len() });
-                if let Some((sessions, held)) = self.desk.alone().map(|it| (it.count(), it.holds().count())) {
-                    if sessions > 0 {
-                        self.desk.log.say(&Event::SessionsKept { sessions, held });
-                    }
-                }
-                self.touch_all();
+            self.note_begun();
+        }
+        Ok(())
+    }
+
+    /// A line of the engine's state, when it starts: of its holds those are news that are nobody's, of names that are not in the list.
+    fn hear_line_of_state(&mut self, line: &str) -> Result<(), NotALine> {
+        if let Some(count) = line.strip_prefix("state ") {
+            decimal(count)?;
+            self.desk.questions.state_is_over();
+            self.note_begun();
+        } else if let StateLine::Hold { lock, token, client: NOBODY } = line.parse()? {
+            if !self.desk.board.is_listed(&lock) {
+                self.desk.board.holds(&lock, NOBODY, token, self.desk.now);
+                self.held_before.push(lock);
             }
         }
         Ok(())
+    }
+
+    /// If the engine has reported how all locks are, it serves.
+    fn note_begun(&mut self) {
+        if !self.desk.questions.has_begun() || !self.has_begun() {
+            return;
+        }
+        self.is_begun = true;
+        self.desk.engine.note_ready();
+        self.desk.log.say(&Event::EngineReady { held: self.held_before.len() });
+        if let Some((sessions, held)) = self.desk.alone().map(|it| (it.count(), it.holds().count())) {
+            if sessions > 0 {
+                self.desk.log.say(&Event::SessionsKept { sessions, held });
+            }
+        }
+        self.touch_all();
     }
 
     /// An operator has a hold end: of a client that is connected, or of one from before the engine's start.

@@ -133,13 +133,14 @@ impl Server {
         let signals = Signals::new(&[Signal::Terminate, Signal::Interrupt, Signal::HangUp])?;
         let mut log = Log::start()?;
         let accounts = Accounts::of_the_system();
-        let names = read_names(&settings)?;
-        let board = Board::new(names.locks());
+        let names = Rc::new(read_names(&settings)?);
+        let board = Board::new(&names);
         let rules = Rc::new(read_rules(&settings, &board, &accounts)?);
         check_files(&settings)?;
         let most_unread = most_unread(&settings).map_err(CannotServe::Memory)?;
         let places = Places::new(settings.connections);
-        log.say(&Event::Started { version: env!("CARGO_PKG_VERSION"), locks: board.locks().len() });
+        let (version, locks) = (env!("CARGO_PKG_VERSION"), board.locks().len());
+        log.say(&Event::Started { version, locks, has_others: board.any().is_some() });
         let poller = Poller::new()?;
         poller.add(&signals, SIGNALS, Interest::READS)?;
         let doors = Doors::open(&settings, &poller, &mut log)?;
@@ -148,7 +149,7 @@ impl Server {
             .map_err(|fault| CannotServe::Folder(settings.journal.clone(), fault))?;
         let mode = match cluster {
             Some(cluster) => Mode::InLog(Box::new(cluster)),
-            None => Mode::Alone(open_sessions(&settings, &mut log)?),
+            None => Mode::Alone(open_sessions(&settings, names, &mut log)?),
         };
         let kept = settings.keep_segments;
         let removals = kept.map(|kept| retention::start(settings.engine_journal(), kept)).transpose()?;

@@ -17,6 +17,7 @@ use std::fs;
 use std::io;
 use std::path::PathBuf;
 use std::process::ExitStatus;
+use std::rc::Rc;
 use wozgirt_system::permit_files;
 
 /// How many sessions there may be for each connection: those of clients that are away are some.
@@ -197,7 +198,7 @@ pub(super) fn read_rules(settings: &Settings, board: &Board, accounts: &Accounts
 }
 
 /// The sessions that are kept beside the journal of a single server. If nothing can be kept there, it has none.
-pub(super) fn open_sessions(settings: &Settings, log: &mut Log) -> Result<Alone, CannotServe> {
+pub(super) fn open_sessions(settings: &Settings, names: Rc<Names>, log: &mut Log) -> Result<Alone, CannotServe> {
     let store = match Store::open(&settings.journal) {
         Ok(store) => Some(store),
         Err(NoFolder::System(fault)) => {
@@ -206,7 +207,7 @@ pub(super) fn open_sessions(settings: &Settings, log: &mut Log) -> Result<Alone,
         }
         Err(fault) => return Err(CannotServe::Folder(settings.journal.clone(), fault)),
     };
-    Alone::new(store, boot(), SESSIONS_EACH * settings.connections).map_err(CannotServe::Sessions)
+    Alone::new(store, boot(), SESSIONS_EACH * settings.connections, names).map_err(CannotServe::Sessions)
 }
 
 /// The system's limit of open files, which the server raises to the hard limit at its start.

@@ -16,7 +16,9 @@ impl Server {
         let Some(alone) = self.desk.alone() else { return Err(Unasked) };
         if let Answer::Granted { lock, token } = answer {
             alone.note_grant(number, lock, *token);
+            self.desk.board.told(lock, *token);
         }
+        let Some(alone) = self.desk.alone() else { return Err(Unasked) };
         let Some(session) = alone.session_mut(number) else {
             return Ok(()); // it is over
         };
@@ -138,6 +140,10 @@ impl Server {
         for sight in self.desk.board.locks() {
             self.desk.engine.ask_line(format_args!("{NOBODY} {}", Input::Stats { lock: sight.lock.clone() }));
             self.desk.questions.put(Own::Begin(sight.lock.clone()));
+        }
+        if self.desk.board.any().is_some() {
+            self.desk.engine.ask_line("state");
+            self.desk.questions.put(Own::State);
         }
     }
 
