@@ -21,6 +21,8 @@ mod names;
 #[cfg(test)]
 mod orders;
 #[cfg(test)]
+mod pool_lists;
+#[cfg(test)]
 mod power;
 #[cfg(test)]
 mod reading;

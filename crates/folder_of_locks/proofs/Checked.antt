@@ -30,7 +30,7 @@ continues old new i le same = (
   ap (map listed) (sym (take-append-drop i new)) ∙ map-append listed (take i new) (drop i new) ∙ ap (λ (u : List Listed). u ++ map listed (drop i new)) (same ∙ ap (map listed) (take_all i old le)),
 )
 
-size_fault : (l : Listed) (e : ParamsError) → (IsErrOf {T = Size} (Err e) params.TooFew ↔ l.n < 2) → (IsErrOf {T = Size} (Err e) params.TooMany ↔ machine_limit < l.n) →
+pub size_fault : (l : Listed) (e : ParamsError) → (IsErrOf {T = Size} (Err e) params.TooFew ↔ l.n < 2) → (IsErrOf {T = Size} (Err e) params.TooMany ↔ machine_limit < l.n) →
     (IsErrOf {T = Size} (Err e) params.FewValues ↔ (2 ≤ l.n) × (l.n ≤ machine_limit) × (l.k < l.n)) → (IsErrOf {T = Size} (Err e) params.ManyValues ↔ (2 ≤ l.n) × (l.n ≤ machine_limit) × (value_limit < l.k)) → IsSizeFault l e
 size_fault l params.TooFew a b f m = a.0 refl
 size_fault l params.TooMany a b f m = b.0 refl

@@ -119,21 +119,21 @@ no_one m text t n k mark plain is other (inr (inr z)) = not_in m (decimal n) (de
     tails : m ∷ text ≡ m ∷ (decimal n ++ m ∷ decimal k) → text ≡ decimal n ++ m ∷ decimal k
     tails e = cc
 
-plain_cons : (m x : ℕ) (a : List ℕ) → x ≢ m → IsPlain m a → IsPlain m (x ∷ a)
+pub plain_cons : (m x : ℕ) (a : List ℕ) → x ≢ m → IsPlain m a → IsPlain m (x ∷ a)
 plain_cons m x a other p = record { each = by }
   where
     by : (i : ℕ) → i < length (x ∷ a) → slice_index (x ∷ a) i ≢ m
     by zero h = other
     by (suc i) h = p.each i (omega arith)
 
-plain_append : (m : ℕ) (a b : List ℕ) → IsPlain m a → IsPlain m b → IsPlain m (a ++ b)
+pub plain_append : (m : ℕ) (a b : List ℕ) → IsPlain m a → IsPlain m b → IsPlain m (a ++ b)
 plain_append m [] b p q = q
 plain_append m (x ∷ a) b p q = plain_cons m x (a ++ b) (p.each 0 (omega arith)) (plain_append m a b (plain_tail m x a p) q)
 
-plain_nil : (m : ℕ) → IsPlain m []
+pub plain_nil : (m : ℕ) → IsPlain m []
 plain_nil m = record { each = λ i h. absurd (omega arith) }
 
-size_plain : (end mark : ℕ) (size : List ℕ) (n k : ℕ) → AreMarks end mark → n < 2 ^ 32 → k < 2 ^ 32 → IsSizeText mark size n k → IsPlain end size
+pub size_plain : (end mark : ℕ) (size : List ℕ) (n k : ℕ) → AreMarks end mark → n < 2 ^ 32 → k < 2 ^ 32 → IsSizeText mark size n k → IsPlain end size
 size_plain end mark size n k marks low high (inl z) = subst (IsPlain end) (sym z.0) (plain_nil end)
 size_plain end mark size n k marks low high (inr (inl z)) =
     subst (IsPlain end) (sym z.0) (plain_cons end mark (decimal n) (λ e. marks.apart (sym e)) (decimal_plain end n marks.end_is (omega arith)))

@@ -6,6 +6,9 @@ mod Texts
 mod Cuts
 mod Pieces
 mod Marks
+mod Stars
+mod PoolSizes
+mod Written
 mod Lines
 mod Handed
 mod OneReading

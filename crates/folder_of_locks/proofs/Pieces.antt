@@ -85,6 +85,12 @@ no_text : (end mark : ℕ) (all : List Listed) → AreTexts end mark [] all → 
 no_text end mark [] h = refl
 no_text end mark (l ∷ ls) h = absurd (something h.0 end h.1 (sym h.2))
 
+-- something is left after the last end
+pub no_front : (end mark : ℕ) (bytes rest : List ℕ) (ls : List Listed) → HasRead end mark bytes ls rest → IsPlain end rest → rest ≢ [] → (all : List Listed) → AreTexts end mark bytes all → ⊥
+no_front end mark bytes rest ls h plain some all a =
+    let left = h.leaves [] all (subst (λ (t : List ℕ). AreTexts end mark t all) (sym (append-nil bytes)) a) in
+    some (left_over end mark rest left.0 (subst (λ (t : List ℕ). AreTexts end mark t left.0) (append-nil rest) left.1) plain)
+
 -- something is left after the last end, or there is no lock
 pub no_list : (end mark : ℕ) (bytes rest : List ℕ) (ls : List Listed) → HasRead end mark bytes ls rest → IsPlain end rest → (rest ≢ []) ⊎ (length ls ≡ 0) → (all : List Listed) → 0 < length all → AreTexts end mark bytes all → ⊥
 no_list end mark bytes rest ls h plain why all some a =

@@ -24,13 +24,15 @@ listed l = record { name = l.name.now; n = l.n; k = l.k }
 
 -- ---- texts
 
--- What comes after a name, where the parts have this mark between them: nothing, for 8 machines
--- of 8 values; a number, for as many machines and values; or both numbers.
+-- A size, where the parts have this mark before them: a number, for as many machines and values; or
+-- both numbers.
+abbrev pub IsSizeSaid : ℕ → List ℕ → ℕ → ℕ → Type 0
+IsSizeSaid mark text n k =
+    ((text ≡ mark ∷ decimal n) × (k ≡ n)) ⊎ (text ≡ mark ∷ (decimal n ++ mark ∷ decimal k))
+
+-- what comes after a name: nothing, for 8 machines of 8 values; or a size
 abbrev pub IsSizeText : ℕ → List ℕ → ℕ → ℕ → Type 0
-IsSizeText mark text n k =
-    ((text ≡ []) × (n ≡ 8) × (k ≡ 8))
-    ⊎ (((text ≡ mark ∷ decimal n) × (k ≡ n))
-    ⊎ (text ≡ mark ∷ (decimal n ++ mark ∷ decimal k)))
+IsSizeText mark text n k = ((text ≡ []) × (n ≡ 8) × (k ≡ 8)) ⊎ IsSizeSaid mark text n k
 
 -- the text of a lock: its name, and its size
 pub record IsLockText (mark : ℕ) (text : List ℕ) (l : Listed) : Type 0 where

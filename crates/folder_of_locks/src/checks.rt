@@ -1,12 +1,14 @@
 //! Which locks may be in one list, and whether one list continues another.
 
-ghost use Rattle.std.specs.Prelude.{◌≡◌, ◌≢◌, ◌<◌, ◌++◌, List, length, map, slice_get, IfOk, IfErr, OnOk, IfSome, IsNone, true, false};
+ghost use Rattle.std.specs.Prelude.{◌≡◌, ◌≢◌, ◌⊎◌, ◌<◌, ◌++◌, List, length, map, slice_get, Some, IfOk, IfErr, OnOk, IfSome, IsNone, true, false};
 ghost use Rattle.folder_of_locks.specs.Lists.{Listed, listed, size_of, names_of, AreLocks, IsLocksFault};
 ghost use Rattle.std.specs.List.{All, IsDistinct};
 ghost use Rattle.std.specs.Str.{bytes_eq};
 ghost use Rattle.ring_state.specs.Sizes.{IsSize};
+ghost use Rattle.folder_of_locks.specs.Pools.{pooled, HasOtherPool, ContinuesPooled, IsOtherAt};
 
 use crate::locks::{ListError, ListedLock};
+use crate::pools::FolderList;
 use held_locks::LOCK_LIMIT;
 use ring_state::Params;
 use std::alloc::Global;
@@ -77,4 +79,46 @@ pub fn first_difference(old: &[ListedLock<'_>], new: &[ListedLock<'_>]) -> Optio
         }
     }
     None
+}
+
+/// Whether two sizes are the same.
+fn is_same_size(one: Params, other: Params) -> bool
+    ensures yes { result ≡ true → one ≡ other }
+    ensures no { result ≡ false → one ≢ other }
+{
+    one.n() == other.n() && one.k() == other.k()
+}
+
+/// Whether a list has this pool after this number of locks.
+fn has_pool(list: &FolderList<'_>, place: usize, size: Params) -> bool
+    ensures yes { result ≡ true → (length list.now.locks.items ≡ place) × (list.now.pool ≡ Some size) }
+    ensures no { result ≡ false
+        → (length list.now.locks.items ≢ place) ⊎ (list.now.pool ≢ Some size) }
+{
+    match list.pool {
+        Some(other) => list.locks.len() == place && is_same_size(other, size),
+        None => false,
+    }
+}
+
+/// The first place of a list at which the other has no lock, or another one; after its locks the place of its pool, if the other
+/// does not have the same one there.
+pub fn first_change(old: &FolderList<'_>, new: &FolderList<'_>) -> Option<usize>
+    ensures same { IsNone result → ContinuesPooled (pooled old.now) (pooled new.now) }
+    ensures other { IfSome result (λ i. IsOtherAt (pooled old.now) (pooled new.now) i) }
+{
+    if let Some(place) = first_difference(&old.locks, &new.locks) {
+        return Some(place);
+    }
+    let place = old.locks.len();
+    match old.pool {
+        Some(size) => {
+            if has_pool(new, place, size) {
+                None
+            } else {
+                Some(place)
+            }
+        }
+        None => None,
+    }
 }

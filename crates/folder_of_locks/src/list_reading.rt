@@ -45,14 +45,14 @@ fn add_lock<'t>(locks: &mut Vec<ListedLock<'t>>, text: &'t str, mark: char) -> R
 }
 
 /// A text, as far as it was read.
-struct Read<'t> {
-    locks: Vec<ListedLock<'t>>,
+pub(crate) struct Read<'t> {
+    pub(crate) locks: Vec<ListedLock<'t>>,
     /// What comes after the last end.
-    rest: &'t str,
+    pub(crate) rest: &'t str,
 }
 
 /// Reads the locks of a text, each up to its end.
-fn read_ended<'t>(
+pub(crate) fn read_ended<'t>(
     alloc: Global,
     text: &'t str,
     end: char,

@@ -5,6 +5,7 @@ ghost use Rattle.ring_model.specs.Bases.{IsBase};
 ghost use Rattle.held_locks.specs.Kept.{IsKeptRing};
 ghost use Rattle.held_locks.specs.Opened.{IsAdded, HaveNoRoom};
 ghost use Rattle.folder_of_locks.specs.Lists.{listed};
+ghost use Rattle.folder_of_locks.specs.Pools.{pool_ring};
 ghost use Rattle.folder_of_locks.specs.Rings.{IsResumed, IsFreshRing, IsRingOf, AreBegun, IsRingFault, AreRingsRefused};
 
 use crate::faults::StartFault;
@@ -14,8 +15,9 @@ use held_locks::{Locks, Refusal};
 use one_thread_ring::{OneThreadRing, from_saved};
 use ring_book::Till;
 use ring_model::Base;
+use ring_state::Params;
 use saved_history::SavedRing;
-use std::alloc::Global;
+use std::alloc::{AllocError, Global};
 
 /// How many seats the ring of a lock has.
 const SEATS: u32 = 10;
@@ -47,6 +49,26 @@ fn fresh(alloc: Global, lock: &ListedLock<'_>) -> Result<EndlessRing, StartFault
         Ok(ring) => Ok(EndlessRing::after(Base::none(), ring)),
         // the sizes of a list are allowed
         Err(_) => Err(StartFault::OutOfMemory),
+    }
+}
+
+/// A settled ring of a pool, without events.
+///
+/// # Errors
+///
+/// Only if memory is short.
+pub fn fresh_ring(alloc: Global, size: Params) -> Result<EndlessRing, AllocError>
+    ensures ok { IfOk result (λ ring. IsFreshRing (pool_ring size) ring) }
+    ensures kept { IfOk result (λ ring. IsKeptRing ring) }
+{
+    let lock = ListedLock {
+        name: "",
+        n: size.n(),
+        k: size.k(),
+    };
+    match fresh(alloc, &lock) {
+        Ok(ring) => Ok(ring),
+        Err(_) => Err(AllocError),
     }
 }
 
