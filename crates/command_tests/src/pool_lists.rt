@@ -22,7 +22,7 @@ const LISTS: [(&str, &[u8]); 5] = [
     ("a:2:5,*:2:4", b"a 2 5\n* 2 4\n"),
 ];
 
-/// Words that are no lists.
+/// Words that name no list.
 const WRONG: [&str; 8] = ["", "a*", "a,", "*,a", "*,", "a,**", "*2", "a,*:2:"];
 
 /// Whether a word names a list with this file, which is read as the same list.

@@ -51,7 +51,7 @@ abbrev pub ArePooled : List Listed → Option Size → Type 0
 ArePooled ls None = AreLocks ls
 ArePooled ls (Some s) = AreFixed ls × IsSize s
 
--- the word is the text of just this list: as of locks alone, with the pool last
+-- the word is the text of just this list: that of a list of locks, and the pool comes last
 abbrev pub IsPooledWord : List ℕ → Pooled → Type 0
 IsPooledWord word l =
     ArePooledTexts 44 58 (word ++ 44 ∷ []) l.locks l.pool × ArePooled l.locks l.pool
