@@ -1,6 +1,6 @@
 -- Locks that are checked one after the other.
-use Rattle.std.proofs.Common.{◌≡◌, ◌∙◌, ◌+◌, ◌<◌, ◌≤◌, ◌↔◌, ℕ, zero, suc, List, [], ◌∷◌, ◌++◌, length, take, drop, map, get_or, Result, Ok, Err, Some, sym, ap, subst, refl, arith}
-use Rattle.std.specs.Prelude.{All, slice_get, IfOk, IsOk, IsErrOf}
+use Rattle.std.proofs.Common.{◌≡◌, ◌∙◌, ◌+◌, ◌<◌, ◌≤◌, ◌↔◌, ℕ, zero, suc, List, [], ◌∷◌, ◌++◌, length, take, drop, map, get_or, Err, Some, sym, ap, subst, refl, arith}
+use Rattle.std.specs.Prelude.{All, slice_get, IsErrOf}
 use Rattle.std.proofs.lemmas.List.{take_more, take_all, take-append-drop}
 use Rattle.std.proofs.lemmas.List.Elements.{All-append}
 use Rattle.std.proofs.lemmas.Option.{slice_get-map, slice_get-get_or}

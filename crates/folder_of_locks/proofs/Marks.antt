@@ -1,6 +1,6 @@
 -- The marks of a word and of a file, and the star.
-use Rattle.std.proofs.Common.{refl, ◌≡◌, ◌<◌, arith}
-use Rattle.folder_of_locks.specs.ListSteps.{IsMark, AreMarks}
+use Rattle.std.proofs.Common.{refl, arith}
+use Rattle.folder_of_locks.specs.ListSteps.{AreMarks}
 
 pub word_marks : AreMarks 44 58
 word_marks = record {

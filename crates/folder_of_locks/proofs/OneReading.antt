@@ -1,9 +1,9 @@
 -- Two readings of the same bytes are one.
-use Rattle.std.proofs.Common.{◌≡◌, ℕ, ◌+◌, List, [], ◌∷◌, ◌++◌, length, append_assoc, Ok, refl, sym, ◌∙◌, ap, subst}
+use Rattle.std.proofs.Common.{◌≡◌, ℕ, ◌+◌, List, [], ◌∷◌, ◌++◌, length, append_assoc, refl, sym, ◌∙◌, ap}
 use Rattle.std.specs.List.{AllByRecursion}
 use Rattle.std.proofs.lemmas.List.{append-nil}
 use Rattle.text_lines.proofs.Basics.{ok_is}
-use Rattle.folder_of_locks.specs.Holders.{Hold, hold_line, FitsLine, lines_of, HasNoHold, IsBadLine, OneText, NoBadLine, OneBadLine}
+use Rattle.folder_of_locks.specs.Holders.{Hold, hold_line, FitsLine, lines_of, HasNoHold, OneText, NoBadLine, OneBadLine}
 use Rattle.folder_of_locks.specs.HolderSteps.{hold_at}
 use Rattle.folder_of_locks.proofs.Lines.{hold_again}
 

@@ -1,5 +1,5 @@
 -- The steps of reading a list of locks.
-use Rattle.std.specs.Prelude.{◌≡◌, ◌≢◌, ℕ, ◌<◌, ◌+◌, Bool, false, List, [], ◌∷◌, ◌++◌, length, Option, Some, None, slice_index}
+use Rattle.std.specs.Prelude.{◌≡◌, ◌≢◌, ℕ, ◌<◌, ◌+◌, false, List, [], ◌∷◌, ◌++◌, length, Option, Some, None, slice_index}
 use Rattle.text_lines.specs.Reading.{is_digit}
 use Rattle.folder_of_locks.specs.declared.locks.ListError.{ListError}
 use Rattle.folder_of_locks.specs.declared.locks.ListError.TheVariants as refused

@@ -1,5 +1,5 @@
 -- The steps of reading a list of locks with a pool.
-use Rattle.std.specs.Prelude.{◌≡◌, ℕ, List, Option, Some, ◌⊎◌}
+use Rattle.std.specs.Prelude.{◌≡◌, ℕ, List, Some, ◌⊎◌}
 use Rattle.ring_state.specs.Sizes.{Size}
 use Rattle.folder_of_locks.specs.declared.locks.ListError.{ListError}
 use Rattle.folder_of_locks.specs.declared.locks.ListError.TheVariants as refused

@@ -1,7 +1,6 @@
-use Rattle.std.proofs.Common.{subst, sym, rules, ap, ◌∙◌, ◌≡◌, map, Some, None, ℕ, List, ◌++◌, append_assoc, ◌∷◌}
+use Rattle.std.proofs.Common.{rules, map, Some, None, ◌++◌}
 use Rattle.std.proofs.lemmas.Str.Pattern.{split_parts}
-use Rattle.folder_of_locks.specs.Lists.{Listed, listed}
-use Rattle.folder_of_locks.specs.ListSteps.{HasRead}
+use Rattle.folder_of_locks.specs.Lists.{listed}
 use Rattle.folder_of_locks.proofs.Pieces.{read_none, read_more, bad_piece, with_tail}
 use Rattle.folder_of_locks.proofs.list_reading.read_ended.Goals as goal
 

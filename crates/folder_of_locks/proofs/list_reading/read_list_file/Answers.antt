@@ -1,4 +1,4 @@
-use Rattle.std.proofs.Common.{refl, [], ◌∷◌, ◌++◌, ◌⊎◌, inl, inr, List, ℕ, map, append-nil, subst, sym, rules, ◌≡◌, ap}
+use Rattle.std.proofs.Common.{[], inl, inr, List, ℕ, map, append-nil, subst, rules}
 use Rattle.folder_of_locks.specs.Lists.{listed}
 use Rattle.folder_of_locks.specs.ListSteps.{IsReadFault}
 use Rattle.folder_of_locks.proofs.Pieces.{read_all, no_list, of_texts, of_locks, empty, filled, none_listed}

@@ -1,7 +1,6 @@
-use Rattle.std.proofs.Common.{refl, [], ◌∷◌, ◌++◌, List, ℕ, map, append-nil, subst, sym, append_assoc}
-use Rattle.folder_of_locks.specs.Lists.{listed, AreTexts, IsTextsFault}
-use Rattle.folder_of_locks.specs.ListSteps.{IsReadFault}
-use Rattle.folder_of_locks.proofs.Pieces.{bad_piece, read_last, of_texts, of_locks}
+use Rattle.std.proofs.Common.{refl, [], ◌∷◌, ◌++◌, map}
+use Rattle.folder_of_locks.specs.Lists.{listed}
+use Rattle.folder_of_locks.proofs.Pieces.{bad_piece, of_texts}
 use Rattle.folder_of_locks.proofs.Marks.{word_marks}
 use Rattle.folder_of_locks.proofs.list_reading.read_list_word.Goals as goal
 

@@ -1,4 +1,4 @@
-use Rattle.std.proofs.Common.{refl, sym, ◌∙◌, subst, rules, true, false}
+use Rattle.std.proofs.Common.{refl, sym, ◌∙◌, subst, rules}
 use Rattle.std.proofs.lemmas.Bool.{false≢true}
 use Rattle.lock_protocol.specs.Names.{IsName}
 use Rattle.folder_of_locks.proofs.Cuts.{parts, whole, after_size, is_after}
