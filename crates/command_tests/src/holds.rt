@@ -1,9 +1,16 @@
-//! Histories of locks that are not legal, which the command `holds` refuses before it reads them, and the sums of a chain.
+//! Histories of locks that are not legal, which the command `holds` refuses before it reads them; the sums of a chain; and the names
+//! that `holds` has for the locks of a folder.
 
+use crate::files::memory::{make_folder, no_files, put};
 use chain_readers::{ChainHoldError, Choice, HoldChain, holds_of_saved, put_holds};
+use lock_commands::holds;
 use saved_history::{Saved, read_saved};
 use std::alloc::Global;
+use std::io;
 use std::process::Abort;
+use std::test::Fail;
+use tool_parts::faults::ToolError;
+use tool_parts::requests::HoldsWords;
 
 const ALL: Choice = Choice {
     lock: None,
@@ -97,4 +104,51 @@ fn a_chain_has_sums(rt: HostRuntime) {
         panic!(&rt; "second");
     };
     assert!(&rt; two.sums().segments == 2 && two.sums().events == 3);
+}
+
+/// How `holds` ends for the folder `f`, which has the first segment and this file of locks, and what it prints.
+fn holds_of_folder(
+    alloc: Global,
+    list: Option<&str>,
+) -> io::Result<(Result<(), ToolError<'static>>, Vec<u8>)> {
+    let mut disk = no_files(alloc);
+    make_folder(&mut disk, "f")?;
+    put(&mut disk, "f/0000000001.ring", FIRST.as_bytes())?;
+    if let Some(list) = list {
+        put(&mut disk, "f/locks", list.as_bytes())?;
+    }
+    let words = HoldsWords {
+        file: "f",
+        lock: None,
+        label: None,
+        by_label: false,
+    };
+    let mut input: &[u8] = b"";
+    let mut out = Vec::new(alloc);
+    let ended = holds::run(alloc, &disk, &words, &mut input, &mut out);
+    Ok((ended, out))
+}
+
+#[test]
+fn a_line_has_the_name_of_its_lock(rt: HostRuntime) -> Result<(), Fail> {
+    let rows = [
+        (
+            Some("order/4711 3 3\n"),
+            "lock order/4711 token 1 label 77 from 0 to - open\n",
+        ),
+        (
+            Some("7\nb 2\n"),
+            "lock 7 token 1 label 77 from 0 to - open\n",
+        ),
+        (None, "lock 0 token 1 label 77 from 0 to - open\n"),
+    ];
+    for (list, lines) in rows {
+        let (ended, out) = holds_of_folder(rt.alloc(), list)?;
+        assert!(rt; ended.is_ok() && out.as_slice() == lines.as_bytes());
+    }
+    for list in ["order/4711 3 3", "", "a!\n", "a\na\n"] {
+        let (ended, out) = holds_of_folder(rt.alloc(), Some(list))?;
+        assert!(rt; matches!(ended, Err(ToolError::BadLocks("f"))) && out.is_empty());
+    }
+    Ok(())
 }

@@ -1,5 +1,7 @@
 mod HeldLeads
+mod FolderNames
 mod HoldTexts
+mod ToldLines
 mod Summing
 pub mod UnreadLists
 mod StartedLocks

@@ -5,8 +5,9 @@ use Rattle.std.specs.Ordering.{nat_cmp}
 use Rattle.std.specs.BTreeMap.{BTreeMap, IsOrdered}
 use Rattle.std.specs.Io.KnownBytes.{Appends}
 use Rattle.disks.specs.Held.{Held, IsHeld}
+use Rattle.disks.specs.Folders.{is_among, names_of}
 use Rattle.disks.specs.declared.disk.FolderEntry.{FolderEntry}
-use Rattle.line_service.specs.SegmentNames.{segment_file}
+use Rattle.line_service.specs.SegmentNames.{list_name, segment_file}
 use Rattle.line_service.specs.SegmentNumbers.{IsRightNumbers}
 use Rattle.line_service.specs.declared.segment_numbers.SegmentNumbers.{SegmentNumbers}
 use Rattle.saved_history.specs.Content.{Block}
@@ -20,8 +21,8 @@ use Rattle.chain_readers.specs.declared.hold_lines.Choice.{Choice}
 use Rattle.chain_readers.specs.Known.{Known, all_holds}
 use Rattle.chain_readers.specs.Chains.{HoldsSoFar, LeadTo, IsHoldRefusal, of_blocks}
 use Rattle.chain_readers.specs.ChainSteps.{AreBlocksHeld}
-use Rattle.chain_readers.specs.HoldLines.{all_lines}
 use Rattle.chain_readers.specs.Labels.{all_chosen, AreCounted, label_line}
+use Rattle.lock_protocol.specs.Names.{Names}
 use Rattle.tool_parts.specs.declared.requests.HoldsWords.{HoldsWords}
 use Rattle.tool_parts.specs.Chained.{AreHeldFrom, IsChainIn, IsFolder, IsAddRefusal, IsFileRefused, IsNamedWrong, AreNamesRefused}
 use Rattle.tool_parts.specs.Checked.{IsLegalSavedText, IsSavedTextRefusal}
@@ -31,6 +32,8 @@ use Rattle.tool_parts.specs.Worlds.{World}
 use Rattle.tool_parts.specs.Written.{AppendsFront}
 use Rattle.tool_parts.specs.declared.faults.ToolError.{ToolError}
 use Rattle.tool_parts.specs.declared.faults.ToolError.TheVariants as tool
+use Rattle.lock_commands.specs.HoldNames.{AreNamesIn, AreNoNamesIn}
+use Rattle.lock_commands.specs.ToldHolds.{all_lines}
 
 -- ---- what is printed
 
@@ -46,24 +49,24 @@ pub record AreLabelLines (wanted : List Hold) (text : List ℕ) : Type 0 where
   pub lines : text ≡ flat_map label_line counts.entries
 
 -- by label, or a line for each hold
-abbrev pub IsTextBy : Bool → Choice → List (List Hold) → List ℕ → Type 0
-IsTextBy true c holds text = AreLabelLines (all_chosen c 0 holds) text
-IsTextBy false c holds text = text ≡ all_lines c 0 holds
+abbrev pub IsTextBy : Bool → Choice → Option Names → List (List Hold) → List ℕ → Type 0
+IsTextBy true c names holds text = AreLabelLines (all_chosen c 0 holds) text
+IsTextBy false c names holds text = text ≡ all_lines c names 0 holds
 
--- the text that the words ask for, of locks with these holds
-abbrev pub IsHoldsText : HoldsWords → List (List Hold) → List ℕ → Type 0
-IsHoldsText words holds text = IsTextBy words.by_label (choice_of words) holds text
+-- the text that the words ask for, of locks with these names, if they have any, and these holds
+abbrev pub IsHoldsText : HoldsWords → Option Names → List (List Hold) → List ℕ → Type 0
+IsHoldsText words names holds text = IsTextBy words.by_label (choice_of words) names holds text
 
 -- it is written; or the writer failed, which got a prefix of it
-abbrev pub AreHoldsTold : HoldsWords → List (List Hold) → Option (List ℕ) → Option (List ℕ)
-    → Type 0
-AreHoldsTold words holds old new =
-    (text : List ℕ) × IsHoldsText words holds text × Appends old new text
+abbrev pub AreHoldsTold : HoldsWords → Option Names → List (List Hold) → Option (List ℕ)
+    → Option (List ℕ) → Type 0
+AreHoldsTold words names holds old new =
+    (text : List ℕ) × IsHoldsText words names holds text × Appends old new text
 
-abbrev pub AreHoldsCut : HoldsWords → List (List Hold) → Option (List ℕ) → Option (List ℕ)
-    → Type 0
-AreHoldsCut words holds old new =
-    (text : List ℕ) × IsHoldsText words holds text × AppendsFront old new text
+abbrev pub AreHoldsCut : HoldsWords → Option Names → List (List Hold) → Option (List ℕ)
+    → Option (List ℕ) → Type 0
+AreHoldsCut words names holds old new =
+    (text : List ℕ) × IsHoldsText words names holds text × AppendsFront old new text
 
 -- ---- whose holds
 
@@ -86,27 +89,34 @@ pub record AreFilesHolds (files : Option Held) (name : List ℕ) (r : SegmentNum
   pub told : LeadTo [] fs locks
   pub all : holds ≡ map all_holds locks
 
--- the word names a folder in which there is something, with such segments
-pub record AreFolderHolds (name : List ℕ) (files : Option Held) (holds : List (List Hold)) :
-    Type 0 where
+-- whether the file of locks is among the entries of a folder
+abbrev pub has_locks : List FolderEntry → Bool
+has_locks entries = is_among (names_of entries) list_name
+
+-- The word names a folder in which there is something, with such segments. If the folder has a list
+-- of locks, each of these locks has the name that the list has for its ring.
+pub record AreFolderHolds (name : List ℕ) (files : Option Held) (names : Option Names)
+    (holds : List (List Hold)) : Type 0 where
   pub entries : List FolderEntry
   pub r : SegmentNumbers
   pub listed : IsFolder files name entries
   pub numbers : IsRightNumbers entries (Ok (Some r))
   pub held : AreFilesHolds files name r holds
+  pub named : AreNamesIn files name (has_locks entries) (length holds) names
 
--- a text, or, if it is not a standard stream, a folder
-abbrev pub AreNamedHolds : List ℕ → World → World → List (List Hold) → Type 0
-AreNamedHolds word was is holds =
-    AreTextHolds word was.files was.input is.input holds
-    ⊎ ((names_stream word ≡ false) × AreFolderHolds word was.files holds)
+-- a text, whose locks have no names, or, if it is not a standard stream, a folder
+abbrev pub AreNamedHolds : List ℕ → World → World → Option Names → List (List Hold) → Type 0
+AreNamedHolds word was is names holds =
+    ((names ≡ None) × AreTextHolds word was.files was.input is.input holds)
+    ⊎ ((names_stream word ≡ false) × AreFolderHolds word was.files names holds)
 
--- The lines of the holds of what the word names are written.
+-- The lines of the holds of what the word names are written, each with the name of its lock.
 abbrev pub IsHoldsAnswer : HoldsWords → World → World → Type 0
 IsHoldsAnswer words was is =
-    (holds : List (List Hold))
-    × AreNamedHolds words.file.now was is holds
-    × AreHoldsTold words holds was.out is.out
+    (names : Option Names)
+    × (holds : List (List Hold))
+    × AreNamedHolds words.file.now was is names holds
+    × AreHoldsTold words names holds was.out is.out
 
 -- ---- refusals
 
@@ -164,7 +174,15 @@ IsUnheldChain files name r e =
     (IsFileRefused files name r e ⊎ IsNamedWrong files name r e)
     ⊎ (((fs : List File) × IsChainIn files name r fs) × AreFilesUnheld files name r e)
 
--- the names in a folder are refused, or its files
+-- the files of a folder are refused; or its list of locks, where they show these holds
+abbrev pub IsListUnheld : Option Held → List ℕ → Bool → SegmentNumbers → ToolError → Type 0
+IsListUnheld files name has r e =
+    IsUnheldChain files name r e
+    ⊎ ((holds : List (List Hold))
+    × AreFilesHolds files name r holds
+    × AreNoNamesIn files name has (length holds) e)
+
+-- the names in a folder are refused, or its files, or its list
 abbrev pub IsFolderUnheld : List ℕ → Option Held → ToolError → Type 0
 IsFolderUnheld name files e =
     (entries : List FolderEntry)
@@ -172,7 +190,7 @@ IsFolderUnheld name files e =
     × (AreNamesRefused name entries e
     ⊎ ((r : SegmentNumbers)
     × IsRightNumbers entries (Ok (Some r))
-    × IsUnheldChain files name r e))
+    × IsListUnheld files name (has_locks entries) r e))
 
 -- a text is refused, or, if the word is not a standard stream, a folder
 abbrev pub IsNamedUnheld : List ℕ → World → World → ToolError → Type 0
@@ -181,16 +199,17 @@ IsNamedUnheld word was is e =
     ⊎ ((names_stream word ≡ false) × IsFolderUnheld word was.files e)
 
 -- there are the holds, but not all of their lines are written; or there is no memory to count them
-abbrev pub AreHoldsUntold : HoldsWords → List (List Hold) → Option (List ℕ)
+abbrev pub AreHoldsUntold : HoldsWords → Option Names → List (List Hold) → Option (List ℕ)
     → Option (List ℕ) → ToolError → Type 0
-AreHoldsUntold words holds old new tool.Write = AreHoldsCut words holds old new
-AreHoldsUntold words holds old new tool.OutOfMemory = words.by_label ≡ true
-AreHoldsUntold words holds old new _ = ⊥
+AreHoldsUntold words names holds old new tool.Write = AreHoldsCut words names holds old new
+AreHoldsUntold words names holds old new tool.OutOfMemory = words.by_label ≡ true
+AreHoldsUntold words names holds old new _ = ⊥
 
 -- Which refusals `holds` may meet: those of what the word names, and those of the lines.
 abbrev pub IsHoldsRefusal : HoldsWords → World → World → ToolError → Type 0
 IsHoldsRefusal words was is e =
     IsNamedUnheld words.file.now was is e
-    ⊎ ((holds : List (List Hold))
-    × AreNamedHolds words.file.now was is holds
-    × AreHoldsUntold words holds was.out is.out e)
+    ⊎ ((names : Option Names)
+    × (holds : List (List Hold))
+    × AreNamedHolds words.file.now was is names holds
+    × AreHoldsUntold words names holds was.out is.out e)

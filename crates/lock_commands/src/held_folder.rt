@@ -5,12 +5,14 @@ ghost use Rattle.disks.specs.Held.{IsHeld};
 ghost use Rattle.line_service.specs.SegmentNames.{segment_file};
 ghost use Rattle.chain_readers.specs.Chains.{IsHeldWith};
 ghost use Rattle.tool_parts.specs.Chained.{IsFolder};
-ghost use Rattle.lock_commands.specs.HoldsAnswer.{AreFilesHolds, AreFolderHolds, IsUnheld, IsFileUnheld, AreFilesUnheld, IsFolderUnheld};
+ghost use Rattle.lock_commands.specs.HoldsAnswer.{AreFilesHolds, AreFolderHolds, IsUnheld, IsFileUnheld, AreFilesUnheld, IsUnheldChain, IsFolderUnheld};
 ghost use Rattle.lock_commands.specs.HoldSteps.{HoldLeads, HoldEnds};
 
+use crate::hold_names::names_in;
 use chain_readers::{ChainHoldError, Hold, HoldChain};
 use disks::{Disk, FolderEntry};
-use line_service::SegmentNumbers;
+use line_service::{SegmentNumbers, has_list};
+use lock_protocol::LockNames;
 use segment_files::SegmentError;
 use std::alloc::Global;
 use tool_parts::chain::{chain_in, folder_numbers, segment_bytes};
@@ -122,26 +124,22 @@ fn files_holds<'a, D: Disk>(
     }
 }
 
-/// The holds of the locks whose segments a folder with these entries has.
+/// The same; but what `check` refuses is refused as it does.
 ///
 /// # Errors
 ///
-/// Those of [`folder_numbers`], those of [`chain_in`], and, if there are none of these, those of [`files_holds`].
-pub(crate) fn folder_holds<'a, D: Disk>(
+/// Those of [`chain_in`], and, if there are none of these, those of [`files_holds`].
+fn chain_holds<'a, D: Disk>(
     alloc: Global,
     disk: &D,
     folder: &'a str,
-    entries: &[FolderEntry],
+    numbers: SegmentNumbers,
 ) -> Result<Vec<Vec<Hold>>, ToolError<'a>>
-    requires { IsFolder (D.holds disk.now) folder.now entries.now }
+    requires up { numbers.first ≤ numbers.last }
     ensures ok { IfOk result (λ found.
-        AreFolderHolds folder.now (D.holds disk.now) (map (λ v. v.items) found.items)) }
-    ensures err { IfErr result (λ e. IsFolderUnheld folder.now (D.holds disk.now) e) }
+        AreFilesHolds (D.holds disk.now) folder.now numbers (map (λ v. v.items) found.items)) }
+    ensures err { IfErr result (λ e. IsUnheldChain (D.holds disk.now) folder.now numbers e) }
 {
-    let numbers = match folder_numbers(alloc, folder, entries) {
-        Ok(numbers) => numbers,
-        Err(fault) => return Err(fault),
-    };
     let fault = match files_holds(alloc, disk, folder, numbers) {
         Ok(holds) => return Ok(holds),
         Err(fault) => fault,
@@ -149,5 +147,42 @@ pub(crate) fn folder_holds<'a, D: Disk>(
     match chain_in(alloc, disk, folder, numbers) {
         Ok(_) => Err(fault),
         Err(first) => Err(first),
+    }
+}
+
+/// The holds of locks, and the names of the locks, if they have any.
+#[derive(Drop)]
+pub(crate) struct FoundHolds {
+    pub locks: Vec<Vec<Hold>>,
+    pub names: Option<LockNames>,
+}
+
+/// The holds of the locks whose segments a folder with these entries has, and the names of the locks.
+///
+/// # Errors
+///
+/// Those of [`folder_numbers`], those of [`chain_holds`], and those of [`names_in`].
+pub(crate) fn folder_holds<'a, D: Disk>(
+    alloc: Global,
+    disk: &D,
+    folder: &'a str,
+    entries: &[FolderEntry],
+) -> Result<FoundHolds, ToolError<'a>>
+    requires { IsFolder (D.holds disk.now) folder.now entries.now }
+    ensures ok { IfOk result (λ found. AreFolderHolds folder.now (D.holds disk.now) found.names
+        (map (λ v. v.items) found.locks.items)) }
+    ensures err { IfErr result (λ e. IsFolderUnheld folder.now (D.holds disk.now) e) }
+{
+    let numbers = match folder_numbers(alloc, folder, entries) {
+        Ok(numbers) => numbers,
+        Err(fault) => return Err(fault),
+    };
+    let locks = match chain_holds(alloc, disk, folder, numbers) {
+        Ok(locks) => locks,
+        Err(fault) => return Err(fault),
+    };
+    match names_in(alloc, disk, folder, has_list(entries), locks.len()) {
+        Ok(names) => Ok(FoundHolds { locks, names }),
+        Err(fault) => Err(fault),
     }
 }

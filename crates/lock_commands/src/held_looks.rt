@@ -4,30 +4,29 @@ ghost use Rattle.std.specs.Prelude.{map, IfOk, IfErr};
 ghost use Rattle.tool_parts.specs.Chained.{IsFolder};
 ghost use Rattle.lock_commands.specs.HoldsAnswer.{AreFolderHolds, IsFolderUnheld};
 
-use crate::held_folder::folder_holds;
-use chain_readers::Hold;
+use crate::held_folder::{FoundHolds, folder_holds};
 use disks::{Disk, FolderEntry};
 use std::alloc::Global;
 use tool_parts::chain::folder_entries;
 use tool_parts::faults::ToolError;
 use tool_parts::looks::{MOST_LOOKS, has_gone};
 
-/// The holds that were found in a folder; or those that are found by the names that are there now, if a segment had gone.
+/// What was found in a folder; or what is found by the entries that are there now, if a segment had gone.
 fn look_again<'a, D: Disk>(
     alloc: Global,
     disk: &D,
     folder: &'a str,
-    found: Result<Vec<Vec<Hold>>, ToolError<'a>>,
-) -> Result<Vec<Vec<Hold>>, ToolError<'a>>
-    requires ok { IfOk found (λ found.
-        AreFolderHolds folder.now (D.holds disk.now) (map (λ v. v.items) found.items)) }
+    found: Result<FoundHolds, ToolError<'a>>,
+) -> Result<FoundHolds, ToolError<'a>>
+    requires ok { IfOk found (λ found. AreFolderHolds folder.now (D.holds disk.now) found.names
+        (map (λ v. v.items) found.locks.items)) }
     requires err { IfErr found (λ e. IsFolderUnheld folder.now (D.holds disk.now) e) }
-    ensures ok { IfOk result (λ found.
-        AreFolderHolds folder.now (D.holds disk.now) (map (λ v. v.items) found.items)) }
+    ensures ok { IfOk result (λ found. AreFolderHolds folder.now (D.holds disk.now) found.names
+        (map (λ v. v.items) found.locks.items)) }
     ensures err { IfErr result (λ e. IsFolderUnheld folder.now (D.holds disk.now) e) }
 {
     match found {
-        Ok(holds) => Ok(holds),
+        Ok(found) => Ok(found),
         Err(fault) => {
             if !has_gone(alloc, disk, fault) {
                 return Err(fault);
@@ -40,7 +39,8 @@ fn look_again<'a, D: Disk>(
     }
 }
 
-/// The holds of the locks whose segments a folder with these entries has; by new names as long as a segment has gone.
+/// The holds of the locks whose segments a folder with these entries has, and the names of the locks; by new entries as long as a
+/// segment has gone.
 ///
 /// # Errors
 ///
@@ -50,10 +50,10 @@ pub(crate) fn holds_in<'a, D: Disk>(
     disk: &D,
     folder: &'a str,
     entries: &[FolderEntry],
-) -> Result<Vec<Vec<Hold>>, ToolError<'a>>
+) -> Result<FoundHolds, ToolError<'a>>
     requires { IsFolder (D.holds disk.now) folder.now entries.now }
-    ensures ok { IfOk result (λ found.
-        AreFolderHolds folder.now (D.holds disk.now) (map (λ v. v.items) found.items)) }
+    ensures ok { IfOk result (λ found. AreFolderHolds folder.now (D.holds disk.now) found.names
+        (map (λ v. v.items) found.locks.items)) }
     ensures err { IfErr result (λ e. IsFolderUnheld folder.now (D.holds disk.now) e) }
 {
     let mut found = folder_holds(alloc, disk, folder, entries);

@@ -1,14 +1,14 @@
-//! `holds`: the holds of the locks whose histories are a saved text, or the segments of a folder.
+//! `holds`: the holds of the locks whose histories are a saved text, or the segments of a folder, with the names of its list.
 
 ghost use Rattle.std.specs.Prelude.{true, false, ◌≡◌, ◌≢◌, None, map, OnOk, IfOk, IfErr};
 ghost use Rattle.tool_parts.specs.Reading.{names_stream};
 ghost use Rattle.tool_parts.specs.Worlds.{world};
 ghost use Rattle.lock_commands.specs.HoldsAnswer.{choice_of, AreHoldsTold, AreHoldsUntold, AreTextHolds, IsTextUnheld, AreNamedHolds, IsNamedUnheld, IsHoldsAnswer, IsHoldsRefusal};
 
+use crate::held_folder::FoundHolds;
 use crate::held_looks::holds_in;
-use chain_readers::{
-    ChainHoldError, Choice, Hold, count_labels, holds_of_saved, put_holds, put_labels,
-};
+use crate::hold_lines::put_holds;
+use chain_readers::{ChainHoldError, Choice, Hold, count_labels, holds_of_saved, put_labels};
 use disks::Disk;
 use std::alloc::Global;
 use std::io::{Read, Write};
@@ -61,8 +61,8 @@ fn text_holds<'a, D: Disk, I: Read>(
     }
 }
 
-/// The holds of the locks of what a word names: of a folder's segments, if it leads to a folder in which there is something, else
-/// of a saved text.
+/// The holds of the locks of what a word names, and the names of the locks: of a folder's segments and list, if it leads to a folder
+/// in which there is something, else of a saved text, whose locks have no names.
 ///
 /// # Errors
 ///
@@ -72,19 +72,25 @@ fn named_holds<'a, D: Disk, I: Read>(
     disk: &D,
     file: &'a str,
     input: &mut I,
-) -> Result<Vec<Vec<Hold>>, ToolError<'a>>
+) -> Result<FoundHolds, ToolError<'a>>
     ensures ok { IfOk result (λ found. AreNamedHolds file.now
         (world (D.holds disk.now) (I.remaining input.old) None None)
         (world (D.holds disk.now) (I.remaining input.new) None None)
-        (map (λ v. v.items) found.items)) }
+        found.names (map (λ v. v.items) found.locks.items)) }
     ensures err { IfErr result (λ e. IsNamedUnheld file.now
         (world (D.holds disk.now) (I.remaining input.old) None None)
         (world (D.holds disk.now) (I.remaining input.new) None None) e) }
     ensures unread { names_stream file.now ≡ false → input.new ≡ input.old }
 {
-    match entries_of(disk, file) {
-        None => text_holds(alloc, disk, file, input),
-        Some(entries) => holds_in(alloc, disk, file, &entries),
+    let Some(entries) = entries_of(disk, file) else {
+        return match text_holds(alloc, disk, file, input) {
+            Ok(locks) => Ok(FoundHolds { locks, names: None }),
+            Err(fault) => Err(fault),
+        };
+    };
+    match holds_in(alloc, disk, file, &entries) {
+        Ok(found) => Ok(found),
+        Err(fault) => Err(fault),
     }
 }
 
@@ -92,17 +98,17 @@ fn named_holds<'a, D: Disk, I: Read>(
 fn tell_labels<W: Write>(
     alloc: Global,
     words: &HoldsWords<'_>,
-    locks: &[Vec<Hold>],
+    found: &FoundHolds,
     out: &mut W,
 ) -> Result<(), ToolError<'static>>
     requires by_label { words.now.by_label ≡ true }
-    ensures ok { OnOk result (AreHoldsTold words.now (map (λ v. v.items) locks.now)
-        (W.contents out.old) (W.contents out.new)) }
-    ensures err { IfErr result (λ e. AreHoldsUntold words.now (map (λ v. v.items) locks.now)
-        (W.contents out.old) (W.contents out.new) e) }
+    ensures ok { OnOk result (AreHoldsTold words.now found.now.names
+        (map (λ v. v.items) found.now.locks.items) (W.contents out.old) (W.contents out.new)) }
+    ensures err { IfErr result (λ e. AreHoldsUntold words.now found.now.names
+        (map (λ v. v.items) found.now.locks.items) (W.contents out.old) (W.contents out.new) e) }
     ensures nothing { IfErr result (λ e. e ≢ ToolError.Write → out.new ≡ out.old) }
 {
-    let counts = match count_labels(alloc, choice_of(words), locks) {
+    let counts = match count_labels(alloc, choice_of(words), found.locks.as_slice()) {
         Ok(counts) => counts,
         Err(_) => return Err(ToolError::OutOfMemory),
     };
@@ -112,36 +118,38 @@ fn tell_labels<W: Write>(
     }
 }
 
-/// Writes the lines that the words ask for, of locks with these holds.
+/// Writes the lines that the words ask for, of locks with these names and holds.
 fn tell_holds<W: Write>(
     alloc: Global,
     words: &HoldsWords<'_>,
-    locks: &[Vec<Hold>],
+    found: &FoundHolds,
     out: &mut W,
 ) -> Result<(), ToolError<'static>>
-    ensures ok { OnOk result (AreHoldsTold words.now (map (λ v. v.items) locks.now)
-        (W.contents out.old) (W.contents out.new)) }
-    ensures err { IfErr result (λ e. AreHoldsUntold words.now (map (λ v. v.items) locks.now)
-        (W.contents out.old) (W.contents out.new) e) }
+    ensures ok { OnOk result (AreHoldsTold words.now found.now.names
+        (map (λ v. v.items) found.now.locks.items) (W.contents out.old) (W.contents out.new)) }
+    ensures err { IfErr result (λ e. AreHoldsUntold words.now found.now.names
+        (map (λ v. v.items) found.now.locks.items) (W.contents out.old) (W.contents out.new) e) }
     ensures nothing { IfErr result (λ e. e ≢ ToolError.Write → out.new ≡ out.old) }
 {
     if words.by_label {
-        return tell_labels(alloc, words, locks, out);
+        return tell_labels(alloc, words, found, out);
     }
-    match put_holds(out, choice_of(words), locks) {
+    match put_holds(out, choice_of(words), &found.names, found.locks.as_slice()) {
         Ok(()) => Ok(()),
         Err(_) => Err(ToolError::Write),
     }
 }
 
 /// `holds`, from its words: the lines of the holds of the locks whose histories are what the word FILE names, or of how many holds
-/// each label has, go to `out`. No file changes.
+/// each label has, go to `out`. A line has the name that the list of a folder has for the ring of its lock; if FILE is a saved text,
+/// or a folder without a file of locks, it has the ring's number. No file changes.
 ///
 /// # Errors
 ///
 /// Those of `check` for a file or a folder, and `NoHold` with the first lock whose history is not that of a lock, and the first
-/// place there. Nothing is written then. `Write` where the writer fails: the bytes written until then are a prefix of the lines.
-/// Where a file is named, standard input stays as it was.
+/// place there; if there are none of these, `UnreadLocks`, `BadLocks` and `ManyLocks` for a folder's file of locks, and `OtherRing`
+/// with the first ring that has no lock in it. Nothing is written then. `Write` where the writer fails: the bytes written until then
+/// are a prefix of the lines. Where a file is named, standard input stays as it was.
 pub fn run<'a, D: Disk, I: Read, W: Write>(
     alloc: Global,
     disk: &D,
@@ -158,11 +166,11 @@ pub fn run<'a, D: Disk, I: Read, W: Write>(
     ensures nothing { IfErr result (λ e. e ≢ ToolError.Write → out.new ≡ out.old) }
     ensures unread { names_stream words.now.file.now ≡ false → input.new ≡ input.old }
 {
-    let locks = match named_holds(alloc, disk, words.file, input) {
-        Ok(locks) => locks,
+    let found = match named_holds(alloc, disk, words.file, input) {
+        Ok(found) => found,
         Err(fault) => return Err(fault),
     };
-    match tell_holds(alloc, words, locks.as_slice(), out) {
+    match tell_holds(alloc, words, &found, out) {
         Ok(()) => Ok(()),
         Err(fault) => Err(fault),
     }

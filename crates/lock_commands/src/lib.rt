@@ -3,6 +3,8 @@
 
 mod held_folder;
 mod held_looks;
+mod hold_lines;
+mod hold_names;
 mod holders;
 pub mod holds;
 pub mod locks;

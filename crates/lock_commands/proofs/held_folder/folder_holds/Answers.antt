@@ -1,11 +1,32 @@
-use Rattle.std.proofs.Common.{inl, inr}
+use Rattle.std.proofs.Common.{map, inl, inr}
+use Rattle.lock_commands.proofs.FolderNames.{items, names_of_folder, no_names_of_folder}
 use Rattle.lock_commands.proofs.held_folder.folder_holds.Goals as goal
 
-pub returns-in-Ok-chain_in-clause-err : goal.returns-in-Ok-chain_in-clause-err
-returns-in-Ok-chain_in-clause-err g c =
-    let x = c.in-Ok-chain_in.ensures.ok in
-    (c.args.entries.now, c.requires, inr (c.in-Ok.numbers, c.in-Ok.ensures.ok, inr ((x.0, x.1), c.in-Err-files_holds.ensures.err)))
+pub returns-in-Err-chain_holds-clause-err : goal.returns-in-Err-chain_holds-clause-err
+returns-in-Err-chain_holds-clause-err g c =
+    (c.args.entries.now, c.requires, inr (c.in-Ok.numbers, c.in-Ok.ensures.ok, inl c.in-Err-chain_holds.ensures.err))
 
-pub returns-in-Err-chain_in-clause-err : goal.returns-in-Err-chain_in-clause-err
-returns-in-Err-chain_in-clause-err g c =
-    (c.args.entries.now, c.requires, inr (c.in-Ok.numbers, c.in-Ok.ensures.ok, inl c.in-Err-chain_in.ensures.err))
+pub returns-in-Ok-names_in-clause-ok : goal.returns-in-Ok-names_in-clause-ok
+returns-in-Ok-names_in-clause-ok g c = record {
+  entries = c.args.entries.now;
+  r = c.in-Ok.numbers;
+  listed = c.requires;
+  numbers = c.in-Ok.ensures.ok;
+  held = c.in-Ok-chain_holds.ensures.ok;
+  named = names_of_folder _ _ _ _ c.in-Ok-chain_holds.locks.items _ _ c.has_list.ensures c.len.ensures c.in-Ok-names_in.ensures.ok;
+}
+
+pub returns-in-Err-names_in-clause-err : goal.returns-in-Err-names_in-clause-err
+returns-in-Err-names_in-clause-err g c = (
+  c.args.entries.now,
+  c.requires,
+  inr (
+    c.in-Ok.numbers,
+    c.in-Ok.ensures.ok,
+    inr (
+      map items c.in-Ok-chain_holds.locks.items,
+      c.in-Ok-chain_holds.ensures.ok,
+      no_names_of_folder _ _ _ _ c.in-Ok-chain_holds.locks.items _ _ c.has_list.ensures c.len.ensures c.in-Err-names_in.ensures.err,
+    ),
+  ),
+)
