@@ -1,5 +1,5 @@
 //! Histories of locks that are not legal, which the command `holds` refuses before it reads them; the sums of a chain; and the names
-//! that `holds` has for the locks of a folder.
+//! of a folder's locks in its lines.
 
 use crate::files::memory::{make_folder, no_files, put};
 use chain_readers::{ChainHoldError, Choice, HoldChain, holds_of_saved, put_holds};

@@ -39,8 +39,8 @@ fn look_again<'a, D: Disk>(
     }
 }
 
-/// The holds of the locks whose segments a folder with these entries has, and the names of the locks; by new entries as long as a
-/// segment has gone.
+/// The holds of the locks whose segments a folder with these entries has, and the names of the
+/// locks; by new entries as long as a segment has gone.
 ///
 /// # Errors
 ///

@@ -22,7 +22,7 @@ fn name_at(names: &LockNames, lock: u64) -> &[u8]
     names.name(lock as u32)
 }
 
-/// Writes which lock is held, by its name or, where there are no names, by its ring's number, and the token.
+/// Writes which lock is held, and the token: the lock's name or, without names, its ring's number.
 fn put_told<W: Write>(
     out: &mut W,
     names: &Option<LockNames>,

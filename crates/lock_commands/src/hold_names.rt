@@ -76,8 +76,8 @@ fn names_of(alloc: Global, list: &[ListedLock<'_>]) -> Result<LockNames, StartFa
 ///
 /// # Errors
 ///
-/// `UnreadLocks`, `BadLocks`, `ManyLocks`; `OtherRing` with how many locks the list has, if that is less than the rings;
-/// `OutOfMemory`.
+/// `UnreadLocks`, `BadLocks`, `ManyLocks`; `OtherRing` with the place of the first ring for which
+/// the list has no lock; `OutOfMemory`.
 fn listed_names<D: Disk>(
     alloc: Global,
     disk: &D,
@@ -104,7 +104,7 @@ fn listed_names<D: Disk>(
     }
 }
 
-/// The names of the locks of a folder, whose segments have this many rings: none, if it has no file of locks.
+/// The names of the locks of a folder with this many rings: none, if it has no file of locks.
 ///
 /// # Errors
 ///

@@ -61,8 +61,8 @@ fn text_holds<'a, D: Disk, I: Read>(
     }
 }
 
-/// The holds of the locks of what a word names, and the names of the locks: of a folder's segments and list, if it leads to a folder
-/// in which there is something, else of a saved text, whose locks have no names.
+/// The holds of the locks of what a word names, and the names of the locks: those of a folder, if it
+/// leads to one in which there is something, else those of a saved text, whose locks have no names.
 ///
 /// # Errors
 ///
@@ -141,15 +141,15 @@ fn tell_holds<W: Write>(
 }
 
 /// `holds`, from its words: the lines of the holds of the locks whose histories are what the word FILE names, or of how many holds
-/// each label has, go to `out`. A line has the name that the list of a folder has for the ring of its lock; if FILE is a saved text,
-/// or a folder without a file of locks, it has the ring's number. No file changes.
+/// each label has, go to `out`. A line of a hold has the name that the list of a folder has for the lock's ring; if FILE is a saved
+/// text, or a folder without a file of locks, it has the ring's number. No file changes.
 ///
 /// # Errors
 ///
 /// Those of `check` for a file or a folder, and `NoHold` with the first lock whose history is not that of a lock, and the first
-/// place there; if there are none of these, `UnreadLocks`, `BadLocks` and `ManyLocks` for a folder's file of locks, and `OtherRing`
-/// with the first ring that has no lock in it. Nothing is written then. `Write` where the writer fails: the bytes written until then
-/// are a prefix of the lines. Where a file is named, standard input stays as it was.
+/// place there; if there are none, `UnreadLocks`, `BadLocks` or `ManyLocks` for a folder's file of locks, or `OtherRing` with the
+/// first ring for which it has no lock. Nothing is written then. `Write` where the writer fails: the bytes written until then are a
+/// prefix of the lines. Where a file is named, standard input stays as it was.
 pub fn run<'a, D: Disk, I: Read, W: Write>(
     alloc: Global,
     disk: &D,
