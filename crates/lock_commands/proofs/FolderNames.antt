@@ -1,5 +1,5 @@
 -- The names of a folder's locks, by its entries and its holds.
-use Rattle.std.proofs.Common.{◌≡◌, ℕ, List, length, map, Bool, Option, subst, sym, Vec, Global}
+use Rattle.std.proofs.Common.{◌≡◌, ℕ, List, length, map, Bool, Option, subst, arith, Vec, Global}
 use Rattle.std.proofs.lemmas.List.{length-map}
 use Rattle.disks.specs.Held.{Held}
 use Rattle.lock_protocol.specs.Names.{Names}
@@ -12,7 +12,7 @@ items v = v.items
 
 -- as many rings as lists of holds
 as_many : (locks : List (Vec Hold Global)) (rings : ℕ) → rings ≡ length locks → rings ≡ length (map items locks)
-as_many locks rings same = let many = length-map locks items in omega (many, same)
+as_many locks rings same = let many = length-map locks items in omega (arith, many, same)
 
 pub names_of_folder : (files : Option Held) (folder : List ℕ) (has there : Bool) (locks : List (Vec Hold Global)) (rings : ℕ) (names : Option Names) → has ≡ there → rings ≡ length locks
     → AreNamesIn files folder has rings names → AreNamesIn files folder there (length (map items locks)) names
