@@ -5,7 +5,6 @@ use Rattle.disks.specs.Held.{Held, IsHeld}
 use Rattle.line_service.specs.declared.segment_numbers.SegmentNumbers.{SegmentNumbers}
 use Rattle.line_service.specs.SegmentNames.{segment_file}
 use Rattle.segment_files.specs.declared.sums.ChainSums.{ChainSums}
-use Rattle.segment_files.specs.Files.{File}
 use Rattle.segment_files.specs.Sums.{no_sums, sums_after}
 use Rattle.segment_files.specs.Chain.{State, sums_at}
 use Rattle.segment_files.specs.Chain as segments

@@ -3,7 +3,6 @@ use Rattle.std.proofs.Common.{◌≡◌, ℕ, false, List, ◌++◌, Option, sym
 use Rattle.disks.specs.Held.{Held}
 use Rattle.saved_history.specs.Spelling.{Fits}
 use Rattle.held_locks.specs.Kept.{LockView, AreKept}
-use Rattle.lock_protocol.specs.Names.{Names}
 use Rattle.line_service.specs.Notes.{ToldLinesAreNoted}
 use Rattle.line_service.specs.Segments.{Moment, HasBegun}
 use Rattle.folder_of_locks.specs.Folders.{Place}

@@ -1,5 +1,5 @@
 -- Files whose content is known stay known while the locks of a folder start.
-use Rattle.std.proofs.Common.{◌≡◌, ℕ, List, Option, None, Some, sym, subst}
+use Rattle.std.proofs.Common.{ℕ, List, Option, None, Some, sym, subst}
 use Rattle.std.specs.Prelude.{IsSome}
 use Rattle.disks.specs.Held.{Held}
 use Rattle.folder_of_locks.specs.Holders.{Hold}

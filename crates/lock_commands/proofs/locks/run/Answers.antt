@@ -4,7 +4,6 @@ use Rattle.folder_of_locks.specs.Holders.{hold_of}
 use Rattle.line_replica.specs.declared.replica.Replica.{Replica}
 use Rattle.lock_service.specs.declared.service.LockService.{LockService}
 use Rattle.held_locks.specs.Kept.{LockView}
-use Rattle.lock_commands.specs.Locks.{IsServedIn, IsRefusedIn}
 use Rattle.lock_commands.specs.Totals.{total_line, IsUntold}
 use Rattle.lock_commands.proofs.locks.run.Goals as goal
 
