@@ -16,5 +16,4 @@ pub mod Parts
 pub mod Files
 pub mod ChainHolds
 pub mod ChainPlaces
-pub mod LineLaws
 pub mod HoldCounting

@@ -1,6 +1,5 @@
 -- The lines of holds (this project's own).
-use Rattle.std.specs.Prelude.{ℕ, ◌+◌, ◌==◌, ◌&&◌, Bool, true, false, cond, List, [], ◌∷◌, ◌++◌, Option, Some, None, codes, decimal}
-use Rattle.std.specs.List.{flat_map}
+use Rattle.std.specs.Prelude.{ℕ, ◌==◌, ◌&&◌, Bool, true, false, cond, List, ◌++◌, Option, Some, None, codes, decimal}
 use Rattle.chain_readers.specs.declared.holds.Grant.{Grant}
 use Rattle.chain_readers.specs.declared.holds.End.{End}
 use Rattle.chain_readers.specs.declared.holds.Hold.{Hold}
@@ -20,14 +19,6 @@ abbrev pub end_text : Option End → List ℕ
 end_text None = codes " to - open\n"
 end_text (Some e) = codes " to " ++ (decimal e.to ++ ending e.left)
 
--- the line of a hold of the lock of this number
-abbrev pub lock_text : ℕ → ℕ → List ℕ
-lock_text lock token =
-    codes "lock " ++ (decimal lock ++ (codes " token " ++ decimal token))
-
-abbrev pub hold_line : ℕ → Hold → List ℕ
-hold_line lock h = lock_text lock h.token ++ (grant_text h.grant ++ end_text h.end)
-
 -- a number is the one that is asked for, if one is
 abbrev pub is_asked : Option ℕ → ℕ → Bool
 is_asked None n = true
@@ -42,14 +33,3 @@ is_label_asked (Some wanted) (Some g) = wanted == g.label
 -- whether the lines of a choice have this hold
 abbrev pub is_chosen : Choice → ℕ → Hold → Bool
 is_chosen c lock h = is_asked c.lock lock && is_label_asked c.label h.grant
-
--- the lines of the holds of a lock, and of all locks from this number on
-abbrev pub chosen_line : Choice → ℕ → Hold → List ℕ
-chosen_line c lock h = cond (is_chosen c lock h) (hold_line lock h) []
-
-abbrev pub lines_of : Choice → ℕ → List Hold → List ℕ
-lines_of c lock holds = flat_map (chosen_line c lock) holds
-
-abbrev pub all_lines : Choice → ℕ → List (List Hold) → List ℕ
-all_lines c lock [] = []
-all_lines c lock (holds ∷ more) = lines_of c lock holds ++ all_lines c (lock + 1) more

@@ -1,8 +1,8 @@
 //! The lines of holds.
 
-ghost use Rattle.std.specs.Prelude.{◌≡◌, ◌++◌, map};
+ghost use Rattle.std.specs.Prelude.{◌≡◌, ◌++◌};
 ghost use Rattle.text_lines.specs.Writing.{Writes};
-ghost use Rattle.chain_readers.specs.HoldLines.{lock_text, grant_text, ending, end_text, hold_line, is_asked, is_label_asked, is_chosen, chosen_line, lines_of, all_lines};
+ghost use Rattle.chain_readers.specs.HoldLines.{grant_text, ending, end_text, is_asked, is_label_asked, is_chosen};
 
 use crate::holds::{End, Grant, Hold};
 use itoa::Buffer;
@@ -16,16 +16,6 @@ pub struct Choice {
     pub lock: Option<u64>,
     /// Those with this label only.
     pub label: Option<u64>,
-}
-
-/// Writes which lock is held, and the token.
-fn put_lock<W: Write>(out: &mut W, lock: u64, token: u64) -> Result<(), WriteFault>
-    ensures { Writes (W.contents out.old) (W.contents out.new) result (lock_text lock token) }
-{
-    let mut buffers = (Buffer::new(), Buffer::new());
-    let lock = buffers.0.format(lock).as_bytes();
-    let token = buffers.1.format(token).as_bytes();
-    put_all(out, &[b"lock ", lock, b" token ", token])
 }
 
 /// Writes how a hold began.
@@ -60,25 +50,18 @@ fn put_end<W: Write>(out: &mut W, end: Option<End>) -> Result<(), WriteFault>
     put_all(out, &[b" to ", to, ending(end.left)])
 }
 
-/// Writes the line of a hold below its first words.
+/// Writes the line of a hold after its first words, which say the lock and the token: its label, and where it began and ended.
+///
+/// # Errors
+///
+/// As [`put_all`]: the writer then holds a prefix of this, but not all of it, after what it held.
 #[tactic(auto, using(text_lines::proofs::Writing::writes_then, text_lines::proofs::Writing::writes_err))]
-fn put_rest<W: Write>(out: &mut W, hold: &Hold) -> Result<(), WriteFault>
+pub fn put_rest<W: Write>(out: &mut W, hold: &Hold) -> Result<(), WriteFault>
     ensures { Writes (W.contents out.old) (W.contents out.new) result
         (grant_text hold.now.grant ++ end_text hold.now.end) }
 {
     match put_grant(out, hold.grant) {
         Ok(()) => put_end(out, hold.end),
-        Err(fault) => Err(fault),
-    }
-}
-
-/// Writes the line of a hold.
-#[tactic(auto, using(text_lines::proofs::Writing::writes_then, text_lines::proofs::Writing::writes_err))]
-fn put_hold<W: Write>(out: &mut W, lock: u64, hold: &Hold) -> Result<(), WriteFault>
-    ensures { Writes (W.contents out.old) (W.contents out.new) result (hold_line lock hold.now) }
-{
-    match put_lock(out, lock, hold.token) {
-        Ok(()) => put_rest(out, hold),
         Err(fault) => Err(fault),
     }
 }
@@ -105,66 +88,8 @@ fn is_asked(wanted: Option<u64>, number: u64) -> bool
 }
 
 /// Whether a hold of the lock of this number is wanted.
-pub(crate) fn is_chosen(choice: Choice, lock: u64, hold: &Hold) -> bool
+pub fn is_chosen(choice: Choice, lock: u64, hold: &Hold) -> bool
     ensures { result ≡ is_chosen choice lock hold.now }
 {
     is_asked(choice.lock, lock) && is_label_asked(choice.label, hold.grant)
-}
-
-/// Writes the line of a hold, if it is wanted.
-fn put_chosen<W: Write>(
-    out: &mut W,
-    choice: Choice,
-    lock: u64,
-    hold: &Hold,
-) -> Result<(), WriteFault>
-    ensures { Writes (W.contents out.old) (W.contents out.new) result
-        (chosen_line choice lock hold.now) }
-{
-    if is_chosen(choice, lock, hold) {
-        put_hold(out, lock, hold)
-    } else {
-        put_all(out, &[])
-    }
-}
-
-/// Writes the lines of the holds of a lock.
-fn put_lines<W: Write>(
-    out: &mut W,
-    choice: Choice,
-    lock: u64,
-    holds: &[Hold],
-) -> Result<(), WriteFault>
-    ensures { Writes (W.contents out.old) (W.contents out.new) result
-        (lines_of choice lock holds.now) }
-{
-    for hold in holds {
-        match put_chosen(out, choice, lock, hold) {
-            Ok(()) => {}
-            Err(fault) => return Err(fault),
-        }
-    }
-    Ok(())
-}
-
-/// Writes the lines of the wanted holds, lock by lock.
-///
-/// # Errors
-///
-/// As [`put_all`]: the writer then holds a prefix of the lines, but not all of them, after what it held.
-pub fn put_holds<W: Write>(
-    out: &mut W,
-    choice: Choice,
-    locks: &[Vec<Hold>],
-) -> Result<(), WriteFault>
-    ensures { Writes (W.contents out.old) (W.contents out.new) result
-        (all_lines choice 0 (map (λ v. v.items) locks.now)) }
-{
-    for (lock, holds) in locks.iter().enumerate() {
-        match put_lines(out, choice, lock as u64, holds) {
-            Ok(()) => {}
-            Err(fault) => return Err(fault),
-        }
-    }
-    Ok(())
 }

@@ -26,7 +26,7 @@ mod signs;
 pub use chains::{HoldChain, holds_of_saved};
 pub use hold_errors::{ChainHoldError, HoldError};
 pub use hold_laws::{holds_exclude_each_other, holds_of_chains, holds_of_signs};
-pub use hold_lines::{Choice, put_holds};
+pub use hold_lines::{Choice, is_chosen, put_rest};
 pub use holds::{End, Grant, Hold};
 pub use join::Join;
 pub use join_errors::JoinError;

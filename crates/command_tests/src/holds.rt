@@ -2,7 +2,7 @@
 //! of a folder's locks in its lines.
 
 use crate::files::memory::{make_folder, no_files, put};
-use chain_readers::{ChainHoldError, Choice, HoldChain, holds_of_saved, put_holds};
+use chain_readers::{ChainHoldError, Hold, HoldChain, holds_of_saved, put_rest};
 use lock_commands::holds;
 use saved_history::{Saved, read_saved};
 use std::alloc::Global;
@@ -11,11 +11,6 @@ use std::process::Abort;
 use std::test::Fail;
 use tool_parts::faults::ToolError;
 use tool_parts::requests::HoldsWords;
-
-const ALL: Choice = Choice {
-    lock: None,
-    label: None,
-};
 
 /// The saved history of one ring of three machines with these lines after its start.
 fn saved_of(rt: &impl Abort, alloc: Global, lines: &str) -> Saved {
@@ -32,6 +27,13 @@ fn saved_of(rt: &impl Abort, alloc: Global, lines: &str) -> Saved {
     saved
 }
 
+/// The hold has this token, and its line ends so.
+fn is_told(rt: &impl Abort, alloc: Global, hold: &Hold, token: u64, rest: &str) {
+    let mut text = Vec::new(alloc);
+    assert!(rt; put_rest(&mut text, hold).is_ok());
+    assert!(rt; (hold.token, text.as_slice()) == (token, rest.as_bytes()));
+}
+
 // The carrying of a hold, at the start and in the middle.
 #[test]
 fn tells_of_a_hold_that_is_carried(rt: HostRuntime) {
@@ -41,11 +43,12 @@ fn tells_of_a_hold_that_is_carried(rt: HostRuntime) {
     let Ok(locks) = holds_of_saved(alloc, &saved) else {
         panic!(&rt; "refused");
     };
-    let mut text = Vec::new(alloc);
-    assert!(&rt; put_holds(&mut text, ALL, &locks).is_ok());
-    let lines = "lock 0 token 812 label - from - to 3 left\n\
-        lock 0 token 813 label 6 from 3 to - open\n";
-    assert!(&rt; text.as_slice() == lines.as_bytes());
+    assert!(&rt; locks.len() == 1);
+    let [carried, open] = locks[0].as_slice() else {
+        panic!(&rt; "two holds");
+    };
+    is_told(&rt, alloc, carried, 812, " label - from - to 3 left\n");
+    is_told(&rt, alloc, open, 813, " label 6 from 3 to - open\n");
 }
 
 fn refuses(rt: &impl Abort, alloc: Global, history: &str, place: u64) {

@@ -42,12 +42,12 @@ pub(crate) fn file_bytes<D: Disk>(
     }
 }
 
-/// All bytes of the file of locks.
-pub(crate) fn list_bytes<D: Disk>(
-    alloc: Global,
-    disk: &D,
-    folder: &str,
-) -> Result<Vec<u8>, StartFault>
+/// All bytes of the file of locks in a folder.
+///
+/// # Errors
+///
+/// `UnreadLocks`, `OutOfMemory`.
+pub fn list_bytes<D: Disk>(alloc: Global, disk: &D, folder: &str) -> Result<Vec<u8>, StartFault>
     ensures ok { IfOk result (λ bytes. IsHeld (D.holds disk.now) (locks_file folder.now) bytes.items) }
     ensures err { IfErr result (λ e. (e ≡ StartFault.UnreadLocks) ⊎ (e ≡ StartFault.OutOfMemory)) }
 {
@@ -61,7 +61,11 @@ pub(crate) fn list_bytes<D: Disk>(
 }
 
 /// The locks of the file with these bytes.
-pub(crate) fn list_in(alloc: Global, bytes: &[u8]) -> Result<Vec<ListedLock<'_>>, StartFault>
+///
+/// # Errors
+///
+/// `BadLocks` if they are no list, `ManyLocks`, `OutOfMemory`.
+pub fn list_in(alloc: Global, bytes: &[u8]) -> Result<Vec<ListedLock<'_>>, StartFault>
     ensures ok { IfOk result (λ list. IsLockFile bytes.now (map listed list.items)) }
     ensures err { IfErr result (λ e. IsTextFault bytes.now e) }
 {

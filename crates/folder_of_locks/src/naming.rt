@@ -9,7 +9,11 @@ use lock_protocol::LockNames;
 use std::alloc::Global;
 
 /// The table of the names of a list.
-pub(crate) fn names_of(alloc: Global, list: &[ListedLock<'_>]) -> Result<LockNames, StartFault>
+///
+/// # Errors
+///
+/// Only `OutOfMemory`.
+pub fn names_of(alloc: Global, list: &[ListedLock<'_>]) -> Result<LockNames, StartFault>
     ensures ok { IfOk result (λ names. names ≡ names_of (map listed list.now)) }
     ensures err { IfErr result (λ e. e ≡ StartFault.OutOfMemory) }
 {

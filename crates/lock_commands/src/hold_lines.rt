@@ -1,12 +1,12 @@
 //! The lines of holds, each with the name of its lock.
 
-ghost use Rattle.std.specs.Prelude.{◌≡◌, ◌++◌, map};
+ghost use Rattle.std.specs.Prelude.{◌≡◌, map};
 ghost use Rattle.text_lines.specs.Writing.{Writes};
 ghost use Rattle.lock_protocol.specs.Names.{name_of};
-ghost use Rattle.chain_readers.specs.HoldLines.{grant_text, ending, end_text, is_asked, is_label_asked, is_chosen};
+ghost use Rattle.chain_readers.specs.HoldLines.{is_chosen};
 ghost use Rattle.lock_commands.specs.ToldHolds.{told, told_text, hold_line, chosen_line, lines_of, all_lines};
 
-use chain_readers::{Choice, End, Grant, Hold};
+use chain_readers::{Choice, Hold, is_chosen, put_rest};
 use itoa::Buffer;
 use lock_protocol::LockNames;
 use std::io::Write;
@@ -41,50 +41,6 @@ fn put_told<W: Write>(
     }
 }
 
-/// Writes how a hold began.
-fn put_grant<W: Write>(out: &mut W, grant: Option<Grant>) -> Result<(), WriteFault>
-    ensures { Writes (W.contents out.old) (W.contents out.new) result (grant_text grant) }
-{
-    let Some(grant) = grant else {
-        return put_all(out, &[b" label - from -"]);
-    };
-    let mut buffers = (Buffer::new(), Buffer::new());
-    let label = buffers.0.format(grant.label).as_bytes();
-    let from = buffers.1.format(grant.from).as_bytes();
-    put_all(out, &[b" label ", label, b" from ", from])
-}
-
-/// How a hold ended.
-fn ending(left: bool) -> &'static [u8]
-    ensures { result.now ≡ ending left }
-{
-    if left { b" left\n" } else { b" released\n" }
-}
-
-/// Writes how a hold ended.
-fn put_end<W: Write>(out: &mut W, end: Option<End>) -> Result<(), WriteFault>
-    ensures { Writes (W.contents out.old) (W.contents out.new) result (end_text end) }
-{
-    let Some(end) = end else {
-        return put_all(out, &[b" to - open\n"]);
-    };
-    let mut buffer = Buffer::new();
-    let to = buffer.format(end.to).as_bytes();
-    put_all(out, &[b" to ", to, ending(end.left)])
-}
-
-/// Writes the line of a hold after its first words.
-#[tactic(auto, using(text_lines::proofs::Writing::writes_then, text_lines::proofs::Writing::writes_err))]
-fn put_rest<W: Write>(out: &mut W, hold: &Hold) -> Result<(), WriteFault>
-    ensures { Writes (W.contents out.old) (W.contents out.new) result
-        (grant_text hold.now.grant ++ end_text hold.now.end) }
-{
-    match put_grant(out, hold.grant) {
-        Ok(()) => put_end(out, hold.end),
-        Err(fault) => Err(fault),
-    }
-}
-
 /// Writes the line of a hold.
 #[tactic(auto, using(text_lines::proofs::Writing::writes_then, text_lines::proofs::Writing::writes_err))]
 fn put_hold<W: Write>(
@@ -100,34 +56,6 @@ fn put_hold<W: Write>(
         Ok(()) => put_rest(out, hold),
         Err(fault) => Err(fault),
     }
-}
-
-/// Whether the label of a grant is the one that is asked for.
-fn is_label_asked(wanted: Option<u64>, grant: Option<Grant>) -> bool
-    ensures { result ≡ is_label_asked wanted grant }
-{
-    match (wanted, grant) {
-        (None, _) => true,
-        (Some(_), None) => false,
-        (Some(wanted), Some(grant)) => wanted == grant.label,
-    }
-}
-
-/// Whether a number is the one that is asked for.
-fn is_asked(wanted: Option<u64>, number: u64) -> bool
-    ensures { result ≡ is_asked wanted number }
-{
-    match wanted {
-        None => true,
-        Some(wanted) => wanted == number,
-    }
-}
-
-/// Whether a hold of the ring of this number is wanted.
-fn is_chosen(choice: Choice, ring: u64, hold: &Hold) -> bool
-    ensures { result ≡ is_chosen choice ring hold.now }
-{
-    is_asked(choice.lock, ring) && is_label_asked(choice.label, hold.grant)
 }
 
 /// Writes the line of a hold, if it is wanted.

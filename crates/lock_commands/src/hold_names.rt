@@ -1,76 +1,14 @@
 //! The names of the locks of a folder, by its file of locks.
 
-ghost use Rattle.std.specs.Prelude.{◌≡◌, ◌⊎◌, map, string_bytes, IfOk, IfErr};
-ghost use Rattle.disks.specs.Held.{IsHeld};
-ghost use Rattle.folder_of_locks.specs.Lists.{listed, names_of, IsLockFile};
-ghost use Rattle.folder_of_locks.specs.Folders.{locks_file, IsTextFault};
+ghost use Rattle.std.specs.Prelude.{IfOk, IfErr};
 ghost use Rattle.lock_commands.specs.HoldNames.{AreListed, AreNamesIn, IsListRefused, AreNoNamesIn};
 
 use crate::refusals::start_refusal;
 use disks::Disk;
-use folder_of_locks::{ListError, ListedLock, StartFault, read_list_file};
+use folder_of_locks::{StartFault, list_bytes, list_in, names_of};
 use lock_protocol::LockNames;
-use std::alloc::{AllocError, Global};
+use std::alloc::Global;
 use tool_parts::faults::ToolError;
-use tool_parts::reading::read_file;
-
-/// The name of the file of locks in a folder.
-fn list_file(alloc: Global, folder: &str) -> Result<String, AllocError>
-    ensures { IfOk result (λ name. string_bytes name ≡ locks_file folder.now) }
-{
-    let mut name = String::from_str(alloc, folder)?;
-    name.push_str("/locks")?;
-    Ok(name)
-}
-
-/// All bytes of the file of locks in a folder.
-fn list_bytes<D: Disk>(alloc: Global, disk: &D, folder: &str) -> Result<Vec<u8>, StartFault>
-    ensures ok { IfOk result
-        (λ bytes. IsHeld (D.holds disk.now) (locks_file folder.now) bytes.items) }
-    ensures err { IfErr result
-        (λ e. (e ≡ StartFault.UnreadLocks) ⊎ (e ≡ StartFault.OutOfMemory)) }
-{
-    let Ok(name) = list_file(alloc, folder) else {
-        return Err(StartFault::OutOfMemory);
-    };
-    match read_file(alloc, disk, name.as_str()) {
-        Ok(bytes) => Ok(bytes),
-        Err(ToolError::OutOfMemory) => Err(StartFault::OutOfMemory),
-        Err(_) => Err(StartFault::UnreadLocks),
-    }
-}
-
-/// The locks of the file with these bytes.
-fn list_in(alloc: Global, bytes: &[u8]) -> Result<Vec<ListedLock<'_>>, StartFault>
-    ensures ok { IfOk result (λ list. IsLockFile bytes.now (map listed list.items)) }
-    ensures err { IfErr result (λ e. IsTextFault bytes.now e) }
-{
-    let Ok(text) = str::from_utf8(bytes) else {
-        return Err(StartFault::BadLocks);
-    };
-    match read_list_file(alloc, text) {
-        Ok(list) => Ok(list),
-        Err(ListError::OutOfMemory) => Err(StartFault::OutOfMemory),
-        Err(ListError::Many) => Err(StartFault::ManyLocks),
-        Err(_) => Err(StartFault::BadLocks),
-    }
-}
-
-/// The names of the locks of a list.
-fn names_of(alloc: Global, list: &[ListedLock<'_>]) -> Result<LockNames, StartFault>
-    ensures ok { IfOk result (λ names. names ≡ names_of (map listed list.now)) }
-    ensures err { IfErr result (λ e. e ≡ StartFault.OutOfMemory) }
-{
-    let mut names = LockNames::none(alloc);
-    for lock in list {
-        names = match names.with(alloc, lock.name.as_bytes()) {
-            Ok(more) => more,
-            // what a list has are names, and no two are the same
-            Err(_) => return Err(StartFault::OutOfMemory),
-        };
-    }
-    Ok(names)
-}
 
 /// The names of the list in a folder's file of locks.
 ///

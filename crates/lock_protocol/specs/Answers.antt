@@ -54,3 +54,7 @@ denial_text denial.Off = codes "refused off\n"
 
 abbrev pub denial_line : ℕ → Denial → List ℕ
 denial_line client why = spaced client ++ denial_text why
+
+-- the line of a client whose ask of a name is refused, since as many names are held as may be
+abbrev pub names_line : ℕ → List ℕ → List ℕ
+names_line client name = spaced client ++ (codes "refused names " ++ name_ended name)

@@ -5,7 +5,7 @@ ghost use Rattle.std.specs.Fmt.{decimal};
 ghost use Rattle.text_lines.specs.Spelling.{spaced, ended};
 ghost use Rattle.held_locks.specs.declared.answers.Answer.TheVariants as answer;
 ghost use Rattle.lock_protocol.specs.Names.{name_spaced, name_ended};
-ghost use Rattle.lock_protocol.specs.Answers.{refusal_text, holder_text, answer_text, answer_line, denial_text, denial_line};
+ghost use Rattle.lock_protocol.specs.Answers.{refusal_text, holder_text, answer_text, answer_line, denial_text, denial_line, names_line};
 
 use held_locks::{Answer, Holder, Refusal, Stats};
 use std::alloc::AllocError;
@@ -266,4 +266,16 @@ pub fn put_denial(text: &mut Vec<u8>, client: u64, why: Denial) -> Result<(), Al
         Denial::Number => put(text, &words(client, b"refused number\n")),
         Denial::Off => put(text, &words(client, b"refused off\n")),
     }
+}
+
+/// Adds the line of a client whose ask of a name is refused, since as many names are held as may be.
+///
+/// # Errors
+///
+/// Only out of memory. The text is as it was then.
+pub fn put_names(text: &mut Vec<u8>, client: u64, name: &[u8]) -> Result<(), AllocError>
+    ensures ok { OnOk result (text.new.items ≡ text.old.items ++ names_line client name.now) }
+    ensures err { OnErr result (text.new.items ≡ text.old.items) }
+{
+    put_refused(text, client, b" refused names ", name)
 }

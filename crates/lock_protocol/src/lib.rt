@@ -8,7 +8,7 @@ mod name_reading;
 mod names;
 mod reading;
 
-pub use answers::{Denial, put_answer, put_denial};
+pub use answers::{Denial, put_answer, put_denial, put_names};
 pub use inputs::{Ask, Fault, Input};
 pub use name_reading::{MOST_NAME, is_name, lock_name};
 pub use names::{LockNames, NameFault};

@@ -22,7 +22,7 @@ fn narrow(number: u64) -> u32
 }
 
 /// Whether this is a fault, where none is permitted.
-pub(crate) fn is_off(faults: bool, ask: Ask<'_>) -> bool
+pub fn is_off(faults: bool, ask: Ask<'_>) -> bool
     ensures { result ≡ is_off faults (seen ask.entry) }
 {
     match ask {
@@ -32,7 +32,7 @@ pub(crate) fn is_off(faults: bool, ask: Ask<'_>) -> bool
 }
 
 /// The name of the lock that is asked, and what; none where all are left.
-pub(crate) fn one_ask(ask: Ask<'_>) -> Option<(&[u8], OneAsk)>
+pub fn one_ask(ask: Ask<'_>) -> Option<(&[u8], OneAsk)>
     ensures { option_map (λ x. (x.0.now, asked x.1)) result ≡ one_ask (seen ask.entry) }
 {
     match ask {
@@ -55,7 +55,7 @@ pub(crate) fn one_ask(ask: Ask<'_>) -> Option<(&[u8], OneAsk)>
 }
 
 /// Whether the asker is refused for lack of room or of memory.
-pub(crate) fn is_lack(own: Option<Answer>) -> bool
+pub fn is_lack(own: Option<Answer>) -> bool
     ensures { result ≡ is_lack own }
 {
     match own {

@@ -22,8 +22,8 @@ fn after_ring(remaining: u64, ring: &EndlessRing) -> u64
     more
 }
 
-/// The same, of all locks.
-pub(crate) fn after_start(remaining: u64, locks: &Locks) -> u64
+/// What is left of `remaining` lines after those with which a journal of these locks begins.
+pub fn after_start(remaining: u64, locks: &Locks) -> u64
     ensures { result ≡ remaining - lines_at_start locks.now }
 {
     let count = locks.count();
@@ -34,8 +34,8 @@ pub(crate) fn after_start(remaining: u64, locks: &Locks) -> u64
     more
 }
 
-/// The same after the end of a hold.
-pub(crate) fn after_end(remaining: u64, ended: Option<HoldEnd>) -> u64
+/// What is left after the end of a hold, if one ended.
+pub fn after_end(remaining: u64, ended: Option<HoldEnd>) -> u64
     ensures { result ≡ remaining - end_count ended }
 {
     match ended {
@@ -44,16 +44,16 @@ pub(crate) fn after_end(remaining: u64, ended: Option<HoldEnd>) -> u64
     }
 }
 
-/// The same after the events from a place on, of a ring that has `events` of them.
-pub(crate) fn after_events(remaining: u64, place: usize, events: usize) -> u64
+/// What is left after the events from a place on, of a ring that has `events` of them.
+pub fn after_events(remaining: u64, place: usize, events: usize) -> u64
     ensures { result ≡ remaining - (events - place) }
 {
     let more = events.saturating_sub(place);
     remaining.saturating_sub(more as u64)
 }
 
-/// The same after a client has left all locks.
-pub(crate) fn after_left(remaining: u64, locks: &Locks, left: &[Left]) -> u64
+/// What is left after a client has left all locks, which held these.
+pub fn after_left(remaining: u64, locks: &Locks, left: &[Left]) -> u64
     ensures { result ≡ remaining - count_of_all locks.now left.now }
 {
     let mut more = remaining;

@@ -16,15 +16,15 @@ fn is_short(locks: &Locks, lock: u32) -> bool
     need > EVENT_LIMIT || locks.waiters(lock) > EVENT_LIMIT - need
 }
 
-/// The same, where there may be no such lock.
-pub(crate) fn is_short_at(locks: &Locks, lock: u32) -> bool
+/// Whether there is a lock of this number, and its segment has fewer places left for events than an ask may need.
+pub fn is_short_at(locks: &Locks, lock: u32) -> bool
     ensures { result ≡ is_short_at (slice_get locks.now lock) }
 {
     lock < locks.count() && is_short(locks, lock)
 }
 
 /// Whether one of the locks is short.
-pub(crate) fn has_short(locks: &Locks) -> bool
+pub fn has_short(locks: &Locks) -> bool
     ensures { result ≡ has_short locks.now }
 {
     let count = locks.count();
@@ -37,7 +37,7 @@ pub(crate) fn has_short(locks: &Locks) -> bool
 }
 
 /// Whether one of the locks of these holds is short.
-pub(crate) fn has_short_left(locks: &Locks, left: &[Left]) -> bool
+pub fn has_short_left(locks: &Locks, left: &[Left]) -> bool
     ensures { result ≡ has_short_left locks.now left.now }
 {
     for one in left {

@@ -12,6 +12,7 @@ pub mod room_laws;
 mod segment;
 mod segmented;
 mod service;
+pub mod sharing;
 mod stating;
 mod texts;
 

@@ -10,8 +10,8 @@ use lock_protocol::{LockNames, put_answer};
 use one_thread_ring::{put_events, put_survey};
 use std::alloc::AllocError;
 
-/// How many events the segment of a lock's ring has.
-pub(crate) fn events_at(locks: &Locks, lock: u32) -> usize
+/// How many events the segment of a lock's ring has; none, if there is no such lock.
+pub fn events_at(locks: &Locks, lock: u32) -> usize
     ensures { result ≡ events_at (slice_get locks.now lock) }
 {
     if lock >= locks.count() {
@@ -57,7 +57,11 @@ fn note_end(lock: u32, ended: Option<HoldEnd>, notes: &mut Vec<u8>) -> Result<()
 }
 
 /// Adds what a journal gets of a lock whose ring had `place` events.
-fn note(
+///
+/// # Errors
+///
+/// Only out of memory.
+pub fn note(
     locks: &Locks,
     lock: u32,
     ended: Option<HoldEnd>,

@@ -42,7 +42,8 @@ pub struct Terms {
 
 /// Whether lines are answered in a segment.
 #[derive(Clone, Copy)]
-pub(crate) enum Stage {
+pub enum Stage {
+    /// They are.
     Open,
     /// It is to end first.
     Due,
@@ -52,7 +53,7 @@ pub(crate) enum Stage {
 
 /// Why no answer to a line is pending.
 #[derive(Clone, Copy)]
-pub(crate) enum Untold {
+pub enum Untold {
     /// There is no memory for its text. It is answered.
     Answered,
     /// It would be a refusal for lack of room or memory, on strict terms. Nothing has changed.
@@ -67,8 +68,8 @@ pub struct LockService {
     pub(crate) stage: Stage,
 }
 
-/// How many lines the journal of a segment may have.
-pub(crate) fn limit_of(limit: Option<u64>) -> u64
+/// How many lines the journal of a segment may have; 0 without a limit.
+pub fn limit_of(limit: Option<u64>) -> u64
     ensures { result ≡ limit_of limit }
 {
     match limit {
@@ -78,7 +79,7 @@ pub(crate) fn limit_of(limit: Option<u64>) -> u64
 }
 
 /// Why a segment that is due is not ended.
-pub(crate) fn end_fault(why: Refusal) -> EndFault
+pub fn end_fault(why: Refusal) -> EndFault
     ensures { ((result ≡ EndFault.Full) × (why ≡ Refusal.Full)) ⊎ (result ≡ EndFault.OutOfMemory) }
 {
     match why {
@@ -88,7 +89,7 @@ pub(crate) fn end_fault(why: Refusal) -> EndFault
 }
 
 /// The answer is pending, if there was memory for it. The line is answered in any case.
-fn put(told: Result<(), AllocError>) -> Result<(), Untold>
+pub fn put(told: Result<(), AllocError>) -> Result<(), Untold>
     ensures { result ≡ put told }
 {
     match told {
@@ -201,7 +202,7 @@ fn answer_ask(
 }
 
 /// The refusal of a line that has a fault.
-fn denial_of(why: Fault) -> Denial
+pub fn denial_of(why: Fault) -> Denial
     ensures { result ≡ denial_of why }
 {
     match why {
@@ -243,7 +244,7 @@ fn is_past(terms: Terms, segment: &Segment) -> bool
 }
 
 /// Whether lines are answered after a line.
-fn stage_after(stage: Stage, past: bool) -> Stage
+pub fn stage_after(stage: Stage, past: bool) -> Stage
     ensures { result ≡ stage_after stage past }
 {
     match stage {
@@ -253,7 +254,7 @@ fn stage_after(stage: Stage, past: bool) -> Stage
 }
 
 /// Whether the segment is to end.
-pub(crate) fn is_to_end(stage: Stage) -> bool
+pub fn is_to_end(stage: Stage) -> bool
     ensures { result ≡ is_to_end stage }
 {
     match stage {
@@ -263,7 +264,7 @@ pub(crate) fn is_to_end(stage: Stage) -> bool
 }
 
 /// Whether no line is answered since the segment is to end, on strict terms.
-fn is_stopped(strict: bool, stage: Stage) -> bool
+pub fn is_stopped(strict: bool, stage: Stage) -> bool
     ensures { result ≡ (strict && is_to_end stage) }
 {
     strict && is_to_end(stage)

@@ -28,7 +28,15 @@ fn put_hold(name: &[u8], holder: Holder, text: &mut Vec<u8>) -> Result<(), Alloc
 }
 
 /// Adds the line of a hold, if there is one, and says how many lines that is.
-fn put_hold_if(name: &[u8], holder: Option<Holder>, text: &mut Vec<u8>) -> Result<u64, AllocError>
+///
+/// # Errors
+///
+/// Only out of memory.
+pub fn put_hold_if(
+    name: &[u8],
+    holder: Option<Holder>,
+    text: &mut Vec<u8>,
+) -> Result<u64, AllocError>
     ensures lines { OnOk result (text.new.items
         ≡ text.old.items ++ joined_lines (hold_lines name.now holder)) }
     ensures count { IfOk result (λ n. n ≡ length (hold_lines name.now holder)) }
@@ -107,7 +115,11 @@ fn sum_of(count: u64, more: usize) -> Result<u64, AllocError>
 }
 
 /// Adds the lines of those who wait for a lock, after `count` lines, and says how many there are with these.
-fn put_counted(
+///
+/// # Errors
+///
+/// Only out of memory.
+pub fn put_counted(
     locks: &Locks,
     name: &[u8],
     lock: u32,

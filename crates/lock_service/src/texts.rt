@@ -109,7 +109,7 @@ fn put_segment<W: Write>(out: &mut W, head: &SegmentHead, locks: &Locks) -> Resu
 /// # Errors
 ///
 /// `File` where there is no lock; `OutOfMemory`.
-pub(crate) fn segment_text(
+pub fn segment_text(
     alloc: Global,
     number: u64,
     behind: [u8; DIGEST_DIGITS],

@@ -1,8 +1,0 @@
-use Rattle.std.proofs.Common.{take}
-use Rattle.std.specs.Io.KnownBytes.{Appends}
-use Rattle.std.specs.List.{flat_map}
-use Rattle.chain_readers.specs.HoldLines.{chosen_line}
-use Rattle.chain_readers.proofs.hold_lines.put_lines.Given as goal
-
-abbrev pub invariant-loop-hold : goal.invariant-loop-hold
-invariant-loop-hold g l = Appends (g.W.Write.contents l.initial.out) (g.W.Write.contents l.out) (flat_map (chosen_line l.choice l.lock) (take l.hold-index l.holds))
