@@ -64,7 +64,7 @@ pub fn list_bytes<D: Disk>(alloc: Global, disk: &D, folder: &str) -> Result<Vec<
 ///
 /// # Errors
 ///
-/// `BadLocks` if they are no list, `ManyLocks`, `OutOfMemory`.
+/// `BadLocks` if they are not a list, `ManyLocks`, `OutOfMemory`.
 pub fn list_in(alloc: Global, bytes: &[u8]) -> Result<Vec<ListedLock<'_>>, StartFault>
     ensures ok { IfOk result (λ list. IsLockFile bytes.now (map listed list.items)) }
     ensures err { IfErr result (λ e. IsTextFault bytes.now e) }
