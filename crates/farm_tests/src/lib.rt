@@ -16,6 +16,7 @@ mod farm;
 mod judged_names;
 #[cfg(test)]
 mod loops;
+mod name_histories;
 #[cfg(test)]
 mod named_locks;
 #[cfg(test)]

@@ -4,7 +4,7 @@ pub mod Totals
 pub mod Locks
 pub mod Lasting
 pub mod Life
-pub mod HoldNames
 pub mod ToldHolds
+pub mod HoldNames
 pub mod HoldsAnswer
 pub mod HoldSteps

@@ -4,10 +4,12 @@ ghost use Rattle.std.specs.Prelude.{true, false, ◌≡◌, ◌≢◌, None, map
 ghost use Rattle.tool_parts.specs.Reading.{names_stream};
 ghost use Rattle.tool_parts.specs.Worlds.{world};
 ghost use Rattle.lock_commands.specs.HoldsAnswer.{choice_of, AreHoldsTold, AreHoldsUntold, AreTextHolds, IsTextUnheld, AreNamedHolds, IsNamedUnheld, IsHoldsAnswer, IsHoldsRefusal};
+ghost use Rattle.lock_commands.specs.ToldHolds.{called};
 
 use crate::held_folder::FoundHolds;
 use crate::held_looks::holds_in;
 use crate::hold_lines::put_holds;
+use crate::hold_names::HoldNames;
 use chain_readers::{ChainHoldError, Choice, Hold, count_labels, holds_of_saved, put_labels};
 use disks::Disk;
 use std::alloc::Global;
@@ -76,7 +78,7 @@ fn named_holds<'a, D: Disk, I: Read>(
     ensures ok { IfOk result (λ found. AreNamedHolds file.now
         (world (D.holds disk.now) (I.remaining input.old) None None)
         (world (D.holds disk.now) (I.remaining input.new) None None)
-        found.names (map (λ v. v.items) found.locks.items)) }
+        (called found.names) (map (λ v. v.items) found.locks.items)) }
     ensures err { IfErr result (λ e. IsNamedUnheld file.now
         (world (D.holds disk.now) (I.remaining input.old) None None)
         (world (D.holds disk.now) (I.remaining input.new) None None) e) }
@@ -84,7 +86,10 @@ fn named_holds<'a, D: Disk, I: Read>(
 {
     let Some(entries) = entries_of(disk, file) else {
         return match text_holds(alloc, disk, file, input) {
-            Ok(locks) => Ok(FoundHolds { locks, names: None }),
+            Ok(locks) => Ok(FoundHolds {
+                locks,
+                names: HoldNames::none(alloc),
+            }),
             Err(fault) => Err(fault),
         };
     };
@@ -102,9 +107,9 @@ fn tell_labels<W: Write>(
     out: &mut W,
 ) -> Result<(), ToolError<'static>>
     requires by_label { words.now.by_label ≡ true }
-    ensures ok { OnOk result (AreHoldsTold words.now found.now.names
+    ensures ok { OnOk result (AreHoldsTold words.now (called found.now.names)
         (map (λ v. v.items) found.now.locks.items) (W.contents out.old) (W.contents out.new)) }
-    ensures err { IfErr result (λ e. AreHoldsUntold words.now found.now.names
+    ensures err { IfErr result (λ e. AreHoldsUntold words.now (called found.now.names)
         (map (λ v. v.items) found.now.locks.items) (W.contents out.old) (W.contents out.new) e) }
     ensures nothing { IfErr result (λ e. e ≢ ToolError.Write → out.new ≡ out.old) }
 {
@@ -125,9 +130,9 @@ fn tell_holds<W: Write>(
     found: &FoundHolds,
     out: &mut W,
 ) -> Result<(), ToolError<'static>>
-    ensures ok { OnOk result (AreHoldsTold words.now found.now.names
+    ensures ok { OnOk result (AreHoldsTold words.now (called found.now.names)
         (map (λ v. v.items) found.now.locks.items) (W.contents out.old) (W.contents out.new)) }
-    ensures err { IfErr result (λ e. AreHoldsUntold words.now found.now.names
+    ensures err { IfErr result (λ e. AreHoldsUntold words.now (called found.now.names)
         (map (λ v. v.items) found.now.locks.items) (W.contents out.old) (W.contents out.new) e) }
     ensures nothing { IfErr result (λ e. e ≢ ToolError.Write → out.new ≡ out.old) }
 {

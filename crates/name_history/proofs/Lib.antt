@@ -1,0 +1,4 @@
+pub mod Partitions
+pub mod KeptBindings
+pub mod Lines
+pub mod KeptRings
