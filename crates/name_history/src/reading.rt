@@ -1,6 +1,6 @@
 //! The bindings that the lines of a text say.
 
-ghost use Rattle.std.specs.Prelude.{◌≡◌, ◌++◌, List, ℕ, IfOk, OnOk};
+ghost use Rattle.std.specs.Prelude.{◌≡◌, ◌∷◌, ◌++◌, [], List, ℕ, IfOk, OnOk};
 ghost use Rattle.segment_files.specs.Remarks.{lines_in};
 ghost use Rattle.name_remarks.specs.Views.{seen};
 ghost use Rattle.name_history.specs.Said.{RingBinding, binding_of, IsSaid, AreSaid};
@@ -30,6 +30,7 @@ fn bound_by(alloc: Global, remark: NameRemark<'_>) -> Result<Option<(u32, Bound)
 }
 
 /// The ring that a line binds, and how, if it binds one.
+#[tactic(auto, using(crate::proofs::Lines::said_by, crate::proofs::Lines::no_remark))]
 fn binding_in(alloc: Global, line: &[u8]) -> Result<Option<(u32, Bound)>, AllocError>
     ensures { IfOk result (λ found. IsSaid line.now found) }
 {
@@ -50,11 +51,10 @@ fn add_line(
         × AreSaid (line.now ∷ []) said
         × (found.new.items ≡ found.old.items ++ said)) }
 {
-    match binding_in(alloc, line) {
-        Ok(Some(binding)) => found.push(binding),
-        Ok(None) => Ok(()),
-        Err(AllocError) => Err(AllocError),
+    if let Some(binding) = binding_in(alloc, line)? {
+        found.push(binding)?;
     }
+    Ok(())
 }
 
 /// Adds the bindings that the lines of a text say to those that were found before. A line that begins as a remark about names and

@@ -1,7 +1,7 @@
 //! The bindings of a ring, by which its grants have their names.
 
-ghost use Rattle.std.specs.Prelude.{◌≡◌, ◌≤◌, ◌∷◌, ◌++◌, [], ℕ, List, length, take, IfOk, OnOk};
-ghost use Rattle.std.specs.List.{filter};
+ghost use Rattle.std.specs.Prelude.{◌≡◌, ◌≤◌, ◌∷◌, ◌++◌, [], ℕ, List, length, take, None, IfOk, OnOk};
+ghost use Rattle.std.specs.List.{filter, last_or};
 ghost use Rattle.std.specs.List.Sorted.{IsNonDecreasingBy};
 ghost use Rattle.std.specs.Option.{option_map};
 ghost use Rattle.name_remarks.specs.Remarks.{Binding};
@@ -19,6 +19,27 @@ fn older(bindings: &[Bound], grants: u64) -> usize
     ensures older { take result bindings.now ≡ filter (is_older grants) bindings.now }
 {
     bindings.partition_point(|bound| bound.before() < grants)
+}
+
+/// The last of the first `count` bindings.
+fn last_of(bindings: &[Bound], count: usize) -> Option<&Bound>
+    requires { count ≤ length bindings.now }
+    ensures { option_map (λ b. b.now) result ≡ last_or None (take count bindings.now) }
+{
+    if count == 0 {
+        return None;
+    }
+    let last = count - 1;
+    Some(&bindings[last])
+}
+
+/// The last of these bindings before which the ring had fewer grants than this.
+fn binding_among(bindings: &[Bound], grant: u64) -> Option<&Bound>
+    requires { IsNonDecreasingBy (λ (b : Binding). b.before) bindings.now }
+    ensures { option_map (λ b. b.now) result ≡ binding_at bindings.now grant }
+{
+    let count = older(bindings, grant);
+    last_of(bindings, count)
 }
 
 /// What is kept of the bindings of a ring. Contracts see the bindings, in the order in which it was bound.
@@ -55,15 +76,15 @@ impl RingNames {
     {
         let count = older(&self.bindings, bound.before());
         self.bindings.truncate(count);
-        self.bindings.push(bound)
+        self.bindings.push(bound)?;
+        Ok(())
     }
 
     /// How the ring was bound at its grant of this number, if it was.
     pub fn at(&self, grant: u64) -> Option<&Bound>
         ensures { option_map (λ b. b.now) result ≡ binding_at self.now grant }
     {
-        let count = older(&self.bindings, grant);
-        self.bindings[..count].last()
+        binding_among(&self.bindings, grant)
     }
 }
 
@@ -87,7 +108,10 @@ fn add_binding(each: &mut Vec<RingNames>, binding: (u32, Bound)) -> Result<(), A
     if ring as usize >= each.len() {
         return Ok(());
     }
-    each[ring as usize].add(bound)
+    match each[ring as usize].add(bound) {
+        Ok(()) => Ok(()),
+        Err(AllocError) => Err(AllocError),
+    }
 }
 
 /// What is kept of the bindings of the first n rings, of which these were said one after the other. Those of other rings are let go.
