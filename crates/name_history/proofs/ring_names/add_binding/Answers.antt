@@ -16,6 +16,6 @@ returns-in-Ok c = λ rings said k.
     let many = k.many in
     let ok = c.args.each.now.ok in
     let within : c.args.binding.0 < rings = omega (arith, many, ok, c.len.ensures, c.if-ring-len.false) in
-    let same = c.index_mut.ensures.value ∙ get_or_from_slice_get _ _ _ _ (k.each_ring c.args.binding.0 within) in
+    let same = c.index_mut.ensures.value ∙ get_or_from_slice_get c.args.each.now.items c.args.binding.0 _ c.index_mut.result.now (k.each_ring c.args.binding.0 within) in
     kept_one_more rings said c.args.each.now.items _ c.args.binding within k
         (ap (λ (bs : List Binding). slice_set c.args.each.now.items c.args.binding.0 bs) (c.in-Ok.ensures ∙ ap (λ (bs : List Binding). with_binding bs c.args.binding.1) same))
