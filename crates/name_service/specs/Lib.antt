@@ -1,0 +1,6 @@
+pub mod Naming
+pub mod Noting
+pub mod Serving
+pub mod Segmented
+pub mod State
+pub mod RingLines

@@ -1,0 +1,8 @@
+//! Locks by any name that answer the lines of clients, segment by segment.
+#![tactic(auto)]
+
+mod noting;
+mod segment;
+mod service;
+
+pub use service::{NameService, NameTerms};
