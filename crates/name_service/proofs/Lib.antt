@@ -1,0 +1,10 @@
+pub mod Digits
+pub mod RingReads
+pub mod PlainNotes
+pub mod AskedRings
+pub mod LeaveOfRings
+pub mod RightNames
+pub mod RingLined
+pub mod NamedJournals
+pub mod TakenNotes
+pub mod TakenLines

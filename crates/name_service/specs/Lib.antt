@@ -4,3 +4,5 @@ pub mod Serving
 pub mod Segmented
 pub mod State
 pub mod RingLines
+pub mod NameLines
+pub mod NamesBack

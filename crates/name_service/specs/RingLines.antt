@@ -1,86 +1,145 @@
 -- A line about a name is a line of its ring (this project's own).
-use Rattle.std.specs.Prelude.{◌≡◌, ℕ, zero, suc, List, [], ◌∷◌, ◌++◌, length, Option, None, Some, slice_get, decimal, ◌⊎◌}
-use Rattle.std.specs.List.{flat_map}
-use Rattle.line_service.specs.Answering.{IsLine, Answers}
+use Rattle.std.specs.Prelude.{◌≡◌, ℕ, zero, suc, ◌<◌, ◌≤◌, ◌^◌, true, List, [], ◌∷◌, ◌++◌, length, Option, None, Some, slice_get, decimal, ◌⊎◌}
+use Rattle.line_service.specs.Answering.{Answers}
 use Rattle.segment_files.specs.Remarks.{without_remarks}
-use Rattle.lock_protocol.specs.Names.{Names}
-use Rattle.lock_names.specs.Names.{Bound, said_of}
+use Rattle.segment_files.specs.RemarkLaws.{AreLines}
+use Rattle.held_locks.specs.declared.answers.Answer.TheVariants as answer
+use Rattle.held_locks.specs.Kept.{locks_of, lock_limit}
+use Rattle.lock_protocol.specs.declared.answers.Denial.{Denial}
+use Rattle.lock_protocol.specs.Names.{Names, IsName}
+use Rattle.lock_protocol.specs.Answers.{denial_line}
+use Rattle.lock_names.specs.declared.replies.Reply.{Reply}
+use Rattle.lock_names.specs.declared.replies.Reply.TheVariants as reply
+use Rattle.lock_names.specs.Names.{Bound, said_of, fresh, total}
 use Rattle.lock_names.specs.Promises.{IsNamed}
-use Rattle.lock_names.specs.Kept.{named_of}
+use Rattle.lock_names.specs.Kept.{NamedView, named_of}
 use Rattle.name_service.specs.declared.service.NameTerms.{NameTerms}
 use Rattle.lock_service.specs.Counting.{SegmentView}
 use Rattle.lock_service.specs.Serving.{IsLineAnswered}
 use Rattle.lock_service.specs.Told.{Telling, text_of}
 use Rattle.name_service.specs.Naming.{NamingView}
-use Rattle.name_service.specs.Noting.{line_of_said}
+use Rattle.name_service.specs.Noting.{reply_line, line_of_said}
 use Rattle.name_service.specs.Serving.{IsNameLineAnswered}
+
+-- ---- the rings as locks of their own
 
 -- the names of rings among rings: their numbers
 abbrev pub numbers_from : ℕ → ℕ → Names
 numbers_from ring zero = []
 numbers_from ring (suc n) = decimal ring ∷ numbers_from (suc ring) n
 
--- the locks as locks of their own, each with its number as its name
-abbrev pub ring_segment : NamingView → SegmentView
-ring_segment s = record {
-  locks = s.named.locks;
-  names = numbers_from 0 (length s.named.locks);
-  left = s.left;
-  remaining = s.remaining;
-  short = s.short;
+-- Each ring is a lock, with its number as its name. Their segment is due already, so that nothing
+-- depends on how many lines its journal has had.
+abbrev pub ring_segment : NamedView → SegmentView
+ring_segment v = record {
+  locks = v.locks;
+  names = numbers_from 0 (length v.locks);
+  left = [];
+  remaining = 0;
+  short = true;
 }
 
--- how a ring is bound before a line; or, if it has no name then, after it
-abbrev pub bound_else : Option (Option Bound) → Option (Option Bound) → Option Bound
-bound_else (Some (Some b)) after = Some b
-bound_else before (Some o) = o
-bound_else before None = None
+-- what is so of names at every moment: they are right, and spelled as names; each grant was counted;
+-- and there are no more rings than there may be
+pub record AreRightNames (v : NamedView) : Type 0 where
+  pub named : IsNamed (named_of v)
+  pub spelled : (ring : ℕ) (b : Bound) → slice_get v.names ring ≡ Some (Some b) → IsName b.name
+  pub counted : total (locks_of v.locks) ≤ v.top
+  pub few : length v.locks ≤ lock_limit
 
-abbrev pub bound_at : NamingView → NamingView → ℕ → Option Bound
-bound_at old new ring =
-    bound_else (slice_get old.named.names ring) (slice_get new.named.names ring)
+-- ---- a line of a ring
 
--- an answer of a ring, with its name and the name's token
-abbrev pub told_as : Option Bound → Telling → List ℕ
-told_as None t = []
-told_as (Some b) t = line_of_said (said_of b (t.client, t.said))
+-- How a ring is bound where it is asked: it has a name; or it is free, and the name that is asked
+-- would be bound to it so.
+abbrev pub IsBoundIn : NamedView → ℕ → Bound → Type 0
+IsBoundIn v ring b =
+    (slice_get v.names ring ≡ Some (Some b))
+    ⊎ ((slice_get v.names ring ≡ Some None) × (b ≡ fresh (named_of v) b.name ring))
 
--- The rings gave these answers, and each was told so.
-abbrev pub AreToldByName : NamingView → NamingView → List ℕ → List ℕ → Type 0
-AreToldByName old new told said =
-    (ts : List Telling)
-    × (told ≡ text_of (numbers_from 0 (length old.named.locks)) ts)
-    × (said ≡ flat_map (λ (t : Telling). told_as (bound_at old new t.lock) t) ts)
+-- the answers of rings are told so: each of its name, and with the name's token
+abbrev pub AreToldByName : NamedView → List Telling → List ℕ → Type 0
+AreToldByName old [] said = said ≡ []
+AreToldByName old (t ∷ ts) said =
+    (b : Bound)
+    × (rest : List ℕ)
+    × IsBoundIn old t.lock b
+    × (said ≡ line_of_said (said_of b (t.client, t.said)) ++ rest)
+    × AreToldByName old ts rest
 
--- Of each line either no ring was asked, nothing changed, and a refusal or zeros were said; or the
--- line of its ring was answered, and what the ring said is told of its name.
+-- The rings answer this line as locks do, with the same notes but for the remarks; and what they
+-- answer is told by name.
+pub record IsOfRing (terms : NameTerms) (old : NamedView) (said note : List ℕ) (new : NamedView)
+    (line told : List ℕ) : Type 0 where
+  pub answered : IsLineAnswered terms.lines (ring_segment old) line told (without_remarks note)
+      (ring_segment new)
+  pub tellings : List Telling
+  pub text : told ≡ text_of (numbers_from 0 (length old.locks)) tellings
+  pub by_name : AreToldByName old tellings said
+
+-- ---- a line of no ring
+
+-- a refusal; or the zeros of a name that no ring has
+abbrev pub IsOfNobody : Reply → Type 0
+IsOfNobody reply.Names = Unit {0}
+IsOfNobody (reply.Lock (answer.Refused why)) = Unit {0}
+IsOfNobody (reply.Lock (answer.Stats s)) =
+    s ≡ record { machines = 0; waiters = 0; passes = 0; holder = None }
+IsOfNobody (reply.Lock a) = ⊥
+
+-- nothing is said; or that a line is denied; or such a reply
+abbrev pub ReportsNothing : List ℕ → Type 0
+ReportsNothing said =
+    (said ≡ [])
+    ⊎ (((client : ℕ) × (why : Denial) × (said ≡ denial_line client why))
+    ⊎ ((client : ℕ)
+    × (name : List ℕ)
+    × (r : Reply)
+    × IsOfNobody r
+    × (said ≡ reply_line client name r)))
+
+-- nothing has changed, and no hold is reported
+pub record IsOfNoRing (old : NamedView) (said note : List ℕ) (new : NamedView) : Type 0 where
+  pub same : new ≡ old
+  pub notes : note ≡ []
+  pub nothing : ReportsNothing said
+
+-- ---- lines
+
+-- Each of the lines is the next one of these lines of rings, or is of none.
 abbrev pub AreOfRings : NameTerms → NamingView → List (List ℕ) → List ℕ → List ℕ → NamingView
-    → List (List ℕ) → Type 0
-AreOfRings terms old [] said noted new rings =
-    (said ≡ []) × (noted ≡ []) × (new ≡ old) × (rings ≡ [])
-AreOfRings terms old (line ∷ lines) said noted new rings =
+    → List (List ℕ) → List ℕ → Type 0
+AreOfRings terms old [] said noted new rings told =
+    (said ≡ []) × (noted ≡ []) × (new ≡ old) × (rings ≡ []) × (told ≡ [])
+AreOfRings terms old (line ∷ lines) said noted new rings told =
     (mid : NamingView)
-    × (first later : List ℕ)
-    × (note notes : List ℕ)
-    × (now next : List (List ℕ))
+    × (first later note notes now next : List ℕ)
+    × (more : List (List ℕ))
     × IsNameLineAnswered terms old line first note mid
-    × (((now ≡ []) × (mid ≡ old) × (note ≡ []))
+    × (((rings ≡ more) × (now ≡ []) × IsOfNoRing old.named first note mid.named)
     ⊎ ((ring : List ℕ)
-    × (told : List ℕ)
-    × (now ≡ ring ∷ [])
-    × IsLine ring
-    × IsLineAnswered terms.lines (ring_segment old) ring told (without_remarks note)
-    (ring_segment mid)
-    × AreToldByName old mid told first))
+    × (rings ≡ ring ∷ more)
+    × IsOfRing terms old.named first note mid.named ring now))
     × (said ≡ first ++ later)
     × (noted ≡ note ++ notes)
-    × (rings ≡ now ++ next)
-    × AreOfRings terms mid lines later notes new next
+    × (told ≡ now ++ next)
+    × AreOfRings terms mid lines later notes new more next
+
+-- Lines about names are lines of rings, which the rings answer as locks do, one after the other; what
+-- is noted is whole lines; and the names are right after them.
+pub record HaveRingLines (terms : NameTerms) (old : NamingView) (lines : List (List ℕ))
+    (said noted : List ℕ) (new : NamingView) : Type 0 where
+  pub rings : List (List ℕ)
+  pub told : List ℕ
+  pub each : AreOfRings terms old lines said noted new rings told
+  pub answers : Answers (IsLineAnswered terms.lines) (ring_segment old.named) rings told
+      (without_remarks noted) (ring_segment new.named)
+  pub whole : AreLines noted
+  pub right : AreRightNames new.named
 
 -- A law: lines about names are lines of rings.
 abbrev pub NameLinesAreRingLines : Type 0
 NameLinesAreRingLines =
     (terms : NameTerms) (old new : NamingView) (lines : List (List ℕ)) (said noted : List ℕ)
-    → IsNamed (named_of old.named)
+    → AreRightNames old.named → new.named.top < 2 ^ 64
     → Answers (IsNameLineAnswered terms) old lines said noted new
-    → (rings : List (List ℕ)) × AreOfRings terms old lines said noted new rings
+    → HaveRingLines terms old lines said noted new
