@@ -1,3 +1,9 @@
 pub mod Said
 pub mod LeftSame
 pub mod Reached
+pub mod NotedSame
+pub mod Unchanged
+pub mod Lacking
+pub mod Utf
+pub mod Inputs
+pub mod Answered
