@@ -8,3 +8,12 @@ pub mod RingLined
 pub mod NamedJournals
 pub mod TakenNotes
 pub mod TakenLines
+pub mod Said
+pub mod LeftSame
+pub mod Reached
+pub mod NotedSame
+pub mod Unchanged
+pub mod Lacking
+pub mod Utf
+pub mod Inputs
+pub mod Answered
