@@ -8,6 +8,7 @@ pub mod RingLined
 pub mod NamedJournals
 pub mod TakenNotes
 pub mod TakenLines
+pub mod EqualNames
 pub mod Said
 pub mod LeftSame
 pub mod Reached

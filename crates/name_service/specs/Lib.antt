@@ -7,3 +7,4 @@ pub mod State
 pub mod RingLines
 pub mod NameLines
 pub mod NamesBack
+pub mod NameEqual
