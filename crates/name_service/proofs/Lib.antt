@@ -1,0 +1,4 @@
+pub mod FreshRings
+pub mod GrownPools
+pub mod NamedTexts
+pub mod NamedStates

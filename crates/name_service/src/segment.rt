@@ -1,16 +1,20 @@
 //! Locks by any name in a segment, with what its journal has had.
 
-ghost use Rattle.std.specs.Prelude.{◌≡◌, ◌||◌, Some, slice_get, IfOk, IfErr};
+ghost use Rattle.std.specs.Prelude.{◌≡◌, ◌||◌, false, Some, slice_get, IfOk, IfErr};
 ghost use Rattle.held_locks.specs.Asked.{asked, events_at};
 ghost use Rattle.lock_names.specs.Kept.{IsAsked};
 ghost use Rattle.lock_names.specs.Leaves.{IsLeftByName};
 ghost use Rattle.lock_service.specs.Due.{is_due, has_short};
 ghost use Rattle.lock_service.specs.Counting.{lines_at_start, count_of_all};
 ghost use Rattle.name_service.specs.Naming.{IsNameCounted, count_at, events_before, is_wanting};
+ghost use Rattle.name_service.specs.First.{IsNameStart};
+ghost use Rattle.name_service.specs.Growth.{AreNextGrown, HaveNoNextGrown};
 
-use held_locks::{Left, OneAsk};
+use crate::growing::next_names;
+use held_locks::{Left, OneAsk, Refusal};
 use lock_names::{NameAnswers, Names};
 use lock_service::sharing::{after_end, after_events, after_left, after_start, events_at, has_short, has_short_left, is_short_at};
+use ring_state::Params;
 use std::alloc::{AllocError, Global};
 use std::marker::Model;
 
@@ -100,5 +104,62 @@ impl NameSegment {
         let locks = self.names.locks();
         self.remaining = after_left(self.remaining, locks, self.left.as_slice());
         self.short = self.short || has_short_left(locks, self.left.as_slice());
+    }
+
+    /// The segment with which these names start. Its journal may have `limit` lines until it is due, those with which it begins
+    /// among them.
+    ///
+    /// # Errors
+    ///
+    /// Only if memory is short.
+    pub(crate) fn start(alloc: Global, names: Names, limit: u64) -> Result<NameSegment, AllocError>
+        ensures { IfOk result (λ s. IsNameStart limit names s) }
+    {
+        let Ok(left) = Vec::with_capacity(alloc, names.count() as usize) else {
+            return Err(AllocError);
+        };
+        let remaining = after_start(limit, names.locks());
+        let short = has_short(names.locks());
+        Ok(NameSegment {
+            alloc,
+            names,
+            left,
+            remaining,
+            short,
+        })
+    }
+
+    /// The next segment: the names continue in the next segments of their rings, and the pool, of rings of this size, has grown to what
+    /// it should have, up to `most` rings.
+    ///
+    /// # Errors
+    ///
+    /// `Full` where no segment has room, a lock would be short in it, or the pool cannot grow; `Memory`.
+    pub(crate) fn next(
+        &self,
+        alloc: Global,
+        most: u32,
+        size: Params,
+        limit: u64,
+    ) -> Result<NameSegment, Refusal>
+        ensures names { IfOk result (λ s. AreNextGrown most size self.now.named s.named) }
+        ensures remaining { IfOk result (λ s. s.remaining ≡ limit) }
+        ensures short { IfOk result (λ s. s.short ≡ false) }
+        ensures why { IfErr result (λ e. HaveNoNextGrown most self.now.named e) }
+    {
+        let names = match next_names(&self.names, alloc, most, size) {
+            Ok(names) => names,
+            Err(why) => return Err(why),
+        };
+        let Ok(left) = Vec::with_capacity(alloc, names.count() as usize) else {
+            return Err(Refusal::Memory);
+        };
+        Ok(NameSegment {
+            alloc,
+            names,
+            left,
+            remaining: limit,
+            short: false,
+        })
     }
 }

@@ -1,0 +1,53 @@
+//! Locks by any name that start.
+
+ghost use Rattle.std.specs.Prelude.{◌≡◌, IfOk};
+ghost use Rattle.lock_service.specs.declared.service.Stage.{Stage};
+ghost use Rattle.lock_service.specs.Segmented.{limit_of};
+ghost use Rattle.lock_service.specs.Serving.{stage_after};
+ghost use Rattle.name_service.specs.First.{IsNameStart};
+ghost use Rattle.name_service.specs.Serving.{is_name_past};
+
+use crate::segment::NameSegment;
+use crate::service::{NameService, NameTerms, is_past};
+use lock_names::Names;
+use lock_service::sharing::{Stage, limit_of, stage_after};
+use std::alloc::{AllocError, Global};
+
+impl NameService {
+    /// Locks of these names that answer lines, with the segment with which they start.
+    ///
+    /// # Errors
+    ///
+    /// Only if memory is short. The names are let go then.
+    pub fn new(alloc: Global, names: Names, terms: NameTerms) -> Result<NameService, AllocError>
+        ensures start { IfOk result
+            (λ s. IsNameStart (limit_of terms.lines.limit) names s.segment) }
+        ensures terms { IfOk result (λ s. s.terms ≡ terms) }
+        ensures stage { IfOk result (λ s. s.stage
+            ≡ stage_after Stage.Open (is_name_past terms s.segment)) }
+    {
+        let Ok(segment) = NameSegment::start(alloc, names, limit_of(terms.lines.limit)) else {
+            return Err(AllocError);
+        };
+        let stage = stage_after(Stage::Open, is_past(terms, &segment));
+        Ok(NameService {
+            segment,
+            terms,
+            stage,
+        })
+    }
+
+    /// The segment with which they start is to end before the first line: its file is that of an earlier run.
+    pub fn end_first(&mut self)
+        ensures { self.new ≡ record self.old { stage = Stage.Due } }
+    {
+        self.stage = Stage::Due;
+    }
+
+    /// The locks with their names.
+    pub fn names(&self) -> &Names
+        ensures { result.now ≡ self.now.segment.named }
+    {
+        self.segment.names()
+    }
+}
