@@ -311,6 +311,13 @@ impl Names {
         Ok(Names { rings, table })
     }
 
+    /// The names are right, and there is a ring for each fixed lock, at each moment: this does nothing, and says so.
+    pub fn are_kept(&self)
+        ensures { IsKeptNamed self.now }
+    {
+        self.rings.locks.count(); // says: they are kept
+    }
+
     /// How many rings there are.
     pub fn count(&self) -> u32
         ensures { result ≡ length self.now.locks }
