@@ -19,6 +19,8 @@ mod loops;
 #[cfg(test)]
 mod named_locks;
 #[cfg(test)]
+mod named_segments;
+#[cfg(test)]
 mod names;
 #[cfg(test)]
 mod remarks_of_names;

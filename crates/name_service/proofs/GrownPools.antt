@@ -107,7 +107,7 @@ cannot_add size old n more mid lt g w =
 
 -- ---- the next segment
 
-next_long : (old new : NamedView) → AreNextNames old new → length new.locks ≡ length old.locks
+pub next_long : (old new : NamedView) → AreNextNames old new → length new.locks ≡ length old.locks
 next_long old new n = sym (length-map new.locks lock_of) ∙ (ap (λ (s : Named). length s.locks) n.named ∙ length-map old.locks lock_of)
 
 pub next_cannot_add : (old mid : NamedView) (more : ℕ) → AreNextNames old mid → CannotAdd mid more → CannotAdd old more

@@ -1,5 +1,5 @@
 -- The pool of rings grows where a segment begins (this project's own).
-use Rattle.std.specs.Prelude.{◌≡◌, ℕ, zero, suc, ◌+◌, ◌-◌, ◌<◌, ◌≤◌, min, max, length, ◌⊎◌}
+use Rattle.std.specs.Prelude.{◌≡◌, ℕ, zero, suc, ◌+◌, ◌-◌, ◌<◌, ◌≤◌, min, max, false, length, ◌⊎◌}
 use Rattle.ring_state.specs.Sizes.{Size}
 use Rattle.endless_ring.specs.Endless.{EndlessView}
 use Rattle.held_locks.specs.declared.answers.Refusal.{Refusal}
@@ -7,10 +7,11 @@ use Rattle.held_locks.specs.declared.answers.Refusal.TheVariants as refusal
 use Rattle.held_locks.specs.Kept.{lock_limit, IsKeptRing}
 use Rattle.folder_of_locks.specs.Rings.{IsFreshRing}
 use Rattle.folder_of_locks.specs.Pools.{pool_ring}
-use Rattle.lock_names.specs.Kept.{NamedView, top_limit}
+use Rattle.lock_names.specs.Kept.{NamedView, IsKeptNamed, top_limit}
 use Rattle.lock_names.specs.Grown.{AreNextNames, IsGrown}
 use Rattle.lock_names.specs.Sizes.{AreUsedUntil, IsWanted}
 use Rattle.lock_service.specs.Due.{HaveNoSegment}
+use Rattle.name_service.specs.Naming.{is_wanting}
 
 -- how many rings the pool has
 abbrev pub pool_of : NamedView → ℕ
@@ -62,3 +63,16 @@ pub record IsUngrown (most : ℕ) (v : NamedView) : Type 0 where
 abbrev pub HaveNoNextGrown : ℕ → NamedView → Refusal → Type 0
 HaveNoNextGrown most v why =
     HaveNoSegment v.locks why ⊎ ((why ≡ refusal.Full) × IsUngrown most v)
+
+-- ---- laws
+
+-- a pool should have one number of rings
+abbrev pub PoolWantedIsOne : Type 0
+PoolWantedIsOne =
+    (most : ℕ) (v : NamedView) (a b : ℕ) → IsPoolWanted most v a → IsPoolWanted most v b → a ≡ b
+
+-- The next segment is not due for want of rings: one is free, or there are as many as there may be.
+abbrev pub NextWantsNoRing : Type 0
+NextWantsNoRing =
+    (most : ℕ) (size : Size) (old new : NamedView) → IsKeptNamed old
+    → AreNextGrown most size old new → is_wanting most new ≡ false
