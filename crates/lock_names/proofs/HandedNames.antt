@@ -131,13 +131,13 @@ module _ (v : NamedView) (x : List ℕ) (token client i : ℕ) (b : Bound) (k : 
 
   -- no hold of the name with this token is open, since that of the ring is not
   pub not_handed_by_name : CannotBeHanded v.locks (record { lock = i; token = own; client = client }) → CannotBeHandedByName v x token
-  not_handed_by_name cannot = λ ring number d l named_so there t open.
+  not_handed_by_name cannot = λ ring number d l named_so there t free_hold.
       let same : ◌≡◌ {A = ℕ × Bound} (i, b) (ring, d) = some_same (i, b) (ring, d) (sym named ∙ named_so) in
       let at : slice_get v.locks i ≡ Some l = ap (λ (p : ℕ × Bound). slice_get v.locks p.0) same ∙ there in
       let h : Holder = record { client = 0; token = number } in
       let its : token ≡ token_in b number = t ∙ ap (λ (p : ℕ × Bound). token_in p.1 number) (sym same) in
-      let is : own ≡ number = own_of h (holder l at ∙ open.held) ∙ own_is b token h its in
-      cannot l at (subst (λ (n : ℕ). IsOpen l n) (sym is) open)
+      let is : own ≡ number = own_of h (holder l at ∙ free_hold.held) ∙ own_is b token h its in
+      cannot l at (subst (λ (n : ℕ). IsOpen l n) (sym is) free_hold)
 
   -- what is named right stays so
   pub handed_kept : (ws : List LockView) → IsHanded v.locks ws (record { lock = i; token = own; client = client }) → AreRight (locks_of ws) → IsKeptNamed (record { locks = ws; names = v.names; fixed = v.fixed; top = v.top })
@@ -160,7 +160,7 @@ module _ (v : NamedView) (x : List ℕ) (token client i : ℕ) (b : Bound) (k : 
 
 -- a name that no ring has
 nowhere : (v : NamedView) (x : List ℕ) (token : ℕ) (o : Option (ℕ × Bound)) → found x v.names ≡ o → option_map (λ (p : ℕ × Bound). p.0) o ≡ None → CannotBeHandedByName v x token
-nowhere v x token None e f = λ ring number b l named there t open. none_some (ring, b) (sym e ∙ named)
+nowhere v x token None e f = λ ring number b l named there t free_hold. none_some (ring, b) (sym e ∙ named)
 nowhere v x token (Some p) e f = absurd (none_some p.0 (sym f))
 
 pub none_named : (v : NamedView) (x : List ℕ) (token : ℕ) → ring_of x v.names ≡ None → CannotBeHandedByName v x token

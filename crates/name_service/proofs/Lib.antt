@@ -1,3 +1,6 @@
+pub mod Said
+pub mod LeftSame
+pub mod Reached
 pub mod FreshRings
 pub mod GrownPools
 pub mod NamedTexts

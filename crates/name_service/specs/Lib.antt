@@ -1,6 +1,7 @@
 pub mod Naming
 pub mod Noting
 pub mod Serving
+pub mod Starts
 pub mod First
 pub mod Growth
 pub mod NamesText

@@ -1,6 +1,6 @@
 -- The lines that clients get of an answer about a name, and what the journal gets of it (this
 -- project's own).
-use Rattle.std.specs.Prelude.{ℕ, nat_lt, Bool, true, false, not, ◌||◌, List, [], ◌++◌, Option, None, Some, is_some}
+use Rattle.std.specs.Prelude.{ℕ, nat_lt, Bool, true, false, not, ◌||◌, List, [], ◌++◌, slice_get, Option, None, Some, is_some}
 use Rattle.std.specs.List.{flat_map}
 use Rattle.held_locks.specs.declared.answers.Left.{Left}
 use Rattle.held_locks.specs.Kept.{LockView}
@@ -11,7 +11,7 @@ use Rattle.lock_names.specs.declared.replies.NameAnswers.{NameAnswers}
 use Rattle.lock_names.specs.Names.{Bound, Named, Said, fresh}
 use Rattle.lock_names.specs.Kept.{NamedView, named_of}
 use Rattle.name_remarks.specs.Remarks.{Binding, bind, free, remark_text}
-use Rattle.lock_service.specs.Noting.{note_about, note_of_left}
+use Rattle.lock_service.specs.Noting.{end_line, events_from, note_about, note_of_left}
 
 -- ---- the lines of clients
 
@@ -54,6 +54,14 @@ note_at None old new x r = []
 note_at (Some ring) old new x r =
     note_of_new (named_of old) x ring r.fresh
     ++ (note_about ring old.locks new.locks r.ended ++ note_of_free ring r.freed)
+
+-- the same, by the names after it, if the ring's segment had this number of events before
+abbrev pub note_since : Option ℕ → ℕ → NamedView → NameAnswers → List ℕ
+note_since None place new r = []
+note_since (Some ring) place new r =
+    new_of r.fresh ring (slice_get new.names ring)
+    ++ ((end_line ring r.ended ++ events_from ring place (slice_get new.locks ring))
+    ++ note_of_free ring r.freed)
 
 -- the same of a client that leaves all names: of each that it held
 abbrev pub is_freed : ℕ → Left → Bool

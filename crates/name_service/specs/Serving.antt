@@ -1,8 +1,6 @@
 -- How each line about a name is answered (this project's own).
 use Rattle.std.specs.Prelude.{◌≡◌, ℕ, Bool, true, false, cond, ◌&&◌, ◌||◌, List, [], ◌++◌, Option, None, Some, is_some, option_map}
 use Rattle.disks.specs.Held.{Held}
-use Rattle.held_locks.specs.declared.answers.Answer.TheVariants as answer
-use Rattle.held_locks.specs.declared.answers.Refusal.TheVariants as refusal
 use Rattle.held_locks.specs.Locks.{Ask}
 use Rattle.held_locks.specs.Kept.{AreKept}
 use Rattle.lock_protocol.specs.declared.answers.Denial.TheVariants as denial
@@ -12,17 +10,17 @@ use Rattle.lock_protocol.specs.Asks as lines
 use Rattle.lock_protocol.specs.Inputs.{IsReadAs}
 use Rattle.lock_protocol.specs.Answers.{denial_line}
 use Rattle.lock_names.specs.declared.replies.Reply.{Reply}
-use Rattle.lock_names.specs.declared.replies.Reply.TheVariants as reply
 use Rattle.lock_names.specs.declared.replies.NameAnswers.{NameAnswers}
 use Rattle.lock_names.specs.Kept.{own_said, grant_said, IsAsked, IsKeptNamed}
 use Rattle.lock_names.specs.Leaves.{said_left, IsLeftByName}
 use Rattle.name_service.specs.declared.service.NameService.{NameService}
 use Rattle.name_service.specs.declared.service.NameTerms.{NameTerms}
-use Rattle.lock_service.specs.Asking.{one_ask, is_off, is_lack}
+use Rattle.lock_service.specs.Asking.{one_ask, is_off}
 use Rattle.lock_service.specs.Due.{is_due}
 use Rattle.lock_service.specs.Counting.{count_of_all}
 use Rattle.lock_service.specs.Segmented.{is_to_end}
 use Rattle.lock_service.specs.Serving.{denial_of, stage_after}
+pub use Rattle.name_service.specs.Naming.{reply_told, is_name_lack}
 use Rattle.name_service.specs.Naming.{NamingView, IsNameCounted, count_at, is_wanting}
 use Rattle.name_service.specs.Noting.{lines_of_said, note_at, notes_of_names_left}
 
@@ -33,19 +31,9 @@ pub record IsOnlySaid (text : List ℕ) (old : NamingView) (said noted : List �
   pub notes : noted ≡ []
   pub leaves : new ≡ old
 
--- While the pool may get rings, an ask that finds none free is refused for lack of room: the segment
--- is to end, and could not be ended.
-abbrev pub reply_told : Bool → Reply → Reply
-reply_told true reply.Names = reply.Lock (answer.Refused refusal.Full)
-reply_told wanting r = r
-
+-- the reply as it is told
 abbrev pub own_told : NameTerms → NamingView → NameAnswers → Option Reply
 own_told terms old r = option_map (reply_told (is_wanting terms.most old.named)) r.own
-
--- the asker is refused for lack of room or of memory
-abbrev pub is_name_lack : Option Reply → Bool
-is_name_lack (Some (reply.Lock a)) = is_lack (Some a)
-is_name_lack _ = false
 
 -- A name answers. The clients that asked or are granted it get their lines, and the journal has what
 -- is new. On strict terms nobody is refused for lack of room or memory.
@@ -66,7 +54,7 @@ pub record IsNameToldOf (terms : NameTerms) (client : ℕ) (name : List ℕ) (as
 pub record IsNameToldOfLeave (noting : Bool) (client : ℕ) (old : NamingView)
     (said noted : List ℕ) (new : NamingView) : Type 0 where
   pub done : IsLeftByName old.named new.named client new.left
-  pub says : said ≡ lines_of_said (said_left new.named.names new.left)
+  pub says : said ≡ lines_of_said (said_left old.named.names new.left)
   pub notes : noted
       ≡ cond noting (notes_of_names_left old.named.fixed new.named.locks new.left) []
   pub counted : IsNameCounted old new (count_of_all new.named.locks new.left)
@@ -86,6 +74,11 @@ IsNameAnsweredIf true terms client ask old said noted new =
     IsOnlySaid (denial_line client denial.Off) old said noted new
 IsNameAnsweredIf false terms client ask old said noted new =
     IsNameTold terms client (one_ask ask) old said noted new
+
+-- what an ask that was read of a line names is a name
+abbrev pub IsNamedInput : Input → Type 0
+IsNamedInput (input.Asked client ask) = lines.HasName ask
+IsNamedInput _ = Unit {0}
 
 -- what was read of a line is answered
 abbrev pub IsNameInputAnswered : NameTerms → Input → NamingView → List ℕ → List ℕ → NamingView

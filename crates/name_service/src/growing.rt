@@ -1,4 +1,4 @@
-//! The names of the next segment, with a pool that has grown.
+//! The next segment, with a pool that has grown.
 
 ghost use Rattle.std.specs.Prelude.{◌≡◌, ◌⊎◌, ◌≤◌, false, length, IfOk, IfErr};
 ghost use Rattle.held_locks.specs.declared.answers.Refusal.{Refusal};
@@ -7,6 +7,7 @@ ghost use Rattle.lock_names.specs.Kept.{top_limit};
 ghost use Rattle.lock_service.specs.Due.{has_short};
 ghost use Rattle.name_service.specs.Growth.{pool_of, IsPoolWanted, HasFreshRing, AreGrown, CannotAdd, AreNextGrown, HaveNoNextGrown};
 
+use crate::segment::NameSegment;
 use folder_of_locks::fresh_ring;
 use held_locks::Refusal;
 use lock_names::{Names, NotGrown, wanted_pool};
@@ -76,7 +77,7 @@ fn grow(names: Names, alloc: Global, size: Params, more: u32) -> Result<Names, R
 /// # Errors
 ///
 /// `Full` where no segment has room, a lock would be short in it, or the pool cannot grow; `Memory`.
-pub(crate) fn next_names(
+fn next_names(
     names: &Names,
     alloc: Global,
     most: u32,
@@ -95,4 +96,32 @@ pub(crate) fn next_names(
         return Err(Refusal::Full);
     }
     grow(next, alloc, size, more)
+}
+
+/// The next segment, whose journal may have `limit` lines: the names continue in the next segments of their rings, and the pool, of
+/// rings of this size, has grown to what it should have, up to `most` rings.
+///
+/// # Errors
+///
+/// `Full` where no segment has room, a lock would be short in it, or the pool cannot grow; `Memory`.
+pub(crate) fn next_segment(
+    segment: &NameSegment,
+    alloc: Global,
+    most: u32,
+    size: Params,
+    limit: u64,
+) -> Result<NameSegment, Refusal>
+    ensures names { IfOk result (λ s. AreNextGrown most size segment.now.named s.named) }
+    ensures remaining { IfOk result (λ s. s.remaining ≡ limit) }
+    ensures short { IfOk result (λ s. s.short ≡ false) }
+    ensures why { IfErr result (λ e. HaveNoNextGrown most segment.now.named e) }
+{
+    let names = match next_names(segment.names(), alloc, most, size) {
+        Ok(names) => names,
+        Err(why) => return Err(why),
+    };
+    match NameSegment::begin(alloc, names, limit, false) {
+        Ok(next) => Ok(next),
+        Err(_) => Err(Refusal::Memory),
+    }
 }

@@ -2,10 +2,13 @@
 #![tactic(auto)]
 
 mod growing;
+pub mod growth_laws;
+mod lines;
 mod noting;
 mod segment;
 mod segmented;
 mod service;
+mod starting;
 mod stating;
 mod texts;
 

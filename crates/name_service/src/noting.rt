@@ -1,28 +1,20 @@
 //! The lines that clients get of an answer about a name, and what the journal gets of it.
 
-ghost use Rattle.std.specs.Prelude.{◌≡◌, ◌++◌, [], ℕ, List, Some, None, cond, slice_get, OnOk};
-ghost use Rattle.held_locks.specs.declared.answers.Left.{Left};
-ghost use Rattle.lock_names.specs.Names.{Bound, fresh};
-ghost use Rattle.lock_names.specs.Kept.{own_said, grant_said, named_of};
-ghost use Rattle.lock_names.specs.Leaves.{said_left};
+ghost use Rattle.std.specs.Prelude.{◌≡◌, ◌++◌, [], cond, slice_get, OnOk};
+ghost use Rattle.lock_names.specs.Kept.{own_said, grant_said};
+ghost use Rattle.lock_names.specs.Leaves.{bound_or, said_left};
 ghost use Rattle.lock_service.specs.Noting.{end_line, events_from};
-ghost use Rattle.name_service.specs.Noting.{reply_line, lines_of_said, binding_of, note_of_free, notes_of_names_left};
-ghost use Rattle.name_remarks.specs.Remarks.{bind, remark_text};
+ghost use Rattle.name_service.specs.Noting.{reply_line, lines_of_said, new_of, note_of_free, note_since, is_freed, notes_of_names_left};
 
 use held_locks::{Answer, HoldEnd, Holder, Left};
-use lock_names::{Names, Reply};
-use lock_service::sharing::note;
+use lock_names::{NameAnswers, Names, Reply};
 use lock_protocol::{put_answer, put_names};
+use lock_service::sharing::note;
 use name_remarks::{NameRemark, put_name_remark};
 use std::alloc::AllocError;
 
 /// Adds the line of a reply about a name.
-fn tell_reply(
-    text: &mut Vec<u8>,
-    client: u64,
-    name: &[u8],
-    reply: Reply,
-) -> Result<(), AllocError>
+fn tell_reply(text: &mut Vec<u8>, client: u64, name: &[u8], reply: Reply) -> Result<(), AllocError>
     ensures { OnOk result (text.new.items ≡ text.old.items ++ reply_line client name.now reply) }
 {
     match reply {
@@ -48,11 +40,7 @@ fn tell_own(
 }
 
 /// Adds the line to the client that is granted the name, if there is one.
-fn tell_grant(
-    text: &mut Vec<u8>,
-    name: &[u8],
-    granted: Option<Holder>,
-) -> Result<(), AllocError>
+fn tell_grant(text: &mut Vec<u8>, name: &[u8], granted: Option<Holder>) -> Result<(), AllocError>
     ensures { OnOk result (text.new.items
         ≡ text.old.items ++ lines_of_said (grant_said name.now granted)) }
 {
@@ -79,9 +67,9 @@ pub(crate) fn tell_name(
     }
 }
 
-/// The name of a ring, or nothing.
+/// The name of a ring; nothing, if it has none.
 fn name_at(names: &Names, ring: u32) -> &[u8]
-    ensures { (b : Bound) → slice_get names.now.names ring ≡ Some (Some b) → result.now ≡ b.name }
+    ensures { result.now ≡ (bound_or (slice_get names.now.names ring)).name }
 {
     match names.name(ring) {
         Some(name) => name.as_bytes(),
@@ -107,24 +95,24 @@ pub(crate) fn tell_names_left(
     Ok(())
 }
 
-/// Adds the remark that binds a ring to the name that it has.
-fn note_new(names: &Names, ring: u32, notes: &mut Vec<u8>) -> Result<(), AllocError>
-    ensures { (b : Bound) → slice_get names.now.names ring ≡ Some (Some b)
-        → OnOk result (notes.new.items
-        ≡ notes.old.items ++ remark_text (bind ring (binding_of b))) }
+/// Adds the remark that binds a ring to the name that it has, if this is new.
+fn note_new(names: &Names, ring: u32, fresh: bool, notes: &mut Vec<u8>) -> Result<(), AllocError>
+    ensures { OnOk result (notes.new.items
+        ≡ notes.old.items ++ new_of fresh ring (slice_get names.now.names ring)) }
 {
-    match names.binding(ring) {
-        Some(binding) => put_name_remark(
-            notes,
-            NameRemark::Bind {
-                ring,
-                before: binding.before,
-                floor: binding.floor,
-                name: binding.name.as_bytes(),
-            },
-        ),
-        None => Ok(()),
+    if !fresh {
+        return Ok(());
     }
+    let Some(binding) = names.binding(ring) else {
+        return Ok(());
+    };
+    let remark = NameRemark::Bind {
+        ring,
+        before: binding.before,
+        floor: binding.floor,
+        name: binding.name.as_bytes(),
+    };
+    put_name_remark(notes, remark)
 }
 
 /// Adds the remark that a ring is free, if it has lost its name.
@@ -157,45 +145,41 @@ fn note_ring(
     }
 }
 
-/// What a journal gets of the ring that was asked.
-#[derive(Clone, Copy)]
-pub(crate) struct RingNote {
-    pub(crate) ring: u32,
-    /// Whether its name is new.
-    pub(crate) fresh: bool,
-    /// Whether it has lost its name.
-    pub(crate) freed: bool,
-    /// How many events its segment had before.
-    pub(crate) place: usize,
-    pub(crate) ended: Option<HoldEnd>,
+/// Adds what a journal gets of an answer about a name: how its ring is bound, if that is new, and the rest.
+fn note_asked(
+    names: &Names,
+    ring: u32,
+    answers: NameAnswers,
+    place: usize,
+    notes: &mut Vec<u8>,
+) -> Result<(), AllocError>
+    ensures { OnOk result (notes.new.items
+        ≡ notes.old.items ++ note_since (Some ring) place names.now answers) }
+{
+    match note_new(names, ring, answers.fresh, notes) {
+        Ok(()) => note_ring(names, ring, answers.ended, place, answers.freed, notes),
+        Err(error) => Err(error),
+    }
 }
 
-/// Adds what a journal gets of an answer about a name.
-pub(crate) fn note_asked(
+/// The same, if a journal is kept and a ring was asked, whose segment had `place` events before.
+pub(crate) fn note_name_if(
+    noting: bool,
     names: &Names,
-    asked: RingNote,
+    answers: NameAnswers,
+    place: usize,
     notes: &mut Vec<u8>,
 ) -> Result<(), AllocError>
     ensures { OnOk result (notes.new.items ≡ notes.old.items
-        ++ (new_of asked.fresh asked.ring (slice_get names.now.names asked.ring)
-        ++ ((end_line asked.ring asked.ended
-        ++ events_from asked.ring asked.place (slice_get names.now.locks asked.ring))
-        ++ note_of_free asked.ring asked.freed))) }
+        ++ cond noting (note_since answers.ring place names.now answers) []) }
 {
-    if asked.fresh {
-        match note_new(names, asked.ring, notes) {
-            Ok(()) => {}
-            Err(error) => return Err(error),
-        }
+    if !noting {
+        return Ok(());
     }
-    note_ring(
-        names,
-        asked.ring,
-        asked.ended,
-        asked.place,
-        asked.freed,
-        notes,
-    )
+    match answers.ring {
+        Some(ring) => note_asked(names, ring, answers, place, notes),
+        None => Ok(()),
+    }
 }
 
 /// Whether the ring of a hold that was left has lost its name.
@@ -206,28 +190,35 @@ fn is_freed(fixed: u32, left: Left) -> bool
 }
 
 /// Adds what a journal gets of what a client left.
-pub(crate) fn note_names_left(
-    names: &Names,
-    left: &[Left],
-    notes: &mut Vec<u8>,
-) -> Result<(), AllocError>
+fn note_names_left(names: &Names, left: &[Left], notes: &mut Vec<u8>) -> Result<(), AllocError>
     ensures { OnOk result (notes.new.items ≡ notes.old.items
         ++ notes_of_names_left names.now.fixed names.now.locks left.now) }
 {
     let fixed = names.fixed();
     for one in left {
         let place = one.ended.survey.position as usize;
-        match note_ring(
-            names,
-            one.lock,
-            Some(one.ended),
-            place,
-            is_freed(fixed, *one),
-            notes,
-        ) {
+        let freed = is_freed(fixed, *one);
+        match note_ring(names, one.lock, Some(one.ended), place, freed, notes) {
             Ok(()) => {}
             Err(error) => return Err(error),
         }
     }
     Ok(())
+}
+
+/// The same, if a journal is kept.
+pub(crate) fn note_names_left_if(
+    noting: bool,
+    names: &Names,
+    left: &[Left],
+    notes: &mut Vec<u8>,
+) -> Result<(), AllocError>
+    ensures { OnOk result (notes.new.items ≡ notes.old.items
+        ++ cond noting (notes_of_names_left names.now.fixed names.now.locks left.now) []) }
+{
+    if noting {
+        note_names_left(names, left, notes)
+    } else {
+        Ok(())
+    }
 }

@@ -1,26 +1,25 @@
 //! Locks by any name in a segment, with what its journal has had.
 
-ghost use Rattle.std.specs.Prelude.{◌≡◌, ◌||◌, false, Some, slice_get, IfOk, IfErr};
-ghost use Rattle.held_locks.specs.Asked.{asked, events_at};
+ghost use Rattle.std.specs.Prelude.{◌≡◌, ℕ, ◌-◌, ◌||◌, true, slice_get, option_map, IfOk};
+ghost use Rattle.held_locks.specs.Asked.{asked};
 ghost use Rattle.lock_names.specs.Kept.{IsAsked};
 ghost use Rattle.lock_names.specs.Leaves.{IsLeftByName};
-ghost use Rattle.lock_service.specs.Due.{is_due, has_short};
-ghost use Rattle.lock_service.specs.Counting.{lines_at_start, count_of_all};
-ghost use Rattle.name_service.specs.Naming.{IsNameCounted, count_at, events_before, is_wanting};
-ghost use Rattle.name_service.specs.First.{IsNameStart};
-ghost use Rattle.name_service.specs.Growth.{AreNextGrown, HaveNoNextGrown};
+ghost use Rattle.lock_service.specs.Due.{is_due, has_short_left};
+ghost use Rattle.lock_service.specs.Counting.{IsWatched, count_of_all};
+ghost use Rattle.name_service.specs.Naming.{IsNameCounted, count_at, events_before, count_since, is_short_asked, is_wanting, reply_told, is_name_lack};
 
-use crate::growing::next_names;
-use held_locks::{Left, OneAsk, Refusal};
+use held_locks::{Left, OneAsk};
 use lock_names::{NameAnswers, Names};
-use lock_service::sharing::{after_end, after_events, after_left, after_start, events_at, has_short, has_short_left, is_short_at};
-use ring_state::Params;
+use lock_service::sharing::{
+    after_end, after_events, after_left, events_at, has_short_left, is_short_at,
+};
 use std::alloc::{AllocError, Global};
 use std::marker::Model;
 
 /// The locks of a segment with their names. Its journal may have `remaining` lines more until it is due.
 #[derive(Drop)]
 pub(crate) struct NameSegment {
+    /// The memory of names that are new.
     alloc: Global,
     names: Names,
     /// What the client that left last held, with room for all rings.
@@ -48,36 +47,94 @@ impl Model for NameSegment {
         × IsWatched s.names.locks s.short };
 }
 
+/// What a name answers, and how many events the segment of its ring had before; 0, if no ring was asked.
+#[derive(Clone, Copy)]
+pub(crate) struct Asked {
+    pub(crate) answers: NameAnswers,
+    pub(crate) before: usize,
+}
+
+/// How much a journal may have yet, and whether a ring was short.
+#[derive(Clone, Copy)]
+struct Watch {
+    remaining: u64,
+    short: bool,
+}
+
 /// Whether no ring is free, and the pool may have this number of them and has fewer.
 pub(crate) fn is_wanting(names: &Names, most: u32) -> bool
     ensures { result ≡ is_wanting most names.now }
 {
-    names.free().is_none() && names.count() - names.fixed() < most
+    names.free().is_none() && names.count().saturating_sub(names.fixed()) < most
+}
+
+/// How many events the segment of a ring has; 0, if there is none.
+fn events_of(names: &Names, ring: Option<u32>) -> usize
+    ensures { result ≡ events_before names.now ring }
+{
+    match ring {
+        Some(ring) => events_at(names.locks(), ring),
+        None => 0,
+    }
+}
+
+/// What follows of an answer. Only the ring that was asked is looked at.
+fn after_ask(names: &Names, watch: Watch, asked: Asked) -> Watch
+    ensures remaining { result.remaining ≡ watch.remaining
+        - count_since asked.answers.ring asked.before names.now asked.answers }
+    ensures short { result.short
+        ≡ (watch.short || is_short_asked names.now.locks asked.answers.ring) }
+{
+    let Some(ring) = asked.answers.ring else {
+        return watch;
+    };
+    let remaining = after_end(watch.remaining, asked.answers.ended);
+    let after = events_at(names.locks(), ring);
+    Watch {
+        remaining: after_events(remaining, asked.before, after),
+        short: watch.short || is_short_at(names.locks(), ring),
+    }
+}
+
+/// What follows of a leave of these holds.
+fn after_leave(names: &Names, watch: Watch, left: &[Left]) -> Watch
+    ensures remaining { result.remaining
+        ≡ watch.remaining - count_of_all names.now.locks left.now }
+    ensures short { result.short ≡ (watch.short || has_short_left names.now.locks left.now) }
+{
+    let locks = names.locks();
+    Watch {
+        remaining: after_left(watch.remaining, locks, left),
+        short: watch.short || has_short_left(locks, left),
+    }
 }
 
 impl NameSegment {
-    /// Asks a name. Only its ring is looked at, and nothing changes if the asker is refused for lack of room or memory. It says too
-    /// how many events the segment of the ring had before; 0 if no ring was asked.
-    pub(crate) fn ask(&mut self, client: u64, name: &str, ask: OneAsk) -> (NameAnswers, usize)
-        ensures answer { IsAsked self.old.named self.new.named client name.now (asked ask)
-            result.0 }
-        ensures before { result.1 ≡ events_before self.old.named result.0.ring }
-        ensures counted { IsNameCounted self.old self.new
-            (count_at result.0.ring self.old.named self.new.named result.0) }
+    /// A segment of these names. Its journal may have `remaining` lines more until it is due.
+    ///
+    /// # Errors
+    ///
+    /// Only if memory is short. The names are let go then.
+    pub(crate) fn begin(
+        alloc: Global,
+        names: Names,
+        remaining: u64,
+        short: bool,
+    ) -> Result<NameSegment, AllocError>
+        requires { IsWatched names.locks short }
+        ensures { IfOk result (λ s.
+            (s.named ≡ names) × (s.remaining ≡ remaining) × (s.short ≡ short)) }
     {
-        let before = match self.names.reach(name, ask) {
-            Some(ring) => events_at(self.names.locks(), ring),
-            None => 0,
+        let Ok(left) = Vec::with_capacity(alloc, names.count() as usize) else {
+            return Err(AllocError);
         };
-        let answers = self.names.ask(self.alloc, client, name, ask);
-        let Some(ring) = answers.ring else {
-            return (answers, before);
-        };
-        let remaining = after_end(self.remaining, answers.ended);
-        let after = events_at(self.names.locks(), ring);
-        self.remaining = after_events(remaining, before, after);
-        self.short = self.short || is_short_at(self.names.locks(), ring);
-        (answers, before)
+        Ok(NameSegment {
+            alloc,
+            names,
+            left,
+            remaining,
+            short,
+        })
     }
 
     /// The locks with their names.
@@ -94,72 +151,53 @@ impl NameSegment {
         self.left.as_slice()
     }
 
+    /// Whether its journal has had all its lines, or a ring was short.
+    pub(crate) fn is_due(&self) -> bool
+        ensures { result ≡ is_due self.now.remaining self.now.short }
+    {
+        self.remaining == 0 || self.short
+    }
+
+    /// How much its journal may have yet, and whether a ring was short.
+    fn watch(&self) -> Watch
+        ensures { result ≡ record { remaining = self.now.remaining; short = self.now.short } }
+    {
+        Watch {
+            remaining: self.remaining,
+            short: self.short,
+        }
+    }
+
+    /// Asks a name. Only its ring is looked at, and nothing changes if the asker is refused for lack of room, of memory or of rings.
+    pub(crate) fn ask(&mut self, client: u64, name: &str, ask: OneAsk) -> Asked
+        ensures answer { IsAsked self.old.named self.new.named client name.now (asked ask)
+            result.answers }
+        ensures before { result.before ≡ events_before self.old.named result.answers.ring }
+        ensures counted { IsNameCounted self.old self.new
+            (count_at result.answers.ring self.old.named self.new.named result.answers) }
+        ensures lack { is_name_lack (option_map (reply_told true) result.answers.own) ≡ true
+            → self.new ≡ self.old }
+    {
+        let watch = self.watch();
+        let before = events_of(&self.names, self.names.reach(name, ask));
+        let answers = self.names.ask(self.alloc, client, name, ask);
+        let asked = Asked { answers, before };
+        let after = after_ask(&self.names, watch, asked);
+        self.remaining = after.remaining;
+        self.short = after.short;
+        asked
+    }
+
     /// A client leaves all names. It takes no memory.
     pub(crate) fn leave(&mut self, client: u64)
         ensures left { IsLeftByName self.old.named self.new.named client self.new.left }
         ensures counted { IsNameCounted self.old self.new
             (count_of_all self.new.named.locks self.new.left) }
     {
+        let watch = self.watch();
         self.names.leave(client, &mut self.left);
-        let locks = self.names.locks();
-        self.remaining = after_left(self.remaining, locks, self.left.as_slice());
-        self.short = self.short || has_short_left(locks, self.left.as_slice());
-    }
-
-    /// The segment with which these names start. Its journal may have `limit` lines until it is due, those with which it begins
-    /// among them.
-    ///
-    /// # Errors
-    ///
-    /// Only if memory is short.
-    pub(crate) fn start(alloc: Global, names: Names, limit: u64) -> Result<NameSegment, AllocError>
-        ensures { IfOk result (λ s. IsNameStart limit names s) }
-    {
-        let Ok(left) = Vec::with_capacity(alloc, names.count() as usize) else {
-            return Err(AllocError);
-        };
-        let remaining = after_start(limit, names.locks());
-        let short = has_short(names.locks());
-        Ok(NameSegment {
-            alloc,
-            names,
-            left,
-            remaining,
-            short,
-        })
-    }
-
-    /// The next segment: the names continue in the next segments of their rings, and the pool, of rings of this size, has grown to what
-    /// it should have, up to `most` rings.
-    ///
-    /// # Errors
-    ///
-    /// `Full` where no segment has room, a lock would be short in it, or the pool cannot grow; `Memory`.
-    pub(crate) fn next(
-        &self,
-        alloc: Global,
-        most: u32,
-        size: Params,
-        limit: u64,
-    ) -> Result<NameSegment, Refusal>
-        ensures names { IfOk result (λ s. AreNextGrown most size self.now.named s.named) }
-        ensures remaining { IfOk result (λ s. s.remaining ≡ limit) }
-        ensures short { IfOk result (λ s. s.short ≡ false) }
-        ensures why { IfErr result (λ e. HaveNoNextGrown most self.now.named e) }
-    {
-        let names = match next_names(&self.names, alloc, most, size) {
-            Ok(names) => names,
-            Err(why) => return Err(why),
-        };
-        let Ok(left) = Vec::with_capacity(alloc, names.count() as usize) else {
-            return Err(Refusal::Memory);
-        };
-        Ok(NameSegment {
-            alloc,
-            names,
-            left,
-            remaining: limit,
-            short: false,
-        })
+        let after = after_leave(&self.names, watch, self.left.as_slice());
+        self.remaining = after.remaining;
+        self.short = after.short;
     }
 }

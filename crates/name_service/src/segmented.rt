@@ -2,6 +2,7 @@
 
 ghost use Rattle.std.specs.Prelude.{◌≡◌, false};
 
+use crate::growing::next_segment;
 use crate::service::NameService;
 use crate::texts::named_text;
 use line_service::{EndFault, Segmented};
@@ -28,7 +29,7 @@ impl Segmented for NameService {
     fn next(&self, alloc: Global) -> Result<NameService, EndFault> {
         let terms = self.terms;
         let limit = limit_of(terms.lines.limit);
-        match self.segment.next(alloc, terms.most, terms.size, limit) {
+        match next_segment(&self.segment, alloc, terms.most, terms.size, limit) {
             Ok(segment) => Ok(NameService {
                 segment,
                 terms,

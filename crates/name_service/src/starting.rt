@@ -10,8 +10,18 @@ ghost use Rattle.name_service.specs.Serving.{is_name_past};
 use crate::segment::NameSegment;
 use crate::service::{NameService, NameTerms, is_past};
 use lock_names::Names;
-use lock_service::sharing::{Stage, limit_of, stage_after};
+use lock_service::sharing::{Stage, after_start, has_short, limit_of, stage_after};
 use std::alloc::{AllocError, Global};
+
+/// The segment with which these names start. Its journal may have `limit` lines until it is due, those with which it begins among
+/// them.
+fn first_segment(alloc: Global, names: Names, limit: u64) -> Result<NameSegment, AllocError>
+    ensures { IfOk result (λ s. IsNameStart limit names s) }
+{
+    let remaining = after_start(limit, names.locks());
+    let short = has_short(names.locks());
+    NameSegment::begin(alloc, names, remaining, short)
+}
 
 impl NameService {
     /// Locks of these names that answer lines, with the segment with which they start.
@@ -26,7 +36,7 @@ impl NameService {
         ensures stage { IfOk result (λ s. s.stage
             ≡ stage_after Stage.Open (is_name_past terms s.segment)) }
     {
-        let Ok(segment) = NameSegment::start(alloc, names, limit_of(terms.lines.limit)) else {
+        let Ok(segment) = first_segment(alloc, names, limit_of(terms.lines.limit)) else {
             return Err(AllocError);
         };
         let stage = stage_after(Stage::Open, is_past(terms, &segment));
@@ -42,12 +52,5 @@ impl NameService {
         ensures { self.new ≡ record self.old { stage = Stage.Due } }
     {
         self.stage = Stage::Due;
-    }
-
-    /// The locks with their names.
-    pub fn names(&self) -> &Names
-        ensures { result.now ≡ self.now.segment.named }
-    {
-        self.segment.names()
     }
 }
