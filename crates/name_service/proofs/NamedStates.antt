@@ -88,3 +88,25 @@ pub count_done : (count goal : ℕ) (rest : List (List ℕ)) → rest ≡ [] →
 count_done count goal rest none inv =
     let zero : length rest ≡ 0 = ap (λ (xs : List (List ℕ)). length xs) none in
     omega (arith, zero, inv)
+
+-- the lines of one ring, by what is read of it
+pub hold_is : (o : Option Bound) (v : LockView) (b : Bound) (name : List ℕ) (told held : Option Holder) → ◌≡◌ {A = Option Bound} (Some b) o → name ≡ b.name → told ≡ option_map (told_holder b) held → held ≡ v.holder → hold_lines name told ≡ hold_of_ring o v
+hold_is o v b name told held at named is has =
+    ap (λ (x : List ℕ). hold_lines x told) named
+    ∙ (ap (λ (t : Option Holder). hold_lines b.name t) (is ∙ ap (λ (h : Option Holder). option_map (told_holder b) h) has) ∙ ap (λ (x : Option Bound). hold_of_ring x v) at)
+
+pub waits_are : (o : Option Bound) (v : LockView) (b : Bound) (name : List ℕ) → ◌≡◌ {A = Option Bound} (Some b) o → name ≡ b.name → wait_lines name v.queue ≡ waits_of_ring o v
+waits_are o v b name at named = ap (λ (x : List ℕ). wait_lines x v.queue) named ∙ ap (λ (x : Option Bound). waits_of_ring x v) at
+
+pub no_hold : (o : Option Bound) (v : LockView) → ◌≡◌ {A = Option Bound} None o → hold_of_ring o v ≡ []
+no_hold o v e = ap (λ (x : Option Bound). hold_of_ring x v) (sym e)
+
+pub no_wait : (o : Option Bound) (v : LockView) → ◌≡◌ {A = Option Bound} None o → waits_of_ring o v ≡ []
+no_wait o v e = ap (λ (x : Option Bound). waits_of_ring x v) (sym e)
+
+-- nothing is added where there is no line
+pub text_same : (text : List ℕ) (lines : List (List ℕ)) → lines ≡ [] → text ≡ text ++ joined_lines lines
+text_same text lines e = sym (append-nil text) ∙ ap (λ (xs : List (List ℕ)). text ++ joined_lines xs) (sym e)
+
+pub count_same : (count : ℕ) (lines : List (List ℕ)) → lines ≡ [] → count ≡ count + length lines
+count_same count lines e = let none : length lines ≡ 0 = ap (λ (xs : List (List ℕ)). length xs) e in omega (arith, none)
