@@ -38,7 +38,7 @@ few_of fixed top i l b h r e =
     let goal : b.floor + (h.token - b.before) ≤ top = omega (arith, most, above, below) in
     goal
 
--- the told token of each hold has 64 bits
+-- the name's token of each hold has 64 bits
 pub few_told : (v : NamedView) → IsKeptNamed v → (i : ℕ) (b : Bound) (l : LockView) (h : Holder) → slice_get v.names i ≡ Some (Some b) → slice_get v.locks i ≡ Some l → l.holder ≡ Some h → token_in b h.token < 2 ^ 64
 few_told v k i b l h named at held =
     let right = k.named.each i (lock_of l) (Some b) (view_lock v.locks i l at) named in

@@ -33,7 +33,7 @@ pub record HasFreshRing (size : Size) (old new : NamedView) : Type 0 where
   pub fresh : IsFreshRing (pool_ring size) ring
   pub added : IsGrown old new ring
 
--- so many were, one after the other
+-- n fresh rings were added, one after the other
 abbrev pub AreGrown : Size → NamedView → ℕ → NamedView → Type 0
 AreGrown size old zero new = new ≡ old
 AreGrown size old (suc n) new =
@@ -48,8 +48,8 @@ pub record AreNextGrown (most : ℕ) (size : Size) (old new : NamedView) : Type 
   pub wanted : IsPoolWanted most old rings
   pub grown : AreGrown size mid (rings - pool_of old) new
 
--- so many rings cannot be added: there would be more locks than there may be, or there were as many
--- grants as are counted
+-- a number of rings cannot be added: there would be more locks than there may be, or as many grants
+-- were made as are counted
 abbrev pub CannotAdd : NamedView → ℕ → Type 0
 CannotAdd v more = (0 < more) × ((lock_limit < length v.locks + more) ⊎ (top_limit ≤ v.top))
 
@@ -71,7 +71,8 @@ abbrev pub PoolWantedIsOne : Type 0
 PoolWantedIsOne =
     (most : ℕ) (v : NamedView) (a b : ℕ) → IsPoolWanted most v a → IsPoolWanted most v b → a ≡ b
 
--- The next segment is not due for want of rings: one is free, or there are as many as there may be.
+-- The next segment is not due because no ring is free: one is, or the pool has as many as it may
+-- have.
 abbrev pub NextWantsNoRing : Type 0
 NextWantsNoRing =
     (most : ℕ) (size : Size) (old new : NamedView) → IsKeptNamed old

@@ -56,7 +56,7 @@ fn add_fresh(names: Names, alloc: Global, size: Params) -> Result<Names, Refusal
     }
 }
 
-/// So many fresh rings more in the pool.
+/// A number of fresh rings more in the pool.
 fn grow(names: Names, alloc: Global, size: Params, more: u32) -> Result<Names, Refusal>
     ensures ok { IfOk result (λ new. AreGrown size names more new) }
     ensures why { IfErr result (λ e.

@@ -8,7 +8,7 @@ pub fn pool_wanted_is_one()
     ensures { PoolWantedIsOne }
 {}
 
-/// The next segment is not due for want of rings.
+/// The next segment is not due because no ring is free.
 #[tactic(auto, using(crate::proofs::Wanting::next_wants_no_ring))]
 pub fn next_wants_no_ring()
     ensures { NextWantsNoRing }
