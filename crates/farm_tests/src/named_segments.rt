@@ -66,7 +66,7 @@ fn fixed_name(rt: &impl Abort, alloc: Global) -> Vec<String> {
 }
 
 /// Names that answer lines, in segments of 100 notes.
-fn service_of(rt: &impl Abort, alloc: Global, names: Names) -> NameService {
+fn service_of(rt: &impl Abort, alloc: Global, names: Names, due: bool) -> NameService {
     let lines = Terms {
         faults: false,
         noting: true,
@@ -78,15 +78,15 @@ fn service_of(rt: &impl Abort, alloc: Global, names: Names) -> NameService {
         most: 3,
         size: pool_size(rt),
     };
-    match NameService::new(alloc, names, terms) {
+    match NameService::new(alloc, names, terms, due) {
         Ok(service) => service,
         Err(_) => panic!(rt; "there is memory"),
     }
 }
 
-fn begun(rt: &impl Abort, alloc: Global) -> NameService {
+fn begun(rt: &impl Abort, alloc: Global, due: bool) -> NameService {
     match Names::begin(alloc, two_rings(rt, alloc), &fixed_name(rt, alloc)) {
-        Ok(names) => service_of(rt, alloc, names),
+        Ok(names) => service_of(rt, alloc, names, due),
         Err(_) => panic!(rt; "they are right"),
     }
 }
@@ -155,7 +155,7 @@ const SECOND: &str =
 #[test]
 fn the_pool_grows(rt: HostRuntime) {
     let alloc = rt.alloc();
-    let mut service = begun(&rt, alloc);
+    let mut service = begun(&rt, alloc, false);
     assert!(&rt; !service.is_due());
     assert!(&rt; text_of(&rt, alloc, &service, 1).as_slice() == FIRST.as_bytes());
     let lines = b"5 acquire deploy 4\n7 acquire order/1 5\n9 stats deploy\n";
@@ -186,8 +186,7 @@ fn the_pool_grows(rt: HostRuntime) {
 #[test]
 fn ends_first(rt: HostRuntime) {
     let alloc = rt.alloc();
-    let mut service = begun(&rt, alloc);
-    service.end_first();
+    let service = begun(&rt, alloc, true);
     assert!(&rt; service.is_due() && service.is_over());
     let Ok(next) = service.next(alloc) else {
         panic!(&rt; "there is a next segment");
@@ -207,7 +206,7 @@ fn the_pool_cannot_grow(rt: HostRuntime) {
         panic!(&rt; "they are right");
     };
     names.ask(alloc, 7, "order/1", OneAsk::Acquire { label: 5 });
-    let service = service_of(&rt, alloc, names);
+    let service = service_of(&rt, alloc, names, false);
     assert!(&rt; service.is_due());
     assert!(&rt; service.next(alloc).err() == Some(EndFault::Full));
 }

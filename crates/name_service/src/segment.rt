@@ -1,6 +1,6 @@
 //! Locks by any name in a segment, with what its journal has had.
 
-ghost use Rattle.std.specs.Prelude.{◌≡◌, ℕ, ◌-◌, ◌||◌, true, slice_get, option_map, IfOk};
+ghost use Rattle.std.specs.Prelude.{◌≡◌, ℕ, ◌-◌, ◌||◌, [], true, slice_get, option_map, IfOk};
 ghost use Rattle.held_locks.specs.Asked.{asked};
 ghost use Rattle.lock_names.specs.Kept.{IsAsked};
 ghost use Rattle.lock_names.specs.Leaves.{IsLeftByName};
@@ -122,8 +122,12 @@ impl NameSegment {
         short: bool,
     ) -> Result<NameSegment, AllocError>
         requires { IsWatched names.locks short }
-        ensures { IfOk result (λ s.
-            (s.named ≡ names) × (s.remaining ≡ remaining) × (s.short ≡ short)) }
+        ensures { IfOk result (λ s. s ≡ record {
+          named = names;
+          left = [];
+          remaining = remaining;
+          short = short;
+        }) }
     {
         let Ok(left) = Vec::with_capacity(alloc, names.count() as usize) else {
             return Err(AllocError);

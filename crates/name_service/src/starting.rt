@@ -1,6 +1,6 @@
 //! Locks by any name that start.
 
-ghost use Rattle.std.specs.Prelude.{◌≡◌, IfOk};
+ghost use Rattle.std.specs.Prelude.{◌≡◌, ◌||◌, IfOk};
 ghost use Rattle.lock_service.specs.declared.service.Stage.{Stage};
 ghost use Rattle.lock_service.specs.Segmented.{limit_of};
 ghost use Rattle.lock_service.specs.Serving.{stage_after};
@@ -24,33 +24,32 @@ fn first_segment(alloc: Global, names: Names, limit: u64) -> Result<NameSegment,
 }
 
 impl NameService {
-    /// Locks of these names that answer lines, with the segment with which they start.
+    /// Locks of these names that answer lines, with the segment with which they start. If it is `due`, since its file is that of an
+    /// earlier run, it is to end before a line is answered.
     ///
     /// # Errors
     ///
     /// Only if memory is short. The names are let go then.
-    pub fn new(alloc: Global, names: Names, terms: NameTerms) -> Result<NameService, AllocError>
+    pub fn new(
+        alloc: Global,
+        names: Names,
+        terms: NameTerms,
+        due: bool,
+    ) -> Result<NameService, AllocError>
         ensures start { IfOk result
             (λ s. IsNameStart (limit_of terms.lines.limit) names s.segment) }
         ensures terms { IfOk result (λ s. s.terms ≡ terms) }
         ensures stage { IfOk result (λ s. s.stage
-            ≡ stage_after Stage.Open (is_name_past terms s.segment)) }
+            ≡ stage_after Stage.Open (due || is_name_past terms s.segment)) }
     {
         let Ok(segment) = first_segment(alloc, names, limit_of(terms.lines.limit)) else {
             return Err(AllocError);
         };
-        let stage = stage_after(Stage::Open, is_past(terms, &segment));
+        let stage = stage_after(Stage::Open, due || is_past(terms, &segment));
         Ok(NameService {
             segment,
             terms,
             stage,
         })
-    }
-
-    /// The segment with which they start is to end before the first line: its file is that of an earlier run.
-    pub fn end_first(&mut self)
-        ensures { self.new ≡ record self.old { stage = Stage.Due } }
-    {
-        self.stage = Stage::Due;
     }
 }
