@@ -96,14 +96,16 @@ one_more size old n next mid new e g f = subst (λ (k : ℕ). AreGrown size old 
 pub cannot_add : (size : Size) (old : NamedView) (n more : ℕ) (mid : NamedView) → n < more → AreGrown size old n mid → (lock_limit ≤ length mid.locks) ⊎ (top_limit ≤ mid.top) → CannotAdd old more
 cannot_add size old n more mid lt g w =
     let by = grown_by size old n mid g in
-    let many = by.many in
-    (omega (arith, lt), elim w [
-      | inl p ↦
-          let far : 1000000 ≤ length mid.locks = p in
-          let goal : 1000000 < length old.locks + more = omega (arith, many, far, lt) in
-          inl goal
-      | inr p ↦ inr (subst (λ (t : ℕ). top_limit ≤ t) by.top p)
-    ])
+    let many = by.many in (
+      omega (arith, lt),
+      elim w [
+        | inl p ↦
+            let far : 1000000 ≤ length mid.locks = p in
+            let goal : 1000000 < length old.locks + more = omega (arith, many, far, lt) in
+            inl goal
+        | inr p ↦ inr (subst (λ (t : ℕ). top_limit ≤ t) by.top p)
+      ],
+    )
 
 -- ---- the next segment
 
@@ -113,14 +115,16 @@ next_long old new n = sym (length-map new.locks lock_of) ∙ (ap (λ (s : Named)
 pub next_cannot_add : (old mid : NamedView) (more : ℕ) → AreNextNames old mid → CannotAdd mid more → CannotAdd old more
 next_cannot_add old mid more n w =
     let many = next_long old mid n in
-    let top : mid.top ≡ old.top = ap (λ (s : Named). s.top) n.named in
-    (w.0, elim w.1 [
-      | inl p ↦
-          let far : 1000000 < length mid.locks + more = p in
-          let goal : 1000000 < length old.locks + more = omega (arith, many, far) in
-          inl goal
-      | inr p ↦ inr (subst (λ (t : ℕ). top_limit ≤ t) top p)
-    ])
+    let top : mid.top ≡ old.top = ap (λ (s : Named). s.top) n.named in (
+      w.0,
+      elim w.1 [
+        | inl p ↦
+            let far : 1000000 < length mid.locks + more = p in
+            let goal : 1000000 < length old.locks + more = omega (arith, many, far) in
+            inl goal
+        | inr p ↦ inr (subst (λ (t : ℕ). top_limit ≤ t) top p)
+      ],
+    )
 
 pub ungrown : (most : ℕ) (old mid : NamedView) (rings more : ℕ) → IsPoolWanted most old rings → more ≡ rings - pool_of old → AreNextNames old mid → CannotAdd mid more → IsUngrown most old
 ungrown most old mid rings more w e n c = record {

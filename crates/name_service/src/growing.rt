@@ -77,12 +77,7 @@ fn grow(names: Names, alloc: Global, size: Params, more: u32) -> Result<Names, R
 /// # Errors
 ///
 /// `Full` where no segment has room, a lock would be short in it, or the pool cannot grow; `Memory`.
-fn next_names(
-    names: &Names,
-    alloc: Global,
-    most: u32,
-    size: Params,
-) -> Result<Names, Refusal>
+fn next_names(names: &Names, alloc: Global, most: u32, size: Params) -> Result<Names, Refusal>
     ensures next { IfOk result (λ next. AreNextGrown most size names.now next) }
     ensures short { IfOk result (λ next. has_short next.locks ≡ false) }
     ensures why { IfErr result (λ e. HaveNoNextGrown most names.now e) }

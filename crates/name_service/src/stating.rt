@@ -78,12 +78,7 @@ fn put_holds(names: &Names, text: &mut Vec<u8>) -> Result<u64, AllocError>
 }
 
 /// Adds the lines of those who wait for a ring, after `count` lines, and says how many there are with these.
-fn put_waiting(
-    names: &Names,
-    ring: u32,
-    count: u64,
-    text: &mut Vec<u8>,
-) -> Result<u64, AllocError>
+fn put_waiting(names: &Names, ring: u32, count: u64, text: &mut Vec<u8>) -> Result<u64, AllocError>
     requires ring { ring < length names.now.locks }
     requires count { count < 2 ^ 63 }
     ensures lines { (o : Option Bound) (v : LockView) → slice_get names.now.names ring ≡ Some o

@@ -16,11 +16,7 @@ use segment_files::DIGEST_DIGITS;
 use std::alloc::{AllocError, Global};
 
 /// Adds how a ring is bound, if it has a name.
-fn put_binding(
-    text: &mut Vec<u8>,
-    ring: u32,
-    binding: Option<&Binding>,
-) -> Result<(), AllocError>
+fn put_binding(text: &mut Vec<u8>, ring: u32, binding: Option<&Binding>) -> Result<(), AllocError>
     ensures { OnOk result (text.new.items ≡ text.old.items ++ text_of
         (binds ring (bindings_of (option_map (λ x. bound_of x.now) binding ∷ [])))) }
 {
@@ -58,7 +54,12 @@ fn put_names(text: &mut Vec<u8>, names: &Names) -> Result<(), AllocError>
     ensures { OnOk result (text.new.items ≡ text.old.items ++ names_text names.now) }
 {
     names.are_kept(); // says: each ring has a name, or none
-    match put_name_remark(text, NameRemark::Top { grants: names.top() }) {
+    match put_name_remark(
+        text,
+        NameRemark::Top {
+            grants: names.top(),
+        },
+    ) {
         Ok(()) => put_bindings(text, names),
         Err(error) => Err(error),
     }
