@@ -18,3 +18,8 @@ pub mod Lacking
 pub mod Utf
 pub mod Inputs
 pub mod Answered
+pub mod FreshRings
+pub mod GrownPools
+pub mod NamedTexts
+pub mod NamedStates
+pub mod Wanting

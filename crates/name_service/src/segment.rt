@@ -1,11 +1,11 @@
 //! Locks by any name in a segment, with what its journal has had.
 
-ghost use Rattle.std.specs.Prelude.{◌≡◌, ℕ, ◌-◌, ◌||◌, true, slice_get, option_map};
+ghost use Rattle.std.specs.Prelude.{◌≡◌, ℕ, ◌-◌, ◌||◌, [], true, slice_get, option_map, IfOk};
 ghost use Rattle.held_locks.specs.Asked.{asked};
 ghost use Rattle.lock_names.specs.Kept.{IsAsked};
 ghost use Rattle.lock_names.specs.Leaves.{IsLeftByName};
 ghost use Rattle.lock_service.specs.Due.{is_due, has_short_left};
-ghost use Rattle.lock_service.specs.Counting.{count_of_all};
+ghost use Rattle.lock_service.specs.Counting.{IsWatched, count_of_all};
 ghost use Rattle.name_service.specs.Naming.{IsNameCounted, count_at, events_before, count_since, is_short_asked, is_wanting, reply_told, is_name_lack};
 
 use held_locks::{Left, OneAsk};
@@ -13,7 +13,7 @@ use lock_names::{NameAnswers, Names};
 use lock_service::sharing::{
     after_end, after_events, after_left, events_at, has_short_left, is_short_at,
 };
-use std::alloc::Global;
+use std::alloc::{AllocError, Global};
 use std::marker::Model;
 
 /// The locks of a segment with their names. Its journal may have `remaining` lines more until it is due.
@@ -110,6 +110,37 @@ fn after_leave(names: &Names, watch: Watch, left: &[Left]) -> Watch
 }
 
 impl NameSegment {
+    /// A segment of these names. Its journal may have `remaining` lines more until it is due.
+    ///
+    /// # Errors
+    ///
+    /// Only if memory is short. The names are let go then.
+    pub(crate) fn begin(
+        alloc: Global,
+        names: Names,
+        remaining: u64,
+        short: bool,
+    ) -> Result<NameSegment, AllocError>
+        requires { IsWatched names.locks short }
+        ensures { IfOk result (λ s. s ≡ record {
+          named = names;
+          left = [];
+          remaining = remaining;
+          short = short;
+        }) }
+    {
+        let Ok(left) = Vec::with_capacity(alloc, names.count() as usize) else {
+            return Err(AllocError);
+        };
+        Ok(NameSegment {
+            alloc,
+            names,
+            left,
+            remaining,
+            short,
+        })
+    }
+
     /// The locks with their names.
     pub(crate) fn names(&self) -> &Names
         ensures { result.now ≡ self.now.named }
@@ -131,16 +162,6 @@ impl NameSegment {
         self.remaining == 0 || self.short
     }
 
-    /// How much its journal may have yet, and whether a ring was short.
-    fn watch(&self) -> Watch
-        ensures { result ≡ record { remaining = self.now.remaining; short = self.now.short } }
-    {
-        Watch {
-            remaining: self.remaining,
-            short: self.short,
-        }
-    }
-
     /// Asks a name. Only its ring is looked at, and nothing changes if the asker is refused for lack of room, of memory or of rings.
     pub(crate) fn ask(&mut self, client: u64, name: &str, ask: OneAsk) -> Asked
         ensures answer { IsAsked self.old.named self.new.named client name.now (asked ask)
@@ -151,7 +172,10 @@ impl NameSegment {
         ensures lack { is_name_lack (option_map (reply_told true) result.answers.own) ≡ true
             → self.new ≡ self.old }
     {
-        let watch = self.watch();
+        let watch = Watch {
+            remaining: self.remaining,
+            short: self.short,
+        };
         let before = events_of(&self.names, self.names.reach(name, ask));
         let answers = self.names.ask(self.alloc, client, name, ask);
         let asked = Asked { answers, before };
@@ -167,7 +191,10 @@ impl NameSegment {
         ensures counted { IsNameCounted self.old self.new
             (count_of_all self.new.named.locks self.new.left) }
     {
-        let watch = self.watch();
+        let watch = Watch {
+            remaining: self.remaining,
+            short: self.short,
+        };
         self.names.leave(client, &mut self.left);
         let after = after_leave(&self.names, watch, self.left.as_slice());
         self.remaining = after.remaining;
