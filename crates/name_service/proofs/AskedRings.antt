@@ -1,9 +1,8 @@
 -- A ring that is asked by a name does what a lock does that is asked by the ring's number.
 use Rattle.std.proofs.Common.{◌≡◌, ℕ, zero, suc, ◌+◌, ◌-◌, ◌^◌, ◌<◌, ◌≤◌, Bool, true, false, cond, List, [], ◌∷◌, ◌++◌, length, map, Option, Some, None, ◌⊎◌, inl, inr, refl, sym, ap, subst, ◌∙◌, append-nil, arith}
-use Rattle.std.specs.Prelude.{slice_get, slice_set, is_some, option_map, ◌&&◌, ◌==◌, if◌then◌else◌}
+use Rattle.std.specs.Prelude.{slice_get, slice_set, option_map, ◌&&◌, ◌==◌, if◌then◌else◌}
 use Rattle.std.specs.Fmt.{decimal}
-use Rattle.std.specs.List.{flat_map}
-use Rattle.std.proofs.lemmas.Bool.{cases_Bool, false≢true}
+use Rattle.std.proofs.lemmas.Bool.{cases_Bool}
 use Rattle.std.proofs.lemmas.List.{length-map}
 use Rattle.std.proofs.lemmas.Option.{slice_get_within}
 use Rattle.segment_files.specs.Remarks.{without_remarks}
@@ -16,40 +15,37 @@ use Rattle.held_locks.specs.declared.answers.Answers.{Answers}
 use Rattle.held_locks.specs.declared.answers.Refusal.TheVariants as refusal
 use Rattle.held_locks.specs.Queues.{Lock, is_held_with}
 use Rattle.held_locks.specs.Locks.{Ask, Acquire, Try, Release, Cancel, Leave, Corrupt, Stats, Asked, Turn, Step, told, ended, turn, step, step_at}
-use Rattle.held_locks.specs.Kept.{LockView, lock_of, locks_of, lock_limit, own_answer, other_grant, answers_of, AreMade, ended_at, IsDone}
+use Rattle.held_locks.specs.Kept.{LockView, lock_of, locks_of, lock_limit, answers_of, AreMade, ended_at, IsDone}
 use Rattle.held_locks.specs.Asked.{IsAnswerTo, events_at}
 use Rattle.held_locks.proofs.Asking.{asked_long}
 use Rattle.lock_protocol.specs.Asks as lines
-use Rattle.lock_protocol.specs.Names.{Names, IsName, lock_named}
+use Rattle.lock_protocol.specs.Names.{Names, IsName}
 use Rattle.lock_protocol.specs.Inputs.{input_line, IsReadAs}
 use Rattle.lock_protocol.specs.Views as input
 use Rattle.lock_service.specs.Asking.{one_ask, is_off, is_lack}
-use Rattle.lock_service.specs.Counting.{SegmentView, IsCounted, count_about}
+use Rattle.lock_service.specs.Counting.{IsCounted, count_about}
 use Rattle.lock_service.specs.Noting.{events_from, lines_about, note_about}
-use Rattle.lock_service.specs.Serving.{IsToldOf, IsToldOfNamed, IsTold, IsAnsweredIf, IsLineAnswered}
-use Rattle.lock_service.specs.Told.{Telling, text_of}
-use Rattle.lock_service.specs.declared.service.Terms.{Terms}
-use Rattle.lock_service.proofs.Answering.{telling_of, tellings_of, lines_are}
+use Rattle.lock_service.specs.Serving.{IsToldOf, IsToldOfNamed, IsTold, IsAnsweredIf}
+use Rattle.lock_service.proofs.Answering.{tellings_of, lines_are}
 use Rattle.lock_service.proofs.Lacks.{done_not}
 use Rattle.lock_service.proofs.LockLines.{all_past}
 use Rattle.lock_names.specs.declared.replies.Reply.{Reply}
 use Rattle.lock_names.specs.declared.replies.Reply.TheVariants as reply
 use Rattle.lock_names.specs.declared.replies.NameAnswers.{NameAnswers}
-use Rattle.lock_names.specs.Names.{Bound, Named, Of, Said, NamedStep, token_in, number_in, of_ring, as_told, said_of, found, free, fresh, total, grants_at, at_ring, at_none, at_name, given, replied, step_named}
-use Rattle.lock_names.specs.Promises.{IsNamed, IsRightBound}
-use Rattle.lock_names.specs.Kept.{NamedView, named_of, for_hold, own_number, with_number, own_said, grant_said, said_in, at_free, reached_from, reached, IsRecorded, noted_at, noted, IsTaken, IsWanting, IsAsked}
+use Rattle.lock_names.specs.Names.{Bound, Named, Of, Said, NamedStep, number_in, of_ring, as_told, said_of, found, free, fresh, total, at_none, at_name, given, replied, step_named}
+use Rattle.lock_names.specs.Promises.{IsNamed}
+use Rattle.lock_names.specs.Kept.{NamedView, named_of, for_hold, own_number, with_number, own_said, grant_said, said_in, at_free, reached_from, reached, IsRecorded, noted_at, noted, IsTaken, IsWanting}
 use Rattle.lock_names.proofs.Found.{some_same, none_some, found_at}
-use Rattle.lock_names.proofs.Fitting.{Fits, named_step}
-use Rattle.lock_names.proofs.Asking.{view_lock, lock_view}
-use Rattle.lock_names.proofs.Taking.{Reaches, reaches_found, reaches_free, same_named}
+use Rattle.lock_names.proofs.Taking.{Reaches, reaches_found, reaches_free}
 use Rattle.lock_names.proofs.Twins.{same_token}
 use Rattle.name_service.specs.declared.service.NameTerms.{NameTerms}
-use Rattle.name_service.specs.Naming.{NamingView, IsNameCounted, is_wanting}
+use Rattle.name_service.specs.Naming.{NamingView, is_wanting}
 use Rattle.name_service.specs.Noting.{reply_line, lines_of_said, note_of_new, note_of_free, note_at}
-use Rattle.name_service.specs.Serving.{reply_told, own_told, is_name_lack, IsNameToldOf}
-use Rattle.name_service.specs.RingLines.{numbers_from, ring_segment, AreRightNames, IsBoundIn, AreToldByName, IsOfRing, IsOfNobody, ReportsNothing, IsOfNoRing}
+use Rattle.name_service.specs.Serving.{reply_told, IsNameToldOf}
+use Rattle.name_service.specs.RightNames.{AreRightNames}
+use Rattle.name_service.specs.RingLines.{numbers_from, ring_segment, IsBoundIn, AreToldByName, IsOfRing, IsOfNobody, ReportsNothing, IsOfNoRing}
 use Rattle.name_service.proofs.Digits.{ring_found}
-use Rattle.name_service.proofs.PlainNotes.{IsLeft, left_none, left_if, asked_left}
+use Rattle.name_service.proofs.PlainNotes.{IsLeft, left_if, asked_left}
 use Rattle.name_service.proofs.RingReads.{ring_ask, number_for, reads_ring, asks_ring, off_ring, number_small}
 
 -- ---- the release of a hold
@@ -199,7 +195,7 @@ same_view old new a b c d =
     ∙ ap (λ (x : ℕ). record { locks = old.locks; names = old.names; fixed = old.fixed; top = x }) d
 
 -- nothing was asked
-nothing_taken : (old new : NamedView) (c : ℕ) (x : List ℕ) (a : Ask) (r : NameAnswers) → r.ring ≡ None → reached (named_of old) x a ≡ None → IsTaken old new c x a r → new ≡ old
+pub nothing_taken : (old new : NamedView) (c : ℕ) (x : List ℕ) (a : Ask) (r : NameAnswers) → r.ring ≡ None → reached (named_of old) x a ≡ None → IsTaken old new c x a r → new ≡ old
 nothing_taken old new c x a r ring e t =
     let none = reaching_none (named_of old) c x a e in
     let named : named_of new ≡ named_of old = t.named ∙ none.same in
@@ -317,10 +313,10 @@ module _ (terms : NameTerms) (c : ℕ) (x : List ℕ) (a : Ask) (old new : Namin
     abbrev raw : Answers
     raw = recorded.0
 
-    pub done : IsAnswerTo old.named.locks new.named.locks c i (with_number b a lock.holder) raw
+    done : IsAnswerTo old.named.locks new.named.locks c i (with_number b a lock.holder) raw
     done = renumbered old.named.locks new.named.locks c i b raw lock reaches.fits.there (λ h f. (reaches.fits.right.held h f).0) a recorded.1
 
-    pub many : length new.named.locks ≡ length old.named.locks
+    many : length new.named.locks ≡ length old.named.locks
     many = asked_long old.named.locks new.named.locks c i (with_number b a lock.holder) raw done
 
     list : said_in c x t.answers ≡ map (said_of b) (answers_of c raw)
@@ -378,14 +374,14 @@ module _ (terms : NameTerms) (c : ℕ) (x : List ℕ) (a : Ask) (old new : Namin
       abbrev own : lines.Ask
       own = ring_ask i (number_for b a lock.holder) ask
 
-      abbrev told : List ℕ
-      told = lines_about numbers i (answers_of c raw)
+      abbrev ring_text : List ℕ
+      ring_text = lines_about numbers i (answers_of c raw)
 
-      answered : IsAnsweredIf (is_off terms.lines.faults own) terms.lines c own (ring_segment old.named) told (without_remarks noted) (ring_segment new.named)
+      answered : IsAnsweredIf (is_off terms.lines.faults own) terms.lines c own (ring_segment old.named) ring_text (without_remarks noted) (ring_segment new.named)
       answered =
-          subst (λ (q : Bool). IsAnsweredIf q terms.lines c own (ring_segment old.named) told (without_remarks noted) (ring_segment new.named)) (sym (off_ring i (number_for b a lock.holder) terms.lines.faults ask ∙ off))
-          (subst (λ (z : Option (List ℕ × Ask)). IsTold terms.lines.strict terms.lines.noting c z (ring_segment old.named) told (without_remarks noted) (ring_segment new.named)) (sym (asks_ring i b lock.holder ask x a one))
-          (subst (λ (o : Option ℕ). IsToldOfNamed o terms.lines.strict terms.lines.noting c (decimal i) (with_number b a lock.holder) (ring_segment old.named) told (without_remarks noted) (ring_segment new.named)) (sym (ring_found (length old.named.locks) i few within))
+          subst (λ (q : Bool). IsAnsweredIf q terms.lines c own (ring_segment old.named) ring_text (without_remarks noted) (ring_segment new.named)) (sym (off_ring i (number_for b a lock.holder) terms.lines.faults ask ∙ off))
+          (subst (λ (z : Option (List ℕ × Ask)). IsTold terms.lines.strict terms.lines.noting c z (ring_segment old.named) ring_text (without_remarks noted) (ring_segment new.named)) (sym (asks_ring i b lock.holder ask x a one))
+          (subst (λ (o : Option ℕ). IsToldOfNamed o terms.lines.strict terms.lines.noting c (decimal i) (with_number b a lock.holder) (ring_segment old.named) ring_text (without_remarks noted) (ring_segment new.named)) (sym (ring_found (length old.named.locks) i few within))
           told_of_ring))
 
       pub ring_is : IsOne terms old said noted new
@@ -395,7 +391,7 @@ module _ (terms : NameTerms) (c : ℕ) (x : List ℕ) (a : Ask) (old new : Namin
             lines = plain.lines;
             is = inr (
               input_line c own,
-              told,
+              ring_text,
               record {
                 answered = (input.Asked c own, reads_ring i (number_for b a lock.holder) far (number_small b a lock.holder small) line c ask reads, answered);
                 tellings = tellings_of i (answers_of c raw);

@@ -1,12 +1,11 @@
 -- The bytes of decimals: no # and no LF, so the number of a ring is a name.
-use Rattle.std.proofs.Common.{◌≡◌, ◌≢◌, ℕ, zero, suc, ◌+◌, ◌-◌, ◌/◌, ◌%◌, ◌^◌, ◌<◌, ◌≤◌, Bool, true, false, cond, eqb, List, [], ◌∷◌, ◌++◌, length, Option, Some, inl, inr, refl, sym, ap, subst, ◌∙◌, arith}
-use Rattle.std.specs.Prelude.{◌==◌, ◌||◌, slice_index, if◌then◌else◌, nat_lt, option_map}
+use Rattle.std.proofs.Common.{◌≡◌, ◌≢◌, ℕ, zero, suc, ◌+◌, ◌-◌, ◌/◌, ◌%◌, ◌^◌, ◌<◌, ◌≤◌, Bool, true, false, eqb, List, [], ◌∷◌, ◌++◌, length, Option, Some, inl, inr, refl, sym, ap, subst, ◌∙◌, arith}
+use Rattle.std.specs.Prelude.{◌==◌, ◌||◌, slice_index, if◌then◌else◌, option_map}
 use Rattle.std.specs.Fmt.{decimal, digits, digits_onto, digit_glyph}
 use Rattle.std.specs.List.{AllByRecursion, list_any}
 use Rattle.std.specs.Str.{bytes_eq}
 use Rattle.std.proofs.lemmas.Bool.{ne_eqb, lt-ltb, cases_Bool, cases_eq}
 use Rattle.std.proofs.lemmas.Fmt.{decimal_nonempty, decimal_injective, length-decimal-le}
-use Rattle.std.proofs.lemmas.List.Folds.{list_any-append}
 use Rattle.journal.specs.Recovery.{has_line_end}
 use Rattle.segment_files.proofs.Remarked.{HasNoHash}
 use Rattle.lock_protocol.specs.Names.{IsName, is_name_byte, lock_named}
@@ -27,9 +26,9 @@ glyph_is d lt = ap (λ (q : Bool). if q then 48 + d else 87 + d) (lt-ltb d 10 lt
 glyph : (n : ℕ) → IsDigit (digit_glyph false (n % 10))
 glyph n = let small : n % 10 < 10 = omega arith in subst (λ (b : ℕ). IsDigit b) (sym (glyph_is (n % 10) small)) (omega arith, omega arith)
 
-either : (q : Bool) (as bs : List ℕ) → AreDigits as → AreDigits bs → AreDigits (if q then as else bs)
-either true as bs a b = a
-either false as bs a b = b
+either : (q : Bool) (xs ys : List ℕ) → AreDigits xs → AreDigits ys → AreDigits (if q then xs else ys)
+either true xs ys a b = a
+either false xs ys a b = b
 
 onto : (k n : ℕ) (acc : List ℕ) → AreDigits acc → AreDigits (digits_onto k 10 false n acc)
 onto zero n acc a = a

@@ -1,11 +1,9 @@
 -- Equal lines about names give equal answers.
 use Rattle.std.proofs.Common.{◌≡◌, ℕ, ◌-◌, Bool, true, false, cond, List, [], ◌∷◌, ◌++◌, length, map, Option, Some, None, ◌⊎◌, inl, inr, refl, sym, ap, subst, ◌∙◌}
-use Rattle.std.specs.Prelude.{slice_get, is_some, option_map, nat_lt, not, ◌||◌, ◌&&◌}
+use Rattle.std.specs.Prelude.{is_some, option_map, nat_lt, not, ◌||◌, ◌&&◌}
 use Rattle.std.proofs.lemmas.Bool.{true≢false}
 use Rattle.disks.specs.Held.{Held}
-use Rattle.line_service.specs.Answering.{Answers}
-use Rattle.line_service.specs.Stands.{Stand, by_stand, stand}
-use Rattle.held_locks.specs.declared.answers.Answers.{Answers as Raw}
+use Rattle.line_service.specs.Stands.{Stand, stand}
 use Rattle.held_locks.specs.declared.answers.Answer.TheVariants as answer
 use Rattle.held_locks.specs.declared.answers.Refusal.TheVariants as refusal
 use Rattle.held_locks.specs.declared.answers.Holder.{Holder}
@@ -13,7 +11,7 @@ use Rattle.held_locks.specs.declared.answers.HoldEnd.{HoldEnd}
 use Rattle.held_locks.specs.declared.answers.Left.{Left}
 use Rattle.held_locks.specs.Queues.{Lock}
 use Rattle.held_locks.specs.Locks.{Ask, Acquire, Try, Release, Cancel, Corrupt, Stats, Asked, step}
-use Rattle.held_locks.specs.Kept.{LockView, locks_of, IsDone}
+use Rattle.held_locks.specs.Kept.{LockView, locks_of}
 use Rattle.text_lines.specs.LongNumbers.{in_32_bits}
 use Rattle.lock_protocol.specs.Asks as lines
 use Rattle.lock_protocol.specs.Views.{Input}
@@ -23,7 +21,7 @@ use Rattle.lock_service.specs.declared.service.Stage.{Stage}
 use Rattle.lock_service.specs.Asking.{one_ask, is_off}
 use Rattle.lock_service.specs.Due.{has_short}
 use Rattle.lock_service.specs.Counting.{count_about, count_of_all}
-use Rattle.lock_service.specs.Noting.{events_from, end_line, note_about, note_of_left}
+use Rattle.lock_service.specs.Noting.{end_line, note_about, note_of_left}
 use Rattle.lock_service.specs.Serving.{stage_after}
 use Rattle.lock_service.specs.Equal.{AreEqualLocks}
 use Rattle.lock_service.proofs.EqualLocks.{as_many_equal, lines_equal, short_equal, note_equal, count_equal, count_left_equal, done_alike, left_alike}
@@ -32,7 +30,7 @@ use Rattle.lock_names.specs.declared.replies.Reply.{Reply}
 use Rattle.lock_names.specs.declared.replies.Reply.TheVariants as reply
 use Rattle.lock_names.specs.declared.replies.NameAnswers.{NameAnswers}
 use Rattle.lock_names.specs.Names.{Bound, Named, Of, Said, of_ring, found, free, step_named, named_after, leave_each}
-use Rattle.lock_names.specs.Kept.{NamedView, named_of, reached, own_said, grant_said, said_in, IsRecorded, IsTaken, IsWanting}
+use Rattle.lock_names.specs.Kept.{NamedView, named_of, reached, own_said, grant_said, IsRecorded, IsTaken, IsWanting}
 use Rattle.lock_names.specs.Leaves.{told_left, said_left}
 use Rattle.lock_names.proofs.Taking.{same_named}
 use Rattle.name_service.specs.declared.service.NameTerms.{NameTerms}

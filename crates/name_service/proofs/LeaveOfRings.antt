@@ -1,13 +1,11 @@
 -- A client that leaves all names leaves all rings.
-use Rattle.std.proofs.Common.{◌≡◌, ℕ, zero, suc, ◌+◌, ◌-◌, ◌^◌, ◌<◌, ◌≤◌, Bool, true, false, cond, List, [], ◌∷◌, ◌++◌, length, map, Option, Some, None, ◌⊎◌, inl, inr, refl, sym, ap, subst, ◌∙◌, append_assoc, append-nil, arith}
+use Rattle.std.proofs.Common.{◌≡◌, ℕ, zero, suc, ◌+◌, ◌-◌, ◌^◌, ◌<◌, ◌≤◌, Bool, true, false, cond, List, [], ◌∷◌, ◌++◌, length, map, Option, Some, None, ◌⊎◌, inl, inr, refl, sym, ap, subst, ◌∙◌, arith}
 use Rattle.std.specs.Prelude.{slice_get, option_map}
 use Rattle.std.specs.List.{flat_map, AllByRecursion}
 use Rattle.std.proofs.lemmas.Grind.{flat_map-append}
 use Rattle.std.proofs.lemmas.Option.{slice_get_within}
 use Rattle.segment_files.specs.Remarks.{without_remarks}
 use Rattle.held_locks.specs.declared.answers.Holder.{Holder}
-use Rattle.held_locks.specs.declared.answers.Answer.{Answer}
-use Rattle.held_locks.specs.declared.answers.Answer.TheVariants as answer
 use Rattle.held_locks.specs.declared.answers.Left.{Left}
 use Rattle.held_locks.specs.Queues.{Lock, is_held_by}
 use Rattle.held_locks.specs.Promises.{locks_after, leaves}
@@ -19,11 +17,11 @@ use Rattle.lock_protocol.specs.Names.{Names, name_of}
 use Rattle.lock_protocol.specs.Inputs.{IsReadAs}
 use Rattle.lock_protocol.specs.Views as input
 use Rattle.lock_service.specs.Counting.{count_of_all}
-use Rattle.lock_service.specs.Noting.{lines_about, line_of_left, lines_of_left, notes_of_left}
+use Rattle.lock_service.specs.Noting.{lines_of_left, notes_of_left}
 use Rattle.lock_service.specs.Serving.{IsToldOfLeave}
 use Rattle.lock_service.specs.Told.{Telling, text_of}
-use Rattle.lock_service.proofs.Answering.{telling_of, tellings_of, lines_are}
-use Rattle.lock_names.specs.Names.{Bound, Named, Said, told_holder, said_of}
+use Rattle.lock_service.proofs.Answering.{tellings_of, lines_are}
+use Rattle.lock_names.specs.Names.{Bound, Said, told_holder}
 use Rattle.lock_names.specs.Promises.{IsRightName, IsNamed}
 use Rattle.lock_names.specs.Kept.{NamedView, named_of, grant_said}
 use Rattle.lock_names.specs.Leaves.{settled, bound_or, told_left, said_left}
@@ -35,7 +33,8 @@ use Rattle.name_service.specs.declared.service.NameTerms.{NameTerms}
 use Rattle.name_service.specs.Naming.{NamingView}
 use Rattle.name_service.specs.Noting.{lines_of_said, notes_of_names_left}
 use Rattle.name_service.specs.Serving.{IsNameToldOfLeave}
-use Rattle.name_service.specs.RingLines.{numbers_from, ring_segment, AreRightNames, AreToldByName}
+use Rattle.name_service.specs.RightNames.{AreRightNames}
+use Rattle.name_service.specs.RingLines.{numbers_from, ring_segment, AreToldByName}
 use Rattle.name_service.proofs.PlainNotes.{IsLeft as IsLeftOf, left_if as plain_if, leave_left}
 use Rattle.name_service.proofs.AskedRings.{IsOne, due_counted}
 
@@ -84,23 +83,18 @@ left_lines names (l ∷ raw) =
     ∙ (ap (λ (u : List ℕ). text_of names (tellings_of l.lock (other_grant l.granted)) ++ u) (left_lines names raw)
     ∙ sym (flat_map-append (λ (t : Telling). answer_line t.client (name_of names t.lock) t.said) (tellings_of l.lock (other_grant l.granted)) (tellings_left raw)))
 
+-- one that was left
+one_left : (old : NamedView) (l : Left) (more : List Telling) (later : List Said) → AreToldByName old more (lines_of_said later) → (g : Option Holder) → ((h : Holder) → g ≡ Some h → (b : Bound) × (slice_get old.names l.lock ≡ Some (Some b))) →
+    AreToldByName old (tellings_of l.lock (other_grant g) ++ more) (lines_of_said (told_grant (bound_or (slice_get old.names l.lock)) g ++ later))
+one_left old l more later rest None k = rest
+one_left old l more later rest (Some h) k =
+    let w = k h refl in
+    let same : bound_or (slice_get old.names l.lock) ≡ w.0 = ap (λ (o : Option (Option Bound)). bound_or o) w.1 in
+    (w.0, lines_of_said later, inl w.1, ap (λ (z : Bound). lines_of_said (told_grant z (Some h) ++ later)) same, rest)
+
 told_left_by : (old : NamedView) (raw : List Left) → AllByRecursion (HasName old.names) raw → AreToldByName old (tellings_left raw) (lines_of_said (said_left old.names (map (told_left old.names) raw)))
 told_left_by old [] all = refl
-told_left_by old (l ∷ raw) all = by l.granted all.0
-  where
-    rest : AreToldByName old (tellings_left raw) (lines_of_said (said_left old.names (map (told_left old.names) raw)))
-    rest = told_left_by old raw all.1
-
-    abbrev is : Bound
-    is = bound_or (slice_get old.names l.lock)
-
-    by : (g : Option Holder) → ((h : Holder) → g ≡ Some h → (b : Bound) × (slice_get old.names l.lock ≡ Some (Some b))) →
-        AreToldByName old (tellings_of l.lock (other_grant g) ++ tellings_left raw) (lines_of_said (told_grant is g ++ said_left old.names (map (told_left old.names) raw)))
-    by None k = rest
-    by (Some h) k =
-        let w = k h refl in
-        let same : is ≡ w.0 = ap (λ (o : Option (Option Bound)). bound_or o) w.1 in
-        (w.0, lines_of_said (said_left old.names (map (told_left old.names) raw)), inl w.1, ap (λ (z : Bound). lines_of_said (told_grant z (Some h) ++ said_left old.names (map (told_left old.names) raw))) same, rest)
+told_left_by old (l ∷ raw) all = one_left old l (tellings_left raw) (said_left old.names (map (told_left old.names) raw)) (told_left_by old raw all.1) l.granted all.0
 
 -- ---- what a leave is to the rings
 

@@ -4,6 +4,7 @@ pub mod PlainNotes
 pub mod AskedRings
 pub mod LeaveOfRings
 pub mod RightNames
+pub mod RightBegin
 pub mod RingLined
 pub mod NamedJournals
 pub mod TakenNotes

@@ -1,25 +1,18 @@
 -- The locks of names come back of their journal.
-use Rattle.std.proofs.Common.{◌≡◌, ℕ, zero, suc, ◌<◌, ◌≤◌, ◌^◌, false, List, [], ◌∷◌, ◌++◌, Option, Some, None, inl, inr, refl, sym, ap, subst, ◌∙◌, append_assoc, append-nil, arith}
-use Rattle.std.specs.Prelude.{slice_get}
-use Rattle.std.specs.List.{flat_map, AllByRecursion}
-use Rattle.disks.specs.Held.{Held}
+use Rattle.std.proofs.Common.{◌≡◌, ℕ, zero, suc, ◌<◌, ◌≤◌, ◌^◌, List, [], ◌∷◌, ◌++◌, Option, Some, None, inr, refl, sym, ap, subst, ◌∙◌, append_assoc, arith}
 use Rattle.line_service.specs.Answering.{Answers}
 use Rattle.line_service.specs.Stands.{Stand, by_stand, stand}
 use Rattle.segment_files.specs.Remarks.{without_remarks}
-use Rattle.segment_files.specs.RemarkLaws.{AreLines}
 use Rattle.segment_files.proofs.Hashless.{no_hash_head}
 use Rattle.segment_files.proofs.Remarked.{plain_then, without_append}
-use Rattle.journal.specs.Recovery.{has_line_end}
 use Rattle.ring_service.specs.Recovered.{IsPrefix}
-use Rattle.held_locks.specs.Kept.{LockView}
-use Rattle.lock_protocol.specs.Names.{IsName}
 use Rattle.name_remarks.specs.Remarks.{bind, top, remark_text}
 use Rattle.name_remarks.specs.Bindings.{binds, text_of}
 use Rattle.lock_names.specs.Names.{Bound}
 use Rattle.lock_names.specs.Kept.{NamedView}
 use Rattle.lock_service.specs.Segments.{content_of}
 use Rattle.lock_service.specs.Begun.{begun_text, HaveBegun, AreAnswered}
-use Rattle.lock_service.specs.Recovered.{ComeBack, AreKeptIn}
+use Rattle.lock_service.specs.Recovered.{ComeBack}
 use Rattle.lock_service.proofs.CutRemarks.{without_cut}
 use Rattle.lock_service.proofs.Keeping.{nothing_told_is_lost}
 use Rattle.lock_service.proofs.Restarting.{locks_come_back}
@@ -29,11 +22,12 @@ use Rattle.name_service.specs.declared.service.NameService.{NameService}
 use Rattle.name_service.specs.Naming.{NamingView}
 use Rattle.name_service.specs.Noting.{binding_of}
 use Rattle.name_service.specs.Serving.{IsNameLineAnswered, IsNameServed}
-use Rattle.name_service.specs.Segmented.{bindings_of, pool_bindings, names_text}
-use Rattle.name_service.specs.RingLines.{ring_segment, AreRightNames, HaveRingLines}
-use Rattle.name_service.specs.NameLines.{AreNamesAnswered, ServedNameLinesAreAnswered, AnsweredNameLinesFollow, begun_names, NamedLocksComeBack, AreNamesKeptIn, NothingToldOfNamesIsLost}
+use Rattle.name_service.specs.NamesText.{bindings_of, pool_bindings, names_text}
+use Rattle.name_service.specs.RightNames.{AreSpelled, AreRightNames}
+use Rattle.name_service.specs.RingLines.{ring_segment, HaveRingLines}
+use Rattle.name_service.specs.NameLines.{AreNamesAnswered, ServedNameLinesAreAnswered, AnsweredNameLinesFollow, begun_names, NamedLocksComeBack, NothingToldOfNamesIsLost}
 use Rattle.name_service.proofs.PlainNotes.{AreRemarks, remarks_none, remarks_both, remark_bind, remark_top}
-use Rattle.name_service.proofs.RightNames.{AreSpelled, lines_right}
+use Rattle.name_service.proofs.RightNames.{lines_right}
 use Rattle.name_service.proofs.RingLined.{name_lines_are_ring_lines}
 
 -- ---- lines follow

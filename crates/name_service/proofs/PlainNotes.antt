@@ -2,7 +2,7 @@
 use Rattle.std.proofs.Common.{◌≡◌, ℕ, zero, suc, ◌<◌, Bool, true, false, cond, eqb, List, [], ◌∷◌, ◌++◌, length, map, Option, Some, None, inl, inr, refl, sym, ap, subst, ◌∙◌, append_assoc, append-nil, arith}
 use Rattle.std.specs.Prelude.{codes, slice_get, slice_index, ◌||◌, ◌==◌}
 use Rattle.std.specs.Fmt.{decimal}
-use Rattle.std.specs.List.{flat_map, list_any, AllByRecursion}
+use Rattle.std.specs.List.{flat_map, list_any}
 use Rattle.std.proofs.lemmas.Bool.{ne_eqb, false≢true}
 use Rattle.std.proofs.lemmas.List.Folds.{list_any-append}
 use Rattle.text_lines.specs.Spelling.{spaced, ended}
@@ -20,13 +20,13 @@ use Rattle.segment_files.specs.RemarkLaws.{IsOneLine, AreLines}
 use Rattle.segment_files.proofs.Remarked.{HasNoHash, remark_then, nothing_kept, remark_ended, without_append, no_hash_without}
 use Rattle.segment_files.proofs.Hashless.{no_hash_append}
 use Rattle.ring_model.specs.declared.events.Event.{Event}
-use Rattle.one_thread_ring.specs.Journals.{event_lines, line_of_event, line_of_survey}
+use Rattle.one_thread_ring.specs.Journals.{line_of_event, line_of_survey}
 use Rattle.held_locks.specs.declared.answers.HoldEnd.{HoldEnd}
 use Rattle.held_locks.specs.declared.answers.Left.{Left}
 use Rattle.held_locks.specs.Kept.{LockView}
 use Rattle.held_locks.specs.Asked.{events_at}
 use Rattle.lock_service.specs.Noting.{events_from, end_line, note_about, note_of_left, notes_of_left}
-use Rattle.lock_service.proofs.WholeTexts.{of_both, of_each, journal_line_ends}
+use Rattle.lock_service.proofs.WholeTexts.{of_both, journal_line_ends}
 use Rattle.lock_protocol.specs.Names.{IsName, is_name_byte, name_ended}
 use Rattle.name_remarks.specs.Remarks.{Binding, bind, free, top, remark_text}
 use Rattle.lock_names.specs.declared.replies.NameAnswers.{NameAnswers}
@@ -152,7 +152,7 @@ pub record AreRemarks (text : List ℕ) : Type 0 where
   pub lines : AreLines text
   pub gone : (rest : List ℕ) → without_remarks (text ++ rest) ≡ without_remarks rest
 
-remarks_none : AreRemarks []
+pub remarks_none : AreRemarks []
 remarks_none = record { lines = inl refl; gone = λ rest. refl }
 
 remark_one : (line : List ℕ) → IsOneLine line → AreRemarks (remark_of line)

@@ -1,12 +1,11 @@
 -- Names that are right stay so over lines, and the number of grants does not fall.
 use Rattle.std.proofs.Common.{◌≡◌, ℕ, zero, suc, ◌+◌, ◌-◌, ◌<◌, ◌≤◌, Bool, true, false, List, [], ◌∷◌, ◌++◌, length, map, Option, Some, None, ◌⊎◌, inl, inr, refl, sym, ap, subst, ◌∙◌, arith}
-use Rattle.std.specs.Prelude.{slice_get, slice_set, is_some, option_map, nat_lt, ◌||◌, if◌then◌else◌}
+use Rattle.std.specs.Prelude.{slice_set, is_some, option_map, nat_lt, ◌||◌, if◌then◌else◌}
 use Rattle.line_service.specs.Answering.{Answers}
 use Rattle.held_locks.specs.declared.answers.Answers.{Answers as Answered}
 use Rattle.held_locks.specs.declared.answers.Left.{Left}
-use Rattle.held_locks.specs.Queues.{Lock}
 use Rattle.held_locks.specs.Locks.{Ask, Acquire, Try, Release, Cancel, Corrupt, Stats, Asked, step}
-use Rattle.held_locks.specs.Kept.{LockView, locks_of, lock_limit, IsDone}
+use Rattle.held_locks.specs.Kept.{locks_of, lock_limit, IsDone}
 use Rattle.text_lines.specs.LongNumbers.{in_32_bits}
 use Rattle.lock_protocol.specs.Asks as lines
 use Rattle.lock_protocol.specs.Names.{IsName}
@@ -15,8 +14,7 @@ use Rattle.lock_protocol.specs.Views.{Input}
 use Rattle.lock_protocol.specs.Views as input
 use Rattle.lock_service.specs.Asking.{one_ask, is_off}
 use Rattle.lock_service.proofs.Following.{as_many, step_many}
-use Rattle.lock_names.specs.declared.replies.NameAnswers.{NameAnswers}
-use Rattle.lock_names.specs.Names.{Bound, Named, Of, NamedStep, fresh, total, at_ring, of_ring, step_named, named_after, leave_each}
+use Rattle.lock_names.specs.Names.{Bound, Named, Of, NamedStep, fresh, total, at_ring, of_ring, leave_each}
 use Rattle.lock_names.specs.Promises.{IsNamed}
 use Rattle.lock_names.specs.Kept.{NamedView, named_of, reached, IsRecorded, noted_at, IsTaken}
 use Rattle.lock_names.specs.Leaves.{settled, name_left, names_left}
@@ -27,14 +25,11 @@ use Rattle.lock_names.proofs.Taking.{Reaches}
 use Rattle.name_service.specs.declared.service.NameTerms.{NameTerms}
 use Rattle.name_service.specs.Naming.{NamingView}
 use Rattle.name_service.specs.Serving.{IsNameToldOf, IsNameToldOfLeave, IsNameTold, IsNameAnsweredIf, IsNameInputAnswered, IsNameLineAnswered}
-use Rattle.name_service.specs.RingLines.{AreRightNames}
+use Rattle.name_service.specs.RightNames.{AreSpelled, AreRightNames}
 use Rattle.name_service.proofs.AskedRings.{reaching, nothing_taken}
 use Rattle.name_service.proofs.LeaveOfRings.{left_many, left_state}
 
 -- ---- names are spelled as names
-
-abbrev pub AreSpelled : List (Option Bound) → Type 0
-AreSpelled os = (ring : ℕ) (b : Bound) → slice_get os ring ≡ Some (Some b) → IsName b.name
 
 set_spelled : (os : List (Option Bound)) (i : ℕ) (o : Option Bound) → AreSpelled os → ((b : Bound) → o ≡ Some b → IsName b.name) → AreSpelled (slice_set os i o)
 set_spelled [] i o all one ring b e = all ring b e
@@ -75,11 +70,11 @@ module _ (terms : NameTerms) (c : ℕ) (x : List ℕ) (a : Ask) (old new : Namin
   of_ring_right p e k =
       let s : Named = named_of old.named in
       let reaches : Reaches s x a p.0 p.1 = reaching s x a right.named p e in
-      let step : named_of new.named ≡ (at_ring s c p.0 p.1 a).named = k.named ∙ ap (λ (z : NamedStep). z.named) (reaches.step c) in
+      let turned : named_of new.named ≡ (at_ring s c p.0 p.1 a).named = k.named ∙ ap (λ (z : NamedStep). z.named) (reaches.step c) in
       let low : ℕ = total (locks_of old.named.locks) in
       let high : ℕ = total (at_ring s c p.0 p.1 a).named.locks in
-      let sum : total (locks_of new.named.locks) ≡ high = ap (λ (z : Named). total z.locks) step in
-      let top : new.named.top ≡ old.named.top + (high - low) = ap (λ (z : Named). z.top) step in
+      let sum : total (locks_of new.named.locks) ≡ high = ap (λ (z : Named). total z.locks) turned in
+      let top : new.named.top ≡ old.named.top + (high - low) = ap (λ (z : Named). z.top) turned in
       let d : (raw : Answered) × IsDone old.named.locks new.named.locks c p.0 (of_ring p.1 a) raw × (t.answers.ended ≡ raw.ended) = subst (λ (o : Option (ℕ × Bound)). IsRecorded old.named.locks new.named.locks c a t.answers o) e k.recorded in
       let many : length new.named.locks ≡ length old.named.locks = as_many old.named.locks new.named.locks (step (locks_of old.named.locks) (Asked c p.0 (of_ring p.1 a))).locks d.1.locks (step_many (locks_of old.named.locks) c p.0 (of_ring p.1 a)) in
       let counted : low ≤ old.named.top = right.counted in

@@ -1,5 +1,5 @@
 -- Lines about names are lines of rings.
-use Rattle.std.proofs.Common.{◌≡◌, ℕ, ◌^◌, ◌<◌, ◌≤◌, Bool, true, false, List, [], ◌∷◌, ◌++◌, length, Option, Some, None, ◌⊎◌, inl, inr, refl, sym, ap, subst, ◌∙◌, arith}
+use Rattle.std.proofs.Common.{◌≡◌, ℕ, ◌^◌, ◌<◌, ◌≤◌, Bool, true, false, List, [], ◌∷◌, ◌++◌, Option, Some, None, ◌⊎◌, inl, inr, refl, sym, ap, subst, ◌∙◌, arith}
 use Rattle.line_service.specs.Answering.{Answers}
 use Rattle.segment_files.specs.Remarks.{without_remarks}
 use Rattle.segment_files.specs.RemarkLaws.{AreLines}
@@ -15,15 +15,15 @@ use Rattle.lock_protocol.specs.Inputs.{IsReadAs}
 use Rattle.lock_protocol.specs.Views.{Input}
 use Rattle.lock_protocol.specs.Views as input
 use Rattle.lock_service.specs.Asking.{one_ask, is_off}
-use Rattle.lock_service.specs.Counting.{SegmentView}
 use Rattle.lock_service.specs.Serving.{IsLineAnswered, denial_of}
 use Rattle.lock_service.proofs.WholeTexts.{of_both}
 use Rattle.lock_names.specs.Names.{Bound}
 use Rattle.lock_names.specs.Kept.{NamedView, named_of, reached, IsTaken}
 use Rattle.name_service.specs.declared.service.NameTerms.{NameTerms}
 use Rattle.name_service.specs.Naming.{NamingView}
-use Rattle.name_service.specs.Serving.{IsOnlySaid, IsNameToldOf, IsNameToldOfLeave, IsNameTold, IsNameAnsweredIf, IsNameInputAnswered, IsNameLineAnswered}
-use Rattle.name_service.specs.RingLines.{ring_segment, AreRightNames, IsOfRing, IsOfNoRing, AreOfRings, HaveRingLines, NameLinesAreRingLines}
+use Rattle.name_service.specs.Serving.{IsOnlySaid, IsNameToldOf, IsNameTold, IsNameAnsweredIf, IsNameInputAnswered, IsNameLineAnswered}
+use Rattle.name_service.specs.RightNames.{AreRightNames}
+use Rattle.name_service.specs.RingLines.{ring_segment, IsOfRing, IsOfNoRing, HaveRingLines, NameLinesAreRingLines}
 use Rattle.name_service.proofs.AskedRings.{IsOne, of_none, wanting_is, none_is, ring_is}
 use Rattle.name_service.proofs.LeaveOfRings.{leave_is}
 use Rattle.name_service.proofs.RightNames.{line_right, lines_right}

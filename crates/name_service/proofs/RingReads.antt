@@ -2,16 +2,15 @@
 use Rattle.std.proofs.Common.{◌≡◌, ℕ, ◌+◌, ◌^◌, ◌<◌, ◌≤◌, Bool, List, [], ◌∷◌, ◌++◌, length, Option, Some, None, inl, inr, refl, sym, ap, subst, ◌∙◌, length-append, arith}
 use Rattle.std.specs.Prelude.{codes, true, false, if◌then◌else◌, ◌==◌}
 use Rattle.std.specs.Fmt.{decimal}
-use Rattle.std.proofs.lemmas.Bool.{cases_lt, cases_Bool}
+use Rattle.std.proofs.lemmas.Bool.{cases_lt}
 use Rattle.text_lines.specs.LongNumbers.{number_text, number_spaced, number_ended, in_32_bits, in_64_bits}
 use Rattle.text_lines.specs.Limits.{line_limit}
 use Rattle.text_lines.proofs.LongDecimals.{in_some, in_none}
 use Rattle.held_locks.specs.declared.answers.Holder.{Holder}
-use Rattle.held_locks.specs.Locks.{Ask, Release}
-use Rattle.held_locks.specs.Locks as lock
+use Rattle.held_locks.specs.Locks.{Ask, Acquire, Try, Release, Cancel, Leave, Corrupt, Stats}
 use Rattle.lock_protocol.specs.Asks.{acquire, try, release, cancel, leave, corrupt, stats, ask_text, HasName, of_one, of_two, heard}
 use Rattle.lock_protocol.specs.Asks as lines
-use Rattle.lock_protocol.specs.Names.{IsName, name_spaced, name_ended}
+use Rattle.lock_protocol.specs.Names.{name_spaced, name_ended}
 use Rattle.lock_protocol.specs.Inputs.{input_line, IsReadAs}
 use Rattle.lock_protocol.specs.Views as input
 use Rattle.lock_protocol.proofs.Fronts.{front_all}
@@ -148,13 +147,13 @@ asks_ring ring b h ask name a e = go ask e
     same x y f = ap (λ (p : List ℕ × Ask). p.1) (some_same (x, y) (name, a) f)
 
     go : (ask : lines.Ask) → one_ask ask ≡ Some (name, a) → one_ask (ring_ask ring (number_for b a h) ask) ≡ Some (decimal ring, with_number b a h)
-    go (acquire n label) f = ap (λ (y : Ask). Some (decimal ring, with_number b y h)) (same n (lock.Acquire label) f)
-    go (try n label) f = ap (λ (y : Ask). Some (decimal ring, with_number b y h)) (same n (lock.Try label) f)
+    go (acquire n label) f = ap (λ (y : Ask). Some (decimal ring, with_number b y h)) (same n (Acquire label) f)
+    go (try n label) f = ap (λ (y : Ask). Some (decimal ring, with_number b y h)) (same n (Try label) f)
     go (release n token) f = subst (λ (y : Ask). one_ask (ring_ask ring (number_for b y h) (release n token)) ≡ Some (decimal ring, with_number b y h)) (same n (Release token) f) refl
-    go (cancel n) f = ap (λ (y : Ask). Some (decimal ring, with_number b y h)) (same n lock.Cancel f)
+    go (cancel n) f = ap (λ (y : Ask). Some (decimal ring, with_number b y h)) (same n Cancel f)
     go leave f = absurd (none_some (name, a) f)
-    go (corrupt n machine value) f = ap (λ (y : Ask). Some (decimal ring, with_number b y h)) (same n (lock.Corrupt (in_32_bits machine) (in_32_bits value)) f)
-    go (stats n) f = ap (λ (y : Ask). Some (decimal ring, with_number b y h)) (same n lock.Stats f)
+    go (corrupt n machine value) f = ap (λ (y : Ask). Some (decimal ring, with_number b y h)) (same n (Corrupt (in_32_bits machine) (in_32_bits value)) f)
+    go (stats n) f = ap (λ (y : Ask). Some (decimal ring, with_number b y h)) (same n Stats f)
 
 -- a fault stays one
 pub off_ring : (ring number : ℕ) (faults : Bool) (ask : lines.Ask) → is_off faults (ring_ask ring number ask) ≡ is_off faults ask
@@ -177,9 +176,9 @@ own_small b token (Some x) few = either (token == token_in b x.token) x.token (f
 
 pub number_small : (b : Bound) (a : Ask) (h : Option Holder) → ((x : Holder) → h ≡ Some x → x.token < 2 ^ 64) → number_for b a h < 2 ^ 64
 number_small b (Release token) h few = own_small b token h few
-number_small b (lock.Acquire label) h few = omega arith
-number_small b (lock.Try label) h few = omega arith
-number_small b lock.Cancel h few = omega arith
-number_small b lock.Leave h few = omega arith
-number_small b (lock.Corrupt machine value) h few = omega arith
-number_small b lock.Stats h few = omega arith
+number_small b (Acquire label) h few = omega arith
+number_small b (Try label) h few = omega arith
+number_small b Cancel h few = omega arith
+number_small b Leave h few = omega arith
+number_small b (Corrupt machine value) h few = omega arith
+number_small b Stats h few = omega arith

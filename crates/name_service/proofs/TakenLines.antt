@@ -1,5 +1,5 @@
 -- The names of rings, and the number of grants, come back of the notes of lines.
-use Rattle.std.proofs.Common.{◌≡◌, ℕ, zero, suc, ◌+◌, ◌-◌, ◌^◌, ◌<◌, ◌≤◌, Bool, true, false, cond, List, [], ◌∷◌, ◌++◌, length, map, Option, Some, None, ◌⊎◌, inl, inr, refl, sym, ap, subst, ◌∙◌, append-nil, arith}
+use Rattle.std.proofs.Common.{◌≡◌, ℕ, zero, suc, ◌+◌, ◌-◌, ◌^◌, ◌<◌, ◌≤◌, Bool, true, false, cond, List, [], ◌∷◌, ◌++◌, length, map, Option, Some, None, ◌⊎◌, inl, inr, refl, sym, ap, subst, ◌∙◌, arith}
 use Rattle.std.specs.Prelude.{slice_get, slice_set, is_some, option_map, nat_lt, not, ◌||◌, ◌&&◌, if◌then◌else◌}
 use Rattle.std.specs.List.{AllByRecursion}
 use Rattle.std.proofs.lemmas.Bool.{ltb-false, lt-ltb, cases_lt, true≢false}
@@ -24,31 +24,31 @@ use Rattle.lock_protocol.specs.Views as input
 use Rattle.name_remarks.specs.Remarks.{Binding, bind, free, remark_text}
 use Rattle.name_remarks.specs.Bindings.{Bindings, nothing, after}
 use Rattle.lock_service.specs.Asking.{one_ask, is_off}
-use Rattle.lock_service.specs.Begun.{begun_text, HaveBegun}
+use Rattle.lock_service.specs.Begun.{begun_text}
 use Rattle.lock_service.specs.Segments.{content_of}
 use Rattle.lock_service.specs.Noting.{note_about, note_of_left}
 use Rattle.lock_service.proofs.WithoutRemarks.{head_ends}
 use Rattle.lock_names.specs.declared.replies.NameAnswers.{NameAnswers}
-use Rattle.lock_names.specs.Names.{Bound, Named, Of, NamedStep, of_ring, found, fresh, total, kept, stays, at_ring, step_named}
-use Rattle.lock_names.specs.Promises.{IsNamed}
+use Rattle.lock_names.specs.Names.{Bound, Named, NamedStep, of_ring, found, fresh, total, kept, stays, at_ring}
 use Rattle.lock_names.specs.Kept.{NamedView, named_of, reached, noted_at, IsTaken}
 use Rattle.lock_names.specs.Leaves.{settled, told_left, name_left, names_left}
-use Rattle.lock_names.proofs.Found.{some_same, none_some, not_some, unlike}
+use Rattle.lock_names.proofs.Found.{none_some, not_some, unlike}
 use Rattle.lock_names.proofs.Fitting.{total_set, at_ring_is, moved}
 use Rattle.lock_names.proofs.LeftNames.{left_lock}
 use Rattle.lock_names.proofs.Taking.{Reaches}
 use Rattle.name_service.specs.declared.service.NameTerms.{NameTerms}
 use Rattle.name_service.specs.Naming.{NamingView}
-use Rattle.name_service.specs.Noting.{binding_of, note_of_new, note_of_free, note_at, is_freed, note_of_name_left, notes_of_names_left}
-use Rattle.name_service.specs.Segmented.{pool_bindings, names_text}
+use Rattle.name_service.specs.Noting.{binding_of, note_of_new, note_of_free, note_at, note_of_name_left, notes_of_names_left}
+use Rattle.name_service.specs.NamesText.{pool_bindings, names_text}
 use Rattle.name_service.specs.Serving.{IsNameToldOf, IsNameToldOfLeave, IsNameTold, IsNameAnsweredIf, IsNameInputAnswered, IsNameLineAnswered}
-use Rattle.name_service.specs.RingLines.{AreRightNames, IsOfNoRing}
-use Rattle.name_service.specs.NameLines.{AreNamesAnswered, begun_names}
-use Rattle.name_service.specs.NamesBack.{NamesComeBackOf, NamesComeBackOfJournals}
+use Rattle.name_service.specs.RightNames.{AreRightNames}
+use Rattle.name_service.specs.RingLines.{IsOfNoRing}
+use Rattle.name_service.specs.NameLines.{begun_names}
+use Rattle.name_service.specs.NamesBack.{NamesComeBackOfJournals}
 use Rattle.name_service.proofs.AskedRings.{reaching, none_is, wanting_is}
 use Rattle.name_service.proofs.LeaveOfRings.{left_state}
 use Rattle.name_service.proofs.PlainNotes.{ArePlain, plain_note, plain_left}
-use Rattle.name_service.proofs.RightNames.{StayRight, line_right, lines_right}
+use Rattle.name_service.proofs.RightNames.{line_right, lines_right}
 use Rattle.name_service.proofs.TakenNotes.{IsTakenText, taken_both, taken_none, taken_plain, taken_bind, taken_free, pool_many, pool_set, recorded_of, IsFitting, fresh_fits, begun_taken}
 
 -- ---- the notes of one line
@@ -205,11 +205,11 @@ told_below n os [] all = tt
 told_below n os (l ∷ ls) all = (all.0, told_below n os ls all.1)
 
 leave_taken : (floor fixed : ℕ) (vs : List LockView) (os : List (Option Bound)) (ls : List Left) → length os ≤ 1000000 → AllByRecursion (IsBelow (length os)) ls → IsTakenText (notes_of_names_left fixed vs ls) (recorded_of floor fixed os) (recorded_of floor fixed (names_left fixed os ls))
-leave_taken floor fixed vs os [] few all = taken_none (recorded_of floor fixed os)
-leave_taken floor fixed vs os (l ∷ ls) few all =
+leave_taken floor fixed vs os [] most all = taken_none (recorded_of floor fixed os)
+leave_taken floor fixed vs os (l ∷ ls) most all =
     taken_both (note_of_name_left fixed vs l) (notes_of_names_left fixed vs ls) (recorded_of floor fixed os) (recorded_of floor fixed (name_left fixed os l)) (recorded_of floor fixed (names_left fixed os (l ∷ ls)))
     (one (nat_lt l.lock fixed || is_some l.granted) (λ e. ltb-false l.lock fixed (first_false (nat_lt l.lock fixed) (is_some l.granted) e)))
-    (leave_taken floor fixed vs (name_left fixed os l) ls (subst (λ (n : ℕ). n ≤ 1000000) (sym same) few) (subst (λ (n : ℕ). AllByRecursion (IsBelow n) ls) (sym same) all.1))
+    (leave_taken floor fixed vs (name_left fixed os l) ls (subst (λ (n : ℕ). n ≤ 1000000) (sym same) most) (subst (λ (n : ℕ). AllByRecursion (IsBelow n) ls) (sym same) all.1))
   where
     first_false : (a b : Bool) → (a || b) ≡ false → a ≡ false
     first_false true b e = absurd (true≢false e)
@@ -225,7 +225,7 @@ leave_taken floor fixed vs os (l ∷ ls) few all =
     one : (q : Bool) → (q ≡ false → fixed ≤ l.lock) → IsTakenText (note_of_left vs l ++ note_of_free l.lock (not q)) (recorded_of floor fixed os) (recorded_of floor fixed (if q then os else slice_set os l.lock None))
     one true k = taken_both (note_of_left vs l) [] (recorded_of floor fixed os) (recorded_of floor fixed os) (recorded_of floor fixed os) (plain_taken (note_of_left vs l) (recorded_of floor fixed os) (plain_left vs l)) (taken_none (recorded_of floor fixed os))
     one false k = taken_both (note_of_left vs l) (note_of_free l.lock true) (recorded_of floor fixed os) (recorded_of floor fixed os) (recorded_of floor fixed (slice_set os l.lock None))
-        (plain_taken (note_of_left vs l) (recorded_of floor fixed os) (plain_left vs l)) (freed_taken floor fixed os l.lock all.0 few (k refl))
+        (plain_taken (note_of_left vs l) (recorded_of floor fixed os) (plain_left vs l)) (freed_taken floor fixed os l.lock all.0 most (k refl))
 
 rings_grow : (c : ℕ) (ls : List Lock) → ((i : ℕ) (l : Lock) → slice_get ls i ≡ Some l → IsRing l.ring.ring) → total ls ≤ total (map (left_lock c) ls)
 rings_grow c [] rings = let le : 0 ≤ 0 = omega arith in le

@@ -1,35 +1,27 @@
 -- What the notes of names record of the rings.
-use Rattle.std.proofs.Common.{◌≡◌, ℕ, zero, suc, ◌+◌, ◌-◌, ◌^◌, ◌<◌, ◌≤◌, Bool, true, false, cond, eqb, List, [], ◌∷◌, ◌++◌, length, map, replicate, Option, Some, None, ◌⊎◌, inl, inr, refl, sym, ap, subst, ◌∙◌, append_assoc, append-nil, arith}
-use Rattle.std.specs.Prelude.{codes, slice_get, slice_set, is_some, option_map, nat_lt, not, ◌||◌, ◌&&◌, if◌then◌else◌}
-use Rattle.std.specs.List.{flat_map, list_any, AllByRecursion}
-use Rattle.std.proofs.lemmas.Bool.{ltb-false, lt-ltb, cases_lt, true≢false}
-use Rattle.std.proofs.lemmas.List.{length-map, length-set}
-use Rattle.std.proofs.lemmas.Option.{slice_get_within}
+use Rattle.std.proofs.Common.{◌≡◌, ℕ, zero, suc, ◌+◌, ◌-◌, ◌^◌, ◌<◌, ◌≤◌, Bool, true, false, List, [], ◌∷◌, ◌++◌, length, map, Option, Some, None, ◌⊎◌, inl, inr, refl, sym, ap, subst, ◌∙◌, arith}
+use Rattle.std.specs.Prelude.{codes, slice_get, slice_set, option_map, ◌||◌, ◌&&◌}
+use Rattle.std.specs.List.{list_any, AllByRecursion}
+use Rattle.std.proofs.lemmas.Bool.{true≢false}
+use Rattle.std.proofs.lemmas.List.{length-map}
 use Rattle.text_lines.specs.Spelling.{ended}
 use Rattle.segment_files.specs.Remarks.{lines_in, is_remark, remark_of}
 use Rattle.segment_files.specs.RemarkLaws.{IsOneLine, AreLines}
 use Rattle.segment_files.proofs.Remarked.{HasNoHash, lines_append, line_then, no_hash_lines}
-use Rattle.journal.specs.Recovery.{has_line_end}
-use Rattle.held_locks.specs.declared.answers.Holder.{Holder}
-use Rattle.held_locks.specs.declared.answers.Left.{Left}
 use Rattle.held_locks.specs.Queues.{Lock}
-use Rattle.held_locks.specs.Locks.{Ask, Leave, turn}
-use Rattle.held_locks.specs.Kept.{LockView, lock_of, locks_of, lock_limit, left_at, left_of, left_by, ended_in}
+use Rattle.held_locks.specs.Kept.{lock_of, locks_of, lock_limit}
 use Rattle.lock_protocol.specs.Names.{IsName}
-use Rattle.name_remarks.specs.Remarks.{Binding, Remark, bind, free, top, remark_text, Fits, BeginsWith, BeginsAsOne}
-use Rattle.name_remarks.specs.Bindings.{Bindings, nothing, after, after_all, IsAmong, IsTakenIn, AreTakenIn, tops, binds, beginning, text_of}
+use Rattle.name_remarks.specs.Remarks.{Binding, Remark, bind, free, top, remark_text, Fits, BeginsAsOne}
+use Rattle.name_remarks.specs.Bindings.{Bindings, nothing, after, IsAmong, AreTakenIn, binds, beginning, text_of}
 use Rattle.name_remarks.proofs.Taken.{beginnings_record_all}
 use Rattle.lock_service.proofs.WholeTexts.{of_both}
-use Rattle.lock_names.specs.declared.replies.NameAnswers.{NameAnswers}
-use Rattle.lock_names.specs.Names.{Bound, Named, fresh, total, grants_at, token_in}
-use Rattle.lock_names.specs.Promises.{IsRightBound, IsNamed}
+use Rattle.lock_names.specs.Names.{Bound, fresh, total, grants_at}
+use Rattle.lock_names.specs.Promises.{IsRightBound}
 use Rattle.lock_names.specs.Kept.{NamedView, named_of}
-use Rattle.lock_names.specs.Leaves.{told_left, name_left, names_left}
 use Rattle.lock_names.proofs.Fitting.{lock_at}
-use Rattle.lock_names.proofs.Found.{some_same, none_some}
-use Rattle.name_service.specs.Noting.{binding_of, note_of_new, note_of_free, is_freed, notes_of_names_left}
-use Rattle.name_service.specs.Segmented.{bindings_of, pool_bindings, bindings_in, names_text}
-use Rattle.name_service.specs.RingLines.{AreRightNames}
+use Rattle.name_service.specs.Noting.{binding_of}
+use Rattle.name_service.specs.NamesText.{bindings_of, pool_bindings, bindings_in, names_text}
+use Rattle.name_service.specs.RightNames.{AreRightNames}
 use Rattle.name_service.proofs.AskedRings.{grants_among}
 use Rattle.name_service.proofs.PlainNotes.{bind_line, bind_is_line, free_is_line, top_is_line}
 

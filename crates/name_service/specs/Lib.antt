@@ -9,6 +9,7 @@ pub mod Segmented
 pub mod Goes
 pub mod Knows
 pub mod State
+pub mod RightNames
 pub mod RingLines
 pub mod NameLines
 pub mod NamesBack

@@ -15,8 +15,9 @@ use Rattle.name_service.specs.declared.service.NameTerms.{NameTerms}
 use Rattle.name_service.specs.declared.service.NameService.{NameService}
 use Rattle.name_service.specs.Naming.{NamingView}
 use Rattle.name_service.specs.Serving.{IsNameLineAnswered, IsNameServed}
-use Rattle.name_service.specs.Segmented.{names_text}
-use Rattle.name_service.specs.RingLines.{ring_segment, AreRightNames, HaveRingLines}
+use Rattle.name_service.specs.NamesText.{names_text}
+use Rattle.name_service.specs.RightNames.{AreRightNames}
+use Rattle.name_service.specs.RingLines.{ring_segment, HaveRingLines}
 
 -- Lines are answered one after the other, with this text, and these are the notes for the journal.
 pub record AreNamesAnswered (terms : NameTerms) (old : NamingView) (lines : List (List ℕ))

@@ -8,8 +8,8 @@ use Rattle.lock_names.specs.Kept.{NamedView}
 use Rattle.lock_service.specs.Begun.{HaveBegun}
 use Rattle.name_service.specs.declared.service.NameTerms.{NameTerms}
 use Rattle.name_service.specs.Naming.{NamingView}
-use Rattle.name_service.specs.Segmented.{pool_bindings}
-use Rattle.name_service.specs.RingLines.{AreRightNames}
+use Rattle.name_service.specs.NamesText.{pool_bindings}
+use Rattle.name_service.specs.RightNames.{AreRightNames}
 use Rattle.name_service.specs.NameLines.{AreNamesAnswered, begun_names}
 
 -- What the lines of the text record is how the rings of the pool are bound now, and how many grants

@@ -1,17 +1,15 @@
 -- A line about a name is a line of its ring (this project's own).
-use Rattle.std.specs.Prelude.{◌≡◌, ℕ, zero, suc, ◌<◌, ◌≤◌, ◌^◌, true, List, [], ◌∷◌, ◌++◌, length, Option, None, Some, slice_get, decimal, ◌⊎◌}
+use Rattle.std.specs.Prelude.{◌≡◌, ℕ, zero, suc, ◌<◌, ◌^◌, true, List, [], ◌∷◌, ◌++◌, length, Option, None, Some, slice_get, decimal, ◌⊎◌}
 use Rattle.line_service.specs.Answering.{Answers}
 use Rattle.segment_files.specs.Remarks.{without_remarks}
 use Rattle.segment_files.specs.RemarkLaws.{AreLines}
 use Rattle.held_locks.specs.declared.answers.Answer.TheVariants as answer
-use Rattle.held_locks.specs.Kept.{locks_of, lock_limit}
 use Rattle.lock_protocol.specs.declared.answers.Denial.{Denial}
-use Rattle.lock_protocol.specs.Names.{Names, IsName}
+use Rattle.lock_protocol.specs.Names.{Names}
 use Rattle.lock_protocol.specs.Answers.{denial_line}
 use Rattle.lock_names.specs.declared.replies.Reply.{Reply}
 use Rattle.lock_names.specs.declared.replies.Reply.TheVariants as reply
-use Rattle.lock_names.specs.Names.{Bound, said_of, fresh, total}
-use Rattle.lock_names.specs.Promises.{IsNamed}
+use Rattle.lock_names.specs.Names.{Bound, said_of, fresh}
 use Rattle.lock_names.specs.Kept.{NamedView, named_of}
 use Rattle.name_service.specs.declared.service.NameTerms.{NameTerms}
 use Rattle.lock_service.specs.Counting.{SegmentView}
@@ -20,6 +18,7 @@ use Rattle.lock_service.specs.Told.{Telling, text_of}
 use Rattle.name_service.specs.Naming.{NamingView}
 use Rattle.name_service.specs.Noting.{reply_line, line_of_said}
 use Rattle.name_service.specs.Serving.{IsNameLineAnswered}
+use Rattle.name_service.specs.RightNames.{AreRightNames}
 
 -- ---- the rings as locks of their own
 
@@ -38,14 +37,6 @@ ring_segment v = record {
   remaining = 0;
   short = true;
 }
-
--- what is so of names at every moment: they are right, and spelled as names; each grant was counted;
--- and there are no more rings than there may be
-pub record AreRightNames (v : NamedView) : Type 0 where
-  pub named : IsNamed (named_of v)
-  pub spelled : (ring : ℕ) (b : Bound) → slice_get v.names ring ≡ Some (Some b) → IsName b.name
-  pub counted : total (locks_of v.locks) ≤ v.top
-  pub few : length v.locks ≤ lock_limit
 
 -- ---- a line of a ring
 
