@@ -163,7 +163,7 @@ fn answer_ask(
     ask: Ask<'_>,
     pending: &mut Pending,
 ) -> Result<(), Untold>
-    requires { HasName (seen ask.entry) }
+    requires { HasName (seen ask) }
     ensures { Leaves result
         (λ said noted. IsNameTold terms client (one_ask (seen ask.entry)) segment.old said noted
         segment.new) (segment.new ≡ segment.old) pending.old pending.new }
@@ -181,7 +181,7 @@ fn answer_input(
     input: Input<'_>,
     pending: &mut Pending,
 ) -> Result<(), Untold>
-    requires { IsNamedInput (input_of input.entry) }
+    requires { IsNamedInput (input_of input) }
     ensures { Leaves result
         (λ said noted. IsNameInputAnswered terms (input_of input.entry) segment.old said noted
         segment.new) (segment.new ≡ segment.old) pending.old pending.new }
@@ -223,7 +223,7 @@ pub(crate) fn answer(
     input: Input<'_>,
     pending: &mut Pending,
 ) -> Result<(), AllocError>
-    requires { IsNamedInput (input_of input.entry) }
+    requires { IsNamedInput (input_of input) }
     ensures ok { OnOk result ((said : List ℕ)
         × (noted : List ℕ)
         × AnswersNameInput service.old (input_of input.entry) said noted service.new
