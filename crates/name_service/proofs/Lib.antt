@@ -6,3 +6,9 @@ pub mod GrownPools
 pub mod NamedTexts
 pub mod NamedStates
 pub mod Wanting
+pub mod NotedSame
+pub mod Unchanged
+pub mod Lacking
+pub mod Utf
+pub mod Inputs
+pub mod Answered

@@ -162,16 +162,6 @@ impl NameSegment {
         self.remaining == 0 || self.short
     }
 
-    /// How much its journal may have yet, and whether a ring was short.
-    fn watch(&self) -> Watch
-        ensures { result ≡ record { remaining = self.now.remaining; short = self.now.short } }
-    {
-        Watch {
-            remaining: self.remaining,
-            short: self.short,
-        }
-    }
-
     /// Asks a name. Only its ring is looked at, and nothing changes if the asker is refused for lack of room, of memory or of rings.
     pub(crate) fn ask(&mut self, client: u64, name: &str, ask: OneAsk) -> Asked
         ensures answer { IsAsked self.old.named self.new.named client name.now (asked ask)
@@ -182,7 +172,10 @@ impl NameSegment {
         ensures lack { is_name_lack (option_map (reply_told true) result.answers.own) ≡ true
             → self.new ≡ self.old }
     {
-        let watch = self.watch();
+        let watch = Watch {
+            remaining: self.remaining,
+            short: self.short,
+        };
         let before = events_of(&self.names, self.names.reach(name, ask));
         let answers = self.names.ask(self.alloc, client, name, ask);
         let asked = Asked { answers, before };
@@ -198,7 +191,10 @@ impl NameSegment {
         ensures counted { IsNameCounted self.old self.new
             (count_of_all self.new.named.locks self.new.left) }
     {
-        let watch = self.watch();
+        let watch = Watch {
+            remaining: self.remaining,
+            short: self.short,
+        };
         self.names.leave(client, &mut self.left);
         let after = after_leave(&self.names, watch, self.left.as_slice());
         self.remaining = after.remaining;
