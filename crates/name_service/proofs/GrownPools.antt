@@ -1,6 +1,6 @@
 -- Fresh rings in the pool, one after the other.
 use Rattle.std.proofs.Common.{◌≡◌, ℕ, zero, suc, ◌+◌, ◌-◌, ◌*◌, ◌^◌, ◌<◌, ◌≤◌, ◌⊎◌, Bool, true, false, ◌||◌, List, [], ◌∷◌, ◌++◌, length, map, Option, inl, inr, refl, sym, ap, subst, ◌∙◌, arith}
-use Rattle.std.specs.Prelude.{nat_lt}
+use Rattle.std.specs.Prelude.{nat_lt, Result, Ok, Err, IfOk}
 use Rattle.std.proofs.lemmas.Bool.{or_parts, or_from, le-ltb}
 use Rattle.std.proofs.lemmas.List.{length-append, length-map}
 use Rattle.ring_model.specs.Limits.{machine_limit, event_limit}
@@ -133,3 +133,7 @@ ungrown most old mid rings more w e n c = record {
   wanted = w;
   why = subst (λ (k : ℕ). CannotAdd old k) e (next_cannot_add old mid more n c);
 }
+
+pub if_ok : {T E : Type 0} (r : Result T E) (A B : T → Type 0) → IfOk r A → ((x : T) → A x → B x) → IfOk r B
+if_ok (Ok x) A B a f = f x a
+if_ok (Err e) A B a f = tt

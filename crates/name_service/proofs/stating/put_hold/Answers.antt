@@ -5,8 +5,8 @@ use Rattle.lock_names.proofs.Found.{there_is}
 use Rattle.name_service.proofs.NamedStates.{name_there, few_told}
 use Rattle.name_service.proofs.stating.put_hold.Goals as goal
 
-pub told_if-requires : goal.told_if-requires
-told_if-requires c = λ h e.
+pub told_if-holder-requires : goal.told_if-holder-requires
+told_if-holder-requires c = λ h e.
     let v = c.args.names.now in
     let o = name_there v c.requires.kept c.args.ring c.requires.ring in
     let l = there_is v.locks c.args.ring c.requires.ring in
