@@ -18,7 +18,7 @@ use std::alloc::{AllocError, Global};
 /// Adds how a ring is bound, if it has a name.
 fn put_binding(text: &mut Vec<u8>, ring: u32, binding: Option<&Binding>) -> Result<(), AllocError>
     ensures { OnOk result (text.new.items ≡ text.old.items ++ text_of
-        (binds ring (bindings_of (option_map (λ x. bound_of x.now) binding ∷ [])))) }
+        (binds ring (bindings_of (option_map (λ x. bound_of x.now) binding.entry ∷ [])))) }
 {
     match binding {
         Some(binding) => put_name_remark(
