@@ -40,6 +40,13 @@ lines_of_left os [] = refl
 lines_of_left os (l ∷ left) =
     lines_append (grant_said (bound_or (slice_get os l.lock)).name l.granted) (said_left os left) ∙ ap (λ (u : List ℕ). lines_left os l ++ u) (lines_of_left os left)
 
+-- what an empty list of holds has at a place
+abbrev pub no_left : Left
+no_left = record { lock = 0; ended = record { seat = 0; survey = record { position = 0; privileged = 0; first = 0; calm = 0; rest = 0 } }; granted = None }
+
+pub grant_lines : (os : List (Option Bound)) (l : Left) (x was now : List ℕ) → x ≡ (bound_or (slice_get os l.lock)).name → now ≡ was ++ lines_of_said (grant_said x l.granted) → now ≡ was ++ lines_left os l
+grant_lines os l x was now e n = n ∙ ap (λ (y : List ℕ). was ++ lines_of_said (grant_said y l.granted)) e
+
 -- ---- a ring that has lost its name
 
 pub freed_note : (fixed : ℕ) (locks : List LockView) (l : Left) (freed : Bool) (was now : List ℕ) → freed ≡ is_freed fixed l → now ≡ was ++ (note_of_left locks l ++ note_of_free l.lock freed) → now ≡ was ++ note_of_name_left fixed locks l

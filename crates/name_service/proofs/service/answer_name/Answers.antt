@@ -1,5 +1,5 @@
 use Rattle.std.proofs.Common.{◌≡◌, ℕ, Bool, List, [], ◌++◌, cond, Option, Result, refl, sym, ap, ◌∙◌, subst}
-use Rattle.std.specs.Prelude.{◌&&◌, false, option_map}
+use Rattle.std.specs.Prelude.{◌&&◌, true, false, option_map}
 use Rattle.held_locks.specs.Asked.{asked}
 use Rattle.line_service.specs.declared.pending.Pending.{Pending}
 use Rattle.lock_names.specs.declared.replies.Reply.{Reply}
