@@ -43,7 +43,7 @@ pub struct NameService {
     pub(crate) stage: Stage,
 }
 
-/// The reply as it is told: while the pool may get rings, an ask that finds none free is refused for lack of room.
+/// The reply as the client gets it: while the pool may get rings, an ask that finds none free is refused for lack of room.
 fn reply_told(wanting: bool, reply: Reply) -> Reply
     ensures { result ≡ reply_told wanting reply }
 {
@@ -59,7 +59,7 @@ fn reply_told(wanting: bool, reply: Reply) -> Reply
     }
 }
 
-/// The reply to the client that asks, as it is told.
+/// The reply to the client that asks, as it gets it.
 fn own_told(wanting: bool, own: Option<Reply>) -> Option<Reply>
     ensures { result ≡ option_map (reply_told wanting) own }
 {
