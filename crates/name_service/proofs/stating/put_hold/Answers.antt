@@ -11,4 +11,4 @@ told_if-holder-requires c = λ h e.
     let o = name_there v c.requires.kept c.args.ring c.requires.ring in
     let l = there_is v.locks c.args.ring c.requires.ring in
     let b = bound_of c.in-Some.binding.now in
-    few_told v c.requires.kept c.args.ring b l.0 h (o.1 ∙ ap (λ (x : Option Bound). Some x) (sym (c.binding.ensures.there o.0 o.1))) l.1 (sym (c.holder.ensures l.0 l.1) ∙ e)
+    few_told v c.requires.kept c.args.ring b l.0 h (o.1 ∙ ap (λ (x : Option Bound). Some x) (sym (c.in-Some.ensures.there o.0 o.1))) l.1 (sym (c.holder.ensures l.0 l.1) ∙ e)
