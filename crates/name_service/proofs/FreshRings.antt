@@ -23,8 +23,8 @@ use Rattle.folder_of_locks.specs.Rings.{IsFreshRing}
 settled_zeros : (n : ℕ) → 1 ≤ n → is_settled (replicate n 0) ≡ true
 settled_zeros n l =
     let many : length (replicate {A = ℕ} n 0) ≡ n = length-replicate n 0 in
-    let first : get_or (replicate n 0) 0 0 ≡ 0 = get_or-replicate n 0 0 0 (omega (arith, l)) in
-    let last : get_or (replicate n 0) (length (replicate {A = ℕ} n 0) - 1) 0 ≡ 0 = ap (λ (k : ℕ). get_or (replicate n 0) (k - 1) 0) many ∙ get_or-replicate n (n - 1) 0 0 (omega (arith, l)) in
+    let first : get_or (replicate {A = ℕ} n 0) 0 0 ≡ 0 = get_or-replicate n 0 0 0 (omega (arith, l)) in
+    let last : get_or (replicate {A = ℕ} n 0) (length (replicate {A = ℕ} n 0) - 1) 0 ≡ 0 = ap (λ (k : ℕ). get_or (replicate n 0) (k - 1) 0) many ∙ get_or-replicate n (n - 1) 0 0 (omega (arith, l)) in
     all_settled (replicate n 0) (omega (arith, l, many)) (eq-eqb (get_or (replicate n 0) (length (replicate {A = ℕ} n 0) - 1) 0) (get_or (replicate n 0) 0 0) (last ∙ sym first))
     (λ k lk. get_or-replicate n k 0 0 (omega (arith, lk, many)) ∙ sym first)
 

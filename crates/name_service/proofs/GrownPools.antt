@@ -1,11 +1,12 @@
 -- Fresh rings in the pool, one after the other.
 use Rattle.std.proofs.Common.{◌≡◌, ℕ, zero, suc, ◌+◌, ◌-◌, ◌*◌, ◌^◌, ◌<◌, ◌≤◌, ◌⊎◌, Bool, true, false, ◌||◌, List, [], ◌∷◌, ◌++◌, length, map, Option, inl, inr, refl, sym, ap, subst, ◌∙◌, arith}
-use Rattle.std.specs.Prelude.{nat_lt}
+use Rattle.std.specs.Prelude.{nat_lt, Result, Ok, Err, IfOk}
 use Rattle.std.proofs.lemmas.Bool.{or_parts, or_from, le-ltb}
 use Rattle.std.proofs.lemmas.List.{length-append, length-map}
 use Rattle.ring_model.specs.Limits.{machine_limit, event_limit}
 use Rattle.ring_state.specs.Sizes.{Size}
 use Rattle.endless_ring.specs.Endless.{EndlessView}
+use Rattle.held_locks.specs.declared.answers.Waiter.{Waiter}
 use Rattle.held_locks.specs.Queues.{Lock}
 use Rattle.held_locks.specs.Kept.{LockView, lock_of, locks_of, state_of, lock_limit, IsKeptRing}
 use Rattle.held_locks.specs.Opened.{open_in, holder_after, IsAdded}
@@ -38,7 +39,7 @@ fresh_top size old new g =
 -- a lock of a ring without events, for which nobody waits, is not short
 empty_short : (v : LockView) → length v.ring.ring.book.history ≡ 0 → v.queue ≡ [] → is_short v ≡ false
 empty_short v h q =
-    let line : length v.queue ≡ 0 = ap (λ (ws : List _). length ws) q in
+    let line : length v.queue ≡ 0 = ap (λ (ws : List Waiter). length ws) q in
     le-ltb event_limit (length v.ring.ring.book.history + (length v.queue + (machine_limit + 1))) (omega (arith, h, line))
 
 push_short : (vs : List LockView) (v : LockView) → has_short vs ≡ false → is_short v ≡ false → has_short (vs ++ v ∷ []) ≡ false
@@ -132,3 +133,7 @@ ungrown most old mid rings more w e n c = record {
   wanted = w;
   why = subst (λ (k : ℕ). CannotAdd old k) e (next_cannot_add old mid more n c);
 }
+
+pub if_ok : {T E : Type 0} (r : Result T E) (A B : T → Type 0) → IfOk r A → ((x : T) → A x → B x) → IfOk r B
+if_ok (Ok x) A B a f = f x a
+if_ok (Err e) A B a f = tt

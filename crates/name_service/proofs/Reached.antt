@@ -92,7 +92,7 @@ abbrev pub IsSettled : NamedView → NamedView → ℕ → Ask → NameAnswers �
 IsSettled old new c ask r i b =
     ((raw : Answers) × IsDone old.locks new.locks c i (of_ring b ask) raw × (r.ended ≡ raw.ended)) ⊎ ((new ≡ old) × (r.ended ≡ None))
 
-begins_lack : List Said → Bool
+abbrev begins_lack : List Said → Bool
 begins_lack [] = false
 begins_lack (a ∷ more) = is_name_lack (Some (reply_told true a.reply))
 

@@ -38,11 +38,11 @@ pool_wanted_is_one most v a b x y =
 -- ---- no want
 
 some_free : (os : List (Option Bound)) → is_some (free (os ++ None ∷ [])) ≡ true
-some_free os = by (free os) refl
+some_free os = either (free os) refl
   where
-    by : (o : Option ℕ) → free os ≡ o → is_some (free (os ++ None ∷ [])) ≡ true
-    by None e = ap (λ (x : Option ℕ). is_some x) (free_last os e)
-    by (Some i) e = ap (λ (x : Option ℕ). is_some x) (free_first os i e)
+    either : (o : Option ℕ) → free os ≡ o → is_some (free (os ++ None ∷ [])) ≡ true
+    either None e = ap (λ (x : Option ℕ). is_some x) (free_last os e)
+    either (Some i) e = ap (λ (x : Option ℕ). is_some x) (free_first os i e)
 
 one_free : (most : ℕ) (v : NamedView) → is_some (free v.names) ≡ true → is_wanting most v ≡ false
 one_free most v e = ap (λ (b : Bool). not b && nat_lt (length v.locks - v.fixed) most) e

@@ -3,13 +3,11 @@
 ghost use Rattle.name_service.specs.Growth.{PoolWantedIsOne, NextWantsNoRing};
 
 /// A pool should have one number of rings.
-#[tactic(auto, using(crate::proofs::Wanting::pool_wanted_is_one))]
 pub fn pool_wanted_is_one()
     ensures { PoolWantedIsOne }
 {}
 
 /// The next segment is not due because no ring is free.
-#[tactic(auto, using(crate::proofs::Wanting::next_wants_no_ring))]
 pub fn next_wants_no_ring()
     ensures { NextWantsNoRing }
 {}

@@ -18,7 +18,7 @@ use std::alloc::{AllocError, Global};
 /// Adds how a ring is bound, if it has a name.
 fn put_binding(text: &mut Vec<u8>, ring: u32, binding: Option<&Binding>) -> Result<(), AllocError>
     ensures { OnOk result (text.new.items ≡ text.old.items ++ text_of
-        (binds ring (bindings_of (option_map (λ x. bound_of x.now) binding ∷ [])))) }
+        (binds ring (bindings_of (option_map (λ x. bound_of x.now) binding.entry ∷ [])))) }
 {
     match binding {
         Some(binding) => put_name_remark(
@@ -70,7 +70,7 @@ fn put_names(text: &mut Vec<u8>, names: &Names) -> Result<(), AllocError>
 /// # Errors
 ///
 /// `File` where there is no lock; `OutOfMemory`.
-pub(crate) fn named_text(
+pub fn named_text(
     alloc: Global,
     number: u64,
     behind: [u8; DIGEST_DIGITS],

@@ -19,7 +19,7 @@ returns c =
     let l = c.loop-ring in
     let v = c.args.names.now in
     let past = c.loop-ring-test.false in
-    let count = c.count.ensures in
+    let count = c.count-ring-end.ensures in
     let many = c.requires in
     let over : length v.names ≤ l.ring = omega (arith, past, count, many) in
     none_more l.text.items _ v.names l.ring over l.invariant
