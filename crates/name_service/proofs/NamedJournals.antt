@@ -89,7 +89,7 @@ pub names_gone : (v : NamedView) → AreSpelled v.names → AreRemarks (names_te
 names_gone v all = remarks_both (remark_text (top v.top)) (text_of (binds 0 (pool_bindings v.fixed v.names))) (remark_top v.top) (pool_gone v.fixed 0 v.names all)
 
 -- without the remarks the beginning is that of the rings
-begun_plain : (v : NamedView) (rest : List ℕ) → HaveBegun v.locks → AreRightNames v → without_remarks (begun_names v ++ rest) ≡ begun_text v.locks ++ without_remarks rest
+pub begun_plain : (v : NamedView) (rest : List ℕ) → HaveBegun v.locks → AreRightNames v → without_remarks (begun_names v ++ rest) ≡ begun_text v.locks ++ without_remarks rest
 begun_plain v rest begun right =
     let head : List ℕ = begun_text v.locks in
     let names : List ℕ = names_text v in

@@ -42,7 +42,7 @@ taken_both a b old mid new p q = record {
   taken = subst (λ (ls : List (List ℕ)). AreTakenIn ls old new) (sym (lines_append a b p.lines)) (taken_append (lines_in a) (lines_in b) old mid new p.taken q.taken);
 }
 
-no_lines : lines_in [] ≡ []
+pub no_lines : lines_in [] ≡ []
 unfolding lines_in
 no_lines = refl
 
@@ -72,7 +72,7 @@ pub taken_plain : (text : List ℕ) (old : Bindings) → AreLines text → HasNo
 taken_plain text old lines none = record { lines = lines; taken = others_taken (lines_in text) old (no_hash_lines text none.none) }
 
 -- a remark about names
-one_line : (line : List ℕ) → IsOneLine line → lines_in (remark_of line) ≡ remark_of line ∷ []
+pub one_line : (line : List ℕ) → IsOneLine line → lines_in (remark_of line) ≡ remark_of line ∷ []
 one_line line l =
     let body : List ℕ = 35 ∷ 32 ∷ l.0 in
     let is : remark_of line ≡ body ++ 10 ∷ [] = ap (λ (u : List ℕ). remark_of u) l.1 in
