@@ -36,6 +36,7 @@ use Rattle.lock_names.specs.Names.{Bound, Named, Of, Said, NamedStep, number_in,
 use Rattle.lock_names.specs.Promises.{IsNamed}
 use Rattle.lock_names.specs.Kept.{NamedView, named_of, for_hold, own_number, with_number, own_said, grant_said, said_in, at_free, reached_from, reached, IsRecorded, noted_at, noted, IsTaken, IsWanting}
 use Rattle.lock_names.proofs.Found.{some_same, none_some, found_at}
+use Rattle.lock_names.proofs.Asking.{lock_view}
 use Rattle.lock_names.proofs.Taking.{Reaches, reaches_found, reaches_free}
 use Rattle.lock_names.proofs.Twins.{same_token}
 use Rattle.name_service.specs.declared.service.NameTerms.{NameTerms}
@@ -43,10 +44,10 @@ use Rattle.name_service.specs.Naming.{NamingView, is_wanting}
 use Rattle.name_service.specs.Noting.{reply_line, lines_of_said, note_of_new, note_of_free, note_at}
 use Rattle.name_service.specs.Serving.{reply_told, IsNameToldOf}
 use Rattle.name_service.specs.RightNames.{AreRightNames}
-use Rattle.name_service.specs.RingLines.{numbers_from, ring_segment, IsBoundIn, AreToldByName, IsOfRing, IsOfNobody, ReportsNothing, IsOfNoRing}
+use Rattle.name_service.specs.RingLines.{numbers_from, ring_segment, ring_ask, number_for, holder_at, line_at, line_for, ring_line, IsBoundIn, AreToldByName, IsOfRing, IsOfNobody, ReportsNothing, IsOfNoRing}
 use Rattle.name_service.proofs.Digits.{ring_found}
 use Rattle.name_service.proofs.PlainNotes.{IsLeft, left_if, asked_left}
-use Rattle.name_service.proofs.RingReads.{ring_ask, number_for, reads_ring, asks_ring, off_ring, number_small}
+use Rattle.name_service.proofs.RingReads.{reads_ring, asks_ring, off_ring, number_small}
 
 -- ---- the release of a hold
 
@@ -180,12 +181,12 @@ either_none false note e = refl
 -- ---- what an answer about a name is to the rings
 
 -- what a line about a name is to the rings; and its notes are whole lines
-pub record IsOne (terms : NameTerms) (old : NamingView) (said noted : List ℕ) (new : NamingView) : Type 0 where
+pub record IsOne (terms : NameTerms) (old : NamingView) (line said noted : List ℕ) (new : NamingView) : Type 0 where
   pub lines : AreLines noted
-  pub is : IsOfNoRing old.named said noted new.named ⊎ ((ring : List ℕ) × (told : List ℕ) × IsOfRing terms old.named said noted new.named ring told)
+  pub is : IsOfNoRing old.named said noted new.named ⊎ ((ring : List ℕ) × (told : List ℕ) × IsOfRing terms old.named line said noted new.named ring told)
 
-pub of_none : (terms : NameTerms) (old new : NamingView) (said noted : List ℕ) → IsOfNoRing old.named said noted new.named → IsOne terms old said noted new
-of_none terms old new said noted n = record { lines = inl n.notes; is = inl n }
+pub of_none : (terms : NameTerms) (old new : NamingView) (line said noted : List ℕ) → IsOfNoRing old.named said noted new.named → IsOne terms old line said noted new
+of_none terms old new line said noted n = record { lines = inl n.notes; is = inl n }
 
 same_view : (old new : NamedView) → new.locks ≡ old.locks → new.names ≡ old.names → new.fixed ≡ old.fixed → new.top ≡ old.top → new ≡ old
 same_view old new a b c d =
@@ -384,7 +385,15 @@ module _ (terms : NameTerms) (c : ℕ) (x : List ℕ) (a : Ask) (old new : Namin
           (subst (λ (o : Option ℕ). IsToldOfNamed o terms.lines.strict terms.lines.noting c (decimal i) (with_number b a lock.holder) (ring_segment old.named) ring_text (without_remarks noted) (ring_segment new.named)) (sym (ring_found (length old.named.locks) i few within))
           told_of_ring))
 
-      pub ring_is : IsOne terms old said noted new
+      line_is : ring_line old.named c ask ≡ Some (input_line c own)
+      line_is =
+          let w = lock_view old.named.locks i lock reaches.fits.there in
+          let held : holder_at (slice_get old.named.locks i) ≡ lock.holder = ap (λ (o : Option LockView). holder_at o) w.1 ∙ ap (λ (l : Lock). l.holder) w.2 in
+          ap (λ (o : Option (List ℕ × Ask)). line_for old.named c ask o) one
+          ∙ (ap (λ (o : Option (ℕ × Bound)). line_at old.named c ask a o) e
+          ∙ ap (λ (h : Option Holder). Some (input_line c (ring_ask i (number_for b a h) ask))) held)
+
+      pub ring_is : IsOne terms old line said noted new
       ring_is =
           let far : i < 2 ^ 64 = let a : i < length old.named.locks = within in let b : length old.named.locks < 2 ^ 64 = few in omega arith in
           record {
@@ -393,6 +402,10 @@ module _ (terms : NameTerms) (c : ℕ) (x : List ℕ) (a : Ask) (old new : Namin
               input_line c own,
               ring_text,
               record {
+                client = c;
+                ask = ask;
+                reads = reads;
+                line_is = line_is;
                 answered = (input.Asked c own, reads_ring i (number_for b a lock.holder) far (number_small b a lock.holder small) line c ask reads, answered);
                 tellings = tellings_of i (answers_of c raw);
                 text = lines_are numbers i (answers_of c raw);

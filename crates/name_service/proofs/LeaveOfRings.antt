@@ -14,7 +14,7 @@ use Rattle.held_locks.proofs.Asking.{after_long, views_long}
 use Rattle.lock_protocol.specs.Asks as lines
 use Rattle.lock_protocol.specs.Answers.{answer_line}
 use Rattle.lock_protocol.specs.Names.{Names, name_of}
-use Rattle.lock_protocol.specs.Inputs.{IsReadAs}
+use Rattle.lock_protocol.specs.Inputs.{input_line, IsReadAs}
 use Rattle.lock_protocol.specs.Views as input
 use Rattle.lock_service.specs.Counting.{count_of_all}
 use Rattle.lock_service.specs.Noting.{lines_of_left, notes_of_left}
@@ -124,8 +124,9 @@ module _ (terms : NameTerms) (c : ℕ) (old new : NamingView) (said noted : List
   abbrev numbers : Names
   numbers = numbers_from 0 (length old.named.locks)
 
-  pub leave_is : (line : List ℕ) → IsReadAs line (input.Asked c lines.leave) → IsOne terms old said noted new
+  pub leave_is : (line : List ℕ) → IsReadAs line (input.Asked c lines.leave) → IsOne terms old line said noted new
   leave_is line reads =
+      let same : line ≡ input_line c lines.leave = reads.1.is in
       let told : IsToldOfLeave terms.lines.noting c (ring_segment old.named) (lines_of_left numbers raw) (without_remarks noted) (ring_segment new.named) = record {
         left = raw;
         done = t.done.locks;
@@ -136,10 +137,14 @@ module _ (terms : NameTerms) (c : ℕ) (old new : NamingView) (said noted : List
       record {
         lines = plain.lines;
         is = inr (
-          line,
+          input_line c lines.leave,
           lines_of_left numbers raw,
           record {
-            answered = (input.Asked c lines.leave, reads, told);
+            client = c;
+            ask = lines.leave;
+            reads = reads;
+            line_is = refl;
+            answered = (input.Asked c lines.leave, subst (λ (u : List ℕ). IsReadAs u (input.Asked c lines.leave)) same reads, told);
             tellings = tellings_left raw;
             text = left_lines numbers raw;
             by_name = subst (λ (u : List ℕ). AreToldByName old.named (tellings_left raw) u) (sym text) (told_left_by old.named raw all_have);

@@ -9,6 +9,8 @@ pub mod RingLined
 pub mod NamedJournals
 pub mod TakenNotes
 pub mod TakenLines
+pub mod NamedReplicas
+pub mod NamedRuns
 pub mod EqualNames
 pub mod Said
 pub mod LeftSame

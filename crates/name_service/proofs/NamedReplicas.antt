@@ -42,7 +42,7 @@ use Rattle.lock_service.specs.KeysBack.{IsKept, IsSound}
 use Rattle.lock_service.specs.Noting.{note_about, note_of_left}
 use Rattle.lock_service.specs.Recovered.{ComeBack}
 use Rattle.lock_service.specs.Segments.{content_of}
-use Rattle.lock_service.specs.Begun.{begun_text}
+use Rattle.lock_service.specs.Begun.{begun_text, HaveBegun}
 use Rattle.lock_service.proofs.Heard.{IsOfKey, IsReadSo, read_so}
 use Rattle.lock_service.proofs.LineParts.{line_after, spaced_ends}
 use Rattle.lock_service.proofs.SoundKeys.{text_kept, did_is, next_fits, key_is_line, word_ends, digest_is_line, place_is_line, none_or_after}
@@ -61,6 +61,7 @@ use Rattle.name_service.specs.Naming.{NamingView}
 use Rattle.name_service.specs.NamesText.{pool_bindings, names_text}
 use Rattle.name_service.specs.Noting.{reply_line, line_of_said, binding_of, note_of_new, note_of_free, note_at, is_freed, note_of_name_left, notes_of_names_left}
 use Rattle.name_service.specs.Serving.{IsNameToldOf, IsNameTold, IsNameAnsweredIf, IsNameInputAnswered, IsNameServed}
+use Rattle.name_service.specs.RightNames.{AreRightNames}
 use Rattle.name_service.specs.NameLines.{AreNamesAnswered, begun_names}
 use Rattle.name_service.specs.NameReplicas.{named_in, begun_with_all, AreNamesReplied, LocksOfNamedReplicasComeBack, NamesOfReplicasComeBack}
 use Rattle.name_service.proofs.Digits.{IsDigit, AreDigits, decimal_digits}
@@ -183,7 +184,7 @@ place_other place digest = no_name_word (place_line place digest) (λ b far othe
 own_line : (line : List ℕ) → IsLine line → ¬ BeginsAsOne (remark_of line) → IsOwnLine line
 own_line line is other = record { is_line = is; other = other }
 
-lines_bring : BringAll IsNameServed IsOwnLine IsLine
+pub lines_bring : BringAll IsNameServed IsOwnLine IsLine
 lines_bring since old new was is line said is_line = record {
   done = λ tag rest inside e a.
       let of : IsOfKey tag.key tag.number rest line = read_as line (Tagged tag rest) e in
@@ -295,7 +296,7 @@ pub record AreSameNotes (inside noted : List ℕ) : Type 0 where
   pub whole : AreLines noted
   pub same : without_remarks noted ≡ without_remarks inside
 
-all_same : (numbers : Numbers) (old new : Stand NameService) (all : List (List ℕ)) (inside noted : List ℕ) → AreGiven IsNameServed IsOwnLine numbers old all inside noted new → AreSameNotes inside noted
+pub all_same : (numbers : Numbers) (old new : Stand NameService) (all : List (List ℕ)) (inside noted : List ℕ) → AreGiven IsNameServed IsOwnLine numbers old all inside noted new → AreSameNotes inside noted
 all_same numbers old new [] inside noted g = record { inner = inl g.0; whole = inl g.1; same = ap (λ (u : List ℕ). without_remarks u) (g.1 ∙ sym g.0) }
 all_same numbers old new (line ∷ all) inside noted g =
     let one = g.5 in
@@ -344,19 +345,23 @@ within old new all said noted a =
 
 -- ---- the locks come back
 
+pub all_plain : (old : Replica NameService) (rest : List ℕ) → HaveBegun (named_in old).locks → AreRightNames (named_in old) → IsSound old → without_remarks (begun_with_all old ++ rest) ≡ begun_text (named_in old).locks ++ without_remarks rest
+all_plain old rest begun right sound =
+    let v : NamedView = named_in old in
+    let own : List (List ℕ) = own_lines old in
+    let gone : without_remarks (remarks_of own ++ rest) ≡ without_remarks rest = remarks_then own rest (all_end_once own (only_lines own (all_own old sound))) in
+    ap (λ (u : List ℕ). without_remarks u) (append_assoc (begun_names v) (remarks_of own) rest) ∙ (begun_plain v (remarks_of own ++ rest) begun right ∙ ap (λ (u : List ℕ). begun_text v.locks ++ u) gone)
+
 pub locks_of_named_replicas : LocksOfNamedReplicasComeBack
 locks_of_named_replicas old new entries all said noted torn a kept none =
     let w = within old new all said noted a in
     let v : NamedView = named_in old in
-    let own : List (List ℕ) = own_lines old in
     let head : List ℕ = begun_text v.locks in
     let rest : List ℕ = noted ++ torn in
-    let gone : without_remarks (remarks_of own ++ rest) ≡ without_remarks rest = remarks_then own rest (all_end_once own (only_lines own (all_own old a.sound))) in
     let text : without_remarks (begun_with_all old ++ rest) ≡ without_remarks (begun_names v ++ (w.inside ++ torn)) =
-    ap (λ (u : List ℕ). without_remarks u) (append_assoc (begun_names v) (remarks_of own) rest)
-    ∙ (begun_plain v (remarks_of own ++ rest) a.begun a.right
-    ∙ (ap (λ (u : List ℕ). head ++ u) (gone ∙ (without_append noted torn w.notes.whole ∙ (ap (λ (u : List ℕ). u ++ without_remarks torn) w.notes.same ∙ sym (without_append w.inside torn w.notes.inner))))
-    ∙ sym (begun_plain v (w.inside ++ torn) a.begun a.right))) in
+    all_plain old rest a.begun a.right a.sound
+    ∙ (ap (λ (u : List ℕ). head ++ u) (without_append noted torn w.notes.whole ∙ (ap (λ (u : List ℕ). u ++ without_remarks torn) w.notes.same ∙ sym (without_append w.inside torn w.notes.inner)))
+    ∙ sym (begun_plain v (w.inside ++ torn) a.begun a.right)) in
     subst (λ (u : List ℕ). ComeBack v.locks (named_in new).locks u) (sym text)
     (named_locks_come_back old.numbered.inner.terms old.numbered.inner.segment new.numbered.inner.segment entries (given (numbers_of old.numbered.keys) all) w.told w.inside torn a.begun a.right w.answered kept a.bits none)
 

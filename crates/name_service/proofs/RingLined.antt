@@ -31,33 +31,33 @@ use Rattle.name_service.proofs.RightNames.{line_right, lines_right}
 -- ---- a line
 
 module _ (terms : NameTerms) (old new : NamingView) (said noted : List ℕ) (right : AreRightNames old.named) (bits : old.named.top < 2 ^ 64) where
-  denied : (c : ℕ) (why : Denial) → IsOnlySaid (denial_line c why) old said noted new → IsOne terms old said noted new
-  denied c why t = of_none terms old new said noted (record {
+  denied : (line : List ℕ) (c : ℕ) (why : Denial) → IsOnlySaid (denial_line c why) old said noted new → IsOne terms old line said noted new
+  denied line c why t = of_none terms old new line said noted (record {
     same = ap (λ (v : NamingView). v.named) t.leaves;
     notes = t.notes;
     nothing = inr (inl (c, why, t.says));
   })
 
-  nobodys : IsOnlySaid [] old said noted new → IsOne terms old said noted new
-  nobodys t = of_none terms old new said noted (record {
+  nobodys : (line : List ℕ) → IsOnlySaid [] old said noted new → IsOne terms old line said noted new
+  nobodys line t = of_none terms old new line said noted (record {
     same = ap (λ (v : NamingView). v.named) t.leaves;
     notes = t.notes;
     nothing = inl t.says;
   })
 
   by_reached : (c : ℕ) (name : List ℕ) (a : Ask) (line : List ℕ) (ask : lines.Ask) → IsName name → one_ask ask ≡ Some (name, a) → is_off terms.lines.faults ask ≡ false → IsReadAs line (input.Asked c ask) →
-      (t : IsNameToldOf terms c name a old said noted new) → IsTaken old.named new.named c name a t.answers → (o : Option (ℕ × Bound)) → reached (named_of old.named) name a ≡ o → IsOne terms old said noted new
-  by_reached c name a line ask named one off reads t k None e = of_none terms old new said noted (none_is terms c name a old new said noted t e k)
+      (t : IsNameToldOf terms c name a old said noted new) → IsTaken old.named new.named c name a t.answers → (o : Option (ℕ × Bound)) → reached (named_of old.named) name a ≡ o → IsOne terms old line said noted new
+  by_reached c name a line ask named one off reads t k None e = of_none terms old new line said noted (none_is terms c name a old new said noted t e k)
   by_reached c name a line ask named one off reads t k (Some p) e = ring_is terms c name a old new said noted t named right bits p e k line ask one off reads
 
   asked : (c : ℕ) (name : List ℕ) (a : Ask) (line : List ℕ) (ask : lines.Ask) → IsName name → one_ask ask ≡ Some (name, a) → is_off terms.lines.faults ask ≡ false → IsReadAs line (input.Asked c ask) →
-      IsNameToldOf terms c name a old said noted new → IsOne terms old said noted new
+      IsNameToldOf terms c name a old said noted new → IsOne terms old line said noted new
   asked c name a line ask named one off reads t = elim t.done.answer [
     | inl k ↦ by_reached c name a line ask named one off reads t k (reached (named_of old.named) name a) refl
-    | inr w ↦ of_none terms old new said noted (wanting_is terms c name a old new said noted t w)
+    | inr w ↦ of_none terms old new line said noted (wanting_is terms c name a old new said noted t w)
   ]
 
-  told : (c : ℕ) (line : List ℕ) (ask : lines.Ask) → is_off terms.lines.faults ask ≡ false → IsReadAs line (input.Asked c ask) → IsNameTold terms c (one_ask ask) old said noted new → IsOne terms old said noted new
+  told : (c : ℕ) (line : List ℕ) (ask : lines.Ask) → is_off terms.lines.faults ask ≡ false → IsReadAs line (input.Asked c ask) → IsNameTold terms c (one_ask ask) old said noted new → IsOne terms old line said noted new
   told c line (lines.acquire name label) off r t = asked c name (Acquire label) line (lines.acquire name label) r.1.named refl off r t
   told c line (lines.try name label) off r t = asked c name (Try label) line (lines.try name label) r.1.named refl off r t
   told c line (lines.release name token) off r t = asked c name (Release token) line (lines.release name token) r.1.named refl off r t
@@ -66,16 +66,16 @@ module _ (terms : NameTerms) (old new : NamingView) (said noted : List ℕ) (rig
   told c line (lines.corrupt name machine value) off r t = asked c name (Corrupt (in_32_bits machine) (in_32_bits value)) line (lines.corrupt name machine value) r.1.named refl off r t
   told c line (lines.stats name) off r t = asked c name Stats line (lines.stats name) r.1.named refl off r t
 
-  answered_if : (off : Bool) (c : ℕ) (line : List ℕ) (ask : lines.Ask) → is_off terms.lines.faults ask ≡ off → IsReadAs line (input.Asked c ask) → IsNameAnsweredIf off terms c ask old said noted new → IsOne terms old said noted new
-  answered_if true c line ask e r t = denied c denial.Off t
+  answered_if : (off : Bool) (c : ℕ) (line : List ℕ) (ask : lines.Ask) → is_off terms.lines.faults ask ≡ off → IsReadAs line (input.Asked c ask) → IsNameAnsweredIf off terms c ask old said noted new → IsOne terms old line said noted new
+  answered_if true c line ask e r t = denied line c denial.Off t
   answered_if false c line ask e r t = told c line ask e r t
 
-  of_input : (line : List ℕ) (i : Input) → IsReadAs line i → IsNameInputAnswered terms i old said noted new → IsOne terms old said noted new
+  of_input : (line : List ℕ) (i : Input) → IsReadAs line i → IsNameInputAnswered terms i old said noted new → IsOne terms old line said noted new
   of_input line (input.Asked c ask) r t = answered_if (is_off terms.lines.faults ask) c line ask refl r t
-  of_input line (input.Refused c why) r t = denied c (denial_of why) t
-  of_input line input.Nobody r t = nobodys t
+  of_input line (input.Refused c why) r t = denied line c (denial_of why) t
+  of_input line input.Nobody r t = nobodys line t
 
-  pub of_line : (line : List ℕ) → IsNameLineAnswered terms old line said noted new → IsOne terms old said noted new
+  pub of_line : (line : List ℕ) → IsNameLineAnswered terms old line said noted new → IsOne terms old line said noted new
   of_line line a = of_input line a.0 a.1 a.2
 
 -- ---- lines
@@ -102,7 +102,7 @@ module _ (terms : NameTerms) (old mid new : NamingView) (line : List ℕ) (lines
           right = r.right;
         }
 
-    more_ring : (ring now : List ℕ) → IsOfRing terms old.named first note mid.named ring now → HaveRingLines terms old (line ∷ lines) said noted new
+    more_ring : (ring now : List ℕ) → IsOfRing terms old.named line first note mid.named ring now → HaveRingLines terms old (line ∷ lines) said noted new
     more_ring ring now i = record {
       rings = ring ∷ r.rings;
       told = now ++ r.told;
@@ -112,7 +112,7 @@ module _ (terms : NameTerms) (old mid new : NamingView) (line : List ℕ) (lines
       right = r.right;
     }
 
-    more_by : (IsOfNoRing old.named first note mid.named ⊎ ((ring : List ℕ) × (now : List ℕ) × IsOfRing terms old.named first note mid.named ring now)) → HaveRingLines terms old (line ∷ lines) said noted new
+    more_by : (IsOfNoRing old.named first note mid.named ⊎ ((ring : List ℕ) × (now : List ℕ) × IsOfRing terms old.named line first note mid.named ring now)) → HaveRingLines terms old (line ∷ lines) said noted new
     more_by (inl n) = more_none n
     more_by (inr (ring, now, i)) = more_ring ring now i
 

@@ -19,17 +19,8 @@ use Rattle.lock_service.proofs.KeyLines.{same_text}
 use Rattle.lock_names.specs.Names.{Bound, token_in}
 use Rattle.lock_names.specs.Kept.{own_number, with_number}
 use Rattle.lock_names.proofs.Found.{some_same, none_some}
+use Rattle.name_service.specs.RingLines.{ring_ask, number_for}
 use Rattle.name_service.proofs.Digits.{number_short, number_is_name}
-
--- the ask of a ring, by its number; a release with this number
-abbrev pub ring_ask : ℕ → ℕ → lines.Ask → lines.Ask
-ring_ask ring number (acquire name label) = acquire (decimal ring) label
-ring_ask ring number (try name label) = try (decimal ring) label
-ring_ask ring number (release name token) = release (decimal ring) number
-ring_ask ring number (cancel name) = cancel (decimal ring)
-ring_ask ring number leave = leave
-ring_ask ring number (corrupt name machine value) = corrupt (decimal ring) machine value
-ring_ask ring number (stats name) = stats (decimal ring)
 
 -- ---- numbers of 64 bits
 
@@ -133,11 +124,6 @@ module _ (ring number : ℕ) (few : ring < 2 ^ 64) (small : number < 2 ^ 64) whe
       )
 
 -- ---- what is asked of the ring
-
--- the number of a release; the others have none
-abbrev pub number_for : Bound → Ask → Option Holder → ℕ
-number_for b (Release token) h = own_number b token h
-number_for b _ h = 0
 
 -- the ring is asked the same, but with its own number
 pub asks_ring : (ring : ℕ) (b : Bound) (h : Option Holder) (ask : lines.Ask) (name : List ℕ) (a : Ask) → one_ask ask ≡ Some (name, a) → one_ask (ring_ask ring (number_for b a h) ask) ≡ Some (decimal ring, with_number b a h)

@@ -13,4 +13,6 @@ pub mod RightNames
 pub mod RingLines
 pub mod NameLines
 pub mod NamesBack
+pub mod NameReplicas
+pub mod NamedRuns
 pub mod NameEqual

@@ -3,15 +3,22 @@ use Rattle.std.specs.Prelude.{◌≡◌, ℕ, zero, suc, ◌<◌, ◌^◌, true,
 use Rattle.line_service.specs.Answering.{Answers}
 use Rattle.segment_files.specs.Remarks.{without_remarks}
 use Rattle.segment_files.specs.RemarkLaws.{AreLines}
+use Rattle.held_locks.specs.declared.answers.Holder.{Holder}
 use Rattle.held_locks.specs.declared.answers.Answer.TheVariants as answer
+use Rattle.held_locks.specs.Kept.{LockView}
+use Rattle.held_locks.specs.Locks.{Ask, Release}
 use Rattle.lock_protocol.specs.declared.answers.Denial.{Denial}
 use Rattle.lock_protocol.specs.Names.{Names}
 use Rattle.lock_protocol.specs.Answers.{denial_line}
+use Rattle.lock_protocol.specs.Asks as lines
+use Rattle.lock_protocol.specs.Inputs.{input_line, IsReadAs}
+use Rattle.lock_protocol.specs.Views as input
 use Rattle.lock_names.specs.declared.replies.Reply.{Reply}
 use Rattle.lock_names.specs.declared.replies.Reply.TheVariants as reply
 use Rattle.lock_names.specs.Names.{Bound, said_of, fresh}
-use Rattle.lock_names.specs.Kept.{NamedView, named_of}
+use Rattle.lock_names.specs.Kept.{NamedView, named_of, own_number, reached}
 use Rattle.name_service.specs.declared.service.NameTerms.{NameTerms}
+use Rattle.lock_service.specs.Asking.{one_ask}
 use Rattle.lock_service.specs.Counting.{SegmentView}
 use Rattle.lock_service.specs.Serving.{IsLineAnswered}
 use Rattle.lock_service.specs.Told.{Telling, text_of}
@@ -40,6 +47,40 @@ ring_segment v = record {
 
 -- ---- a line of a ring
 
+-- what a line asks of a name is asked of a ring by its number; a release has this number of a grant
+abbrev pub ring_ask : ℕ → ℕ → lines.Ask → lines.Ask
+ring_ask ring number (lines.acquire name label) = lines.acquire (decimal ring) label
+ring_ask ring number (lines.try name label) = lines.try (decimal ring) label
+ring_ask ring number (lines.release name token) = lines.release (decimal ring) number
+ring_ask ring number (lines.cancel name) = lines.cancel (decimal ring)
+ring_ask ring number lines.leave = lines.leave
+ring_ask ring number (lines.corrupt name machine value) = lines.corrupt (decimal ring) machine value
+ring_ask ring number (lines.stats name) = lines.stats (decimal ring)
+
+-- the number of the hold that is released: the ring's own, if the token is that of the name, else 0,
+-- which no hold has
+abbrev pub number_for : Bound → Ask → Option Holder → ℕ
+number_for b (Release token) h = own_number b token h
+number_for b ask h = 0
+
+abbrev pub holder_at : Option LockView → Option Holder
+holder_at None = None
+holder_at (Some v) = v.holder
+
+-- the line of the ring that is reached, if one is
+abbrev pub line_at : NamedView → ℕ → lines.Ask → Ask → Option (ℕ × Bound) → Option (List ℕ)
+line_at v client ask a None = None
+line_at v client ask a (Some p) = Some (input_line client
+    (ring_ask p.0 (number_for p.1 a (holder_at (slice_get v.locks p.0))) ask))
+
+-- the line of rings for what a line asks: of the ring that its name reaches; or that all are left
+abbrev pub line_for : NamedView → ℕ → lines.Ask → Option (List ℕ × Ask) → Option (List ℕ)
+line_for v client ask None = Some (input_line client ask)
+line_for v client ask (Some (name, a)) = line_at v client ask a (reached (named_of v) name a)
+
+abbrev pub ring_line : NamedView → ℕ → lines.Ask → Option (List ℕ)
+ring_line v client ask = line_for v client ask (one_ask ask)
+
 -- How a ring is bound where it is asked: it has a name; or it is free, and the name that is asked
 -- would be bound to it so.
 abbrev pub IsBoundIn : NamedView → ℕ → Bound → Type 0
@@ -57,10 +98,14 @@ AreToldByName old (t ∷ ts) said =
     × (said ≡ line_of_said (said_of b (t.client, t.said)) ++ rest)
     × AreToldByName old ts rest
 
--- The rings answer this line as locks do, with the same notes but for the remarks; and what they
--- answer is told by name.
-pub record IsOfRing (terms : NameTerms) (old : NamedView) (said note : List ℕ) (new : NamedView)
-    (line told : List ℕ) : Type 0 where
+-- For what a client's line asks the rings answer this line as locks do, with the same notes but for
+-- the remarks; and what they answer is told by name.
+pub record IsOfRing (terms : NameTerms) (old : NamedView) (named said note : List ℕ)
+    (new : NamedView) (line told : List ℕ) : Type 0 where
+  pub client : ℕ
+  pub ask : lines.Ask
+  pub reads : IsReadAs named (input.Asked client ask)
+  pub line_is : ring_line old client ask ≡ Some line
   pub answered : IsLineAnswered terms.lines (ring_segment old) line told (without_remarks note)
       (ring_segment new)
   pub tellings : List Telling
@@ -109,7 +154,7 @@ AreOfRings terms old (line ∷ lines) said noted new rings told =
     × (((rings ≡ more) × (now ≡ []) × IsOfNoRing old.named first note mid.named)
     ⊎ ((ring : List ℕ)
     × (rings ≡ ring ∷ more)
-    × IsOfRing terms old.named first note mid.named ring now))
+    × IsOfRing terms old.named line first note mid.named ring now))
     × (said ≡ first ++ later)
     × (noted ≡ note ++ notes)
     × (told ≡ now ++ next)

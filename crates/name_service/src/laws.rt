@@ -1,9 +1,11 @@
 //! The laws of locks by any name whose lines are answered with a journal. Each law is the contract of a function that does
 //! nothing; the statements are in `specs/RightNames.antt`, `specs/RingLines.antt`, `specs/NameLines.antt`,
-//! `specs/NamesBack.antt` and `specs/NameEqual.antt`.
+//! `specs/NamesBack.antt`, `specs/NameReplicas.antt`, `specs/NamedRuns.antt` and `specs/NameEqual.antt`.
 
 ghost use Rattle.name_service.specs.NameEqual.{EqualNameLinesGiveEqualAnswers};
 ghost use Rattle.name_service.specs.NameLines.{ServedNameLinesAreAnswered, AnsweredNameLinesFollow, NamedLocksComeBack, NothingToldOfNamesIsLost};
+ghost use Rattle.name_service.specs.NameReplicas.{LocksOfNamedReplicasComeBack, NamesOfReplicasComeBack};
+ghost use Rattle.name_service.specs.NamedRuns.{NothingToldOfReplicasIsLost};
 ghost use Rattle.name_service.specs.NamesBack.{NamesComeBackOfJournals};
 ghost use Rattle.name_service.specs.RightNames.{BegunNamesAreRight, RestoredNamesAreRight, RightNamesStay, RightNamesContinue, RightNamesGrow};
 ghost use Rattle.name_service.specs.RingLines.{NameLinesAreRingLines};
@@ -49,6 +51,20 @@ pub fn nothing_told_of_names_is_lost()
 /// rings where the segment begins: with those of the rings since, it is how many there are.
 pub fn names_come_back_of_journals()
     ensures { NamesComeBackOfJournals }
+{}
+
+/// The same of a replica of such locks, in whose journal there are the remarks of its own lines too: without the remarks its locks
+/// come back, and of the remarks their names.
+pub fn locks_of_named_replicas_come_back()
+    ensures locks { LocksOfNamedReplicasComeBack }
+    ensures names { NamesOfReplicasComeBack }
+{}
+
+/// Of whatever is kept of a replica's file, if it has the notes of the lines that were delivered, rings are recovered, where each
+/// grant and each release that the names inside said is at its place; and what the replica said of the lines that were new to it is
+/// what they said.
+pub fn nothing_told_of_replicas_is_lost()
+    ensures { NothingToldOfReplicasIsLost }
 {}
 
 /// On strict terms equal lines give equal answers: two services in the same state, whatever memory each has, answer the same lines
