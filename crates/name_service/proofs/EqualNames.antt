@@ -1,5 +1,5 @@
 -- Equal lines about names give equal answers.
-use Rattle.std.proofs.Common.{◌≡◌, ℕ, ◌-◌, Bool, true, false, cond, List, [], ◌∷◌, ◌++◌, length, map, Option, Some, None, ◌⊎◌, inl, inr, refl, sym, ap, subst, ◌∙◌}
+use Rattle.std.proofs.Common.{◌≡◌, ℕ, ◌-◌, Bool, true, false, cond, List, [], ◌∷◌, ◌++◌, length, map, Option, Some, None, inl, inr, refl, sym, ap, subst, ◌∙◌}
 use Rattle.std.specs.Prelude.{is_some, option_map, nat_lt, not, ◌||◌, ◌&&◌}
 use Rattle.std.proofs.lemmas.Bool.{true≢false}
 use Rattle.disks.specs.Held.{Held}
@@ -9,7 +9,6 @@ use Rattle.held_locks.specs.declared.answers.Refusal.TheVariants as refusal
 use Rattle.held_locks.specs.declared.answers.Holder.{Holder}
 use Rattle.held_locks.specs.declared.answers.HoldEnd.{HoldEnd}
 use Rattle.held_locks.specs.declared.answers.Left.{Left}
-use Rattle.held_locks.specs.Queues.{Lock}
 use Rattle.held_locks.specs.Locks.{Ask, Acquire, Try, Release, Cancel, Corrupt, Stats, Asked, step}
 use Rattle.held_locks.specs.Kept.{LockView, locks_of}
 use Rattle.text_lines.specs.LongNumbers.{in_32_bits}

@@ -1,5 +1,5 @@
 -- The locks of names come back of their journal.
-use Rattle.std.proofs.Common.{◌≡◌, ℕ, zero, suc, ◌<◌, ◌≤◌, ◌^◌, List, [], ◌∷◌, ◌++◌, Option, Some, None, inr, refl, sym, ap, subst, ◌∙◌, append_assoc, arith}
+use Rattle.std.proofs.Common.{◌≡◌, ℕ, zero, suc, ◌≤◌, List, [], ◌∷◌, ◌++◌, Option, Some, None, inr, refl, sym, ap, subst, ◌∙◌, append_assoc, arith}
 use Rattle.line_service.specs.Answering.{Answers}
 use Rattle.line_service.specs.Stands.{Stand, by_stand, stand}
 use Rattle.segment_files.specs.Remarks.{without_remarks}
@@ -112,7 +112,7 @@ named_locks_come_back terms old new entries lines said noted torn begun right a 
     subst (λ (u : List ℕ). ComeBack old.named.locks new.named.locks u) (sym text)
     (locks_come_back terms.lines (ring_segment old.named) (ring_segment new.named) entries r.rings r.told (without_remarks noted) (without_remarks torn) begun (rings_answered terms old new lines said noted a r) kept (torn_none torn none))
 
--- ---- nothing that was told is lost
+-- ---- nothing that was delivered is lost
 
 pub nothing_told_of_names : NothingToldOfNamesIsLost
 nothing_told_of_names terms old mid new entries told untold said noted unsaid notes kept lost begun right a b k bits whole front =

@@ -1,5 +1,5 @@
 -- Runs of a replica of names are runs of the names inside.
-use Rattle.std.proofs.Common.{◌≡◌, ℕ, ◌^◌, ◌<◌, ◌≤◌, false, List, [], ◌∷◌, ◌++◌, Option, refl, sym, ap, subst, ◌∙◌}
+use Rattle.std.proofs.Common.{◌≡◌, ℕ, false, List, [], ◌∷◌, ◌++◌, Option, refl, sym, ap, subst, ◌∙◌}
 use Rattle.std.specs.List.{AllByRecursion}
 use Rattle.disks.specs.Held.{Held}
 use Rattle.line_service.specs.Answering.{IsLine, Answers}
@@ -64,7 +64,7 @@ terms_stay : (old new : Stand NameService) (all : List (List ℕ)) (said noted :
 terms_stay old new [] said noted a = ap (λ (s : Stand NameService). s.service.terms) a.2
 terms_stay old new (line ∷ all) said noted a = terms_stay a.0 new all a.2 a.4 a.8 ∙ a.5.terms
 
--- ---- nothing that was told is lost
+-- ---- nothing that was delivered is lost
 
 pub nothing_told_of_replicas : NothingToldOfReplicasIsLost
 nothing_told_of_replicas old mid new entries told untold said noted unsaid notes kept lost r k whole front =

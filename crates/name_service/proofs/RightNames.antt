@@ -1,5 +1,5 @@
 -- Names that are right stay so over lines, and the number of grants does not fall.
-use Rattle.std.proofs.Common.{◌≡◌, ℕ, zero, suc, ◌+◌, ◌-◌, ◌<◌, ◌≤◌, Bool, true, false, List, [], ◌∷◌, ◌++◌, length, map, Option, Some, None, ◌⊎◌, inl, inr, refl, sym, ap, subst, ◌∙◌, arith}
+use Rattle.std.proofs.Common.{◌≡◌, ℕ, zero, suc, ◌+◌, ◌-◌, ◌≤◌, Bool, true, false, List, [], ◌∷◌, length, map, Option, Some, None, inl, inr, refl, sym, ap, subst, ◌∙◌, arith}
 use Rattle.std.specs.Prelude.{slice_set, is_some, option_map, nat_lt, ◌||◌, if◌then◌else◌}
 use Rattle.line_service.specs.Answering.{Answers}
 use Rattle.held_locks.specs.declared.answers.Answers.{Answers as Answered}

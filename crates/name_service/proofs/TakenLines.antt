@@ -1,5 +1,5 @@
 -- The names of rings, and the number of grants, come back of the notes of lines.
-use Rattle.std.proofs.Common.{◌≡◌, ℕ, zero, suc, ◌+◌, ◌-◌, ◌^◌, ◌<◌, ◌≤◌, Bool, true, false, cond, List, [], ◌∷◌, ◌++◌, length, map, Option, Some, None, ◌⊎◌, inl, inr, refl, sym, ap, subst, ◌∙◌, arith}
+use Rattle.std.proofs.Common.{◌≡◌, ℕ, zero, suc, ◌+◌, ◌-◌, ◌^◌, ◌<◌, ◌≤◌, Bool, true, false, cond, List, [], ◌∷◌, ◌++◌, length, map, Option, Some, None, inl, inr, refl, sym, ap, subst, ◌∙◌, arith}
 use Rattle.std.specs.Prelude.{slice_get, slice_set, is_some, option_map, nat_lt, not, ◌||◌, ◌&&◌, if◌then◌else◌}
 use Rattle.std.specs.List.{AllByRecursion}
 use Rattle.std.proofs.lemmas.Bool.{ltb-false, lt-ltb, cases_lt, true≢false}
@@ -12,7 +12,7 @@ use Rattle.held_locks.specs.declared.answers.Holder.{Holder}
 use Rattle.held_locks.specs.declared.answers.HoldEnd.{HoldEnd}
 use Rattle.held_locks.specs.declared.answers.Left.{Left}
 use Rattle.held_locks.specs.Queues.{Lock, holder_of}
-use Rattle.held_locks.specs.Locks.{Ask, Acquire, Try, Release, Cancel, Leave, Corrupt, Stats, Asked, step, turn}
+use Rattle.held_locks.specs.Locks.{Ask, Acquire, Try, Release, Cancel, Leave, Corrupt, Stats, turn}
 use Rattle.held_locks.specs.Kept.{LockView, lock_of, locks_of, lock_limit, left_by, left_at, left_of, ended_in}
 use Rattle.held_locks.proofs.Standing.{get_set_same}
 use Rattle.text_lines.specs.LongNumbers.{in_32_bits}
@@ -22,7 +22,7 @@ use Rattle.lock_protocol.specs.Inputs.{IsReadAs}
 use Rattle.lock_protocol.specs.Views.{Input}
 use Rattle.lock_protocol.specs.Views as input
 use Rattle.name_remarks.specs.Remarks.{Binding, bind, free, remark_text}
-use Rattle.name_remarks.specs.Bindings.{Bindings, nothing, after}
+use Rattle.name_remarks.specs.Bindings.{Bindings, nothing}
 use Rattle.lock_service.specs.Asking.{one_ask, is_off}
 use Rattle.lock_service.specs.Begun.{begun_text}
 use Rattle.lock_service.specs.Segments.{content_of}

@@ -1,6 +1,6 @@
 -- What the notes of names record of the rings.
-use Rattle.std.proofs.Common.{◌≡◌, ℕ, zero, suc, ◌+◌, ◌-◌, ◌^◌, ◌<◌, ◌≤◌, Bool, true, false, List, [], ◌∷◌, ◌++◌, length, map, Option, Some, None, ◌⊎◌, inl, inr, refl, sym, ap, subst, ◌∙◌, arith}
-use Rattle.std.specs.Prelude.{codes, slice_get, slice_set, option_map, ◌||◌, ◌&&◌}
+use Rattle.std.proofs.Common.{◌≡◌, ℕ, zero, suc, ◌+◌, ◌-◌, ◌^◌, ◌<◌, ◌≤◌, Bool, true, false, List, [], ◌∷◌, ◌++◌, length, map, Option, Some, None, inl, inr, refl, sym, ap, subst, ◌∙◌, arith}
+use Rattle.std.specs.Prelude.{codes, slice_get, slice_set, option_map, ◌||◌}
 use Rattle.std.specs.List.{list_any, AllByRecursion}
 use Rattle.std.proofs.lemmas.Bool.{true≢false}
 use Rattle.std.proofs.lemmas.List.{length-map}
@@ -49,7 +49,7 @@ no_lines = refl
 pub taken_none : (old : Bindings) → IsTakenText [] old old
 taken_none old = record { lines = inl refl; taken = subst (λ (ls : List (List ℕ)). AreTakenIn ls old old) (sym no_lines) refl }
 
--- what is no remark says nothing of names
+-- lines that are not remarks say nothing of names
 neither : (a b : Bool) → (a || b) ≡ false → (a ≡ false) × (b ≡ false)
 neither true b e = absurd cc
 neither false b e = (refl, e)
@@ -91,7 +91,7 @@ taken_bind ring b old fits lt = taken_remark (bind ring b) (bind_line ring b) ol
 pub taken_free : (ring : ℕ) (old : Bindings) → ring < 2 ^ 32 → ring < length old.rings → IsTakenText (remark_text (free ring)) old (after old (free ring))
 taken_free ring old small lt = taken_remark (free ring) (codes "free " ++ ended ring) old refl (free_is_line ring) small lt
 
--- several remarks are so many lines
+-- each of several remarks is a line
 abbrev IsOfOneLine : Remark → Type 0
 IsOfOneLine r = (line : List ℕ) × (remark_text r ≡ remark_of line) × IsOneLine line
 

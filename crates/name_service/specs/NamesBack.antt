@@ -2,7 +2,7 @@
 use Rattle.std.specs.Prelude.{◌≡◌, ℕ, ◌+◌, ◌-◌, ◌≤◌, ◌<◌, ◌^◌, List, ◌++◌, length, Some}
 use Rattle.segment_files.specs.Remarks.{lines_in}
 use Rattle.held_locks.specs.Kept.{locks_of}
-use Rattle.name_remarks.specs.Bindings.{Bindings, nothing, AreTakenIn}
+use Rattle.name_remarks.specs.Bindings.{nothing, AreTakenIn}
 use Rattle.lock_names.specs.Names.{total}
 use Rattle.lock_names.specs.Kept.{NamedView}
 use Rattle.lock_service.specs.Begun.{HaveBegun}

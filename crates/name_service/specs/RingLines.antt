@@ -88,7 +88,7 @@ IsBoundIn v ring b =
     (slice_get v.names ring ≡ Some (Some b))
     ⊎ ((slice_get v.names ring ≡ Some None) × (b ≡ fresh (named_of v) b.name ring))
 
--- the answers of rings are told so: each of its name, and with the name's token
+-- The answers of rings are said so: each of the ring's name, and with the token of the name.
 abbrev pub AreToldByName : NamedView → List Telling → List ℕ → Type 0
 AreToldByName old [] said = said ≡ []
 AreToldByName old (t ∷ ts) said =
@@ -98,8 +98,8 @@ AreToldByName old (t ∷ ts) said =
     × (said ≡ line_of_said (said_of b (t.client, t.said)) ++ rest)
     × AreToldByName old ts rest
 
--- For what a client's line asks the rings answer this line as locks do, with the same notes but for
--- the remarks; and what they answer is told by name.
+-- For what a client's line asks the rings answer this line as locks do, and note the same, without
+-- the remarks; and what they answer is said by name.
 pub record IsOfRing (terms : NameTerms) (old : NamedView) (named said note : List ℕ)
     (new : NamedView) (line told : List ℕ) : Type 0 where
   pub client : ℕ

@@ -21,8 +21,8 @@ pub fn right_names_stay()
 {}
 
 /// Lines about names are lines of rings, which have their numbers as names: the rings answer these lines one after the other as
-/// fixed locks do, with the same notes but for the remarks, and what they answer is told with the names and their tokens. A line
-/// that reaches no ring changes nothing, and no hold is reported to it.
+/// fixed locks do, and note the same, without the remarks; what they answer is said with the names and their tokens. A line that
+/// reaches no ring changes nothing, and no hold is reported to it.
 pub fn name_lines_are_ring_lines()
     ensures { NameLinesAreRingLines }
 {}
