@@ -41,7 +41,7 @@ use Rattle.name_service.specs.NameEqual.{AreEqualNames, AreEqualServices, EqualN
 
 -- ---- what the machine sees
 
-named_equal : (a b : NamingView) → AreEqualNames a b → named_of b.named ≡ named_of a.named
+pub named_equal : (a b : NamingView) → AreEqualNames a b → named_of b.named ≡ named_of a.named
 named_equal a b e = same_named (locks_of b.named.locks) (locks_of a.named.locks) b.named.names a.named.names b.named.fixed a.named.fixed b.named.top a.named.top e.locks.locks e.names e.fixed e.top
 
 wanting_equal : (most : ℕ) (a b : NamingView) → AreEqualNames a b → is_wanting most b.named ≡ is_wanting most a.named

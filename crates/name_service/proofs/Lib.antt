@@ -12,6 +12,7 @@ pub mod TakenLines
 pub mod NamedReplicas
 pub mod NamedRuns
 pub mod EqualNames
+pub mod EqualGrowth
 pub mod Said
 pub mod LeftSame
 pub mod Reached

@@ -1,11 +1,14 @@
 -- Equal names that are given equal lines (this project's own).
-use Rattle.std.specs.Prelude.{◌≡◌, ℕ, true, List, Option}
+use Rattle.std.specs.Prelude.{◌≡◌, ℕ, true, List, ◌++◌, Option}
 use Rattle.disks.specs.Held.{Held}
 use Rattle.line_service.specs.Answering.{Answers}
 use Rattle.line_service.specs.Stands.{by_stand, stand}
 use Rattle.lock_service.specs.Equal.{AreEqualLocks}
+use Rattle.lock_service.specs.Segments.{segment_text}
 use Rattle.name_service.specs.declared.service.NameService.{NameService}
 use Rattle.name_service.specs.Naming.{NamingView}
+use Rattle.name_service.specs.NamesText.{names_text}
+use Rattle.name_service.specs.Segmented.{IsNameNext}
 use Rattle.name_service.specs.Serving.{IsNameServed}
 
 -- the same rings, with the same names, in segments that are as far from their end; each ring may
@@ -33,3 +36,12 @@ EqualNameLinesGiveEqualAnswers =
     → Answers (by_stand IsNameServed) (stand a before) lines said noted (stand c after)
     → Answers (by_stand IsNameServed) (stand b was) lines told kept (stand d is)
     → (told ≡ said) × (kept ≡ noted) × AreEqualServices c d
+
+-- A law: if their segments end, the next ones begin with the same text, and are in the same state.
+abbrev pub EqualNameSegmentsEndEqually : Type 0
+EqualNameSegmentsEndEqually =
+    (a b c d : NameService) (number : ℕ) (behind : List ℕ) → AreEqualServices a b → IsNameNext a c
+    → IsNameNext b d
+    → AreEqualServices c d
+    × (segment_text number behind d.segment.named.locks ++ names_text d.segment.named
+    ≡ segment_text number behind c.segment.named.locks ++ names_text c.segment.named)

@@ -2,7 +2,7 @@
 //! nothing; the statements are in `specs/RightNames.antt`, `specs/RingLines.antt`, `specs/NameLines.antt`,
 //! `specs/NamesBack.antt`, `specs/NameReplicas.antt`, `specs/NamedRuns.antt` and `specs/NameEqual.antt`.
 
-ghost use Rattle.name_service.specs.NameEqual.{EqualNameLinesGiveEqualAnswers};
+ghost use Rattle.name_service.specs.NameEqual.{EqualNameLinesGiveEqualAnswers, EqualNameSegmentsEndEqually};
 ghost use Rattle.name_service.specs.NameLines.{ServedNameLinesAreAnswered, AnsweredNameLinesFollow, NamedLocksComeBack, NothingToldOfNamesIsLost};
 ghost use Rattle.name_service.specs.NameReplicas.{LocksOfNamedReplicasComeBack, NamesOfReplicasComeBack};
 ghost use Rattle.name_service.specs.NamedRuns.{NothingToldOfReplicasIsLost};
@@ -68,7 +68,9 @@ pub fn nothing_told_of_replicas_is_lost()
 {}
 
 /// On strict terms equal lines give equal answers: two services in the same state, whatever memory each has, answer the same lines
-/// about names with the same text and the same notes, and are in the same state again.
+/// about names with the same text and the same notes, and are in the same state again. So are those of their next segments, which
+/// begin with the same text: their pools have grown by the same rings.
 pub fn equal_name_lines_give_equal_answers()
-    ensures { EqualNameLinesGiveEqualAnswers }
+    ensures answers { EqualNameLinesGiveEqualAnswers }
+    ensures segments { EqualNameSegmentsEndEqually }
 {}
