@@ -115,6 +115,10 @@ pub enum ToolError<'a> {
     OtherLock(&'a str, usize),
     /// The ring at this place in a folder is not of the size of its lock, or there is no such lock.
     OtherRing(&'a str, usize),
+    /// The ring at this place in a folder is held, and no name is bound to it.
+    NoName(&'a str, usize),
+    /// The names with which the last segment of a folder begins, or those bound since, are not those of its rings.
+    BadNames(&'a str),
     /// The line of this number, from 1, of a file of holders is not that of an open hold.
     NoOpenHold(&'a str, u64),
     /// The history of the lock of this number, in a file or a folder of segments, is not that of a lock after this many events.
@@ -210,6 +214,12 @@ impl ToolError<'_> {
                     f,
                     "ring {place} in {folder} is not of the size in {folder}/locks"
                 )
+            }
+            ToolError::NoName(folder, place) => {
+                write!(f, "ring {place} in {folder} is held, and has no name")
+            }
+            ToolError::BadNames(folder) => {
+                write!(f, "the names in {folder} are not those of its rings")
             }
             ToolError::NoOpenHold(name, line) => write!(f, "{name}: line {line}: no open hold"),
             ToolError::NoHold(name, lock, at) => {
