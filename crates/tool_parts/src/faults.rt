@@ -115,9 +115,7 @@ pub enum ToolError<'a> {
     OtherLock(&'a str, usize),
     /// The ring at this place in a folder is not of the size of its lock, or there is no such lock.
     OtherRing(&'a str, usize),
-    /// The ring at this place in a folder is held, and no name is bound to it.
-    NoName(&'a str, usize),
-    /// The names with which the last segment of a folder begins, or those bound since, are not those of its rings.
+    /// The names that the last segment of a folder records are not those of its rings.
     BadNames(&'a str),
     /// The line of this number, from 1, of a file of holders is not that of an open hold.
     NoOpenHold(&'a str, u64),
@@ -214,9 +212,6 @@ impl ToolError<'_> {
                     f,
                     "ring {place} in {folder} is not of the size in {folder}/locks"
                 )
-            }
-            ToolError::NoName(folder, place) => {
-                write!(f, "ring {place} in {folder} is held, and has no name")
             }
             ToolError::BadNames(folder) => {
                 write!(f, "the names in {folder} are not those of its rings")
