@@ -177,7 +177,8 @@ fn the_pool_grows(rt: HostRuntime) {
     let lines = b"8 acquire order/2 1\n7 release order/1 2\n9 release order/1 3\n";
     let said =
         b"8 granted order/2 3\n7 released order/1\n9 granted order/1 3\n9 released order/1\n";
-    let noted = b"# name 2 0 2 order/2\n2 p 0 0 1 g 1 1\n1 s 1 1 1 1 0 0\n1 p 0 1 6 g 1 6\n1 s 1 2 1 0 1 0\n# free 1\n";
+    let noted =
+        b"# name 2 0 2 order/2\n2 p 0 0 1 g 1 1\n1 s 1 1 1 1 0 0\n1 p 0 1 6 g 1 6\n1 s 1 2 1 0 1 0\n# free 1\n";
     serves(&rt, alloc, &mut next, lines, Ending::End, said, noted);
     has_state(&rt, alloc, &next, b"hold deploy 1 5\nhold order/2 3 8\n", 2);
 }

@@ -1,20 +1,18 @@
 -- A fresh ring is added as it is: it is settled, and has no events.
-use Rattle.std.proofs.Common.{◌≡◌, ℕ, ◌+◌, ◌-◌, ◌*◌, ◌^◌, ◌<◌, ◌≤◌, ◌⊎◌, true, false, List, [], length, map, get_or, replicate, inl, inr, refl, sym, ap, ◌∙◌, arith}
-use Rattle.std.proofs.lemmas.Bool.{eq-eqb, le-ltb}
+use Rattle.std.proofs.Common.{◌≡◌, ℕ, ◌+◌, ◌-◌, ◌<◌, ◌≤◌, true, List, [], length, map, get_or, replicate, inl, inr, sym, ap, ◌∙◌, arith}
+use Rattle.std.proofs.lemmas.Bool.{eq-eqb}
 use Rattle.std.proofs.lemmas.List.{length-replicate, get_or-replicate}
 use Rattle.ring_model.specs.Ring.{Ring, ring_with, is_settled}
 use Rattle.ring_model.specs.History.{State, opening, after}
-use Rattle.ring_model.specs.Limits.{machine_limit, event_limit}
 use Rattle.ring_model.specs.Resources.{till}
-use Rattle.ring_model.specs.Bases.{no_base}
 use Rattle.ring_model.specs.declared.bases.Base.{Base}
 use Rattle.ring_model.specs.declared.events.Event.{Event}
 use Rattle.ring_model.proofs.Lead.{all_settled}
 use Rattle.ring_book.specs.BookView.{BookView}
 use Rattle.endless_ring.specs.Endless.{EndlessView, IsSameEndless}
 use Rattle.held_locks.specs.Grants.{most_passes, repairs}
-use Rattle.held_locks.specs.Locks.{Mark, Call}
-use Rattle.held_locks.specs.Kept.{LockView, IsKeptRing, AreMade, state_of, lock_limit}
+use Rattle.held_locks.specs.Locks.{Call}
+use Rattle.held_locks.specs.Kept.{LockView, IsKeptRing, state_of, lock_limit}
 use Rattle.held_locks.specs.Opened.{IsAdded, HaveNoRoom}
 use Rattle.held_locks.proofs.Calls.{repairs_none, made_is}
 use Rattle.folder_of_locks.specs.Lists.{Listed}

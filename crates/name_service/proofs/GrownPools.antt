@@ -1,21 +1,20 @@
 -- Fresh rings in the pool, one after the other.
-use Rattle.std.proofs.Common.{◌≡◌, ℕ, zero, suc, ◌+◌, ◌-◌, ◌*◌, ◌^◌, ◌<◌, ◌≤◌, ◌⊎◌, Bool, true, false, ◌||◌, List, [], ◌∷◌, ◌++◌, length, map, Option, inl, inr, refl, sym, ap, subst, ◌∙◌, arith}
-use Rattle.std.specs.Prelude.{nat_lt, Result, Ok, Err, IfOk}
+use Rattle.std.proofs.Common.{◌≡◌, ℕ, zero, suc, ◌+◌, ◌-◌, ◌^◌, ◌<◌, ◌≤◌, ◌⊎◌, false, List, [], ◌∷◌, ◌++◌, length, inl, inr, refl, sym, ap, subst, ◌∙◌, arith}
+use Rattle.std.specs.Prelude.{Result, Ok, Err, IfOk}
 use Rattle.std.proofs.lemmas.Bool.{or_parts, or_from, le-ltb}
 use Rattle.std.proofs.lemmas.List.{length-append, length-map}
 use Rattle.ring_model.specs.Limits.{machine_limit, event_limit}
 use Rattle.ring_state.specs.Sizes.{Size}
 use Rattle.endless_ring.specs.Endless.{EndlessView}
 use Rattle.held_locks.specs.declared.answers.Waiter.{Waiter}
-use Rattle.held_locks.specs.Queues.{Lock}
-use Rattle.held_locks.specs.Kept.{LockView, lock_of, locks_of, state_of, lock_limit, IsKeptRing}
-use Rattle.held_locks.specs.Opened.{open_in, holder_after, IsAdded}
+use Rattle.held_locks.specs.Kept.{LockView, lock_of, state_of, lock_limit, IsKeptRing}
+use Rattle.held_locks.specs.Opened.{open_in, holder_after}
 use Rattle.folder_of_locks.specs.Rings.{IsFreshRing}
 use Rattle.folder_of_locks.specs.Pools.{pool_ring}
 use Rattle.lock_names.specs.declared.growing.NotGrown.TheVariants as not_grown
 use Rattle.lock_names.specs.Names.{Named}
-use Rattle.lock_names.specs.Kept.{NamedView, named_of, top_limit}
-use Rattle.lock_names.specs.Grown.{AreNextNames, IsGrown, CannotGrow}
+use Rattle.lock_names.specs.Kept.{NamedView, top_limit}
+use Rattle.lock_names.specs.Grown.{AreNextNames, CannotGrow}
 use Rattle.lock_service.specs.Due.{is_short, has_short}
 use Rattle.name_service.specs.Growth.{pool_of, HasFreshRing, AreGrown, CannotAdd, IsPoolWanted, IsUngrown}
 use Rattle.name_service.proofs.FreshRings.{added_grants, added_events, no_room}

@@ -1,5 +1,5 @@
 -- What was read of a line is answered as the ask in it is; and what it names is a name.
-use Rattle.std.proofs.Common.{◌≡◌, ℕ, Bool, false, List, Option, None, Some, sym, ap, subst}
+use Rattle.std.proofs.Common.{◌≡◌, ℕ, Bool, false, List, Option, Some, sym, subst}
 use Rattle.held_locks.specs.Locks.{Ask}
 use Rattle.lock_protocol.specs.declared.inputs.Fault.TheVariants as fault
 use Rattle.lock_protocol.specs.Names.{IsName}

@@ -1,4 +1,4 @@
--- A reply that is told as a lack is one.
+-- A reply that a client gets as a lack is one.
 use Rattle.std.proofs.Common.{◌≡◌, Bool, true, false, Option, None, Some}
 use Rattle.std.specs.Prelude.{◌&&◌, option_map}
 use Rattle.std.proofs.lemmas.Bool.{false≢true}

@@ -1,14 +1,13 @@
 -- A client that leaves all names: the clients that are granted one hear of it by the name that it had.
-use Rattle.std.proofs.Common.{◌≡◌, ◌≢◌, ℕ, suc, Bool, true, false, List, [], ◌∷◌, ◌++◌, map, length, Option, None, Some, refl, sym, ◌∙◌, ap, subst, inl, inr}
+use Rattle.std.proofs.Common.{◌≡◌, ℕ, suc, Bool, true, false, List, [], ◌∷◌, ◌++◌, map, length, Option, None, Some, refl, sym, ◌∙◌, ap, subst, inl, inr}
 use Rattle.std.specs.Prelude.{slice_get, slice_set, nat_lt, ◌||◌, is_some, if◌then◌else◌, option_map}
-use Rattle.std.specs.List.{list_any}
-use Rattle.std.proofs.lemmas.Bool.{cases_Bool, cases_eq, false≢true, or_left, or_right}
+use Rattle.std.proofs.lemmas.Bool.{cases_eq, false≢true, or_right}
 use Rattle.std.proofs.lemmas.Option.{slice_get-map}
 use Rattle.held_locks.specs.declared.answers.Holder.{Holder}
 use Rattle.held_locks.specs.declared.answers.Left.{Left}
-use Rattle.held_locks.specs.Kept.{LockView, left_of}
+use Rattle.held_locks.specs.Kept.{LockView}
 use Rattle.held_locks.proofs.Standing.{get_set_other}
-use Rattle.lock_names.specs.Names.{Bound, Said, Named, named_after, leave_each}
+use Rattle.lock_names.specs.Names.{Bound, Said, Named, leave_each}
 use Rattle.lock_names.specs.Kept.{NamedView, named_of, grant_said}
 use Rattle.lock_names.specs.Leaves.{bound_or, told_left, name_left, names_left, said_left, IsLeftByName}
 use Rattle.lock_names.proofs.Keeping.{fixed_after}

@@ -1,15 +1,14 @@
 -- The lines of a state, one ring more.
-use Rattle.std.proofs.Common.{◌≡◌, ℕ, zero, suc, ◌+◌, ◌-◌, ◌^◌, ◌<◌, ◌≤◌, List, [], ◌∷◌, ◌++◌, length, drop, Option, None, Some, slice_get, refl, sym, ap, subst, ◌∙◌, append_assoc, arith}
+use Rattle.std.proofs.Common.{◌≡◌, ℕ, zero, suc, ◌+◌, ◌-◌, ◌^◌, ◌<◌, ◌≤◌, List, [], ◌∷◌, ◌++◌, length, drop, Option, None, Some, slice_get, refl, sym, ap, ◌∙◌, arith}
 use Rattle.std.proofs.lemmas.List.{append-nil, length-map}
-use Rattle.std.proofs.lemmas.Option.{slice_get_within}
 use Rattle.std.specs.Prelude.{option_map}
 use Rattle.line_service.specs.Answering.{joined_lines}
 use Rattle.held_locks.specs.declared.answers.Holder.{Holder}
 use Rattle.held_locks.specs.Queues.{Lock}
 use Rattle.held_locks.specs.Kept.{LockView, lock_of, locks_of}
-use Rattle.lock_names.specs.Names.{Bound, Named, token_in, told_holder}
+use Rattle.lock_names.specs.Names.{Bound, token_in, told_holder}
 use Rattle.lock_names.specs.Promises.{IsRightName}
-use Rattle.lock_names.specs.Kept.{NamedView, named_of, waiting, IsKeptNamed}
+use Rattle.lock_names.specs.Kept.{NamedView, waiting, IsKeptNamed}
 use Rattle.lock_names.proofs.Found.{there_is}
 use Rattle.lock_names.proofs.Asking.{view_lock}
 use Rattle.lock_service.specs.State.{hold_lines, wait_lines}

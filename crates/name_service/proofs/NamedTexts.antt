@@ -1,12 +1,12 @@
 -- The remarks with which a segment begins, ring by ring.
-use Rattle.std.proofs.Common.{◌≡◌, ℕ, zero, suc, ◌+◌, ◌<◌, ◌≤◌, List, [], ◌∷◌, ◌++◌, length, drop, Option, None, Some, slice_get, refl, sym, ap, ◌∙◌, append_assoc, arith}
+use Rattle.std.proofs.Common.{◌≡◌, ℕ, zero, suc, ◌+◌, ◌≤◌, List, [], ◌∷◌, ◌++◌, length, drop, Option, None, Some, slice_get, refl, sym, ap, ◌∙◌, append_assoc, arith}
 use Rattle.std.proofs.lemmas.List.{append-nil}
-use Rattle.name_remarks.specs.Remarks.{Binding, Remark, bind, top, remark_text}
-use Rattle.name_remarks.specs.Bindings.{binds, beginning, text_of}
+use Rattle.name_remarks.specs.Remarks.{Remark, bind, top, remark_text}
+use Rattle.name_remarks.specs.Bindings.{binds, text_of}
 use Rattle.lock_names.specs.Names.{Bound}
 use Rattle.lock_names.specs.Kept.{NamedView}
 use Rattle.lock_service.proofs.StateLines.{drop_there}
-use Rattle.name_service.specs.NamesText.{bindings_of, pool_bindings, bindings_in, names_text}
+use Rattle.name_service.specs.NamesText.{bindings_of, pool_bindings, names_text}
 
 -- the text of one ring, and that of the others
 abbrev pub part : ℕ → List (Option Bound) → List ℕ

@@ -1,26 +1,23 @@
 -- An ask of a name, by the ring that it reached: what has changed, and what is counted of it.
-use Rattle.std.proofs.Common.{◌≡◌, ◌≢◌, ℕ, ◌+◌, ◌-◌, Bool, true, false, ◌||◌, List, [], ◌∷◌, ◌++◌, map, length, Option, None, Some, ◌⊎◌, refl, sym, ◌∙◌, ap, subst, inl, inr, arith}
-use Rattle.std.specs.Prelude.{slice_get, slice_set, option_map}
+use Rattle.std.proofs.Common.{◌≡◌, ℕ, ◌+◌, ◌-◌, Bool, true, false, ◌||◌, List, [], ◌∷◌, ◌++◌, map, length, Option, None, Some, ◌⊎◌, refl, sym, ◌∙◌, ap, subst, inl, inr, arith}
+use Rattle.std.specs.Prelude.{slice_get, option_map}
 use Rattle.std.proofs.lemmas.Bool.{false≢true}
-use Rattle.std.proofs.lemmas.Option.{slice_get_within}
 use Rattle.held_locks.specs.declared.answers.Answer.{Answer}
 use Rattle.held_locks.specs.declared.answers.Answer.TheVariants as answer
 use Rattle.held_locks.specs.declared.answers.Answers.{Answers}
 use Rattle.held_locks.specs.declared.answers.Holder.{Holder}
 use Rattle.held_locks.specs.declared.answers.HoldEnd.{HoldEnd}
-use Rattle.held_locks.specs.declared.answers.Refusal.TheVariants as refusal
-use Rattle.held_locks.specs.Locks.{Ask, Acquire, Try, Release, Cancel, Leave, Corrupt, Stats, Asked, step}
-use Rattle.held_locks.specs.Kept.{LockView, locks_of, own_answer, other_grant, answers_of, IsDone}
+use Rattle.held_locks.specs.Locks.{Ask, Acquire, Try, Release, Cancel, Leave, Corrupt, Stats}
+use Rattle.held_locks.specs.Kept.{LockView, own_answer, other_grant, answers_of, IsDone}
 use Rattle.held_locks.specs.Asked.{IsAnswerTo, events_at}
 use Rattle.held_locks.proofs.Asking.{asked_long}
-use Rattle.held_locks.proofs.Standing.{get_set_same}
 use Rattle.lock_names.specs.declared.replies.Reply.{Reply}
 use Rattle.lock_names.specs.declared.replies.Reply.TheVariants as reply
 use Rattle.lock_names.specs.declared.replies.NameAnswers.{NameAnswers}
 use Rattle.lock_names.specs.Bindings.{Bound, found, free}
 use Rattle.lock_names.specs.Names.{Named, Of, Said, NamedStep, of_ring, as_told, said_of, fresh, given, at_none, at_name, at_ring, step_named}
-use Rattle.lock_names.specs.Kept.{NamedView, named_of, for_hold, at_free, reached_from, reached, own_said, grant_said, said_in, IsRecorded, noted_at, IsTaken, IsWanting, IsAsked}
-use Rattle.lock_names.proofs.Found.{some_same, none_some, free_at}
+use Rattle.lock_names.specs.Kept.{NamedView, named_of, for_hold, at_free, reached_from, reached, own_said, grant_said, said_in, IsRecorded, noted_at, IsTaken, IsAsked}
+use Rattle.lock_names.proofs.Found.{some_same, none_some}
 use Rattle.lock_service.specs.Asking.{is_lack}
 use Rattle.lock_service.specs.Due.{is_short_at, has_short}
 use Rattle.lock_service.specs.Counting.{IsWatched, end_count}
@@ -92,7 +89,7 @@ abbrev pub IsSettled : NamedView → NamedView → ℕ → Ask → NameAnswers �
 IsSettled old new c ask r i b =
     ((raw : Answers) × IsDone old.locks new.locks c i (of_ring b ask) raw × (r.ended ≡ raw.ended)) ⊎ ((new ≡ old) × (r.ended ≡ None))
 
-begins_lack : List Said → Bool
+abbrev begins_lack : List Said → Bool
 begins_lack [] = false
 begins_lack (a ∷ more) = is_name_lack (Some (reply_told true a.reply))
 

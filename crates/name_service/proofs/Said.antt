@@ -1,5 +1,5 @@
 -- The lines of what is said, piece by piece.
-use Rattle.std.proofs.Common.{◌≡◌, ℕ, suc, ◌≤◌, List, [], ◌∷◌, ◌++◌, length, Option, None, Some, refl, sym, ◌∙◌, ap, inl, inr}
+use Rattle.std.proofs.Common.{◌≡◌, ℕ, ◌≤◌, Bool, List, [], ◌∷◌, ◌++◌, length, Option, None, Some, refl, sym, ◌∙◌, ap, inl, inr}
 use Rattle.std.specs.Prelude.{slice_get}
 use Rattle.std.specs.List.{flat_map}
 use Rattle.std.proofs.lemmas.List.{append-nil}
@@ -8,12 +8,14 @@ use Rattle.std.proofs.lemmas.Option.{slice_get_cases}
 use Rattle.held_locks.specs.declared.answers.Answer.TheVariants as answer
 use Rattle.held_locks.specs.declared.answers.Holder.{Holder}
 use Rattle.held_locks.specs.declared.answers.Left.{Left}
+use Rattle.held_locks.specs.Kept.{LockView}
 use Rattle.lock_protocol.specs.Answers.{answer_line}
 use Rattle.lock_names.specs.declared.replies.Reply.{Reply}
 use Rattle.lock_names.specs.Names.{Bound, Said}
 use Rattle.lock_names.specs.Kept.{own_said, grant_said}
 use Rattle.lock_names.specs.Leaves.{bound_or, said_left}
-use Rattle.name_service.specs.Noting.{reply_line, line_of_said, lines_of_said}
+use Rattle.lock_service.specs.Noting.{note_of_left}
+use Rattle.name_service.specs.Noting.{reply_line, line_of_said, lines_of_said, note_of_free, is_freed, note_of_name_left}
 
 pub lines_append : (xs ys : List Said) → lines_of_said (xs ++ ys) ≡ lines_of_said xs ++ lines_of_said ys
 lines_append xs ys = flat_map-append line_of_said xs ys
@@ -37,6 +39,18 @@ pub lines_of_left : (os : List (Option Bound)) (left : List Left) → lines_of_s
 lines_of_left os [] = refl
 lines_of_left os (l ∷ left) =
     lines_append (grant_said (bound_or (slice_get os l.lock)).name l.granted) (said_left os left) ∙ ap (λ (u : List ℕ). lines_left os l ++ u) (lines_of_left os left)
+
+-- what an empty list of holds has at a place
+abbrev pub no_left : Left
+no_left = record { lock = 0; ended = record { seat = 0; survey = record { position = 0; privileged = 0; first = 0; calm = 0; rest = 0 } }; granted = None }
+
+pub grant_lines : (os : List (Option Bound)) (l : Left) (x was now : List ℕ) → x ≡ (bound_or (slice_get os l.lock)).name → now ≡ was ++ lines_of_said (grant_said x l.granted) → now ≡ was ++ lines_left os l
+grant_lines os l x was now e n = n ∙ ap (λ (y : List ℕ). was ++ lines_of_said (grant_said y l.granted)) e
+
+-- ---- a ring that has lost its name
+
+pub freed_note : (fixed : ℕ) (locks : List LockView) (l : Left) (freed : Bool) (was now : List ℕ) → freed ≡ is_freed fixed l → now ≡ was ++ (note_of_left locks l ++ note_of_free l.lock freed) → now ≡ was ++ note_of_name_left fixed locks l
+freed_note fixed locks l freed was now e n = n ∙ ap (λ (q : Bool). was ++ (note_of_left locks l ++ note_of_free l.lock q)) e
 
 -- ---- the name of a ring
 

@@ -1,5 +1,5 @@
 -- A segment whose locks and names have not changed has not changed.
-use Rattle.std.proofs.Common.{◌≡◌, ℕ, ◌-◌, Bool, true, false, ◌||◌, List, refl, sym, ap, ◌∙◌, subst, arith}
+use Rattle.std.proofs.Common.{◌≡◌, ℕ, ◌-◌, Bool, true, false, ◌||◌, List, refl, ap, ◌∙◌, arith}
 use Rattle.held_locks.specs.declared.answers.Left.{Left}
 use Rattle.held_locks.specs.Kept.{LockView}
 use Rattle.lock_names.specs.Kept.{NamedView}

@@ -1,15 +1,15 @@
 -- How many rings a pool should have is one number; and a pool that has grown wants no ring.
-use Rattle.std.proofs.Common.{◌≡◌, ℕ, zero, suc, ◌+◌, ◌-◌, ◌*◌, ◌<◌, ◌≤◌, ◌⊎◌, min, max, Bool, true, false, ◌&&◌, List, [], ◌∷◌, ◌++◌, length, Option, None, Some, slice_get, inl, inr, refl, sym, ap, subst, ◌∙◌, arith}
+use Rattle.std.proofs.Common.{◌≡◌, ℕ, zero, suc, ◌+◌, ◌-◌, ◌*◌, ◌<◌, ◌≤◌, min, max, Bool, true, false, ◌&&◌, List, [], ◌∷◌, ◌++◌, length, Option, None, Some, slice_get, inl, inr, refl, sym, ap, subst, ◌∙◌, arith}
 use Rattle.std.specs.Prelude.{not, nat_lt, is_some}
 use Rattle.std.proofs.lemmas.Bool.{cases_Bool, cases_lt, le-ltb}
 use Rattle.ring_state.specs.Sizes.{Size}
 use Rattle.lock_names.specs.Names.{Bound, Named, free}
-use Rattle.lock_names.specs.Kept.{NamedView, named_of, IsKeptNamed}
+use Rattle.lock_names.specs.Kept.{NamedView, IsKeptNamed}
 use Rattle.lock_names.specs.Sizes.{AreUsedUntil, IsWanted}
 use Rattle.lock_names.proofs.Found.{there_is, not_some, none_free, free_last, free_first}
 use Rattle.lock_names.proofs.Sized.{wanted_is_one}
 use Rattle.name_service.specs.Naming.{is_wanting}
-use Rattle.name_service.specs.Growth.{pool_of, IsPoolWanted, HasFreshRing, AreGrown, AreNextGrown, PoolWantedIsOne, NextWantsNoRing}
+use Rattle.name_service.specs.Growth.{pool_of, IsPoolWanted, AreGrown, AreNextGrown, PoolWantedIsOne, NextWantsNoRing}
 use Rattle.name_service.proofs.GrownPools.{next_long}
 use Rattle.name_service.proofs.NamedStates.{many_names}
 

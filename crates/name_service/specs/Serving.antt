@@ -31,7 +31,7 @@ pub record IsOnlySaid (text : List ℕ) (old : NamingView) (said noted : List �
   pub notes : noted ≡ []
   pub leaves : new ≡ old
 
--- the reply as it is told
+-- the reply as the client gets it
 abbrev pub own_told : NameTerms → NamingView → NameAnswers → Option Reply
 own_told terms old r = option_map (reply_told (is_wanting terms.most old.named)) r.own
 

@@ -1,7 +1,6 @@
 -- The lines that bring locks by any name back: their holds, and the clients that wait for them (this
 -- project's own).
 use Rattle.std.specs.Prelude.{ℕ, List, [], ◌∷◌, ◌++◌, Option, None, Some, option_map}
-use Rattle.held_locks.specs.declared.answers.Holder.{Holder}
 use Rattle.held_locks.specs.Kept.{LockView}
 use Rattle.lock_names.specs.Names.{Bound, told_holder}
 use Rattle.lock_names.specs.Kept.{NamedView}

@@ -13,3 +13,4 @@ mod stating;
 mod texts;
 
 pub use service::{NameService, NameTerms};
+pub use texts::named_text;

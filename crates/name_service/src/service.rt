@@ -43,7 +43,7 @@ pub struct NameService {
     pub(crate) stage: Stage,
 }
 
-/// The reply as it is told: while the pool may get rings, an ask that finds none free is refused for lack of room.
+/// The reply as the client gets it: while the pool may get rings, an ask that finds none free is refused for lack of room.
 fn reply_told(wanting: bool, reply: Reply) -> Reply
     ensures { result ≡ reply_told wanting reply }
 {
@@ -59,7 +59,7 @@ fn reply_told(wanting: bool, reply: Reply) -> Reply
     }
 }
 
-/// The reply to the client that asks, as it is told.
+/// The reply to the client that asks, as it gets it.
 fn own_told(wanting: bool, own: Option<Reply>) -> Option<Reply>
     ensures { result ≡ option_map (reply_told wanting) own }
 {
@@ -163,7 +163,7 @@ fn answer_ask(
     ask: Ask<'_>,
     pending: &mut Pending,
 ) -> Result<(), Untold>
-    requires { HasName (seen ask.entry) }
+    requires { HasName (seen ask) }
     ensures { Leaves result
         (λ said noted. IsNameTold terms client (one_ask (seen ask.entry)) segment.old said noted
         segment.new) (segment.new ≡ segment.old) pending.old pending.new }
@@ -181,7 +181,7 @@ fn answer_input(
     input: Input<'_>,
     pending: &mut Pending,
 ) -> Result<(), Untold>
-    requires { IsNamedInput (input_of input.entry) }
+    requires { IsNamedInput (input_of input) }
     ensures { Leaves result
         (λ said noted. IsNameInputAnswered terms (input_of input.entry) segment.old said noted
         segment.new) (segment.new ≡ segment.old) pending.old pending.new }
@@ -223,7 +223,7 @@ pub(crate) fn answer(
     input: Input<'_>,
     pending: &mut Pending,
 ) -> Result<(), AllocError>
-    requires { IsNamedInput (input_of input.entry) }
+    requires { IsNamedInput (input_of input) }
     ensures ok { OnOk result ((said : List ℕ)
         × (noted : List ℕ)
         × AnswersNameInput service.old (input_of input.entry) said noted service.new

@@ -70,7 +70,7 @@ fn put_names(text: &mut Vec<u8>, names: &Names) -> Result<(), AllocError>
 /// # Errors
 ///
 /// `File` where there is no lock; `OutOfMemory`.
-pub(crate) fn named_text(
+pub fn named_text(
     alloc: Global,
     number: u64,
     behind: [u8; DIGEST_DIGITS],

@@ -1,4 +1,4 @@
-use Rattle.std.proofs.Common.{◌≡◌, ℕ, ◌+◌, ◌<◌, ◌≤◌, suc, inl, inr, subst, arith}
+use Rattle.std.proofs.Common.{◌≡◌, ℕ, ◌+◌, suc, inl, inr, subst, arith}
 use Rattle.name_service.specs.Growth.{AreGrown}
 use Rattle.name_service.proofs.GrownPools.{one_more, cannot_add}
 use Rattle.name_service.proofs.growing.grow.Goals as goal

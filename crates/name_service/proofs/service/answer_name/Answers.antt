@@ -1,6 +1,7 @@
 use Rattle.std.proofs.Common.{◌≡◌, ℕ, Bool, List, [], ◌++◌, cond, Option, Result, refl, sym, ap, ◌∙◌, subst}
-use Rattle.std.specs.Prelude.{◌&&◌, false, option_map}
+use Rattle.std.specs.Prelude.{◌&&◌, true, false, option_map}
 use Rattle.held_locks.specs.Asked.{asked}
+use Rattle.line_service.specs.declared.pending.Pending.{Pending}
 use Rattle.lock_names.specs.declared.replies.Reply.{Reply}
 use Rattle.lock_names.specs.Kept.{NamedView, own_said, grant_said, IsAsked}
 use Rattle.lock_service.specs.declared.service.Untold.{Untold}
@@ -34,7 +35,7 @@ returns-in-Ok c =
     let said : List ℕ = lines_of_said (own_said c.args.client x (own_told terms old r) ++ grant_said x r.granted) in
     let noted : List ℕ = cond terms.lines.noting (note_at r.ring old.named new.named x r) [] in
     let told : IsNameToldOf terms c.args.client x (asked c.args.ask) old said noted new = record { answers = r; done = done; given = given; says = refl; notes = refl; counted = c.ask-done.ensures.counted } in
-    let pending = record { answers = c.tell_name.new.text; notes = c.note_name_if.new.notes } in
+    let pending : Pending = record { answers = c.tell_name.new.text; notes = c.note_name_if.new.notes } in
     let says = c.in-Ok.ensures ∙ ap (λ (o : Option Reply). c.args.pending.now.answers.items ++ lines_of_said (own_said c.args.client x o ++ grant_said x r.granted)) own in
     let text : cond terms.lines.noting (note_since r.ring c.ask-done.result.before c.names-in-Ok.result.now r) [] ≡ noted =
     ap (λ (v : NamedView). cond terms.lines.noting (note_since r.ring c.ask-done.result.before v r) []) c.names-in-Ok.ensures

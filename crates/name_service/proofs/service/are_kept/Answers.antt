@@ -1,4 +1,4 @@
-use Rattle.std.proofs.Common.{ℕ, List, subst, ◌∙◌, ap}
+use Rattle.std.proofs.Common.{List, subst, ◌∙◌, ap}
 use Rattle.held_locks.specs.Kept.{LockView, AreKept}
 use Rattle.lock_names.specs.Kept.{NamedView, IsKeptNamed}
 use Rattle.name_service.proofs.service.are_kept.Goals as goal

@@ -1,6 +1,5 @@
 use Rattle.std.proofs.Common.{◌≡◌, ℕ, List, [], ◌++◌, cond, refl, ap, ◌∙◌}
 use Rattle.held_locks.specs.declared.answers.Left.{Left}
-use Rattle.held_locks.specs.Kept.{LockView}
 use Rattle.lock_names.specs.Names.{Said}
 use Rattle.lock_names.specs.Kept.{NamedView}
 use Rattle.lock_names.specs.Leaves.{said_left}

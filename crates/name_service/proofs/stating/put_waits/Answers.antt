@@ -2,7 +2,7 @@ use Rattle.std.proofs.Common.{◌+◌, ◌<◌, length, drop, rules}
 use Rattle.lock_names.proofs.Found.{there_is}
 use Rattle.lock_service.proofs.StateLines.{lines_more, count_more}
 use Rattle.name_service.specs.State.{waits_of_ring, name_waits}
-use Rattle.name_service.proofs.NamedStates.{name_there, waits_there, waits_past, lines_done, count_done}
+use Rattle.name_service.proofs.NamedStates.{name_there, waits_there}
 use Rattle.name_service.proofs.stating.put_waits.Goals as goal
 
 pub loop-ring-preserved : goal.loop-ring-preserved

@@ -1,4 +1,4 @@
-use Rattle.std.proofs.Common.{◌≡◌, ◌<◌, ◌≤◌, ◌∷◌, [], ◌++◌, length, drop, Option, subst, rules, arith}
+use Rattle.std.proofs.Common.{◌≡◌, ◌<◌, ◌≤◌, ◌∷◌, [], ◌++◌, length, Option, subst, rules, arith}
 use Rattle.lock_names.specs.Names.{Bound}
 use Rattle.lock_names.proofs.Found.{there_is}
 use Rattle.name_service.proofs.NamedTexts.{part, ring_more, none_more}

@@ -1,9 +1,8 @@
-use Rattle.std.proofs.Common.{◌≡◌, ◌≤◌, ◌-◌, ℕ, ◌||◌, length, ap, subst, sym, ◌∙◌}
+use Rattle.std.proofs.Common.{◌≡◌, ◌≤◌, ◌-◌, ℕ, ap, subst, sym, ◌∙◌}
 use Rattle.std.specs.Prelude.{vec_capacity}
 use Rattle.held_locks.specs.Asked.{asked}
-use Rattle.lock_service.specs.Due.{has_short}
 use Rattle.lock_service.proofs.Short.{watched_after}
-use Rattle.lock_names.specs.Kept.{NamedView}
+use Rattle.lock_names.specs.Kept.{NamedView, IsAsked}
 use Rattle.name_service.specs.Naming.{NamingView, IsNameCounted, count_at, events_before}
 use Rattle.name_service.proofs.Reached.{lack_same, none_counted, short_asked, long_asked, count_asked}
 use Rattle.name_service.proofs.Unchanged.{unchanged}
@@ -32,6 +31,10 @@ invariant_of-self c =
       subst (λ (n : ℕ). n ≤ vec_capacity c.self.inside.left) (sym long) c.self.invariant.0,
       watched_after new.locks c.self.inside.short c.after_ask-after.result.short (counted_inside c).short,
     )
+
+pub returns-clause-answer : goal.returns-clause-answer
+returns-clause-answer c =
+    subst (λ (s : NamingView). IsAsked s.named c.ask-answers.new.self c.args.client c.args.name.now (asked c.args.ask) c.ask-answers.result) c.self.view_is c.ask-answers.ensures
 
 pub returns-clause-before : goal.returns-clause-before
 returns-clause-before c = before_is c ∙ ap (λ (s : NamingView). events_before s.named c.ask-answers.result.ring) c.self.view_is
