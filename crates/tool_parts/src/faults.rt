@@ -119,6 +119,8 @@ pub enum ToolError<'a> {
     NoOpenHold(&'a str, u64),
     /// The history of the lock of this number, in a file or a folder of segments, is not that of a lock after this many events.
     NoHold(&'a str, u64, u64),
+    /// What the segment of this number in a folder says of the names of locks is wrong in this line, from 1, and why.
+    WrongNames(&'a str, u64, u64, &'static str),
 }
 
 impl ToolError<'_> {
@@ -212,6 +214,9 @@ impl ToolError<'_> {
             ToolError::NoOpenHold(name, line) => write!(f, "{name}: line {line}: no open hold"),
             ToolError::NoHold(name, lock, at) => {
                 write!(f, "{name}: lock {lock}: not the history of a lock at {at}")
+            }
+            ToolError::WrongNames(folder, number, line, cause) => {
+                write!(f, "{folder}/{number:010}.ring: line {line}: name: {cause}")
             }
             // the lines of the others are written before
             _ => Ok(()),
