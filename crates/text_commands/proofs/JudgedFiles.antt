@@ -1,0 +1,39 @@
+-- The files of a folder that are judged, one after the other.
+use Rattle.std.proofs.Common.{◌≡◌, ℕ, ◌+◌, ◌<◌, List, [], ◌∷◌, ◌++◌, length, Bool, true, false, Option, None, refl, sym, ap, subst, ◌∙◌, length-append, arith}
+use Rattle.std.specs.Prelude.{◌==◌}
+use Rattle.std.proofs.lemmas.Bool.{eq-eqb, false_from_ne_true, eqb-true}
+use Rattle.disks.specs.Held.{Held, IsHeld}
+use Rattle.line_service.specs.SegmentNames.{segment_file}
+use Rattle.line_service.specs.declared.segment_numbers.SegmentNumbers.{SegmentNumbers}
+use Rattle.name_check.specs.Entries.{Judged}
+use Rattle.judged_files.specs.Judging.{IsAccepted, MayEnd}
+use Rattle.judged_files.proofs.Stepping.{accepted_more}
+use Rattle.tool_parts.specs.declared.faults.ToolError.{ToolError}
+use Rattle.text_commands.specs.Judged.{HaveBytes, AreFilesJudged, JudgeLeads, IsUnjudged, AreFilesUnjudged}
+
+have_more : (files : Option Held) (name : List ℕ) (n : ℕ) (fs : List (List ℕ)) (f : List ℕ) → HaveBytes files name n fs → IsHeld files (segment_file name (n + length fs)) f → HaveBytes files name n (fs ++ f ∷ [])
+have_more files name n [] f held more = (subst (λ (k : ℕ). IsHeld files (segment_file name k) f) (omega arith) more, tt)
+have_more files name n (g ∷ fs) f held more = (held.0, have_more files name (n + 1) fs f held.1 (subst (λ (k : ℕ). IsHeld files (segment_file name k) f) (omega arith) more))
+
+module _ (files : Option Held) (name : List ℕ) (fixed : List (List ℕ)) where
+  pub none_judged : (first : ℕ) → JudgeLeads files name fixed first first None
+  none_judged first = record { bytes = []; held = tt; many = omega arith; are = refl }
+
+  pub one_judged : (first next : ℕ) (s : Option Judged) (f : List ℕ) (new : Option Judged) → JudgeLeads files name fixed first next s → IsHeld files (segment_file name next) f → IsAccepted fixed s f new → JudgeLeads files name fixed first (next + 1) new
+  one_judged first next s f new l held is = record {
+    bytes = l.bytes ++ f ∷ [];
+    held = have_more files name first l.bytes f l.held (subst (λ (k : ℕ). IsHeld files (segment_file name k) f) (sym l.many) held);
+    many = let n : length (l.bytes ++ f ∷ []) ≡ length l.bytes + 1 = length-append l.bytes (f ∷ []) in let m = l.many in omega arith;
+    are = accepted_more fixed None l.bytes s f new l.are is;
+  }
+
+  pub all_judged : (r : SegmentNumbers) (s : Option Judged) (f : List ℕ) (new : Option Judged) → JudgeLeads files name fixed r.first r.last s → IsHeld files (segment_file name r.last) f → IsAccepted fixed s f new → MayEnd new → AreFilesJudged files name r fixed
+  all_judged r s f new l held is may =
+      let all = one_judged r.first r.last s f new l held is in
+      record { bytes = all.bytes; held = all.held; many = all.many; judged = (new, all.are, may) }
+
+  pub unjudged_at : (r : SegmentNumbers) (next : ℕ) (s : Option Judged) (e : ToolError) → next < r.last → JudgeLeads files name fixed r.first next s → IsUnjudged files name fixed next s false e → AreFilesUnjudged files name fixed r e
+  unjudged_at r next s e lt l why = (next, s, l, subst (λ (v : Bool). IsUnjudged files name fixed next s v e) (sym (false_from_ne_true (next == r.last) (λ k. let same : next ≡ r.last = eqb-true next r.last k in omega (arith, same, lt)))) why)
+
+  pub unjudged_last : (r : SegmentNumbers) (s : Option Judged) (e : ToolError) → JudgeLeads files name fixed r.first r.last s → IsUnjudged files name fixed r.last s true e → AreFilesUnjudged files name fixed r e
+  unjudged_last r s e l why = (r.last, s, l, subst (λ (v : Bool). IsUnjudged files name fixed r.last s v e) (sym (eq-eqb r.last r.last refl)) why)
