@@ -21,7 +21,7 @@ use Rattle.judged_files.specs.declared.faults.JudgeError.TheVariants as refused
 use Rattle.judged_files.specs.Causes.{cause_text}
 use Rattle.judged_files.specs.Judging.{IsAccepted, AreAccepted, IsJudgedFolder, IsUnaccepted}
 use Rattle.tool_parts.specs.Chained.{IsFolder, AreFolderSums, IsChainAnswer, AreNamesRefused, IsFolderRefusal, IsUnreadSegment}
-use Rattle.tool_parts.specs.Checked.{IsTextChecked, IsTextRefusal}
+use Rattle.tool_parts.specs.Checked.{IsTextChecked, IsChainChecked, IsCheckRunRefusal as IsChainRefusal}
 use Rattle.tool_parts.specs.Reading.{names_stream}
 use Rattle.tool_parts.specs.Worlds.{World}
 use Rattle.tool_parts.specs.declared.requests.CheckWords.{CheckWords}
@@ -96,11 +96,11 @@ IsFolderNamed name files =
 abbrev pub IsFolderChecked : List ℕ → Option Held → Option (List ℕ) → Option (List ℕ) → Type 0
 IsFolderChecked name files old new = IsChainAnswer name files old new × IsFolderNamed name files
 
+-- What the word names is a legal saved text; or, if it is not a standard stream, such a folder.
 abbrev pub IsCheckAnswer : CheckWords → World → World → Type 0
 IsCheckAnswer words was is =
     IsTextChecked words was is
-    ⊎ ((names_stream words.file.now ≡ false)
-    × IsFolderChecked words.file.now was.files was.out is.out)
+    ⊎ (IsChainChecked words was is × IsFolderNamed words.file.now was.files)
 
 -- ---- refusals
 
@@ -192,9 +192,9 @@ abbrev pub IsFolderUnchecked : List ℕ → Option Held → Option (List ℕ) �
 IsFolderUnchecked name files old new e =
     IsFolderRefusal name files old new e ⊎ IsFolderMisnamed name files e
 
--- Which refusals `check` may meet: those of a text, or those of a folder.
+-- Which refusals `check` may meet: those of a text or of a chain; or those of the names of a folder.
 abbrev pub IsCheckRunRefusal : CheckWords → World → World → ToolError → Type 0
 IsCheckRunRefusal words was is e =
-    IsTextRefusal words was is e
+    IsChainRefusal words was is e
     ⊎ ((names_stream words.file.now ≡ false)
-    × IsFolderUnchecked words.file.now was.files was.out is.out e)
+    × IsFolderMisnamed words.file.now was.files e)

@@ -1,5 +1,5 @@
 -- The answer of `check` to the bytes of a file.
-use Rattle.std.specs.Prelude.{◌≡◌, ℕ, List, Option, ◌⊎◌}
+use Rattle.std.specs.Prelude.{◌≡◌, ℕ, false, List, Option, ◌⊎◌}
 use Rattle.std.specs.Io.KnownBytes.{Appends}
 use Rattle.text_lines.specs.Texts.{IsCutShort, IsFirstBadLine}
 use Rattle.saved_history.specs.Content.{Content}
@@ -10,8 +10,10 @@ use Rattle.ring_check.specs.declared.answers.Summary.{Summary}
 use Rattle.ring_check.specs.Lines.{lines}
 use Rattle.ring_check.specs.Legal.{IsFirstBad, summary_of}
 use Rattle.ring_check.specs.Meaning.{IsRightText}
+use Rattle.tool_parts.specs.Chained.{IsChainAnswer, IsFolderRefusal}
 use Rattle.tool_parts.specs.CheckText.{legal_line}
 use Rattle.tool_parts.specs.Named.{IsNamed, IsNamedRefusal}
+use Rattle.tool_parts.specs.Reading.{names_stream}
 use Rattle.tool_parts.specs.Worlds.{World}
 use Rattle.tool_parts.specs.Written.{AppendsFront}
 use Rattle.tool_parts.specs.declared.requests.CheckWords.{CheckWords}
@@ -59,6 +61,15 @@ IsTextChecked words was is =
     × IsLegalSavedText bytes sums
     × Appends was.out is.out (legal_line sums)
 
+-- The word names no standard stream, but a folder, whose segments are a legal chain.
+abbrev pub IsChainChecked : CheckWords → World → World → Type 0
+IsChainChecked words was is =
+    (names_stream words.file.now ≡ false)
+    × IsChainAnswer words.file.now was.files was.out is.out
+
+abbrev pub IsCheckAnswer : CheckWords → World → World → Type 0
+IsCheckAnswer words was is = IsTextChecked words was is ⊎ IsChainChecked words was is
+
 -- Which refusals the check of a text may meet: those of reading what the word names, and those of
 -- the bytes that it gave.
 abbrev pub IsTextRefusal : CheckWords → World → World → ToolError → Type 0
@@ -67,3 +78,10 @@ IsTextRefusal words was is e =
     ⊎ ((bytes : List ℕ)
     × IsNamed words.file.now was.files was.input is.input bytes
     × IsCheckRefusal bytes was.out is.out e)
+
+-- Which refusals `check` may meet: those of a text, or those of a folder.
+abbrev pub IsCheckRunRefusal : CheckWords → World → World → ToolError → Type 0
+IsCheckRunRefusal words was is e =
+    IsTextRefusal words was is e
+    ⊎ ((names_stream words.file.now ≡ false)
+    × IsFolderRefusal words.file.now was.files was.out is.out e)
