@@ -16,8 +16,8 @@ have_more files name n [] f held more = (subst (λ (k : ℕ). IsHeld files (segm
 have_more files name n (g ∷ fs) f held more = (held.0, have_more files name (n + 1) fs f held.1 (subst (λ (k : ℕ). IsHeld files (segment_file name k) f) (omega arith) more))
 
 module _ (files : Option Held) (name : List ℕ) (fixed : List (List ℕ)) where
-  pub none_judged : (first : ℕ) → JudgeLeads files name fixed first first None
-  none_judged first = record { bytes = []; held = tt; many = omega arith; are = refl }
+  pub none_judged : (first : ℕ) (s : Option Judged) → s ≡ None → JudgeLeads files name fixed first first s
+  none_judged first s e = record { bytes = []; held = tt; many = omega arith; are = sym e }
 
   pub one_judged : (first next : ℕ) (s : Option Judged) (f : List ℕ) (new : Option Judged) → JudgeLeads files name fixed first next s → IsHeld files (segment_file name next) f → IsAccepted fixed s f new → JudgeLeads files name fixed first (next + 1) new
   one_judged first next s f new l held is = record {

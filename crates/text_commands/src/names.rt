@@ -164,12 +164,12 @@ fn judge_list<'a, D: Disk>(
     ensures err { IfErr result
         (λ e. IsPoolRefused (D.holds disk.now) folder.now entries.now (pooled list.now) e) }
 {
-    if list.pool.is_none() {
-        return Ok(());
-    }
-    match judge_pool(alloc, disk, folder, entries, list.locks.as_slice()) {
-        Ok(()) => Ok(()),
-        Err(fault) => Err(fault),
+    match &list.pool {
+        None => Ok(()),
+        Some(_) => match judge_pool(alloc, disk, folder, entries, &list.locks) {
+            Ok(()) => Ok(()),
+            Err(fault) => Err(fault),
+        },
     }
 }
 

@@ -5,7 +5,7 @@ use Rattle.text_commands.proofs.JudgedFiles.{none_judged, one_judged, unjudged_a
 use Rattle.text_commands.proofs.names.judge_before_last.Goals as goal
 
 pub loop-number-init : goal.loop-number-init
-loop-number-init g c = ?
+loop-number-init g c = none_judged _ _ _ _ _ c.new-judged.ensures
 
 pub loop-number-preserved : goal.loop-number-preserved
 loop-number-preserved g c =
