@@ -8,11 +8,12 @@ use Rattle.ring_model.specs.declared.bases.Base.{Base}
 use Rattle.saved_history.specs.declared.saved.SavedRing.{SavedRing}
 use Rattle.saved_history.specs.Content.{Block, block_of}
 use Rattle.segment_files.specs.Files.{File, IsFile}
+use Rattle.chain_readers.specs.declared.hold_errors.HoldError.{HoldError}
 use Rattle.chain_readers.specs.declared.hold_errors.HoldError.TheVariants as unheld
 use Rattle.name_check.specs.declared.lines.Ring.{Ring}
 use Rattle.judged_files.specs.declared.faults.JudgeError.{JudgeError}
 use Rattle.judged_files.specs.declared.faults.JudgeError.TheVariants as refused
-use Rattle.judged_files.specs.Beginnings.{beginning, IsRing, AreRings, IsNoRing, IsUnheld, AreUnheld, IsUnbegun}
+use Rattle.judged_files.specs.Beginnings.{beginning, IsRing, AreRings, IsNoRing, refused_at, AreUnheld, IsUnbegun}
 
 -- what is found so far, and what comes then
 abbrev pub AreFound : List Base → List Block → ℕ → List Ring → Type 0
@@ -62,14 +63,15 @@ ring_found bs rs i found b d r g lt less e is so =
     one_found bs (map block_of rs) i found b (block_of d) g lt (as_many rs i less)
     (subst (λ (k : Block). IsRing (get_or bs i b) k g) (ap (λ (q : SavedRing). block_of q) e ∙ sym (block_at rs i d less)) is) so
 
-pub ring_unheld : (bs : List Base) (rs : List SavedRing) (i : ℕ) (b : Base) (d r : SavedRing) (at : ℕ) → i < length bs → i < length rs → r ≡ get_or rs i d → IsNoRing (get_or bs i b) (block_of r) (unheld.NoHold at) → IsUnheld bs (map block_of rs) i at
-ring_unheld bs rs i b d r at lt less e is = (
+pub ring_unheld : (bs : List Base) (rs : List SavedRing) (i : ℕ) (b : Base) (d r : SavedRing) (e : HoldError) → i < length bs → i < length rs → r ≡ get_or rs i d → IsNoRing (get_or bs i b) (block_of r) e → AreUnheld bs (map block_of rs) (refused_at i e)
+ring_unheld bs rs i b d r (unheld.NoHold at) lt less e is = (
   get_or bs i b,
   block_of r,
   slice_get-get_or bs i b lt,
   slice_get-get_or (map block_of rs) i (block_of d) (as_many rs i less) ∙ ap (λ (k : Block). Some k) (block_at rs i d less ∙ ap (λ (q : SavedRing). block_of q) (sym e)),
   is,
 )
+ring_unheld bs rs i b d r unheld.OutOfMemory lt less e is = tt
 
 pub rings_found : (bs : List Base) (rs : List SavedRing) (i : ℕ) (found : List Ring) → min (length bs) (length rs) ≤ i → AreFound bs (map block_of rs) i found → AreRings bs (map block_of rs) found
 rings_found bs rs i found le so = all_found bs (map block_of rs) i found (let n : length (map block_of rs) ≡ length rs = length-map rs block_of in omega (arith, n, le)) so

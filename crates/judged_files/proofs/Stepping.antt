@@ -8,7 +8,8 @@ use Rattle.name_check.specs.Judged.{refusal, noted, noted_all, AreRight, AreSaid
 use Rattle.name_check.specs.Kept.{IsNoted}
 use Rattle.judged_files.specs.declared.faults.Cause.{Cause}
 use Rattle.judged_files.specs.Lines.{is_done, LineSays, AreSaidBy}
-use Rattle.judged_files.specs.Judging.{IsRefusedLine, IsRefusedAt, IsAccepted, AreAccepted}
+use Rattle.judged_files.specs.declared.faults.JudgeError.{JudgeError}
+use Rattle.judged_files.specs.Judging.{is_passed, IsRefusedLine, IsRefusedAt, IsRefusedFile, IsAccepted, IsUnaccepted, AreAccepted}
 
 -- ---- a line more
 
@@ -104,3 +105,6 @@ module _ (start : Judged) (lines : List (List ℕ)) (now : Judged) (done : Bool)
 pub accepted_more : (fixed : List (List ℕ)) (old : Option Judged) (fs : List (List ℕ)) (mid : Option Judged) (f : List ℕ) (new : Option Judged) → AreAccepted fixed old fs mid → IsAccepted fixed mid f new → AreAccepted fixed old (fs ++ f ∷ []) new
 accepted_more fixed old [] mid f new are is = (new, subst (λ (o : Option Judged). IsAccepted fixed o f new) (sym are) is, refl)
 accepted_more fixed old (g ∷ fs) mid f new are is = (are.0, are.1, accepted_more fixed are.0 fs mid f new are.2 is)
+
+pub refused_of : (fixed : List (List ℕ)) (o p : Option Judged) (bytes : List ℕ) (last : Bool) (e : JudgeError) → o ≡ p → is_passed o bytes ≡ false → IsRefusedFile fixed o bytes last e → IsUnaccepted fixed p bytes last e
+refused_of fixed o p bytes last e same passed why = subst (λ (q : Option Judged). IsUnaccepted fixed q bytes last e) same (passed, why)

@@ -74,6 +74,11 @@ IsUnheld bs ks i at =
     × (slice_get ks i ≡ Some k)
     × IsNoRing b k (unheld.NoHold at)
 
+-- the name of that refusal for the block of the ring of this number
+abbrev pub refused_at : ℕ → HoldError → JudgeError
+refused_at ring (unheld.NoHold at) = refused.NoHold ring at
+refused_at ring unheld.OutOfMemory = refused.OutOfMemory
+
 -- the blocks of rings fit no holds; memory aside
 abbrev pub AreUnheld : List Base → List Block → JudgeError → Type 0
 AreUnheld bs ks (refused.NoHold ring at) = IsUnheld bs ks ring at

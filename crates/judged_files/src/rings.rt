@@ -3,7 +3,7 @@
 ghost use Rattle.std.specs.Prelude.{◌≡◌, map, Ok, IfOk, IfErr};
 ghost use Rattle.saved_history.specs.Content.{block_of};
 ghost use Rattle.segment_files.specs.Chain.{IsReadSegment};
-ghost use Rattle.judged_files.specs.Beginnings.{beginning, has_open, AreRings, Begins, IsRingRead, AreUnheld, IsUnbegun};
+ghost use Rattle.judged_files.specs.Beginnings.{beginning, has_open, AreRings, Begins, IsRingRead, refused_at, AreUnheld, IsUnbegun};
 
 use crate::begin::beginning;
 use crate::faults::JudgeError;
@@ -42,6 +42,16 @@ fn ring_at(alloc: Global, base: &Base, ring: &SavedRing) -> Result<Ring, HoldErr
     })
 }
 
+/// A refusal of the block of the ring of this number.
+fn refused_at(ring: u64, error: HoldError) -> JudgeError
+    ensures { result ≡ refused_at ring error }
+{
+    match error {
+        HoldError::NoHold(at) => JudgeError::NoHold { ring, at },
+        HoldError::OutOfMemory => JudgeError::OutOfMemory,
+    }
+}
+
 /// The rings after what is before the file and the events of their blocks.
 fn rings_at(alloc: Global, bases: &[Base], rings: &[SavedRing]) -> Result<Vec<Ring>, JudgeError>
     ensures ok { IfOk result
@@ -54,8 +64,7 @@ fn rings_at(alloc: Global, bases: &[Base], rings: &[SavedRing]) -> Result<Vec<Ri
     for i in 0..count {
         let ring = match ring_at(alloc, &bases[i], &rings[i]) {
             Ok(ring) => ring,
-            Err(HoldError::NoHold(at)) => return Err(JudgeError::NoHold { ring: i as u64, at }),
-            Err(HoldError::OutOfMemory) => return Err(JudgeError::OutOfMemory),
+            Err(error) => return Err(refused_at(i as u64, error)),
         };
         let Ok(()) = found.push(ring) else {
             return Err(JudgeError::OutOfMemory);

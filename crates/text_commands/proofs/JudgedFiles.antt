@@ -3,13 +3,15 @@ use Rattle.std.proofs.Common.{◌≡◌, ℕ, ◌+◌, ◌<◌, List, [], ◌∷
 use Rattle.std.specs.Prelude.{◌==◌}
 use Rattle.std.proofs.lemmas.Bool.{eq-eqb, false_from_ne_true, eqb-true}
 use Rattle.disks.specs.Held.{Held, IsHeld}
+use Rattle.disks.specs.declared.disk.FolderEntry.{FolderEntry}
+use Rattle.folder_of_locks.specs.Pools.{Pooled}
 use Rattle.line_service.specs.SegmentNames.{segment_file}
 use Rattle.line_service.specs.declared.segment_numbers.SegmentNumbers.{SegmentNumbers}
 use Rattle.name_check.specs.Entries.{Judged}
 use Rattle.judged_files.specs.Judging.{IsAccepted, MayEnd}
 use Rattle.judged_files.proofs.Stepping.{accepted_more}
 use Rattle.tool_parts.specs.declared.faults.ToolError.{ToolError}
-use Rattle.text_commands.specs.Judged.{HaveBytes, AreFilesJudged, JudgeLeads, IsUnjudged, AreFilesUnjudged}
+use Rattle.text_commands.specs.Judged.{HaveBytes, has_locks, IsOfList, IsPoolRight, AreNamesRight, AreFilesJudged, JudgeLeads, IsUnjudged, AreFilesUnjudged}
 
 have_more : (files : Option Held) (name : List ℕ) (n : ℕ) (fs : List (List ℕ)) (f : List ℕ) → HaveBytes files name n fs → IsHeld files (segment_file name (n + length fs)) f → HaveBytes files name n (fs ++ f ∷ [])
 have_more files name n [] f held more = (subst (λ (k : ℕ). IsHeld files (segment_file name k) f) (omega arith) more, tt)
@@ -37,3 +39,12 @@ module _ (files : Option Held) (name : List ℕ) (fixed : List (List ℕ)) where
 
   pub unjudged_last : (r : SegmentNumbers) (s : Option Judged) (e : ToolError) → JudgeLeads files name fixed r.first r.last s → IsUnjudged files name fixed r.last s true e → AreFilesUnjudged files name fixed r e
   unjudged_last r s e l why = (r.last, s, l, subst (λ (v : Bool). IsUnjudged files name fixed r.last s v e) (sym (eq-eqb r.last r.last refl)) why)
+
+-- ---- the list
+
+pub named_none : (files : Option Held) (name : List ℕ) (entries : List FolderEntry) → has_locks entries ≡ false → AreNamesRight files name entries (has_locks entries)
+named_none files name entries e = subst (λ (v : Bool). AreNamesRight files name entries v) (sym e) tt
+
+pub named_by : (files : Option Held) (name : List ℕ) (entries : List FolderEntry) (l : Pooled) → has_locks entries ≡ true → IsOfList files name l → IsPoolRight files name entries l → AreNamesRight files name entries (has_locks entries)
+named_by files name entries l e of right = subst (λ (v : Bool). AreNamesRight files name entries v) (sym e) (l, of, right)
+
