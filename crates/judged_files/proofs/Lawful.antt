@@ -1,14 +1,13 @@
 -- What the files of an accepted folder say is right.
-use Rattle.std.proofs.Common.{◌≡◌, ℕ, ◌≤◌, Bool, true, false, List, [], ◌∷◌, ◌++◌, length, Option, Some, None, inl, inr, ◌⊎◌, refl, sym, ap, subst, ◌∙◌, append_assoc, arith}
+use Rattle.std.proofs.Common.{◌≡◌, ℕ, Bool, false, List, [], ◌∷◌, ◌++◌, length, Option, Some, None, inl, inr, ◌⊎◌, refl, sym, ap, subst, arith}
 use Rattle.std.specs.Prelude.{not}
 use Rattle.std.proofs.lemmas.Bool.{cases_Bool}
-use Rattle.lock_names.specs.Promises.{AreDistinct}
 use Rattle.name_check.specs.declared.lines.Ring.{Ring}
 use Rattle.name_check.specs.Entries.{Entry, Judged, begun, File as NextFile}
-use Rattle.name_check.specs.Judged.{refusal, noted, noted_all, AreRight}
+use Rattle.name_check.specs.Judged.{noted, noted_all, AreRight}
 use Rattle.name_check.specs.Laws.{IsNow, NoneHeld, JudgedAreNamed, SoundBegins}
 use Rattle.judged_files.specs.Lines.{has_top}
-use Rattle.judged_files.specs.Judging.{IsJudged, IsAcceptedBy, IsAccepted, AreAccepted, IsJudgedFolder}
+use Rattle.judged_files.specs.Judging.{IsJudged, IsAcceptedBy, AreAccepted}
 use Rattle.judged_files.specs.Laws.{FilesSay, AreBefore, Say, AreNamed, JudgedFoldersAreNamed}
 
 right_both : (s : Judged) (es fs : List Entry) → AreRight s es → AreRight (noted_all s es) fs → AreRight s (es ++ fs)

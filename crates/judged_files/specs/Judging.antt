@@ -3,7 +3,6 @@ use Rattle.std.specs.Prelude.{◌≡◌, ℕ, ◌+◌, ◌<◌, not, Bool, true,
 use Rattle.std.specs.List.{list_any}
 use Rattle.lock_names.specs.Promises.{AreDistinct}
 use Rattle.name_check.specs.declared.lines.Ring.{Ring}
-use Rattle.name_check.specs.declared.wrongs.Wrong.{Wrong}
 use Rattle.name_check.specs.declared.wrongs.Wrong.TheVariants as why
 use Rattle.name_check.specs.Entries.{Entry, Judged, begun, grants_in, File as NextFile}
 use Rattle.name_check.specs.Judged.{most_grants, refusal, noted_all, AreRight, AreSaid}

@@ -1,4 +1,4 @@
-use Rattle.std.proofs.Common.{◌^◌, ◌<◌, arith}
+use Rattle.std.proofs.Common.{◌^◌, arith}
 use Rattle.text_lines.proofs.Decimals.{number_reads}
 use Rattle.saved_history.specs.Versions.{latest_version}
 use Rattle.journal.proofs.Fronts.{no_number, no_call_after, ring_then_call}
