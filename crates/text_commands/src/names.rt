@@ -11,7 +11,9 @@ ghost use Rattle.tool_parts.specs.Chained.{IsFolder};
 ghost use Rattle.text_commands.specs.Judged.{AreFilesJudged, JudgeLeads, AreEntriesJudged, AreEntriesUnjudged, IsPoolRight, IsFolderNamed, IsJudgeFault, IsUnjudged, AreFilesUnjudged, IsNoList, IsUnreadList, IsPoolRefused, AreNamesWrong};
 
 use disks::{Disk, FolderEntry};
-use folder_of_locks::{FolderList, ListError, ListedLock, StartFault, list_bytes, read_folder_file};
+use folder_of_locks::{
+    FolderList, ListError, ListedLock, StartFault, list_bytes, read_folder_file,
+};
 use judged_files::{FolderJudge, JudgeError};
 use line_service::{SegmentNumbers, has_list};
 use std::alloc::{AllocError, Global};
