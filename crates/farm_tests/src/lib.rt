@@ -1,5 +1,5 @@
 //! Tests of settings, of farms, of rings that are called by numbers and by lines, of the texts that are written of them, of the
-//! loops in which a service answers lines, of locks by any name and of the judge of names, by their public calls only.
+//! loops in which a service answers lines, of locks by any name and of the judge of names and of files, by their public calls only.
 #![tactic(auto)]
 
 #[cfg(test)]
@@ -12,6 +12,8 @@ mod endless;
 mod events;
 #[cfg(test)]
 mod farm;
+#[cfg(test)]
+mod judged_folders;
 #[cfg(test)]
 mod judged_names;
 #[cfg(test)]
