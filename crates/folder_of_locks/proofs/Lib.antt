@@ -12,3 +12,6 @@ mod Written
 mod Lines
 mod Handed
 mod OneReading
+mod LineEnds
+mod TakenLines
+mod HeldNames

@@ -6,3 +6,6 @@ pub mod Pools
 pub mod PoolSteps
 pub mod Holders
 pub mod HolderSteps
+pub mod Fronts
+pub mod NameRings
+pub mod NameFolders
