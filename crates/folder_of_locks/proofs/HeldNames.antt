@@ -1,11 +1,13 @@
 -- Rings that are looked at one after the other.
 use Rattle.std.proofs.Common.{◌≡◌, ◌∙◌, ◌+◌, ◌-◌, ◌<◌, ◌≤◌, ℕ, zero, suc, List, [], ◌∷◌, ◌++◌, length, take, drop, map, Option, Some, None, refl, sym, ap, subst, append_assoc, append-nil, arith}
-use Rattle.std.specs.Prelude.{slice_get}
-use Rattle.std.proofs.lemmas.List.{take_all, length-drop}
+use Rattle.std.specs.Prelude.{slice_get, option_map}
+use Rattle.std.proofs.lemmas.List.{take_all, length-drop, map-append}
 use Rattle.saved_history.specs.declared.saved.SavedRing.{SavedRing}
 use Rattle.one_thread_ring.specs.Journals.{event_lines}
 use Rattle.held_locks.specs.Kept.{LockView}
 use Rattle.lock_names.specs.Names.{Bound}
+use Rattle.lock_names.specs.declared.table.Binding.{Binding as Kept}
+use Rattle.lock_names.specs.Table.{bound_of, bounds_of}
 use Rattle.name_remarks.specs.Remarks.{Binding}
 use Rattle.name_remarks.specs.Bindings.{bound_at}
 use Rattle.folder_of_locks.specs.NameRings.{name_held, names_held, free_line, free_lines, repair_lines}
@@ -24,9 +26,9 @@ take_next (y ∷ xs) zero x e = ap (λ z. z ∷ []) (some_is y x e)
 take_next (y ∷ xs) (suc i) x e = ap (λ u. y ∷ u) (take_next xs i x e)
 
 pub get_after : {X : Type 0} (xs : List X) (n i : ℕ) → slice_get (drop n xs) i ≡ slice_get xs (n + i)
-get_after xs zero i = refl
+get_after xs zero i = ap (λ (m : ℕ). slice_get xs m) (let e : i ≡ 0 + i = omega arith in e)
 get_after [] (suc n) i = refl
-get_after (x ∷ xs) (suc n) i = get_after xs n i
+get_after (x ∷ xs) (suc n) i = get_after xs n i ∙ ap (λ (m : ℕ). slice_get (x ∷ xs) m) (let e : suc (n + i) ≡ suc n + i = omega arith in e)
 
 length_take_next : {X : Type 0} (xs : List X) (i : ℕ) (x : X) → slice_get xs i ≡ Some x → length (take i xs) ≡ i
 length_take_next [] i x e = absurd (none_some x e)
@@ -57,6 +59,12 @@ name_more fixed ring os vs v le e =
     ∙ (ap (names_held fixed os) (take_next (drop fixed vs) (ring - fixed) v at)
     ∙ (names_more fixed os front v ∙ ap (λ (m : ℕ). names_held fixed os front ++ name_held v.holder (bound_at os m) ∷ []) here))
 
+-- the same, as they are kept
+pub bounds_more : (fixed ring : ℕ) (os : List (Option Binding)) (vs : List LockView) (v : LockView) (old new : List (Option Kept)) (name : Option Kept) → fixed ≤ ring → slice_get vs ring ≡ Some v → bounds_of old ≡ names_held fixed os (take (ring - fixed) (drop fixed vs)) →
+    new ≡ old ++ name ∷ [] → option_map bound_of name ≡ name_held v.holder (bound_at os ring) → bounds_of new ≡ names_held fixed os (take ((ring + 1) - fixed) (drop fixed vs))
+bounds_more fixed ring os vs v old new name le e so_far pushed is =
+    ap bounds_of pushed ∙ (map-append (λ (o : Option Kept). option_map bound_of o) old (name ∷ []) ∙ ((λ k. so_far k ++ is k ∷ []) ∙ sym (name_more fixed ring os vs v le e)))
+
 pub all_after : (fixed count : ℕ) (vs : List LockView) → length vs ≤ count → take (count - fixed) (drop fixed vs) ≡ drop fixed vs
 all_after fixed count vs le = take_all (count - fixed) (drop fixed vs) (let l : length (drop fixed vs) ≡ length vs - fixed = length-drop fixed vs in omega (arith, l, le))
 
@@ -85,7 +93,7 @@ free_more fixed ring os vs v le e =
 
 -- ---- lines of repairs
 
-pub repaired : ℕ → SavedRing → LockView → List ℕ
+abbrev pub repaired : ℕ → SavedRing → LockView → List ℕ
 repaired i s v = event_lines i (drop (length s.events.items) v.ring.ring.book.history)
 
 repairs_more : (k i : ℕ) (ss : List SavedRing) (vs : List LockView) (s : SavedRing) (v : LockView) → slice_get ss i ≡ Some s → slice_get vs i ≡ Some v → repair_lines k (take (suc i) ss) vs ≡ repair_lines k (take i ss) vs ++ repaired (k + i) s v
@@ -101,4 +109,21 @@ repairs_more k (suc i) (t ∷ ss) (w ∷ vs) s v e f =
 
 pub repair_more : (ring : ℕ) (ss : List SavedRing) (vs : List LockView) (s : SavedRing) (v : LockView) → slice_get ss ring ≡ Some s → slice_get vs ring ≡ Some v →
     repair_lines 0 (take (ring + 1) ss) vs ≡ repair_lines 0 (take ring ss) vs ++ event_lines ring (drop (length s.events.items) v.ring.ring.book.history)
-repair_more ring ss vs s v e f = ap (λ (n : ℕ). repair_lines 0 (take n ss) vs) (let z : ring + 1 ≡ suc ring = omega arith in z) ∙ repairs_more 0 ring ss vs s v e f
+repair_more ring ss vs s v e f = ap (λ (n : ℕ). repair_lines 0 (take n ss) vs) (let z : ring + 1 ≡ suc ring = omega arith in z)
+    ∙ (repairs_more 0 ring ss vs s v e f ∙ ap (λ (m : ℕ). repair_lines 0 (take ring ss) vs ++ repaired m s v) (let z : 0 + ring ≡ ring = omega arith in z))
+
+-- ---- texts to which they are added
+
+pub frees_added : (fixed ring : ℕ) (os : List (Option Binding)) (vs : List LockView) (v : LockView) (old now new : List ℕ) → fixed ≤ ring → slice_get vs ring ≡ Some v → now ≡ old ++ free_lines fixed os (take (ring - fixed) (drop fixed vs)) →
+    new ≡ now ++ free_line ring v.holder (bound_at os ring) → new ≡ old ++ free_lines fixed os (take ((ring + 1) - fixed) (drop fixed vs))
+frees_added fixed ring os vs v old now new le e so_far added =
+    let line : List ℕ = free_line ring v.holder (bound_at os ring) in
+    let lines : List ℕ = free_lines fixed os (take (ring - fixed) (drop fixed vs)) in
+    added ∙ (ap (λ (u : List ℕ). u ++ line) so_far ∙ (append_assoc old lines line ∙ ap (λ (u : List ℕ). old ++ u) (sym (free_more fixed ring os vs v le e))))
+
+pub repairs_added : (ring : ℕ) (ss : List SavedRing) (vs : List LockView) (s : SavedRing) (v : LockView) (old now new : List ℕ) → slice_get ss ring ≡ Some s → slice_get vs ring ≡ Some v → now ≡ old ++ repair_lines 0 (take ring ss) vs →
+    new ≡ now ++ event_lines ring (drop (length s.events.items) v.ring.ring.book.history) → new ≡ old ++ repair_lines 0 (take (ring + 1) ss) vs
+repairs_added ring ss vs s v old now new e f so_far added =
+    let line : List ℕ = event_lines ring (drop (length s.events.items) v.ring.ring.book.history) in
+    let lines : List ℕ = repair_lines 0 (take ring ss) vs in
+    added ∙ (ap (λ (u : List ℕ). u ++ line) so_far ∙ (append_assoc old lines line ∙ ap (λ (u : List ℕ). old ++ u) (sym (repair_more ring ss vs s v e f))))

@@ -13,5 +13,7 @@ mod Lines
 mod Handed
 mod OneReading
 mod LineEnds
+mod TornBindings
 mod TakenLines
 mod HeldNames
+mod PoolWords

@@ -1,21 +1,14 @@
--- Where the last whole line of a text ends.
-use Rattle.std.proofs.Common.{◌≡◌, ◌∙◌, ◌<◌, ◌≤◌, ◌-◌, ◌⊎◌, inl, inr, ℕ, zero, suc, false, eqb, List, [], ◌∷◌, ◌++◌, length, take, drop, get_or, refl, sym, ap, subst, arith, length-append}
+-- The last line of a text.
+use Rattle.std.proofs.Common.{◌≡◌, ◌∙◌, ◌+◌, ◌-◌, ◌<◌, ◌≤◌, inl, inr, ℕ, zero, suc, false, eqb, List, [], ◌∷◌, ◌++◌, length, take, drop, refl, sym, ap, subst, arith, length-append}
 use Rattle.std.proofs.lemmas.List.{take-append-le, take-append-drop}
-use Rattle.std.proofs.Math.Seq.{drop-cons, take-suc, take-append_seam}
+use Rattle.std.proofs.Math.Seq.{take-append_seam}
 use Rattle.journal.specs.Recovery.{has_line_end}
 use Rattle.segment_files.specs.RemarkLaws.{AreLines, IsOneLine}
 
--- a byte before half a line, which ends no line
-pub half_more : (bytes : List ℕ) (end : ℕ) → 0 < end → end ≤ length bytes → eqb (get_or bytes (end - 1) 0) 10 ≡ false → has_line_end (drop end bytes) ≡ false → has_line_end (drop (end - 1) bytes) ≡ false
-half_more bytes zero some within other none = absurd (omega (arith, some))
-half_more bytes (suc n) some within other none =
-    let parts : drop n bytes ≡ get_or bytes n 0 ∷ drop (suc n) bytes = drop-cons bytes n 0 (omega (arith, within)) in
-    ap has_line_end parts ∙ rw (other, none) refl
-
--- a byte that ends a line
-pub ends_there : (bytes : List ℕ) (end : ℕ) → 0 < end → end ≤ length bytes → get_or bytes (end - 1) 0 ≡ 10 → AreLines (take end bytes)
-ends_there bytes zero some within is = absurd (omega (arith, some))
-ends_there bytes (suc n) some within is = inr (take n bytes, take-suc bytes n 0 (omega (arith, within)) ∙ ap (λ (b : ℕ). take n bytes ++ b ∷ []) is)
+-- bytes that are not none
+pub some_bytes : (n : ℕ) → eqb n 0 ≡ false → 0 < n
+some_bytes zero e = absurd cc
+some_bytes (suc n) e = omega arith
 
 drop_before : (n : ℕ) (xs ys : List ℕ) → n ≤ length xs → drop n (xs ++ ys) ≡ drop n xs ++ ys
 drop_before zero xs ys le = refl

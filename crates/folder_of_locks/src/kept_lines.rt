@@ -4,7 +4,7 @@ ghost use Rattle.std.specs.Prelude.{◌≡◌, ◌≤◌, true, false, length, t
 ghost use Rattle.segment_files.specs.RemarkLaws.{AreLines};
 ghost use Rattle.segment_files.specs.Remarks.{lines_in};
 ghost use Rattle.name_remarks.specs.Bindings.{nothing, IsTakenIn, AreTakenIn};
-ghost use Rattle.folder_of_locks.specs.Fronts.{IsTornBinding, AreKeptLines, IsLineFault, IsRemarkFault};
+ghost use Rattle.folder_of_locks.specs.Fronts.{IsUnheld, IsTornBinding, AreKeptLines, IsLineFault, IsRemarkFault};
 
 use crate::faults::StartFault;
 use crate::fronts::lines_end;
@@ -13,16 +13,31 @@ use name_remarks::{NameRemark, NotTaken, Recorded, read_name_remark};
 use segment_files::split_line;
 use std::alloc::Global;
 
+/// Whether nobody holds the lock of a ring, or there is none.
+fn is_unheld(locks: &Locks, ring: u32) -> bool
+    ensures yes { result ≡ true → IsUnheld locks.now ring }
+    ensures no { result ≡ false → ¬ IsUnheld locks.now ring }
+{
+    if ring >= locks.count() {
+        return true;
+    }
+    match locks.holder(ring) {
+        Some(_) => false,
+        None => true,
+    }
+}
+
 /// Whether a line binds a ring that nobody holds.
 fn is_torn_binding(line: &[u8], locks: &Locks) -> bool
     ensures yes { result ≡ true → IsTornBinding locks.now line.now }
     ensures no { result ≡ false → ¬ IsTornBinding locks.now line.now }
 {
     match read_name_remark(line) {
-        Ok(Some(NameRemark::Bind { ring, .. })) => {
-            ring >= locks.count() || locks.holder(ring).is_none()
-        }
-        _ => false,
+        Ok(Some(NameRemark::Bind { ring, .. })) => is_unheld(locks, ring),
+        Ok(Some(NameRemark::Free { .. })) => false,
+        Ok(Some(NameRemark::Top { .. })) => false,
+        Ok(None) => false,
+        Err(_) => false,
     }
 }
 

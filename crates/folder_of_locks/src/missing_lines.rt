@@ -1,6 +1,6 @@
 //! The lines that a segment misses which ends where locks start.
 
-ghost use Rattle.std.specs.Prelude.{◌≡◌, ◌++◌, ◌<◌, ◌≤◌, ℕ, drop, length, slice_get, Some, OnOk};
+ghost use Rattle.std.specs.Prelude.{◌≡◌, ◌++◌, ◌<◌, ◌≤◌, ℕ, drop, length, slice_get, Some, IfOk, OnOk};
 ghost use Rattle.saved_history.specs.declared.saved.SavedRing.{SavedRing};
 ghost use Rattle.one_thread_ring.specs.Journals.{event_lines};
 ghost use Rattle.held_locks.specs.Kept.{LockView};
@@ -81,8 +81,9 @@ fn put_repairs(text: &mut Vec<u8>, rings: &[SavedRing], locks: &Locks) -> Result
     requires { length rings.now ≤ length locks.now }
     ensures { OnOk result (text.new.items ≡ text.old.items ++ repair_lines 0 rings.now locks.now) }
 {
-    for ring in 0..rings.len() as u32 {
-        match put_repair(text, &rings[ring as usize], locks, ring) {
+    locks.are_kept(); // says: their numbers have 32 bits
+    for (place, saved) in rings.iter().enumerate() {
+        match put_repair(text, saved, locks, place as u32) {
             Ok(()) => {}
             Err(error) => return Err(error),
         }

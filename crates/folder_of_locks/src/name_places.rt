@@ -114,32 +114,24 @@ fn locks_after(
     }
 }
 
-/// What is known where a segment ends: its number, the lines of it that are kept, and what was read of it.
-#[derive(Clone, Copy)]
-struct Ended<'s> {
-    number: u64,
-    kept: &'s [u8],
-    last: &'s LastSegment,
-}
-
-/// Locks of this segment get their names.
+/// Locks of the segment of this number, of which these lines are kept, get their names.
 fn named_after(
     alloc: Global,
-    ended: Ended<'_>,
+    number: u64,
+    kept: &[u8],
+    last: &LastSegment,
     locks: Locks,
     list: &[ListedLock<'_>],
     size: Params,
 ) -> Result<NameStart, StartFault>
-    requires rings { AreOfSegment ended.last.now (map listed list.now) size locks }
-    ensures ok { IfOk result (λ start. AreToldIn ended.number ended.kept.now ended.last.now
+    requires rings { AreOfSegment last.now (map listed list.now) size locks }
+    ensures ok { IfOk result (λ start. AreToldIn number kept.now last.now
         (map listed list.now) size locks (name_place_of start)) }
-    ensures behind { IfOk result (λ start. start.behind ≡ ended.last.now.head.behind) }
-    ensures number { IfOk result (λ start. start.number ≡ ended.number) }
+    ensures behind { IfOk result (λ start. start.behind ≡ last.now.head.behind) }
+    ensures number { IfOk result (λ start. start.number ≡ number) }
     ensures err { IfErr result (λ e. (e ≡ StartFault.OutOfMemory)
-        ⊎ IsTellingFault ended.number ended.kept.now ended.last.now
-        (map listed list.now) locks e) }
+        ⊎ IsTellingFault number kept.now last.now (map listed list.now) locks e) }
 {
-    let Ended { number, kept, last } = ended;
     let recorded = match recorded_of(alloc, number, kept, locks.count()) {
         Ok(recorded) => recorded,
         Err(fault) => return Err(fault),
@@ -187,7 +179,7 @@ fn names_in(
         Err(fault) => return Err(fault),
     };
     let kept = &front[..kept_end(front, &locks)];
-    match named_after(alloc, Ended { number, kept, last }, locks, list, size) {
+    match named_after(alloc, number, kept, last, locks, list, size) {
         Ok(start) => Ok(start),
         Err(fault) => Err(fault),
     }

@@ -20,7 +20,7 @@ fn file_has_pool<D: Disk>(alloc: Global, disk: &D, folder: &str) -> Result<bool,
         Ok(bytes) => bytes,
         Err(fault) => return Err(fault),
     };
-    match folder_list_in(alloc, bytes.as_slice()) {
+    match folder_list_in(alloc, &bytes) {
         Ok(list) => Ok(list.pool.is_some()),
         Err(fault) => Err(fault),
     }
