@@ -1,4 +1,6 @@
 use Rattle.std.proofs.Common.{refl}
+use Rattle.name_remarks.specs.Remarks.{bind, free, top, IsRemark}
+use Rattle.name_remarks.specs.Views.{seen, heard, IsHeardAs}
 use Rattle.folder_of_locks.proofs.TornBindings.{held_bound, not_bound}
 use Rattle.folder_of_locks.proofs.kept_lines.is_torn_binding.Goals as goal
 

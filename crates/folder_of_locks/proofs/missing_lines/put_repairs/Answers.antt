@@ -4,9 +4,6 @@ use Rattle.lock_names.proofs.Found.{there_is}
 use Rattle.folder_of_locks.proofs.HeldNames.{repairs_added}
 use Rattle.folder_of_locks.proofs.missing_lines.put_repairs.Goals as goal
 
-pub overflow_cast-ring : goal.overflow_cast-ring
-overflow_cast-ring c = let few = c.are_kept.ensures.1.few in omega (arith, few, c.requires, c.loop-place-test.true)
-
 pub loop-place-preserved : goal.loop-place-preserved
 loop-place-preserved c =
     let rings = c.args.rings.now in
