@@ -17,7 +17,11 @@ mod judged_names;
 #[cfg(test)]
 mod loops;
 #[cfg(test)]
+mod name_lines;
+#[cfg(test)]
 mod named_locks;
+#[cfg(test)]
+mod named_segments;
 #[cfg(test)]
 mod names;
 #[cfg(test)]

@@ -280,6 +280,64 @@ fn a_name_is_looked_at_and_broken(rt: HostRuntime) {
     }
 }
 
+// An ask reaches the ring of its name; the lowest free one, if it is for a hold and no ring has the name; or none.
+#[test]
+fn asks_reach_rings(rt: HostRuntime) {
+    let alloc = rt.alloc();
+    let Ok(mut names) = begun(&rt, alloc, three_locks(&rt, alloc), &["deploy"]) else {
+        panic!(&rt; "refused");
+    };
+    names.ask(alloc, 8, "order/1", acquire(10));
+    let rows: [(&str, OneAsk, Option<u32>); 7] = [
+        ("deploy", OneAsk::Stats, Some(0)),
+        ("order/1", release(9), Some(1)),
+        ("order/2", acquire(20), Some(2)),
+        ("order/2", OneAsk::Try { label: 20 }, Some(2)),
+        ("order/2", release(2), None),
+        ("order/2", OneAsk::Cancel, None),
+        ("order/2", OneAsk::Stats, None),
+    ];
+    for (name, ask, ring) in rows {
+        assert!(&rt; names.reach(name, ask) == ring);
+    }
+    names.ask(alloc, 8, "order/2", acquire(20));
+    assert!(&rt; names.reach("order/3", acquire(30)).is_none());
+    assert!(&rt; names.reach("order/2", OneAsk::Cancel) == Some(2));
+    names.are_kept();
+}
+
+// Client 0 holds two names and client 7 one. A hold of client 0 is handed to client 8 by its token, once.
+#[test]
+fn holds_are_handed_by_name(rt: HostRuntime) {
+    let alloc = rt.alloc();
+    let Ok(mut names) = begun(&rt, alloc, three_locks(&rt, alloc), &["deploy"]) else {
+        panic!(&rt; "refused");
+    };
+    names.ask(alloc, 0, "deploy", acquire(10));
+    names.ask(alloc, 0, "order/1", acquire(20));
+    names.ask(alloc, 7, "order/2", acquire(30));
+    let rows: [(&str, u64, bool); 6] = [
+        ("order/1", 1, false),
+        ("order/1", 2, true),
+        ("order/1", 2, false),
+        ("order/2", 3, false),
+        ("order/3", 2, false),
+        ("deploy", 1, true),
+    ];
+    for (name, token, handed) in rows {
+        assert!(&rt; names.hand(name, token, 8) == handed);
+    }
+    let rows: [(u64, &str, OneAsk, NameAnswers); 4] = [
+        (0, "order/1", release(2), refused(Some(1), Refusal::Holder)),
+        (8, "order/1", release(2), freed(1)),
+        (8, "deploy", release(1), released(0, None)),
+        (7, "order/2", release(3), freed(2)),
+    ];
+    for (client, name, ask, wanted) in rows {
+        assert!(&rt; are(names.ask(alloc, client, name, ask), wanted));
+    }
+}
+
 // A pool that is used up grows in the next segments: the ring that is added is the last one that gets a name.
 #[test]
 fn a_pool_grows(rt: HostRuntime) {

@@ -17,3 +17,5 @@ mod TornBindings
 mod TakenLines
 mod HeldNames
 mod PoolWords
+mod NameRefused
+mod NameHanded

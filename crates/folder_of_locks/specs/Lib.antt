@@ -8,4 +8,5 @@ pub mod Holders
 pub mod HolderSteps
 pub mod Fronts
 pub mod NameRings
+pub mod NameHolders
 pub mod NameFolders

@@ -27,6 +27,8 @@ use Rattle.folder_of_locks.specs.declared.faults.StartFault.TheVariants as fault
 use Rattle.folder_of_locks.specs.Folders.{locks_file, IsUnread, IsListless}
 use Rattle.folder_of_locks.specs.Fronts.{IsFront, IsFrontFault, AreKeptLines, IsRemarkFault}
 use Rattle.folder_of_locks.specs.NameRings.{with_rings, AreNamed, AreUnnamed, front_text}
+use Rattle.folder_of_locks.specs.Holders.{Hold}
+use Rattle.folder_of_locks.specs.NameHolders.{AreHandedByName, IsNameUnhanded}
 use Rattle.folder_of_locks.specs.declared.name_places.NameStart.{NameStart}
 
 -- ---- where they start
@@ -218,6 +220,88 @@ IsListFileRefusal files folder e =
     (e ≡ fault.UnreadLocks)
     ⊎ ((e ≡ fault.OutOfMemory)
     ⊎ ((bytes : List ℕ) × IsHeld files (locks_file folder) bytes × IsPooledTextFault bytes e))
+
+-- ---- how the locks of a folder start
+
+-- The list has a pool, its locks start with the names that they had, and then each of these open
+-- holds was handed to its client.
+pub record NamesStand (files : Option Held) (folder : List ℕ) (range : Option SegmentNumbers)
+    (l : Pooled) (most : ℕ) (holders : List Hold) (p : NamePlace) : Type 0 where
+  pub size : Size
+  pub pool : l.pool ≡ Some size
+  pub found : NamePlace
+  pub stands : AreNamedAt files folder range l.locks size most found
+  pub handed : AreHandedByName found.names holders p.names
+  pub same : (p.size ≡ found.size) × (p.number ≡ found.number)
+  pub behind : p.behind ≡ found.behind
+  pub front : p.front ≡ found.front
+
+-- The locks of the folder start here, by whether it has a file of locks and by which segments it
+-- has.
+pub record AreNamesStartedIn (folder : List ℕ) (has : Bool) (range : Option SegmentNumbers)
+    (word : Option (List ℕ)) (most : ℕ) (holders : List Hold) (before after : Option Held)
+    (p : NamePlace) : Type 0 where
+  pub list : Pooled
+  pub listed : IsListOf before folder has range word list
+  pub stands : NamesStand before folder range list most holders p
+  pub saved : IsPooledSaved folder word list before after
+
+-- the same, by the names in the folder
+pub record AreNamesStarted (folder : List ℕ) (word : Option (List ℕ)) (most : ℕ)
+    (holders : List Hold) (before after : Option Held) (p : NamePlace) : Type 0 where
+  pub entries : List FolderEntry
+  pub among : Lists before folder (names_of entries)
+  pub range : Option SegmentNumbers
+  pub right : IsRightNumbers entries (Ok range)
+  pub started : AreNamesStartedIn folder (is_among (names_of entries) list_name) range word most
+      holders before after p
+
+-- the list has no pool, or the locks do not get their names, or a hold is not open
+abbrev pub NamesDoNotStand : Option Held → List ℕ → Option SegmentNumbers → Pooled → ℕ
+    → List Hold → StartFault → Type 0
+NamesDoNotStand files folder range l most holders e =
+    ((l.pool ≡ None) × (e ≡ fault.NoPool))
+    ⊎ ((size : Size)
+    × (l.pool ≡ Some size)
+    × (AreUnnamedAt files folder range l.locks size most e
+    ⊎ ((found : NamePlace)
+    × AreNamedAt files folder range l.locks size most found
+    × IsNameUnhanded found.names holders e)))
+
+-- Why the locks of a folder do not start, by whether it has a file of locks. Every file is as it
+-- was.
+abbrev pub IsNameRefusal : Option Held → List ℕ → Bool → Option SegmentNumbers
+    → Option (List ℕ) → ℕ → List Hold → StartFault → Type 0
+IsNameRefusal files folder has range word most holders e =
+    ((has ≡ false) × IsListless range word e)
+    ⊎ (((has ≡ true) × IsListFileRefusal files folder e)
+    ⊎ (((w : List ℕ) × (word ≡ Some w) × IsPooledWordRefusal w e)
+    ⊎ (((w : List ℕ)
+    × (old : Pooled)
+    × (l : Pooled)
+    × (word ≡ Some w)
+    × IsOfListFile files folder old
+    × IsPooledWord w l
+    × IsChange old l e)
+    ⊎ (((l : Pooled)
+    × IsListOf files folder has range word l
+    × NamesDoNotStand files folder range l most holders e)
+    ⊎ ((e ≡ fault.Unsaved) ⊎ (e ≡ fault.OutOfMemory))))))
+
+-- the same of the folder; or its names are refused
+abbrev pub AreNamesUnstarted : Option Held → List ℕ → Option (List ℕ) → ℕ → List Hold
+    → StartFault → Type 0
+AreNamesUnstarted files folder word most holders e =
+    (e ≡ fault.Folder folders.Unlisted)
+    ⊎ ((entries : List FolderEntry)
+    × Lists files folder (names_of entries)
+    × (((error : FolderError)
+    × (e ≡ fault.Folder error)
+    × IsRightNumbers entries (Err error))
+    ⊎ ((range : Option SegmentNumbers)
+    × IsRightNumbers entries (Ok range)
+    × IsNameRefusal files folder (is_among (names_of entries) list_name) range word most holders
+    e)))
 
 -- ---- whether a list has a pool
 

@@ -95,7 +95,7 @@ fixed_step s (Of c x ask) = fixed_name s c x ask (found x s.names)
 fixed_step s Again = refl
 fixed_step s (More a) = refl
 
-fixed_after : (s : Named) (is : List NamedInput) → (named_after s is).fixed ≡ s.fixed
+pub fixed_after : (s : Named) (is : List NamedInput) → (named_after s is).fixed ≡ s.fixed
 fixed_after s [] = refl
 fixed_after s (i ∷ is) = fixed_after (step_named s i).named is ∙ fixed_step s i
 

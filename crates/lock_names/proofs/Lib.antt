@@ -15,6 +15,8 @@ pub mod LeftRings
 pub mod LeftSaid
 pub mod Copied
 pub mod Grows
+pub mod HandedNames
+pub mod Reached
 pub mod Sized
 pub mod Restores
 pub mod ComingBack

@@ -8,4 +8,5 @@ pub mod Begun
 pub mod Restored
 pub mod Leaves
 pub mod Grown
+pub mod Handed
 pub mod Sizes

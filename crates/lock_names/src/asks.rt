@@ -49,7 +49,7 @@ fn token_in(counts: Counts, number: u64) -> u64
 }
 
 /// The ring's number of the hold, if this is its token for the name; else 0.
-fn own_number(counts: Counts, token: u64, holder: Option<Holder>) -> u64
+pub(crate) fn own_number(counts: Counts, token: u64, holder: Option<Holder>) -> u64
     requires { (h : Holder) → holder ≡ Some h → token_in (bound_by counts) h.token < 2 ^ 64 }
     ensures { result ≡ own_number (bound_by counts) token holder }
 {

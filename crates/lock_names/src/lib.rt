@@ -3,6 +3,7 @@
 
 mod asks;
 mod growing;
+mod handing;
 pub mod laws;
 mod leaving;
 mod names;

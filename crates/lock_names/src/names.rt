@@ -7,7 +7,8 @@ ghost use Rattle.held_locks.specs.Kept.{locks_of, IsKeptRing};
 ghost use Rattle.held_locks.specs.declared.answers.Answer.{Answer};
 ghost use Rattle.lock_names.specs.Names.{Bound, kept, stays, found, free};
 ghost use Rattle.lock_names.specs.Begun.{IsBegun, CannotBegin};
-ghost use Rattle.lock_names.specs.Kept.{seen, IsKeptNamed, may_pass, top_limit, IsAsked};
+ghost use Rattle.lock_names.specs.Kept.{seen, named_of, reached, IsKeptNamed, may_pass, top_limit, IsAsked};
+ghost use Rattle.lock_names.specs.Handed.{IsHandedByName, CannotBeHandedByName};
 ghost use Rattle.lock_names.specs.Leaves.{IsLeftByName};
 ghost use Rattle.lock_names.specs.Restored.{IsRestored, CannotRestore};
 ghost use Rattle.lock_names.specs.Sizes.{AreUsedUntil};
@@ -17,6 +18,7 @@ ghost use Rattle.lock_names.specs.declared.replies.Reply.{Reply};
 
 use crate::asks::{Rings, ask_ring, may_pass, unused_answer};
 use crate::growing::{NotGrown, add_ring};
+use crate::handing::hand_among;
 use crate::leaving::leave_among;
 use crate::replies::{NameAnswers, Reply};
 use crate::restoring::{NotRestored, are_counted, check_names, restored_table};
@@ -309,6 +311,13 @@ impl Names {
         Ok(Names { rings, table })
     }
 
+    /// The names are right, and there is a ring for each fixed lock, at each moment: this does nothing, and says so.
+    pub fn are_kept(&self)
+        ensures { IsKeptNamed self.now }
+    {
+        self.rings.locks.count(); // says: they are kept
+    }
+
     /// How many rings there are.
     pub fn count(&self) -> u32
         ensures { result ≡ length self.now.locks }
@@ -369,6 +378,30 @@ impl Names {
         ensures far { length self.now.names ≤ ring → result ≡ None }
     {
         self.table.name(ring)
+    }
+
+    /// The ring that an ask would reach: that of the name, or, if it is for a hold, the lowest free one.
+    pub fn reach(&self, name: &str, ask: OneAsk) -> Option<u32>
+        ensures { result ≡ option_map (λ (p : ℕ × Bound). p.0)
+            (reached (named_of self.now) name.now (asked ask)) }
+    {
+        if let Some(ring) = self.table.find(name) {
+            return Some(ring);
+        }
+        if unused_answer(ask).is_some() {
+            return None;
+        }
+        self.table.lowest_free()
+    }
+
+    /// Hands a name's open hold of client 0 with this token to another client, as [`Locks::hand`] does: it is not an input. False if
+    /// client 0 does not hold the name with this token, or a client waits for it; nothing has changed then.
+    pub fn hand(&mut self, name: &str, token: u64, client: u64) -> bool
+        ensures yes { result ≡ true → IsHandedByName self.old self.new name.now token client }
+        ensures no { result ≡ false
+            → CannotBeHandedByName self.old name.now token × (self.new ≡ self.old) }
+    {
+        hand_among(&mut self.rings, &self.table, name, token, client)
     }
 
     /// A client asks something of a name. A name that no ring has is bound to the lowest free ring by an ask for a hold that is

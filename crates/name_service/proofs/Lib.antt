@@ -1,0 +1,14 @@
+pub mod Said
+pub mod LeftSame
+pub mod Reached
+pub mod NotedSame
+pub mod Unchanged
+pub mod Lacking
+pub mod Utf
+pub mod Inputs
+pub mod Answered
+pub mod FreshRings
+pub mod GrownPools
+pub mod NamedTexts
+pub mod NamedStates
+pub mod Wanting

@@ -1,0 +1,12 @@
+pub mod Naming
+pub mod Noting
+pub mod Serving
+pub mod Starts
+pub mod First
+pub mod Growth
+pub mod NamesText
+pub mod Segmented
+pub mod Goes
+pub mod Knows
+pub mod State
+pub mod RingLines
