@@ -1,14 +1,20 @@
-use Rattle.std.proofs.Common.{refl}
-use Rattle.name_remarks.specs.Remarks.{bind, free, top, IsRemark}
+use Rattle.std.proofs.Common.{ap}
+use Rattle.name_remarks.specs.declared.remarks.NameRemark.{NameRemark as Read}
 use Rattle.name_remarks.specs.Views.{seen, heard, IsHeardAs}
-use Rattle.folder_of_locks.proofs.TornBindings.{held_bound, not_bound}
+use Rattle.folder_of_locks.proofs.TornBindings.{binds, held_said, other_said}
 use Rattle.folder_of_locks.proofs.kept_lines.is_torn_binding.Goals as goal
 
 pub returns-in-Ok-Some-Bind-clause-no : goal.returns-in-Ok-Some-Bind-clause-no
-returns-in-Ok-Some-Bind-clause-no c = λ no. held_bound c.args.locks.now c.args.line.now _ _ c.in-Ok-Some-Bind.ensures (c.is_unheld.ensures.no no)
+returns-in-Ok-Some-Bind-clause-no c =
+    let x = c.in-Ok-Some-Bind in
+    λ no. held_said c.args.locks.now c.args.line.now x.field-0 x.field-0-0 x.ring _ _ _ x.field-0-is x.field-0-0-is x.ensures (c.is_unheld.ensures.no no)
 
 pub returns-in-Ok-Some-Free-clause-no : goal.returns-in-Ok-Some-Free-clause-no
-returns-in-Ok-Some-Free-clause-no c = λ no. not_bound c.args.locks.now c.args.line.now _ c.in-Ok-Some-Free.ensures refl
+returns-in-Ok-Some-Free-clause-no c =
+    let x = c.in-Ok-Some-Free in
+    λ no. other_said c.args.locks.now c.args.line.now x.field-0 x.field-0-0 x.field-0-is (ap (λ (z : Read). binds (seen z)) x.field-0-0-is) x.ensures
 
 pub returns-in-Ok-Some-Top-clause-no : goal.returns-in-Ok-Some-Top-clause-no
-returns-in-Ok-Some-Top-clause-no c = λ no. not_bound c.args.locks.now c.args.line.now _ c.in-Ok-Some-Top.ensures refl
+returns-in-Ok-Some-Top-clause-no c =
+    let x = c.in-Ok-Some-Top in
+    λ no. other_said c.args.locks.now c.args.line.now x.field-0 x.field-0-0 x.field-0-is (ap (λ (z : Read). binds (seen z)) x.field-0-0-is) x.ensures
