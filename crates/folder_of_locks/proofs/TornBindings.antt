@@ -1,11 +1,11 @@
 -- Lines that bind no ring that is free.
-use Rattle.std.proofs.Common.{◌≡◌, ◌∙◌, ℕ, Bool, true, false, List, Option, Some, None, Ok, Bor, sym, ap, subst}
-use Rattle.std.specs.Prelude.{slice_get}
+use Rattle.std.proofs.Common.{◌≡◌, ◌∙◌, ℕ, Bool, true, false, List, Option, Some, Ok, Err, Bor, sym, ap, subst}
 use Rattle.std.proofs.lemmas.Bool.{false≢true}
 use Rattle.held_locks.specs.Kept.{LockView}
 use Rattle.name_remarks.specs.Remarks.{Binding, Remark, bind, free, top, IsRemark}
 use Rattle.name_remarks.specs.declared.remarks.NameRemark.{NameRemark as Read}
 use Rattle.name_remarks.specs.declared.remarks.NameRemark.TheVariants as reads
+use Rattle.name_remarks.specs.declared.remarks.Misspelled.{Misspelled}
 use Rattle.name_remarks.specs.Views.{seen, heard, IsHeardAs}
 use Rattle.name_remarks.proofs.Spelled.{same_remark}
 use Rattle.folder_of_locks.specs.Fronts.{IsUnheld, IsTornBinding}
@@ -32,3 +32,7 @@ pub other_said : (vs : List LockView) (line : List ℕ) (o : Option Read) (x : R
 other_said vs line o x e other is t =
     let said : IsRemark (seen x) line = subst (λ (z : Option Read). IsHeardAs line (heard (Ok z))) e is in
     false≢true (sym other ∙ ap binds (same_remark line (seen x) (bind t.0 t.1) said t.2))
+
+-- it cannot be read
+pub unread : (vs : List LockView) (line : List ℕ) (e : Misspelled) → IsHeardAs line (heard (Err e)) → ¬ IsTornBinding vs line
+unread vs line e is t = is.1 (bind t.0 t.1) t.2
