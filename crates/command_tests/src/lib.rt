@@ -17,6 +17,8 @@ mod lines;
 #[cfg(test)]
 mod lists;
 #[cfg(test)]
+mod name_starts;
+#[cfg(test)]
 mod names;
 #[cfg(test)]
 mod orders;

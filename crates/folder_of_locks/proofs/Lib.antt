@@ -12,3 +12,10 @@ mod Written
 mod Lines
 mod Handed
 mod OneReading
+mod LineEnds
+mod TornBindings
+mod TakenLines
+mod HeldNames
+mod PoolWords
+mod NameRefused
+mod NameHanded

@@ -6,3 +6,7 @@ pub mod Pools
 pub mod PoolSteps
 pub mod Holders
 pub mod HolderSteps
+pub mod Fronts
+pub mod NameRings
+pub mod NameHolders
+pub mod NameFolders

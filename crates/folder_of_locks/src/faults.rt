@@ -2,6 +2,8 @@
 
 use crate::locks::ListError;
 use line_service::FolderError;
+use lock_names::NotRestored;
+use name_remarks::NotTaken;
 use segment_files::SegmentError;
 
 /// Why the locks of a folder do not start. Places are from 0.
@@ -31,6 +33,13 @@ pub enum StartFault {
     OtherRing(usize),
     /// There is no room for the lock at this place: its ring has none for its repair, or there are as many locks as there may be.
     Full(usize),
+    /// The list has no pool, so no name beside those of its locks can be held.
+    NoPool,
+    /// In the last segment, which has the first number, the line of the second number, from 1, says
+    /// something of names, and is misspelled or about a ring that is not there.
+    Remark(u64, u64, NotTaken),
+    /// The names that its lines record are not those of its rings.
+    Names(NotRestored),
     /// The hold on this line of the holders, from 1, is not open.
     Holder(u64),
     /// The file of locks cannot be written.

@@ -15,7 +15,7 @@ use std::alloc::{AllocError, Global};
 use std::io::{Read, Write};
 
 /// The name of the file of locks in a folder.
-fn list_file(alloc: Global, folder: &str) -> Result<String, AllocError>
+pub(crate) fn list_file(alloc: Global, folder: &str) -> Result<String, AllocError>
     ensures { IfOk result (λ name. string_bytes name ≡ locks_file folder.now) }
 {
     let mut name = String::from_str(alloc, folder)?;

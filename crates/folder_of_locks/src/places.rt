@@ -45,7 +45,7 @@ pub(crate) struct FoundLocks {
 }
 
 /// All bytes of the file of a segment.
-fn segment_bytes<D: Disk>(
+pub(crate) fn segment_bytes<D: Disk>(
     alloc: Global,
     disk: &D,
     folder: &str,
