@@ -7,6 +7,9 @@ use std::alloc::Global;
 /// How many lines a segment has at most.
 const MOST_LINES: i64 = 4_000_000;
 
+/// How many names have a hold at once, at most.
+const MOST_NAMES: i64 = 1_000_000;
+
 /// What an argument takes as its value.
 #[derive(Clone, Copy)]
 pub(crate) enum Takes {
@@ -24,6 +27,8 @@ pub(crate) enum Takes {
     LongNumber,
     /// How many lines a segment has, from 1 to [`MOST_LINES`].
     Lines,
+    /// How many names have a hold at once, from 1 to [`MOST_NAMES`].
+    Names,
     /// At least one text.
     Texts,
 }
@@ -84,6 +89,7 @@ fn parser_of(takes: Takes) -> ValueParser<'static> {
         Takes::Number => value_parser!(u32),
         Takes::LongNumber => value_parser!(u64),
         Takes::Lines => value_parser!(u32).range(1..=MOST_LINES),
+        Takes::Names => value_parser!(u32).range(1..=MOST_NAMES),
     }
 }
 

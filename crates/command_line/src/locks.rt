@@ -6,6 +6,9 @@ use clap::{ArgMatches, Command, Error};
 use std::alloc::Global;
 use tool_parts::requests::{LocksWords, Request};
 
+/// How many names of a pool are held at once at most, if it is not said.
+const NAMES: u32 = 65_536;
+
 const LOCKS_ABOUT: &str =
     "Lends locks to the clients of any program, by lines: each is a call of one client";
 
@@ -21,8 +24,8 @@ begins with its number, and each answer with the number of the client that it is
   CONNECTION stats NAME             stats NAME MACHINES WAITERS PASSES HOLDER TOKEN, where HOLDER and TOKEN are 0 if it is free
 NAME is the name of a lock, and LABEL a number that the client chooses and the journal keeps. The tokens of a lock rise. Any
 other line, and a call that cannot be done, changes nothing: the answer is `refused` and the reason, as `syntax`, `number`,
-`off`, or `lock NAME`, `holds NAME`, `waits NAME`, `circle NAME`, `holder NAME`, `waiter NAME`, `machine NAME`, `value NAME`,
-`full NAME`, `memory NAME`. A line that does not begin with a number is not answered.
+`off`, or `lock NAME`, `names NAME`, `holds NAME`, `waits NAME`, `circle NAME`, `holder NAME`, `waiter NAME`, `machine NAME`,
+`value NAME`, `full NAME`, `memory NAME`. A line that does not begin with a number is not answered.
 With `--strict` no line is answered `full` or `memory`: if memory is short, or a segment that is full cannot be ended, the
 program ends with status 1, and answers neither this line nor earlier lines of the same batch and segment. So equal locks
 and equal lines have equal answers.
@@ -45,6 +48,11 @@ The first start needs `--locks`: names of 1 to 128 ASCII letters, digits, `.`, `
 its ring has (2 to 1024) and how many values they can hold (N to 65536), if it is not 8. A later start may leave the list out,
 or name more locks after those that are there; each other difference is refused.
 
+If the list ends with `*`, each other name is a lock too. Its ring is one of a pool, with 2 machines of 2 values, or with
+those of `*:N:K`; a name has a ring as long as a client holds it, so only held names take memory. The pool grows, and has
+`--most-names` rings at most: if all are held, `acquire` and `try` of one name more are `refused names NAME`. A folder may get
+its pool at a later start; no lock can be added after that.
+
 Example:
   $ printf '1 acquire deploy 77\\n2 acquire deploy 78\\n1 release deploy 1\\n' | ring_tool locks --journal folder --locks deploy
   1 granted deploy 1
@@ -56,7 +64,7 @@ Exit status: 0 at the end of standard input, 1 if FOLDER is refused or reading o
 if the list of locks cannot be read.";
 
 /// The arguments of `locks`.
-static LOCKS_ARGUMENTS: [Argument; 8] = [
+static LOCKS_ARGUMENTS: [Argument; 9] = [
     Argument {
         id: "JOURNAL",
         long: Some("journal"),
@@ -71,7 +79,15 @@ static LOCKS_ARGUMENTS: [Argument; 8] = [
         value_names: &["NAME[:N[:K]],.."],
         takes: Takes::Text,
         presence: Presence::Optional,
-        help: "The locks: their names, with the size of each one's ring [default: 8, and K as N]",
+        help: "The locks: their names, with the size of each one's ring [default: 8, and K as N]; `*` after them is any name",
+    },
+    Argument {
+        id: "MOST_NAMES",
+        long: Some("most-names"),
+        value_names: &["NAMES"],
+        takes: Takes::Names,
+        presence: Presence::Optional,
+        help: "How many names of `*` are held at once, up to 1000000 [default: 65536]",
     },
     Argument {
         id: "HOLDERS",
@@ -98,6 +114,7 @@ pub(crate) fn locks_words<'a>(words: &ArgMatches<'a>) -> Option<Request<'a>> {
     Some(Request::Locks(LocksWords {
         journal: words.get_str("JOURNAL")?,
         locks: words.get_str("LOCKS"),
+        most_names: words.get_one::<u32>("MOST_NAMES").unwrap_or(NAMES),
         holders: words.get_str("HOLDERS"),
         segment: words.get_one::<u32>("SEGMENT").unwrap_or(LINES),
         synced: !words.get_flag("NO_SYNC"),

@@ -13,7 +13,7 @@ use tool_parts::faults::ToolError;
 /// A fault, the status that it gives, and its line.
 type Told = (ToolError<'static>, u8, &'static str);
 
-const TOLD: [Told; 53] = [
+const TOLD: [Told; 55] = [
     (ToolError::BadList, 2, "bad list\n"),
     (ToolError::TooFew, 1, "n is less than 2\n"),
     (ToolError::TooMany, 1, "n is more than 1024\n"),
@@ -167,6 +167,16 @@ const TOLD: [Told; 53] = [
         ToolError::Segment("kept", 3, SegmentError::Full),
         1,
         "kept/0000000003.ring: full\n",
+    ),
+    (
+        ToolError::BadNames("kept"),
+        1,
+        "the names in kept are not those of its rings\n",
+    ),
+    (
+        ToolError::WrongNames("kept", 3, 7, "misspelled"),
+        1,
+        "kept/0000000003.ring: line 7: name: misspelled\n",
     ),
 ];
 

@@ -136,6 +136,7 @@ fn lend(
     let words = LocksWords {
         journal: "j",
         locks: Some("deploy:3"),
+        most_names: 1024,
         holders: None,
         segment: 100,
         synced: false,

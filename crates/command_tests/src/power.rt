@@ -84,6 +84,7 @@ fn lend_on<D: Disk>(alloc: Global, disk: &mut D, synced: bool) -> (Vec<u8>, bool
     let words = LocksWords {
         journal: "f",
         locks: Some("deploy:3"),
+        most_names: 1024,
         holders: None,
         segment: 100,
         synced,

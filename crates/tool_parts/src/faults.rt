@@ -115,10 +115,14 @@ pub enum ToolError<'a> {
     OtherLock(&'a str, usize),
     /// The ring at this place in a folder is not of the size of its lock, or there is no such lock.
     OtherRing(&'a str, usize),
+    /// The names that the last segment of a folder records are not those of its rings.
+    BadNames(&'a str),
     /// The line of this number, from 1, of a file of holders is not that of an open hold.
     NoOpenHold(&'a str, u64),
     /// The history of the lock of this number, in a file or a folder of segments, is not that of a lock after this many events.
     NoHold(&'a str, u64, u64),
+    /// What the segment of this number in a folder says of the names of locks is wrong in this line, from 1, and why.
+    WrongNames(&'a str, u64, u64, &'static str),
 }
 
 impl ToolError<'_> {
@@ -209,9 +213,15 @@ impl ToolError<'_> {
                     "ring {place} in {folder} is not of the size in {folder}/locks"
                 )
             }
+            ToolError::BadNames(folder) => {
+                write!(f, "the names in {folder} are not those of its rings")
+            }
             ToolError::NoOpenHold(name, line) => write!(f, "{name}: line {line}: no open hold"),
             ToolError::NoHold(name, lock, at) => {
                 write!(f, "{name}: lock {lock}: not the history of a lock at {at}")
+            }
+            ToolError::WrongNames(folder, number, line, cause) => {
+                write!(f, "{folder}/{number:010}.ring: line {line}: name: {cause}")
             }
             // the lines of the others are written before
             _ => Ok(()),

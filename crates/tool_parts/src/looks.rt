@@ -63,8 +63,8 @@ fn look_again<'a, D: Disk>(
 ///
 /// # Errors
 ///
-/// Those of [`folder_sums`].
-pub(crate) fn sums_in<'a, D: Disk>(
+/// Those of [`folder_numbers`](crate::chain::folder_numbers) and [`chain_in`](crate::chain::chain_in).
+pub fn sums_in<'a, D: Disk>(
     alloc: Global,
     disk: &D,
     folder: &'a str,

@@ -119,6 +119,8 @@ pub struct LocksWords<'a> {
     pub journal: &'a str,
     /// The list of locks, as it was given.
     pub locks: Option<&'a str>,
+    /// How many rings its pool has at most, if it has one: so many names are held at once.
+    pub most_names: u32,
     /// The name of the file that says who gets the holds that are open at the start, if there is one.
     pub holders: Option<&'a str>,
     /// How many lines a segment has before the next one begins.

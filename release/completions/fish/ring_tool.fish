@@ -29,6 +29,7 @@ complete -c ring_tool -n "__fish_seen_subcommand_from serve" -l saves -x -a "(__
 complete -c ring_tool -n "__fish_seen_subcommand_from serve" -l strict -d "End where memory is short"
 complete -c ring_tool -n "__fish_seen_subcommand_from locks" -l journal -x -a "(__fish_complete_directories)" -d "Keep the journal in this folder"
 complete -c ring_tool -n "__fish_seen_subcommand_from locks" -l locks -x -d "The locks, with commas between"
+complete -c ring_tool -n "__fish_seen_subcommand_from locks" -l most-names -x -d "How many names of * are held"
 complete -c ring_tool -n "__fish_seen_subcommand_from locks" -l holders -rF -d "Whose the open holds are"
 complete -c ring_tool -n "__fish_seen_subcommand_from locks" -l segment -x -d "Lines of a segment"
 complete -c ring_tool -n "__fish_seen_subcommand_from locks" -l sync -d "The journal is on the disk before an answer"

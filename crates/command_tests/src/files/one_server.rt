@@ -21,6 +21,7 @@ fn lend<'a, D: Disk, I: Read>(
     let words = LocksWords {
         journal: folder,
         locks: Some("deploy:3"),
+        most_names: 1024,
         holders: None,
         segment: 100,
         synced: false,
