@@ -23,69 +23,18 @@ use Rattle.tool_parts.proofs.LockedFolders.{Stands, stands_locked, same_locked, 
 use Rattle.lock_service.specs.Runs.{Service, answering, by_segments}
 use Rattle.lock_commands.specs.Locks.{folder_of, list_of, HasStarted, IsRun, IsRunRefused, AreUnderLock, StaysLocked}
 use Rattle.tool_parts.specs.declared.faults.ToolError.{ToolError}
+use Rattle.lock_commands.proofs.ServedLocked.{ChangesNoFile}
+use Rattle.lock_commands.proofs.ServedLocked as served
 
 -- ---- no line changes a file
 
-line_same : (old new : Service) (was is : Option Held) (line said noted : List ℕ) → answering old was line said noted new is → is ≡ was
+line_same : ChangesNoFile answering
 line_same =
     restored_leads (IsReplied IsServed) (lines_of state_lines) (λ was is. is ≡ was) (λ was is e. e)
     (replied_leads IsServed (λ was is. is ≡ was) (λ was is e. e) (λ old new was is line said noted a. a.files))
 
-lines_same : (old new : Stand Service) (lines : List (List ℕ)) (said noted : List ℕ) → Answers (by_stand answering) old lines said noted new → new.files ≡ old.files
-lines_same old new [] said noted a = ap (λ (s : Stand Service). s.files) a.2
-lines_same old new (line ∷ lines) said noted a =
-    lines_same a.0 new lines a.2 a.4 a.8 ∙ line_same old.service a.0.service old.files a.0.files line a.1 a.3 a.5
-
--- ---- before a part a segment ends, or continues
-
-without_causes : (U F P Q R S : Type 0) → (U × P × Q) ⊎ (F × R × S) → (P × Q) ⊎ (R × S)
-without_causes U F P Q R S (inl k) = inl (k.1, k.2)
-without_causes U F P Q R S (inr k) = inr (k.1, k.2)
-
-module _ (folder : List ℕ) where
-  ready_stands : (kept : Option EndFault) (a b : Moment Service) → IsReady by_segments folder kept a b → Stands a.files a.journal folder → Stands b.files b.journal folder
-  ready_stands None a b (inl h) s = subst (λ (x : Moment Service). Stands x.files x.journal folder) (sym h.1) s
-  ready_stands None a b (inr h) s =
-      let f = h.1.file in
-      ended_stand a.files f.between b.files a.journal b.journal folder _ _ _ _ f.settled f.put h.1.journal s
-  ready_stands (Some why) a b h s = kept_stand a.files b.files a.journal b.journal folder (segment_file folder a.number) (without_causes (IsUnprepared by_segments a.service a.number why) (IsFileCause why) (b.files ≡ a.files) (b.journal ≡ a.journal)
-      (Replaces a.files b.files (segment_file folder a.number) a.journal) (IfSome a.files (λ _. IfSome a.journal (λ bytes. b.journal ≡ Some bytes))) h.1.file) s
-
-  -- after a part
-  part_stands : (a : Moment Service) (p : Part Service) → IsReady by_segments folder p.kept a p.from → IsPart answering p → Stands a.files a.journal folder → Stands p.from.files p.from.journal folder × Stands p.to.files p.to.journal folder
-  part_stands a p ready part s =
-      let from = ready_stands p.kept a p.from ready s in
-      let to = same_locked p.from.files p.to.files folder (lines_same (stand_of p.from) (stand_of p.to) p.lines p.said p.noted part.answers) from.0 in
-      (from, added_stand p.to.files p.from.journal p.to.journal folder p.noted part.wrote to from.1 from.2)
-
-  -- a part after the other
-  parts_locked : (a b : Moment Service) (ps : List (Part Service)) → AreParts answering by_segments folder a ps b → Stands a.files a.journal folder → AreUnderLock folder ps
-  parts_locked a b [] h s = tt
-  parts_locked a b (p ∷ ps) h s =
-      let at = part_stands a p h.0 h.1 s in
-      ((at.0.0, at.1.0), parts_locked p.to b ps h.2 at.1)
-
-  -- after all parts
-  parts_stand : (a b : Moment Service) (ps : List (Part Service)) → AreParts answering by_segments folder a ps b → Stands a.files a.journal folder → Stands b.files b.journal folder
-  parts_stand a b [] h s = subst (λ (x : Moment Service). Stands x.files x.journal folder) (sym h) s
-  parts_stand a b (p ∷ ps) h s = parts_stand p.to b ps h.2 (part_stands a p h.0 h.1 s).1
-
-  -- ---- where serving ends with a fault
-
-  left_locked : (a : Moment Service) (is : Option Held) → IsLeft by_segments folder a is → Stands a.files a.journal folder → StandsLocked is folder
-  left_locked a is (inl same) s = same_locked a.files is folder same s.0
-  left_locked a is (inr (inl settled)) s = settled_locked a.files is folder (segment_file folder a.number) s.1 a.journal s.2 settled s.0
-  left_locked a is (inr (inr (next, put))) s =
-      put_locked put.between is folder (segment_file folder (a.number + 1)) (by_segments.text next (a.number + 1) put.behind) put.put
-      (settled_locked a.files put.between folder (segment_file folder a.number) s.1 a.journal s.2 put.settled s.0)
-
-  stopped_locked : (mid : Moment Service) (new : Service) (is : Option Held) (before after : Option (List ℕ)) (behind : List ℕ) → IsStopped answering by_segments folder mid new is before after behind → Stands mid.files mid.journal folder → StandsLocked is folder
-  stopped_locked mid new is before after behind (inl h) s = left_locked mid is h.2 s
-  stopped_locked mid new is before after behind (inr (kept, from, journal, ready, stops)) s =
-      same_locked from.files is folder
-      (lines_same stops.mid (stand new is) stops.untold.lines stops.unsaid (stops.front ++ stops.back) stops.untold.answers
-      ∙ lines_same (stand_of from) stops.mid stops.told.lines stops.said stops.noted stops.told.answers)
-      (ready_stands kept mid from ready s).0
+abbrev parts_stand : (folder : List ℕ) (a b : Moment Service) (ps : List (Part Service)) → AreParts answering by_segments folder a ps b → Stands a.files a.journal folder → Stands b.files b.journal folder
+parts_stand folder = served.parts_stand answering by_segments line_same folder
 
 -- ---- from the start on
 
@@ -106,7 +55,7 @@ begun_stands words holders start before there listed locked started some first b
 pub under_lock : (words : LocksWords) (holders : List Hold) (start : Place) (end : Service) (before there listed after : Option Held) (was is old new : Option (List ℕ)) → IsLocked before there (folder_of words) → AreStarted (folder_of words) (list_of words) holders there listed start
     → (run : IsRun words start end listed after was is old new) → IsSome before → AreUnderLock (folder_of words) run.served.parts
 under_lock words holders start end before there listed after was is old new locked started run some =
-    parts_locked (folder_of words) run.first run.last run.served.parts run.served.served
+    served.parts_locked answering by_segments line_same (folder_of words) run.first run.last run.served.parts run.served.served
     (begun_stands words holders start before there listed locked started some run.first run.started)
 
 -- ---- when it ends
@@ -124,7 +73,7 @@ refused_locked words holders start before there listed after was is old new e lo
 refused_locked words holders start before there listed after was is old new e locked started some (inr (first, begun, inl broken)) =
     let folder = folder_of words in
     let s = broken.served in
-    inr (stopped_locked folder s.mid broken.end after s.before new s.behind s.stopped
+    inr (served.stopped_locked answering by_segments line_same folder s.mid broken.end after s.before new s.behind s.stopped
     (parts_stand folder first s.mid s.parts s.served (begun_stands words holders start before there listed locked started some first begun)))
 refused_locked words holders start before there listed after was is old new e locked started some (inr (first, begun, inr (last, served, same, named))) =
     let folder = folder_of words in

@@ -30,24 +30,24 @@ use Rattle.lock_commands.specs.Refusals.{fault_of_list, IsStartName, IsBeginName
 use Rattle.lock_commands.specs.HoldersFile.{holders_word, name_of, HasNoHolders}
 use Rattle.lock_commands.specs.Locks.{folder_of, list_of, IsUnbegun, IsRunRefused, IsStartRefused, IsRefusedIn, IsRefusedWith, IsLocksRefusal}
 
-abbrev is_word : StartFault → Bool
+abbrev pub is_word : StartFault → Bool
 is_word (start.Word e) = true
 is_word _ = false
 
-abbrev is_list : ToolError → Bool
+abbrev pub is_list : ToolError → Bool
 is_list tool.BadList = true
 is_list _ = false
 
 -- ---- a word that is a list is not refused as none
 
-of_ring : (place : ℕ) (b : Option Base) (s : Option SavedRing) (l : Listed) (e : ListError) →
+pub of_ring : (place : ℕ) (b : Option Base) (s : Option SavedRing) (l : Listed) (e : ListError) →
     IsRingFault place s l (start.Word e) ⊎ (IsFull place b s l (start.Word e) ⊎ (start.Word e ≡ start.OutOfMemory)) → ⊥
 of_ring place b None l e (inl h) = h
 of_ring place b (Some s) l e (inl h) = h
 of_ring place b s l e (inr (inl h)) = false≢true (sym (ap is_word h.0))
 of_ring place b s l e (inr (inr h)) = false≢true (sym (ap is_word h))
 
-of_rings : (bs : List Base) (ss : List SavedRing) (ls : List Listed) (e : ListError) → AreRingsRefused bs ss ls (start.Word e) → ⊥
+pub of_rings : (bs : List Base) (ss : List SavedRing) (ls : List Listed) (e : ListError) → AreRingsRefused bs ss ls (start.Word e) → ⊥
 of_rings bs ss ls e (inl (same, more)) = false≢true (sym (ap is_word same))
 of_rings bs ss ls e (inr (place, l, at, h)) = of_ring place (slice_get bs place) (slice_get ss place) l e h
 
@@ -61,7 +61,7 @@ of_handing : (files : Option Held) (folder : List ℕ) (range : Option SegmentNu
 of_handing files folder range ls holders e (inl h) = of_place files folder range ls e h
 of_handing files folder range ls holders e (inr (found, stands, h)) = h
 
-of_listless : (range : Option SegmentNumbers) (word : Option (List ℕ)) (e : ListError) → IsListless range word (start.Word e) → ⊥
+pub of_listless : (range : Option SegmentNumbers) (word : Option (List ℕ)) (e : ListError) → IsListless range word (start.Word e) → ⊥
 of_listless None word e h = h
 of_listless (Some r) word e h = h
 
@@ -91,7 +91,7 @@ of_word files folder word holders listed (inr (entries, lists, inr (range, right
 
 -- ---- the names of refusals
 
-of_names : (folder : List ℕ) (error : FolderError) → IsFolderFault folder error tool.BadList → ⊥
+pub of_names : (folder : List ℕ) (error : FolderError) → IsFolderFault folder error tool.BadList → ⊥
 of_names folder names.Unlisted h = h
 of_names folder (names.Foreign entry) h = h
 of_names folder (names.Irregular n) h = h
@@ -120,16 +120,19 @@ of_fault files folder file word holders (start.UnreadSegment n) listed refused h
 of_fault files folder file word holders (start.Segment n error) listed refused h = h
 of_fault files folder file word holders (start.OtherRing i) listed refused h = h
 of_fault files folder file word holders (start.Full i) listed refused h = h
+of_fault files folder file word holders start.NoPool listed refused h = h
+of_fault files folder file word holders (start.Remark n l cause) listed refused h = h
+of_fault files folder file word holders (start.Names cause) listed refused h = h
 of_fault files folder file word holders (start.Holder l) listed refused h = h
 of_fault files folder file word holders start.Unsaved listed refused h = h
 of_fault files folder file word holders start.OutOfMemory listed refused h = h
 
-of_begin : (folder : List ℕ) (why : EndFault) → IsBeginName folder why tool.BadList → ⊥
+pub of_begin : (folder : List ℕ) (why : EndFault) → IsBeginName folder why tool.BadList → ⊥
 of_begin folder end.File h = h
 of_begin folder end.OutOfMemory h = h
 of_begin folder end.Full h = h
 
-of_loop : (folder : List ℕ) (why : LoopFault) → IsLoopName folder why tool.BadList → ⊥
+pub of_loop : (folder : List ℕ) (why : LoopFault) → IsLoopName folder why tool.BadList → ⊥
 of_loop folder loop.Read h = h
 of_loop folder loop.Journal h = h
 of_loop folder loop.Write h = h
@@ -157,7 +160,7 @@ of_folder words holders before after was is old new listed (inl (unserved, left,
 of_folder words holders before after was is old new listed (inr (there, locked, inl (unserved, h))) = of_unstarted words holders there after listed h
 of_folder words holders before after was is old new listed (inr (there, locked, inr (saved, place, started, h))) = of_run words place saved after was is old new h
 
-of_holders : (files : Option Held) (file : Option (List ℕ)) → HasNoHolders files file tool.BadList → ⊥
+pub of_holders : (files : Option Held) (file : Option (List ℕ)) → HasNoHolders files file tool.BadList → ⊥
 of_holders files None h = h
 of_holders files (Some name) (inl (inl h)) = h
 of_holders files (Some name) (inl (inr (from, left, opens, h))) = h

@@ -2,6 +2,10 @@ pub mod Refusals
 pub mod HoldersFile
 pub mod Totals
 pub mod Locks
+pub mod NamesStarted
+pub mod NameRuns
+pub mod NamesLasting
+pub mod Lending
 pub mod Lasting
 pub mod Life
 pub mod HoldNames

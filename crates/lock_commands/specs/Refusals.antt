@@ -9,8 +9,11 @@ use Rattle.line_service.specs.declared.faults.LoopFault.TheVariants as loop
 use Rattle.folder_of_locks.specs.declared.locks.ListError.{ListError}
 use Rattle.folder_of_locks.specs.declared.locks.ListError.TheVariants as list
 use Rattle.folder_of_locks.specs.Lists.{Listed, IsLockList, IsWordFault}
+use Rattle.folder_of_locks.specs.Pools.{Pooled, IsPooledWord, IsPooledWordFault}
 use Rattle.folder_of_locks.specs.declared.faults.StartFault.{StartFault}
 use Rattle.folder_of_locks.specs.declared.faults.StartFault.TheVariants as start
+use Rattle.name_remarks.specs.declared.recorded.NotTaken.{NotTaken}
+use Rattle.name_remarks.specs.declared.recorded.NotTaken.TheVariants as not
 use Rattle.line_service.specs.declared.segmented.EndFault.{EndFault}
 use Rattle.line_service.specs.declared.segmented.EndFault.TheVariants as end
 use Rattle.tool_parts.specs.declared.faults.ToolError.{ToolError}
@@ -32,6 +35,12 @@ fault_of_list (list.Size place error) = tool.Ring place (cause_of error)
 fault_of_list (list.Twice place) = tool.Twice place
 fault_of_list list.OutOfMemory = tool.OutOfMemory
 
+-- why a line of a segment says nothing of names
+abbrev pub remark_cause : NotTaken → List ℕ
+remark_cause not.Misspelled = codes "misspelled"
+remark_cause not.Ring = codes "no such ring"
+remark_cause not.OutOfMemory = codes "out of memory"
+
 -- the refusal for locks of this folder that do not start, with holders of the file of this name
 abbrev pub IsStartName : List ℕ → List ℕ → StartFault → ToolError → Type 0
 IsStartName folder file (start.Folder error) e = IsFolderFault folder error e
@@ -50,6 +59,10 @@ IsStartName folder file (start.Segment n error) (tool.Segment named number cause
 IsStartName folder file (start.OtherRing i) (tool.OtherRing named place) =
     (named.now ≡ folder) × (place ≡ i)
 IsStartName folder file (start.Full i) (tool.Full place) = place ≡ i
+IsStartName folder file start.NoPool (tool.BadLocks named) = named.now ≡ folder
+IsStartName folder file (start.Remark n l why) (tool.WrongNames named number line cause) =
+    (named.now ≡ folder) × (number ≡ n) × (line ≡ l) × (cause.now ≡ remark_cause why)
+IsStartName folder file (start.Names why) (tool.BadNames named) = named.now ≡ folder
 IsStartName folder file (start.Holder l) (tool.NoOpenHold named line) =
     (named.now ≡ file) × (line ≡ l)
 IsStartName folder file start.Unsaved (tool.Save named) = named.now ≡ folder
@@ -79,7 +92,18 @@ abbrev pub IsListIf : Option (List ℕ) → Type 0
 IsListIf None = Unit {0}
 IsListIf (Some word) = (locks : List Listed) × IsLockList word locks
 
+-- the same, with a pool or without one
+abbrev pub IsPooledListIf : Option (List ℕ) → Type 0
+IsPooledListIf None = Unit {0}
+IsPooledListIf (Some word) = (l : Pooled) × IsPooledWord word l
+
 -- the word is none, and is refused so
 abbrev pub IsNoListFor : Option (List ℕ) → ToolError → Type 0
 IsNoListFor None e = ⊥
 IsNoListFor (Some word) e = (error : ListError) × IsWordFault word error × (e ≡ fault_of_list error)
+
+-- the same of a list that may have a pool
+abbrev pub IsNoPooledListFor : Option (List ℕ) → ToolError → Type 0
+IsNoPooledListFor None e = ⊥
+IsNoPooledListFor (Some word) e =
+    (error : ListError) × IsPooledWordFault word error × (e ≡ fault_of_list error)

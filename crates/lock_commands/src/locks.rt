@@ -33,7 +33,7 @@ use tool_parts::locking::lock_folder;
 use tool_parts::requests::LocksWords;
 
 /// The terms on which lines are answered.
-fn terms_of(words: &LocksWords<'_>) -> Terms
+pub(crate) fn terms_of(words: &LocksWords<'_>) -> Terms
     ensures { result ≡ terms_of words.now }
 {
     Terms {

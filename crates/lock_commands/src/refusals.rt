@@ -2,10 +2,11 @@
 
 ghost use Rattle.std.specs.Prelude.{◌≡◌};
 ghost use Rattle.tool_parts.specs.Chained.{IsFolderFault};
-ghost use Rattle.lock_commands.specs.Refusals.{cause_of, fault_of_list, IsStartName, IsBeginName, IsLoopName};
+ghost use Rattle.lock_commands.specs.Refusals.{cause_of, remark_cause, fault_of_list, IsStartName, IsBeginName, IsLoopName};
 
 use folder_of_locks::{ListError, StartFault};
 use line_service::{EndFault, FolderError, LoopFault};
+use name_remarks::NotTaken;
 use ring_settings::RingCause;
 use ring_state::ParamsError;
 use tool_parts::faults::ToolError;
@@ -48,6 +49,17 @@ fn folder_refusal<'a>(error: FolderError, folder: &'a str) -> ToolError<'a>
     }
 }
 
+/// Why a line of a segment says nothing of names.
+fn remark_cause(why: NotTaken) -> &'static str
+    ensures { result.now ≡ remark_cause why }
+{
+    match why {
+        NotTaken::Misspelled => "misspelled",
+        NotTaken::Ring => "no such ring",
+        NotTaken::OutOfMemory => "out of memory",
+    }
+}
+
 /// Returns the refusal for locks of a folder that do not start, with holders of a file.
 pub(crate) fn start_refusal<'a>(fault: StartFault, folder: &'a str, file: &'a str) -> ToolError<'a>
     ensures { IsStartName folder.now file.now fault result }
@@ -65,6 +77,12 @@ pub(crate) fn start_refusal<'a>(fault: StartFault, folder: &'a str, file: &'a st
         StartFault::Segment(number, error) => ToolError::Segment(folder, number, error),
         StartFault::OtherRing(place) => ToolError::OtherRing(folder, place),
         StartFault::Full(place) => ToolError::Full(place as u64),
+        // a list with a pool is started by names only
+        StartFault::NoPool => ToolError::BadLocks(folder),
+        StartFault::Remark(number, line, why) => {
+            ToolError::WrongNames(folder, number, line, remark_cause(why))
+        }
+        StartFault::Names(_) => ToolError::BadNames(folder),
         StartFault::Holder(line) => ToolError::NoOpenHold(file, line),
         StartFault::Unsaved => ToolError::Save(folder),
         StartFault::OutOfMemory => ToolError::OutOfMemory,

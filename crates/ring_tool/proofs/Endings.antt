@@ -9,7 +9,7 @@ use Rattle.ring_tool.specs.Answered.{IsAnswer, IsRefusal, IsOfLines, IsOfFile, M
 use Rattle.ring_tool.specs.Ended.{IsRefused, HasEnded}
 use Rattle.ring_tool.specs.Left.{HasFront, HasLine, HasEndedAnswered}
 use Rattle.serve_commands.proofs.ServeRefusals.{no_list}
-use Rattle.lock_commands.proofs.UnreadLists.{unread_list_keeps}
+use Rattle.lock_commands.proofs.UnreadNames.{unread_lists_keep}
 use Rattle.tool_parts.specs.Faults.{is_bad_list, status_of}
 use Rattle.tool_parts.specs.Worlds.{World, world}
 use Rattle.tool_parts.specs.declared.faults.ToolError.{ToolError}
@@ -106,7 +106,7 @@ files_kept (asked.Join words) was is refused kept = kept (λ lines. lines)
 files_kept (asked.New words) was is refused kept = kept (λ lines. lines)
 files_kept (asked.Holds words) was is refused kept = kept (λ lines. lines)
 files_kept (asked.Serve words) was is refused kept = absurd (no_list words was is refused)
-files_kept (asked.Locks words) was is refused kept = unread_list_keeps words was is refused
+files_kept (asked.Locks words) was is refused kept = unread_lists_keep words was is refused
 
 -- what holds of an answer, or of a refusal
 pub of_ok : {E : Type 0} (P : Type 0) (r : Result (Unit {0}) E) (u : Unit {0}) → r ≡ Ok u → OnOk r P → P

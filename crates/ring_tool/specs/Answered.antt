@@ -16,7 +16,7 @@ use Rattle.text_commands.specs.Upgraded.{IsUpgradeAnswer, IsUpgradeRefusal}
 use Rattle.tool_parts.specs.Worlds.{World, world}
 use Rattle.tool_parts.specs.declared.faults.ToolError.{ToolError}
 use Rattle.tool_parts.specs.declared.faults.ToolError.TheVariants as tool
-use Rattle.lock_commands.specs.Locks.{IsLocksAnswer, IsLocksRefusal}
+use Rattle.lock_commands.specs.Lending.{IsLendingAnswer, IsLendingRefusal}
 use Rattle.lock_commands.specs.HoldsAnswer.{IsHoldsAnswer, IsHoldsRefusal}
 use Rattle.tool_parts.specs.declared.requests.Request.{Request}
 use Rattle.tool_parts.specs.declared.requests.Request.TheVariants as request
@@ -40,7 +40,7 @@ IsAnswer (request.Picture words) was is = IsPictureAnswer words was is
 IsAnswer (request.Upgrade words) was is = IsUpgradeAnswer words was is
 IsAnswer (request.New words) was is = IsNewAnswer words was.out is.out × (is.files ≡ was.files)
 IsAnswer (request.Serve words) was is = IsServeAnswer words was is
-IsAnswer (request.Locks words) was is = IsLocksAnswer words was is
+IsAnswer (request.Locks words) was is = IsLendingAnswer words was is
 IsAnswer (request.Holds words) was is =
     IsHoldsAnswer words (unheard was) (unheard is) × (is.files ≡ was.files)
 IsAnswer (request.Recover words) was is = IsRecoverAnswer words was is
@@ -62,7 +62,7 @@ IsRefusal (request.Upgrade words) was is e = IsUpgradeRefusal words was is e
 IsRefusal (request.New words) was is e =
     IsNewRefusal words was.out is.out e × (is.files ≡ was.files)
 IsRefusal (request.Serve words) was is e = IsServeRefusal words was is e
-IsRefusal (request.Locks words) was is e = IsLocksRefusal words was is e
+IsRefusal (request.Locks words) was is e = IsLendingRefusal words was is e
 IsRefusal (request.Holds words) was is e =
     IsHoldsRefusal words (unheard was) (unheard is) e × (is.files ≡ was.files)
 IsRefusal (request.Recover words) was is e = IsRecoverRefusal words was is e

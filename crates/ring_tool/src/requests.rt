@@ -9,7 +9,7 @@ ghost use Rattle.tool_parts.specs.Worlds.{world};
 use crate::ends::{Ending, done, fail};
 use disks::Disk;
 use folder_commands::{join, recover};
-use lock_commands::{holds, locks};
+use lock_commands::{holds, lending};
 use run_commands::{fresh, run, step};
 use serve_commands::serve;
 use std::io::{BufWriter, Read, Write};
@@ -51,7 +51,7 @@ pub fn answer<'a, R: AllocGlobal + Threads + Wait + Sync, D: Disk, I: Read, O: W
         Request::Join(words) => join::run(rt.alloc(), disk, words, out, err),
         Request::New(words) => fresh::run(rt.alloc(), words, out),
         Request::Serve(words) => serve::run(rt.alloc(), disk, words, input, out, err),
-        Request::Locks(words) => locks::run(rt.alloc(), disk, words, input, out, err),
+        Request::Locks(words) => lending::run(rt.alloc(), disk, words, input, out, err),
         Request::Holds(words) => holds::run(rt.alloc(), disk, words, input, out),
     }
 }
