@@ -128,15 +128,24 @@ class Locks:
         self.cut_if_due()
 
     def put_file(self):
+        self.files[self.number] = [line + "\n" for line in self.beginning()]
+
+    def beginning(self):
+        """The lines with which the segment begins."""
         head = [f"ringsegment 1 {self.number} {len(self.locks)}", f"behind {self.behind}"]
         head += ["base " + " ".join(map(str, it.ring.base)) for it in self.locks]
         saved = [line for place, it in enumerate(self.locks) for line in it.ring.block(place)]
-        text = [*head, "ringjournal 1", "ringfarm 2", *saved, f"done {len(self.locks)}"]
-        self.files[self.number] = [line + "\n" for line in text]
+        return [*head, "ringjournal 1", "ringfarm 2", *saved, f"done {len(self.locks)}"]
+
+    def is_due(self):
+        return not self.left
 
     def cut_if_due(self):
-        if self.left:
-            return
+        if self.is_due():
+            self.cut()
+
+    def cut(self):
+        """The segment ends, and the next one begins."""
         whole = "".join(self.files[self.number])
         self.files[self.number] = [whole]
         self.behind, self.number = hashlib.sha256(whole.encode()).hexdigest(), self.number + 1
@@ -179,14 +188,18 @@ class Locks:
         self.said, self.noted = [], []
         if word == "leave":
             self.leave(client)
-        elif named[0] not in self.places:
-            self.said.append(f"{client} refused lock {named[0]}")
         else:
-            getattr(self, word)(client, self.places[named[0]], *map(int, numbers))
+            self.ask(client, word, named[0], *map(int, numbers))
         self.files[self.number] += self.noted
-        self.left = max(self.left - len(self.noted), 0)
+        self.left = max(self.left - sum(not it.startswith("#") for it in self.noted), 0)
         self.cut_if_due()
         return self.said
+
+    def ask(self, client, word, name, *numbers):
+        if name in self.places:
+            getattr(self, word)(client, self.places[name], *numbers)
+        else:
+            self.said.append(f"{client} refused lock {name}")
 
     def say(self, client, word, lock, *numbers):
         self.said.append(" ".join(map(str, (client, word, self.locks[lock].name, *numbers))))
