@@ -27,13 +27,13 @@ use Rattle.lock_commands.proofs.ServedLocked as served
 
 -- ---- no line changes a file
 
-line_same : ChangesNoFile names_answering
-line_same =
+pub names_line_same : ChangesNoFile names_answering
+names_line_same =
     restored_leads (IsReplied IsNameServed) (lines_of name_state_lines) (λ was is. is ≡ was) (λ was is e. e)
     (replied_leads IsNameServed (λ was is. is ≡ was) (λ was is e. e) (λ old new was is line said noted a. a.files))
 
 abbrev parts_stand : (folder : List ℕ) (a b : Moment NamesService) (ps : List (Part NamesService)) → AreParts names_answering names_by_segments folder a ps b → Stands a.files a.journal folder → Stands b.files b.journal folder
-parts_stand folder = served.parts_stand names_answering names_by_segments line_same folder
+parts_stand folder = served.parts_stand names_answering names_by_segments names_line_same folder
 
 -- files that are known stay so, and a folder that is locked
 pub parts_known : (folder : List ℕ) (a b : Moment NamesService) (ps : List (Part NamesService)) → AreParts names_answering names_by_segments folder a ps b → Stands a.files a.journal folder → StandsLocked b.files folder
@@ -67,7 +67,7 @@ pub names_under_lock : (words : LocksWords) (holders : List Hold) (start : NameP
     → AreNamesStarted (folder_of words) (list_of words) words.most_names holders there listed start
     → (run : IsNamesRun words start end listed after was is old new) → IsSome before → NamesAreUnderLock (folder_of words) run.served.parts
 names_under_lock words holders start end before there listed after was is old new locked started run some =
-    served.parts_locked names_answering names_by_segments line_same (folder_of words) run.first run.last run.served.parts run.served.served
+    served.parts_locked names_answering names_by_segments names_line_same (folder_of words) run.first run.last run.served.parts run.served.served
     (begun_stands words holders start before there listed locked started some run.first run.started)
 
 -- ---- when it ends
@@ -87,7 +87,7 @@ names_refused_locked words holders start before there listed after was is old ne
 names_refused_locked words holders start before there listed after was is old new e locked started some (inr (first, begun, inl broken)) =
     let folder = folder_of words in
     let s = broken.served in
-    inr (served.stopped_locked names_answering names_by_segments line_same folder s.mid broken.end after s.before new s.behind s.stopped
+    inr (served.stopped_locked names_answering names_by_segments names_line_same folder s.mid broken.end after s.before new s.behind s.stopped
     (parts_stand folder first s.mid s.parts s.served (begun_stands words holders start before there listed locked started some first begun)))
 names_refused_locked words holders start before there listed after was is old new e locked started some (inr (first, begun, inr (last, all, same, named))) =
     let folder = folder_of words in
