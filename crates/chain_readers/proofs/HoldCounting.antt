@@ -5,7 +5,9 @@ use Rattle.std.proofs.Math.ListN.{get_or-map}
 use Rattle.chain_readers.specs.declared.holds.Hold.{Hold}
 use Rattle.chain_readers.specs.declared.hold_lines.Choice.{Choice}
 use Rattle.chain_readers.specs.Labels.{chosen_of, all_chosen}
-use Rattle.chain_readers.proofs.LineLaws.{items}
+
+abbrev items : Vec Hold Global → List Hold
+items v = v.items
 
 pub lock_chosen : (choice : Choice) (locks : List (Vec Hold Global)) (i : ℕ) (v : Vec Hold Global) (holds before all : List Hold) → i < length locks → v ≡ get_or locks i v → holds ≡ v.items →
     before ++ all_chosen choice i (drop i (map items locks)) ≡ all → (before ++ chosen_of choice i holds) ++ all_chosen choice (i + 1) (drop (i + 1) (map items locks)) ≡ all

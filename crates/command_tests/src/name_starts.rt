@@ -21,6 +21,7 @@ const HEAD: [&str; 5] = [
     "base 0 0 0 0",
     "base 0 0 0 0",
 ];
+
 const JOURNAL: [&str; 12] = [
     "ringjournal 1",
     "ringfarm 2",
@@ -136,7 +137,13 @@ fn a_hold_is_handed_over_by_its_name(rt: HostRuntime) -> Result<(), Fail> {
         panic!(rt; "refused");
     };
     let holder = start.names.locks().holder(2);
-    assert!(rt; holder == Some(Holder { client: 7, token: 1 }));
+    assert!(rt;
+        holder
+            == Some(Holder {
+                client: 7,
+                token: 1
+            })
+    );
     Ok(())
 }
 
@@ -145,7 +152,12 @@ fn names_that_are_wrong_are_refused(rt: HostRuntime) -> Result<(), Fail> {
     let unnamed = started(rt.alloc(), &["1 p 0 0 77 g 1 77"], b"", &[])?;
     assert!(rt; matches!(unnamed, Err(StartFault::Names(NotRestored::Unnamed))));
     let misspelled = started(rt.alloc(), &["# floor 0", "# free 01"], b"", &[])?;
-    assert!(rt; matches!(misspelled, Err(StartFault::Remark(1, 19, NotTaken::Misspelled))));
+    assert!(rt;
+        matches!(
+            misspelled,
+            Err(StartFault::Remark(1, 19, NotTaken::Misspelled))
+        )
+    );
     let no_ring = started(rt.alloc(), &["# floor 0", "# free 3"], b"", &[])?;
     assert!(rt; matches!(no_ring, Err(StartFault::Remark(1, 19, NotTaken::Ring))));
     let top = started(rt.alloc(), &["# floor 9223372036854775808"], b"", &[])?;

@@ -1,5 +1,5 @@
 -- Why locks by any name of a list that a word names do not start.
-use Rattle.std.proofs.Common.{◌≡◌, ◌⊎◌, inl, inr, ℕ, List, Bool, true, false, Option, Some, None, sym, subst}
+use Rattle.std.proofs.Common.{◌≡◌, ◌⊎◌, inl, inr, ℕ, List, Bool, true, Option, Some, sym, subst}
 use Rattle.disks.specs.Held.{Held}
 use Rattle.line_service.specs.declared.segment_numbers.SegmentNumbers.{SegmentNumbers}
 use Rattle.folder_of_locks.specs.Pools.{Pooled, IsPooledWord, ContinuesPooled}

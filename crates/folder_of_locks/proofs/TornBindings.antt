@@ -2,7 +2,7 @@
 use Rattle.std.proofs.Common.{◌≡◌, ◌∙◌, ℕ, Bool, true, false, List, Option, Some, Ok, Err, Bor, sym, ap, subst}
 use Rattle.std.proofs.lemmas.Bool.{false≢true}
 use Rattle.held_locks.specs.Kept.{LockView}
-use Rattle.name_remarks.specs.Remarks.{Binding, Remark, bind, free, top, IsRemark}
+use Rattle.name_remarks.specs.Remarks.{Remark, bind, free, top, IsRemark}
 use Rattle.name_remarks.specs.declared.remarks.NameRemark.{NameRemark as Read}
 use Rattle.name_remarks.specs.declared.remarks.NameRemark.TheVariants as reads
 use Rattle.name_remarks.specs.declared.remarks.Misspelled.{Misspelled}

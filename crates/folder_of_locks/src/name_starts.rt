@@ -281,7 +281,15 @@ pub fn start_names<D: Disk>(
         Err(error) => return Err(StartFault::Folder(error)),
     };
     let has = has_list(&entries);
-    match start_in(alloc, disk, folder, has, range, word, Given { most, holders }) {
+    match start_in(
+        alloc,
+        disk,
+        folder,
+        has,
+        range,
+        word,
+        Given { most, holders },
+    ) {
         Ok(start) => Ok(start),
         Err(fault) => Err(fault),
     }

@@ -2,9 +2,11 @@
 use Rattle.std.proofs.Common.{◌≡◌, ℕ, zero, suc, ◌+◌, ◌<◌, ◌≤◌, Bool, true, false, List, [], ◌∷◌, length, get_or, Option, None, Some, inl, inr, refl, sym, ◌∙◌, ap, subst, arith}
 use Rattle.std.specs.Prelude.{nat_le, nat_lt, ◌&&◌, if◌then◌else◌, slice_get}
 use Rattle.std.proofs.lemmas.Bool.{le-leb, leb-true, and_parts, and_from, both_ways, cases_Bool, cases_eq, ltb-true, ltb-false}
-use Rattle.std.proofs.lemmas.Option.{slice_get-get_or, slice_get_within}
+use Rattle.std.proofs.lemmas.List.{ext_get_or}
+use Rattle.std.proofs.lemmas.Option.{slice_get-get_or, slice_get_within, get_or_from_slice_get}
 use Rattle.lock_names.proofs.Found.{some_same, none_some}
 use Rattle.name_check.specs.declared.lines.Ring.{Ring}
+use Rattle.name_check.specs.Entries.{fresh_ring}
 use Rattle.name_check.specs.Judged.{first_held, restated}
 use Rattle.name_check.specs.Kept.{is_unknown, is_between, IsSoundDue}
 
@@ -121,3 +123,27 @@ scan_more low at rings d lt idle none i g le less e = elim (cases_eq i at) [
 pub scan_past : (low at : ℕ) (rings : List Ring) → length rings ≤ at → NoneBefore low at rings → None ≡ first_held low 0 rings
 scan_past low at rings past none =
     sym (scan_none low at rings (λ i g e. let lt : i < length rings = slice_get_within rings i g e in omega arith) none (first_held low 0 rings) refl)
+
+-- ---- the same rings
+
+abbrev pub SameBefore : ℕ → List Ring → List Ring → Type 0
+SameBefore at known rings = (j : ℕ) → j < at → slice_get known j ≡ slice_get rings j
+
+pub same_more : (at : ℕ) (known rings : List Ring) (d e : Ring) → at < length known → at < length rings → get_or known at d ≡ get_or rings at e → SameBefore at known rings → SameBefore (at + 1) known rings
+same_more at known rings d e lt less same before j k = elim (cases_eq j at) [
+  | inl q ↦
+      ap (λ (n : ℕ). slice_get known n) q
+      ∙ slice_get-get_or known at d lt
+      ∙ ap (λ (g : Ring). Some g) same
+      ∙ sym (slice_get-get_or rings at e less)
+      ∙ ap (λ (n : ℕ). slice_get rings n) (sym q)
+  | inr q ↦ before j (omega (arith, q, k))
+]
+
+pub same_all : (known rings : List Ring) → length known ≡ length rings → SameBefore (length known) known rings → known ≡ rings
+same_all known rings many before =
+    ext_get_or fresh_ring known rings many (λ i lt. sym (get_or_from_slice_get rings i (get_or known i fresh_ring) fresh_ring (sym (before i lt) ∙ slice_get-get_or known i fresh_ring lt)))
+
+pub same_here : (at : ℕ) (known rings : List Ring) (d e : Ring) → at < length known → at < length rings → known ≡ rings → get_or known at d ≡ get_or rings at e
+same_here at known rings d e lt less same =
+    some_same (get_or known at d) (get_or rings at e) (sym (slice_get-get_or known at d lt) ∙ ap (λ (gs : List Ring). slice_get gs at) same ∙ slice_get-get_or rings at e less)

@@ -12,6 +12,7 @@ use Rattle.name_check.specs.declared.lines.Line.{Line}
 use Rattle.name_check.specs.declared.lines.Line.TheVariants as line
 use Rattle.name_check.specs.declared.notes.Notes.{Notes}
 use Rattle.name_check.specs.declared.wrongs.Wrong.{Wrong}
+use Rattle.name_check.specs.declared.wrongs.Wrong.TheVariants as why
 use Rattle.name_check.specs.declared.wrongs.Refused.{Refused}
 use Rattle.name_check.specs.declared.wrongs.Refused.TheVariants as refused
 use Rattle.name_check.specs.Entries.{Entry, Top, Bind, Free, Grant, Repair, End, Other, Judged, grants_in}
@@ -129,3 +130,11 @@ CannotBegin fixed rings not_judged.Memory = Unit {0}
 abbrev pub IsNotNext : Judged → Entry → Refused → Type 0
 IsNotNext s e (refused.Wrong w) = refusal s e ≡ Some w
 IsNotNext s e refused.Memory = refusal s e ≡ None
+
+-- ---- where a file begins, and where the last one ends
+
+-- the last file ends before its beginning is whole
+abbrev pub unbegun : Due → Option Wrong
+unbegun due.Top = Some why.NoTop
+unbegun (due.Restated q) = Some why.NotRestated
+unbegun d = None

@@ -1,9 +1,9 @@
 //! The judge: each line is right, or it is refused.
 
-ghost use Rattle.std.specs.Prelude.{◌≡◌, ℕ, ◌<◌, nat_lt, if◌then◌else◌, Some, None, length, map, slice_get, slice_set, true, IfOk, IfErr, OnOk, OnErr, string_bytes};
+ghost use Rattle.std.specs.Prelude.{◌≡◌, ◌↔◌, ℕ, ◌<◌, nat_lt, IsTrue, if◌then◌else◌, Some, None, length, map, slice_get, slice_set, true, IfOk, IfErr, OnOk, OnErr, string_bytes};
 ghost use Rattle.name_check.specs.Entries.{Top, Bind, Free, Grant, Repair, End, File, begun};
 ghost use Rattle.name_check.specs.Judged.{due_bound, closed, refused_bind, refusal};
-ghost use Rattle.name_check.specs.Kept.{seen, entry_of, IsSound, IsNoted, IsRead, IsRefused, IsWrong, IsPut, IsNotNext, CannotBegin};
+ghost use Rattle.name_check.specs.Kept.{seen, entry_of, IsSound, IsNoted, IsRead, IsRefused, IsWrong, IsPut, IsNotNext, CannotBegin, unbegun};
 
 use crate::begin::{NotJudged, add_pool, add_rings, begun_notes};
 use crate::lines::{Due, Line, Ring};
@@ -12,7 +12,7 @@ use crate::refusals::{
     refused_bind, refused_end, refused_file, refused_free, refused_grant, refused_repair,
     refused_top,
 };
-use crate::scans::restated;
+use crate::scans::{are_same, restated, unbegun};
 use crate::table::{Counts, Table};
 use crate::wrongs::{Refused, Wrong};
 use std::alloc::{AllocError, Global};
@@ -370,5 +370,20 @@ impl Judge {
         ensures why { IfErr result (λ e. IsRefused self.old (entry_of line.entry) self.new e) }
     {
         read_sound(&mut self.notes, alloc, line)
+    }
+
+    /// Whether these are the rings, as they are known.
+    pub fn has(&self, rings: &[Ring]) -> bool
+        ensures { IsTrue result ↔ (self.now.rings ≡ rings.now) }
+    {
+        are_same(&self.notes.rings, rings)
+    }
+
+    /// Why the last file may not end here, if it may not: its beginning is not whole. It may end after a binding that has no grant,
+    /// and after the end of a hold.
+    pub fn unbegun(&self) -> Option<Wrong>
+        ensures { result ≡ unbegun self.now.due }
+    {
+        unbegun(self.notes.due)
     }
 }

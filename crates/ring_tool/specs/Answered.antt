@@ -3,7 +3,7 @@ use Rattle.std.specs.Prelude.{◌≡◌, ◌≢◌, true, false, None, Result, O
 use Rattle.run_commands.specs.Stepped.{IsStepAnswer, IsStepWordsRefusal}
 use Rattle.run_commands.specs.Saved.{IsRunAnswer}
 use Rattle.run_commands.specs.Ran.{history_file, IsRunRefusal}
-use Rattle.tool_parts.specs.Checked.{IsCheckAnswer, IsCheckRunRefusal}
+use Rattle.text_commands.specs.Judged.{IsCheckAnswer, IsCheckRunRefusal}
 use Rattle.text_commands.specs.CheckedAll.{IsCheckAllAnswer, IsCheckAllRefusal}
 use Rattle.folder_commands.specs.JoinedFolder.{IsJoinAnswer, IsJoinRefusal}
 use Rattle.run_commands.specs.New.{IsNewAnswer, IsNewRefusal}

@@ -1,4 +1,5 @@
 pub mod CheckedAll
+pub mod Judged
 pub mod Pictured
 pub mod Reported
 pub mod Upgraded

@@ -8,16 +8,20 @@ ghost use Rattle.ring_check.specs.Legal.{IsLegalText};
 ghost use Rattle.saved_history.specs.Content.{content};
 ghost use Rattle.tool_parts.specs.Chained.{IsFolder};
 ghost use Rattle.tool_parts.specs.CheckText.{legal_line};
-ghost use Rattle.tool_parts.specs.Checked.{IsLegalSavedText, IsSavedTextRefusal, IsTextChecked, IsTextRefusal, IsCheckAnswer, IsCheckRefusal, IsCheckRunRefusal};
+ghost use Rattle.tool_parts.specs.Checked.{IsLegalSavedText, IsSavedTextRefusal, IsTextChecked, IsTextRefusal, IsCheckRefusal};
+ghost use Rattle.text_commands.specs.Judged.{IsFolderChecked, IsFolderUnchecked, IsCheckAnswer, IsCheckRunRefusal};
 ghost use Rattle.tool_parts.specs.Reading.{names_stream};
 ghost use Rattle.tool_parts.specs.Worlds.{world};
 
-use disks::Disk;
+use crate::names::check_names;
+use disks::{Disk, FolderEntry};
+use line_service::has_list;
 use std::alloc::Global;
 use std::io::{Read, Write};
-use tool_parts::chain::{check_folder, entries_of};
+use tool_parts::chain::{check_folder, entries_of, tell_chain};
 use tool_parts::faults::ToolError;
 use tool_parts::legal::{legal_saved, tell_sums};
+use tool_parts::looks::sums_in;
 use tool_parts::reading::{names_stream, read_named};
 use tool_parts::requests::CheckWords;
 
@@ -73,13 +77,77 @@ fn check_text<'a, D: Disk, I: Read, W: Write>(
     }
 }
 
-/// `check`, from its words: if the name leads to a folder in which there is something, it checks the chain of its segments; else
-/// it reads standard input, or the file, and checks the saved text there. No file changes.
+/// Checks the chain of a folder with a file of locks, and then, if its list has a pool, what its files say of names; and writes the
+/// line of the sums.
 ///
 /// # Errors
 ///
-/// Those of [`check_folder`]; those of reading the source that the word names, and those of [`check_bytes`]. Where a file is
-/// named, standard input stays as it was.
+/// Those of [`sums_in`], and, if there are none of these, those of [`check_names`]: nothing is written then. `Write` where the writer
+/// fails: the bytes written until then are a prefix of the line.
+fn check_locks<'a, D: Disk, W: Write>(
+    alloc: Global,
+    disk: &D,
+    folder: &'a str,
+    entries: &[FolderEntry],
+    out: &mut W,
+) -> Result<(), ToolError<'a>>
+    requires { IsFolder (D.holds disk.now) folder.now entries.now }
+    ensures ok { OnOk result (IsFolderChecked folder.now (D.holds disk.now) (W.contents out.old)
+        (W.contents out.new)) }
+    ensures err { IfErr result (λ e. IsFolderUnchecked folder.now (D.holds disk.now)
+        (W.contents out.old) (W.contents out.new) e) }
+    ensures nothing { IfErr result (λ e. e ≢ ToolError.Write → out.new ≡ out.old) }
+{
+    let (sums, digest) = match sums_in(alloc, disk, folder, entries) {
+        Ok(found) => found,
+        Err(fault) => return Err(fault),
+    };
+    match check_names(alloc, disk, folder, entries) {
+        Ok(()) => {}
+        Err(fault) => return Err(fault),
+    }
+    match tell_chain(out, &sums, &digest) {
+        Ok(()) => Ok(()),
+        Err(_) => Err(ToolError::Write),
+    }
+}
+
+/// Checks a folder with these entries, by whether it has a file of locks.
+///
+/// # Errors
+///
+/// Those of [`check_folder`] and [`check_locks`].
+fn check_named<'a, D: Disk, W: Write>(
+    alloc: Global,
+    disk: &D,
+    folder: &'a str,
+    entries: &[FolderEntry],
+    out: &mut W,
+) -> Result<(), ToolError<'a>>
+    requires { IsFolder (D.holds disk.now) folder.now entries.now }
+    ensures ok { OnOk result (IsFolderChecked folder.now (D.holds disk.now) (W.contents out.old)
+        (W.contents out.new)) }
+    ensures err { IfErr result (λ e. IsFolderUnchecked folder.now (D.holds disk.now)
+        (W.contents out.old) (W.contents out.new) e) }
+    ensures nothing { IfErr result (λ e. e ≢ ToolError.Write → out.new ≡ out.old) }
+{
+    if has_list(entries) {
+        return check_locks(alloc, disk, folder, entries, out);
+    }
+    match check_folder(alloc, disk, folder, entries, out) {
+        Ok(()) => Ok(()),
+        Err(fault) => Err(fault),
+    }
+}
+
+/// `check`, from its words: if the name leads to a folder in which there is something, it checks the chain of its segments, and, if
+/// its file of locks has a pool, what these say of the names of locks; else it reads standard input, or the file, and checks the
+/// saved text there. No file changes.
+///
+/// # Errors
+///
+/// Those of [`check_folder`], and, if there are none of these, those of the names; those of reading the source that the word names,
+/// and those of [`check_bytes`]. Where a file is named, standard input stays as it was.
 pub fn run<'a, D: Disk, I: Read, W: Write>(
     alloc: Global,
     disk: &D,
@@ -99,6 +167,6 @@ pub fn run<'a, D: Disk, I: Read, W: Write>(
 {
     match entries_of(disk, words.file) {
         None => check_text(alloc, disk, words, input, out),
-        Some(entries) => check_folder(alloc, disk, words.file, &entries, out),
+        Some(entries) => check_named(alloc, disk, words.file, &entries, out),
     }
 }

@@ -122,7 +122,7 @@ pub enum ToolError<'a> {
     /// The history of the lock of this number, in a file or a folder of segments, is not that of a lock after this many events.
     NoHold(&'a str, u64, u64),
     /// What the segment of this number in a folder says of the names of locks is wrong in this line, from 1, and why.
-    WrongNames(&'a str, u64, u64, &'static str),
+    WrongNames(&'a str, u64, u64, &'a str),
 }
 
 impl ToolError<'_> {

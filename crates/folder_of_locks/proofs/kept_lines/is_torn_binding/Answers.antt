@@ -1,6 +1,6 @@
 use Rattle.std.proofs.Common.{ap}
 use Rattle.name_remarks.specs.declared.remarks.NameRemark.{NameRemark as Read}
-use Rattle.name_remarks.specs.Views.{seen, heard, IsHeardAs}
+use Rattle.name_remarks.specs.Views.{seen}
 use Rattle.folder_of_locks.proofs.TornBindings.{binds, held_said, other_said, unread}
 use Rattle.folder_of_locks.proofs.kept_lines.is_torn_binding.Goals as goal
 

@@ -1,5 +1,4 @@
-use Rattle.std.proofs.Common.{◌≡◌, ◌∙◌, ◌<◌, length, Option, Some, None, sym, arith}
-use Rattle.held_locks.specs.declared.answers.Holder.{Holder}
+use Rattle.std.proofs.Common.{◌∙◌, ◌<◌, length, sym, arith}
 use Rattle.lock_names.proofs.Found.{there_is, none_some}
 use Rattle.folder_of_locks.proofs.kept_lines.is_unheld.Goals as goal
 

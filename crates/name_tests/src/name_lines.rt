@@ -2,7 +2,7 @@
 
 ghost use Rattle.held_locks.specs.Kept.{IsKeptRing};
 
-use crate::loops::no_files;
+use crate::memory::no_files;
 use endless_ring::EndlessRing;
 use held_locks::Locks;
 use line_service::{AnswersLines, EndFault, Pending, Segmented};

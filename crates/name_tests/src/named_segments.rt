@@ -2,7 +2,7 @@
 
 ghost use Rattle.held_locks.specs.Kept.{IsKeptRing};
 
-use crate::loops::no_files;
+use crate::memory::no_files;
 use endless_ring::EndlessRing;
 use folder_of_locks::fresh_ring;
 use held_locks::{Locks, OneAsk};

@@ -101,6 +101,8 @@ fn lines_are_accepted(rt: HostRuntime) {
         (Line::Grant(3), None),
     ];
     are_judged(&rt, alloc, &mut judge, &third);
+    assert!(&rt; judge.has(&[ring(1, false), ring(4, true), ring(1, false), ring(2, true)]));
+    assert!(&rt; !judge.has(&[ring(1, false), ring(4, true), ring(1, false), ring(1, true)]));
 }
 
 // Each line is refused for its own reason, and changes nothing.
@@ -160,7 +162,10 @@ fn lines_are_refused(rt: HostRuntime) {
         (bind(1, 0, 1, "order/1"), None),
         (bind(1, 0, 1, "order/1"), Some(Wrong::HeldRing)),
     ];
-    are_judged(&rt, alloc, &mut judge, &next);
+    are_judged(&rt, alloc, &mut judge, &next[..2]);
+    assert!(&rt; judge.unbegun() == Some(Wrong::NotRestated));
+    are_judged(&rt, alloc, &mut judge, &next[2..]);
+    assert!(&rt; judge.unbegun() == None);
     let fewer = judge.next(2);
     assert!(&rt; fewer.err() == Some(Refused::Wrong(Wrong::FewerRings)));
 }

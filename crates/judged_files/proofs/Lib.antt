@@ -1,0 +1,5 @@
+pub mod Reading
+pub mod Stepping
+pub mod Ringing
+pub mod Texts
+pub mod Lawful

@@ -1,0 +1,5 @@
+pub mod Lines
+pub mod Beginnings
+pub mod Judging
+pub mod Causes
+pub mod Laws
