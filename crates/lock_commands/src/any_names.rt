@@ -1,7 +1,7 @@
 //! `locks` with a list that has a pool: locks by any name answer the lines of standard input, with a journal in the folder's
 //! segments.
 
-ghost use Rattle.std.specs.Prelude.{◌≡◌, ◌≢◌, ◌<◌, ◌×◌, ℕ, List, true, false, OnOk, IfOk, IfErr, OnErr, IsSome, Some, map};
+ghost use Rattle.std.specs.Prelude.{◌≡◌, ◌≢◌, ◌<◌, ℕ, List, true, false, OnOk, IfOk, IfErr, OnErr, IsSome, Some, map};
 ghost use Rattle.std.specs.Option.{option_map};
 ghost use Rattle.segment_files.specs.Spelling.{DigestFits};
 ghost use Rattle.disks.specs.Lasting.{outlives};
@@ -127,9 +127,13 @@ fn begin_after<'a, D: Disk>(
     ensures whole { IfOk result (λ first. IsWholeSince D.keeps_written rules.entry.synced
         (D.holds disk.old) (D.holds disk.new) D.Grown.contents D.Grown.lasting first) }
 {
-    match begin_file(alloc, disk, number, front, rules) {
-        Ok(first) => end_first(alloc, service, disk, first, rules),
-        Err(why) => Err(begin_refusal(why, rules.folder)),
+    let first = match begin_file(alloc, disk, number, front, rules) {
+        Ok(first) => first,
+        Err(why) => return Err(begin_refusal(why, rules.folder)),
+    };
+    match end_first(alloc, service, disk, first, rules) {
+        Ok(next) => Ok(next),
+        Err(fault) => Err(fault),
     }
 }
 
@@ -201,7 +205,10 @@ fn begin<'a, D: Disk>(
         (D.holds disk.old) (D.holds disk.new) D.Grown.contents D.Grown.lasting first) }
 {
     match front {
-        Some(front) => begin_after(alloc, service, disk, number, front.as_slice(), rules),
+        Some(front) => match begin_after(alloc, service, disk, number, front.as_slice(), rules) {
+            Ok(first) => Ok(first),
+            Err(fault) => Err(fault),
+        },
         None => match begin_segment(alloc, disk, service, number, behind, rules) {
             Ok(first) => Ok(first),
             Err(why) => Err(begin_refusal(why, rules.folder)),
