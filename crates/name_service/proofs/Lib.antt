@@ -1,3 +1,17 @@
+pub mod Digits
+pub mod RingReads
+pub mod PlainNotes
+pub mod AskedRings
+pub mod LeaveOfRings
+pub mod RightNames
+pub mod RightBegin
+pub mod RingLined
+pub mod NamedJournals
+pub mod TakenNotes
+pub mod TakenLines
+pub mod NamedReplicas
+pub mod NamedRuns
+pub mod EqualNames
 pub mod Said
 pub mod LeftSame
 pub mod Reached

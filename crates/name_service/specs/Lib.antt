@@ -9,4 +9,10 @@ pub mod Segmented
 pub mod Goes
 pub mod Knows
 pub mod State
+pub mod RightNames
 pub mod RingLines
+pub mod NameLines
+pub mod NamesBack
+pub mod NameReplicas
+pub mod NamedRuns
+pub mod NameEqual

@@ -3,6 +3,7 @@
 
 mod growing;
 pub mod growth_laws;
+pub mod laws;
 mod lines;
 mod noting;
 mod segment;
