@@ -17,13 +17,18 @@ mapped_some : {A B : Type 0} (f : A → B) (o : Option A) → is_some (option_ma
 mapped_some f None = refl
 mapped_some f (Some x) = refl
 
+-- the service begins so, by the lines that are put there again
+pub begins_with_lines : {A : Type 0} (items : A → List ℕ) (words : LocksWords) (start : NamePlace) (lines : Option A) (due : Bool) (service : NamesService) → due ≡ is_some lines → NamesBeginWith words due start.names start.size service
+    → NamesBeginWith words (is_some (option_map items lines)) start.names start.size service
+begins_with_lines items words start lines due service is begins = subst (λ (b : Bool). NamesBeginWith words b start.names start.size service) (is ∙ sym (mapped_some items lines)) begins
+
 pub names_have_started : {A : Type 0} (items : A → List ℕ) (words : LocksWords) (start : NamePlace) (files : Option Held) (first : Moment NamesService) (lines : Option A) (due : Bool) (service : NamesService) → IsPutAgain (names_begin start.number start.behind start.names) start.front (option_map items lines)
     → due ≡ is_some lines → NamesBeginWith words due start.names start.size service → HasBegunFrom (folder_of words) start.number start.behind (option_map items lines) service files first → NamesHaveStarted words start files first
 names_have_started items words start files first lines due service again is begins begun = record {
   lines = option_map items lines;
   again = again;
   service = service;
-  begins = subst (λ (b : Bool). NamesBeginWith words b start.names start.size service) (is ∙ sym (mapped_some items lines)) begins;
+  begins = begins_with_lines items words start lines due service is begins;
   begun = begun;
 }
 

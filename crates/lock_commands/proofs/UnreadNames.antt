@@ -137,12 +137,12 @@ of_unended folder mid after (inl (why, end, rest, out, served, h)) = of_loop fol
 of_unended folder mid after (inr (last, served, due, kept, h)) = of_loop folder loop.Journal h
 
 of_begun : (folder : List ℕ) (number : ℕ) (behind : List ℕ) (lines : Option (List ℕ)) (service : NamesService) (before after : Option Held) → HasNotBegunFrom folder number behind lines service before after tool.BadList → ⊥
-of_begun folder number behind None service before after (left, why, h) = of_begin folder why h
-of_begun folder number behind (Some lines) service before after (inl (left, why, h)) = of_begin folder why h
+of_begun folder number behind None service before after h = of_begin folder h.1.0 h.1.1
+of_begun folder number behind (Some lines) service before after (inl h) = of_begin folder h.1.0 h.1.1
 of_begun folder number behind (Some lines) service before after (inr (mid, is, at, put, h)) = of_unended folder mid after h
 
 of_unbegun : (words : LocksWords) (place : NamePlace) (before after : Option Held) → AreNamesUnbegun words place before after tool.BadList → ⊥
-of_unbegun words place before after (inl (same, why, h)) = of_begin (folder_of words) why h
+of_unbegun words place before after (inl h) = of_begin (folder_of words) h.1.0 h.1.1
 of_unbegun words place before after (inr (lines, service, again, begins, h)) = of_begun (folder_of words) place.number place.behind lines service before after h
 
 of_run : (words : LocksWords) (place : NamePlace) (before after : Option Held) (was is old new : Option (List ℕ)) →

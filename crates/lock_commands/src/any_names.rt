@@ -327,10 +327,12 @@ fn check_named(alloc: Global, word: Option<&str>) -> Result<(), ToolError<'stati
     let Some(word) = word else {
         return Ok(());
     };
-    match read_folder_word(alloc, word) {
-        Ok(_) => Ok(()),
-        Err(error) => Err(list_refusal(error)),
-    }
+    let list = match read_folder_word(alloc, word) {
+        Ok(list) => list,
+        Err(error) => return Err(list_refusal(error)),
+    };
+    drop(list);
+    Ok(())
 }
 
 /// `locks`, from its words, with a list that has a pool: the names of the folder, with the open holds of the clients that the file of

@@ -1,11 +1,23 @@
-use Rattle.std.proofs.Common.{ℕ, List, Some, refl, subst, inl, inr}
+use Rattle.std.proofs.Common.{ℕ, List, Some, refl, sym, subst, inl, inr}
 use Rattle.std.specs.Prelude.{string_bytes}
 use Rattle.disks.specs.Held.{Replaces}
 use Rattle.line_service.specs.Digested.{hashed}
 use Rattle.line_service.proofs.SegmentLasting.{whole_leaves}
 use Rattle.folder_of_locks.specs.NameFolders.{name_place_of}
-use Rattle.lock_commands.proofs.NamesBegun.{names_have_started}
+use Rattle.line_service.specs.declared.segmented.EndFault.TheVariants as end
+use Rattle.tool_parts.specs.declared.faults.ToolError.{ToolError}
+use Rattle.lock_commands.specs.Refusals.{IsBeginName}
+use Rattle.lock_commands.specs.Locks.{folder_of}
+use Rattle.lock_commands.proofs.NamesBegun.{names_have_started, begins_with_lines}
 use Rattle.lock_commands.proofs.any_names.serve_from.Goals as goal
+
+pub returns-in-Err-service_of-clause-err : goal.returns-in-Err-service_of-clause-err
+returns-in-Err-service_of-clause-err g c =
+    inl ((refl, refl), inl (refl, (end.OutOfMemory, subst (λ (e : ToolError). IsBeginName (folder_of c.args.words.now) end.OutOfMemory e) (sym c.in-Err-service_of.ensures.err) tt)))
+
+pub returns-in-Err-begin-clause-err : goal.returns-in-Err-begin-clause-err
+returns-in-Err-begin-clause-err g c =
+    inl ((refl, refl), inr (_, c.in-Ok-service_of.service, c.in-Ok.ensures, begins_with_lines (λ bytes. bytes.items) c.args.words.now (name_place_of c.args.start) c.in-Ok.front _ _ c.is_some.ensures c.in-Ok-service_of.ensures.ok, c.in-Err-begin.ensures.err))
 
 pub returns-in-Err-serve_segments-clause-err : goal.returns-in-Err-serve_segments-clause-err
 returns-in-Err-serve_segments-clause-err g c =
