@@ -399,7 +399,8 @@ class OfSeveral(OfCluster):
             self.assertEqual(it.returncode, 1, it.stderr)
             self.assertIn("--locks are the same for all servers; in the log they are `", it.stderr)
         d = self.server("d", checkpoint=60, locks="a")
-        self.assertEqual(say(self.raw(d), "try x 1\n"), ["busy x"])
+        # (it takes the list of the log as soon as it has read it)
+        wait_until(lambda: say(self.raw(d), "try x 1\n") == ["busy x"])
 
     def words_of(self, name):
         """Those of a server that is not started."""
