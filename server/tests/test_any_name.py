@@ -392,6 +392,8 @@ class OfSeveral(OfCluster):
         b = self.server("b", "--most-names", "1000", checkpoint=60, locks="a,b,*")
         wait_until(lambda: "the log has 3 locks, and --locks 2 of them: put them all there: a:8:8,b:8:8,*:2:2" in a.text_of_log())
         self.assertGreater(token_of([say(held, "3 acquire x 5\n")[0][2:]]), 1)
+        # (a server knows a list of the log as soon as it has read it)
+        wait_until(lambda: say(self.raw(b), "try x 1\n") == ["busy x"])
         self.assertEqual(say(self.raw(b), "try x 1\ntry a 1\n", 2), ["busy x", "busy a"])
         self.assertIn("\twith 2 60 - 1 a:8:8,b:8:8,*:2:2 1000", "\n".join(self.log.texts()))
         for words in (("--locks", "a,b,*"), ("--locks", "a,b,c,*", "--most-names", "1000"), ("--locks", "a,b,*", "--most-names", "999")):
@@ -399,7 +401,6 @@ class OfSeveral(OfCluster):
             self.assertEqual(it.returncode, 1, it.stderr)
             self.assertIn("--locks are the same for all servers; in the log they are `", it.stderr)
         d = self.server("d", checkpoint=60, locks="a")
-        # (it takes the list of the log as soon as it has read it)
         wait_until(lambda: say(self.raw(d), "try x 1\n") == ["busy x"])
 
     def words_of(self, name):
