@@ -20,7 +20,7 @@ proved not to meet the real clause, so it is proved wherever the gate runs. `ben
 
 What refuses an edit is a goal of a *clause* of the function, of an *invariant* of a loop or a type, or of a *condition* of what the
 function calls; of an edit of `specs/` it is a lemma below a *law*. An edit *says little* where only a proof file misses a name that
-it took away, or only an overflow, an index or a call of std is in the way.
+it took away, or only an overflow, an index or a call of std is in the way. *no row*: what refuses it is not noted yet.
 """
 
 

@@ -19,6 +19,7 @@ engine takes a list alone, that is skipped.
 import argparse
 
 import bisect
+import collections
 import itertools
 import os
 import random
@@ -173,7 +174,10 @@ def judge_holds(holds, told):
         grants[name, token], last[name] = label, token
     wrong += [f"token {token} of {name} is not in the journal as {label}'s" for name, token, label, *_ in told
               if grants.get((name, token)) != label]
-    return wrong + [it for name in {it[0] for it in told} for it in judge_order([it for it in told if it[0] == name])]
+    by_name = collections.defaultdict(list)
+    for it in told:
+        by_name[it[0]].append(it)
+    return wrong + [it for told_of_name in by_name.values() for it in judge_order(told_of_name)]
 
 
 def judge_order(told):

@@ -1,7 +1,8 @@
-//! lock_bench PEER CLIENTS LOCKS SECONDS ADDRESS: each client, a thread with a connection of its own, takes and releases one lock,
-//! again and again, without a pause. Prints hand-overs a second, how long an acquire takes, and how fair the peer is. It measures
-//! from when each client was granted its lock once, or from a second on if a peer leaves some out. A peer that fails ends the
-//! measure: this program is for `bench/peers.sh` alone.
+//! lock_bench PEER CLIENTS LOCKS SECONDS ADDRESS [RATE]: each client, a thread with a connection of its own, takes and releases one
+//! lock, again and again, without a pause; or all together RATE times a second, if the peer is quick enough. Prints hand-overs a
+//! second, how long an acquire takes, and how fair the peer is. It measures from when each client was granted its lock once, or
+//! from a second on if a peer leaves some out. Of a peer whose name ends with `-new` each client takes a new name each time, and
+//! LOCKS has to be CLIENTS. A peer that fails ends the measure: this program is for `bench/peers.sh` and `bench/any_name.py` alone.
 //!
 //! lock_bench commands RUNS COMMAND ..: how long each command takes.
 
@@ -52,11 +53,12 @@ fn main() {
             return commands::compare(runs.parse().unwrap(), commands);
         }
     }
-    let [peer, clients, locks, seconds, address] = &words[..] else {
-        eprintln!("lock_bench PEER CLIENTS LOCKS SECONDS ADDRESS");
+    let [peer, clients, locks, seconds, address, rate @ ..] = &words[..] else {
+        eprintln!("lock_bench PEER CLIENTS LOCKS SECONDS ADDRESS [RATE]");
         std::process::exit(2);
     };
     let (clients, locks): (usize, usize) = (clients.parse().unwrap(), locks.parse().unwrap());
+    let each = rate.first().map(|rate| Duration::from_secs_f64(clients as f64 / rate.parse::<f64>().unwrap()));
     let time = Duration::from_secs_f64(seconds.parse().unwrap());
     peers::prepare(peer, address, locks);
     let inside: Vec<Inside> = (0..locks).map(|_| Inside::default()).collect();
@@ -65,7 +67,8 @@ fn main() {
         let work = |c: usize| {
             let mut client = peers::connect(peer, address, c % locks, c).expect("no such peer");
             barrier.wait();
-            hand_over(&mut *client, &inside[c % locks], &run)
+            let pace = each.map(|each| (Instant::now() + each.mul_f64(c as f64 / clients as f64), each));
+            hand_over(&mut *client, &inside[c % locks], &run, pace)
         };
         let start = |c: usize| thread::Builder::new().stack_size(STACK).spawn_scoped(scope, move || work(c)).unwrap();
         let threads: Vec<_> = (0..clients).map(start).collect();
@@ -84,10 +87,15 @@ fn main() {
     println!("{peer:11} clients {clients:3} locks {locks:3} {}", summary(&each, took));
 }
 
-/// How long each acquire that was measured took, in tenths of microseconds.
-fn hand_over(client: &mut dyn Peer, inside: &Inside, run: &Run) -> Vec<u32> {
+/// How long each acquire that was measured took, in tenths of microseconds. A pace is when the first one is due, and how long after it
+/// the next one is; of those that are late each begins at once.
+fn hand_over(client: &mut dyn Peer, inside: &Inside, run: &Run, mut pace: Option<(Instant, Duration)>) -> Vec<u32> {
     let (mut times, mut is_new) = (Vec::with_capacity(1 << 16), true);
     while !run.is_over.load(Ordering::Relaxed) {
+        if let Some((due, each)) = &mut pace {
+            thread::sleep(due.saturating_duration_since(Instant::now()));
+            *due += *each;
+        }
         let begun = Instant::now();
         let token = client.acquire();
         if run.is_measured.load(Ordering::Relaxed) {

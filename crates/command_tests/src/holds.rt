@@ -109,14 +109,15 @@ fn a_chain_has_sums(rt: HostRuntime) {
     assert!(&rt; two.sums().segments == 2 && two.sums().events == 3);
 }
 
-/// How `holds` ends for the folder `f`, which has the first segment and this file of locks, and what it prints.
+/// How `holds` ends for the folder `f`, which has this first segment and this file of locks, and what it prints.
 fn holds_of_folder(
     alloc: Global,
+    segment: &str,
     list: Option<&str>,
 ) -> io::Result<(Result<(), ToolError<'static>>, Vec<u8>)> {
     let mut disk = no_files(alloc);
     make_folder(&mut disk, "f")?;
-    put(&mut disk, "f/0000000001.ring", FIRST.as_bytes())?;
+    put(&mut disk, "f/0000000001.ring", segment.as_bytes())?;
     if let Some(list) = list {
         put(&mut disk, "f/locks", list.as_bytes())?;
     }
@@ -146,12 +147,54 @@ fn a_line_has_the_name_of_its_lock(rt: HostRuntime) -> Result<(), Fail> {
         (None, "lock 0 token 1 label 77 from 0 to - open\n"),
     ];
     for (list, lines) in rows {
-        let (ended, out) = holds_of_folder(rt.alloc(), list)?;
+        let (ended, out) = holds_of_folder(rt.alloc(), FIRST, list)?;
         assert!(rt; ended.is_ok() && out.as_slice() == lines.as_bytes());
     }
     for list in ["order/4711 3 3", "", "a!\n", "a\na\n"] {
-        let (ended, out) = holds_of_folder(rt.alloc(), Some(list))?;
+        let (ended, out) = holds_of_folder(rt.alloc(), FIRST, Some(list))?;
         assert!(rt; matches!(ended, Err(ToolError::BadLocks("f"))) && out.is_empty());
     }
+    Ok(())
+}
+
+// A fixed lock and a ring of the pool, which had two names.
+const POOL: &str = "ringsegment 1 1 2\n\
+    behind 0000000000000000000000000000000000000000000000000000000000000000\n\
+    base 0 0 0 0\n\
+    base 0 0 0 0\n\
+    ringjournal 1\n\
+    ringfarm 2\n\
+    ring 0 2 2\n\
+    start 0 0\n\
+    end 0\n\
+    ring 1 2 2\n\
+    start 0 0\n\
+    end 0\n\
+    done 2\n\
+    # floor 0\n\
+    0 p 0 0 7 g 1 7\n\
+    # name 1 0 1 order/7\n\
+    1 p 0 0 8 g 1 8\n\
+    1 s 1 1 1 1 1 0\n\
+    # free 1\n\
+    # name 1 1 2 x\n\
+    1 p 0 1 9 g 2 17\n";
+
+#[test]
+fn a_hold_of_the_pool_has_its_name_and_token(rt: HostRuntime) -> Result<(), Fail> {
+    let list = Some("deploy 2 2\n* 2 2\n");
+    let lines = "lock deploy token 1 label 7 from 0 to - open\n\
+        lock order/7 token 2 label 8 from 0 to 1 released\n\
+        lock x token 3 label 9 from 1 to - open\n";
+    let (ended, out) = holds_of_folder(rt.alloc(), POOL, list)?;
+    assert!(rt; ended.is_ok() && out.as_slice() == lines.as_bytes());
+    let (ended, out) = holds_of_folder(rt.alloc(), POOL, Some("* 2 2\n"))?;
+    assert!(rt;
+        matches!(
+            ended,
+            Err(ToolError::WrongNames("f", 1, 15, "the ring has no name"))
+        )
+    );
+    assert!(rt; out.is_empty());
     Ok(())
 }

@@ -1,7 +1,8 @@
 mod HeldLeads
-mod FolderNames
+pub mod FolderNames
 mod HoldTexts
 mod ToldLines
+pub mod NamesAt
 mod Summing
 pub mod UnreadLists
 pub mod UnreadNames
@@ -10,4 +11,6 @@ mod ServedLocked
 mod UnderLock
 mod NamesUnderLock
 mod NamesBegun
+mod NamesLiving
+mod Lent
 mod Living

@@ -1,7 +1,7 @@
 -- The folder is locked as long as lines about names are served.
-use Rattle.std.proofs.Common.{◌≡◌, ℕ, List, [], Option, None, Some, sym, ap, subst, ◌⊎◌, inl, inr}
+use Rattle.std.proofs.Common.{◌≡◌, ℕ, List, Option, None, Some, inl, inr}
 use Rattle.std.specs.Prelude.{IsSome}
-use Rattle.disks.specs.Held.{Held, Replaces}
+use Rattle.disks.specs.Held.{Held}
 use Rattle.line_service.specs.SegmentNames.{segment_file}
 use Rattle.line_service.specs.Segments.{Moment}
 use Rattle.line_service.specs.Service.{Part, AreParts}

@@ -6,13 +6,12 @@ use Rattle.std.proofs.Math.ListN.{get_or-map}
 use Rattle.text_lines.specs.declared.write.WriteFault.{WriteFault}
 use Rattle.text_lines.specs.Writing.{Wrote, Writes}
 use Rattle.text_lines.proofs.Writing.{wrote_piece, wrote_fault}
-use Rattle.lock_protocol.specs.Names.{Names}
 use Rattle.chain_readers.specs.declared.holds.Hold.{Hold}
 use Rattle.chain_readers.specs.declared.hold_lines.Choice.{Choice}
-use Rattle.lock_commands.specs.ToldHolds.{lines_of, all_lines}
+use Rattle.lock_commands.specs.ToldHolds.{Called, lines_of, all_lines}
 use Rattle.lock_commands.proofs.FolderNames.{items}
 
-module _ (choice : Choice) (names : Option Names) (locks : List (Vec Hold Global)) (i : ℕ) (v : Vec Hold Global) (holds : List Hold) (lt : i < length locks) (is : v ≡ get_or locks i v) (same : holds ≡ v.items) (a b c : Option (List ℕ)) where
+module _ (choice : Choice) (names : Called) (locks : List (Vec Hold Global)) (i : ℕ) (v : Vec Hold Global) (holds : List Hold) (lt : i < length locks) (is : v ≡ get_or locks i v) (same : holds ≡ v.items) (a b c : Option (List ℕ)) where
   abbrev all : List ℕ
   all = all_lines choice names 0 (map items locks)
 

@@ -1,10 +1,8 @@
 -- The folder is locked as long as lines are served.
-use Rattle.std.proofs.Common.{◌≡◌, ◌∙◌, ◌+◌, ◌++◌, ℕ, List, [], ◌∷◌, Option, None, Some, sym, ap, subst, ◌⊎◌, inl, inr}
-use Rattle.std.specs.Prelude.{IsSome, IfSome}
-use Rattle.disks.specs.Held.{Held, Replaces}
+use Rattle.std.proofs.Common.{◌≡◌, ℕ, List, Option, None, Some, inl, inr}
+use Rattle.std.specs.Prelude.{IsSome}
+use Rattle.disks.specs.Held.{Held}
 use Rattle.line_service.specs.SegmentNames.{segment_file}
-use Rattle.line_service.specs.Answering.{Answers}
-use Rattle.line_service.specs.Stands.{Stand, stand, by_stand}
 use Rattle.folder_of_locks.specs.Holders.{Hold}
 use Rattle.folder_of_locks.specs.Lists.{Listed, file_text}
 use Rattle.folder_of_locks.specs.Folders.{Place, AreStarted, IsListSaved, locks_file}
@@ -14,12 +12,11 @@ use Rattle.line_replica.specs.Replies.{IsReplied}
 use Rattle.line_replica.specs.State.{lines_of}
 use Rattle.line_replica.specs.Knows.{replied_leads}
 use Rattle.line_replica.specs.Restoring.{restored_leads}
-use Rattle.line_service.specs.declared.segmented.EndFault.{EndFault}
-use Rattle.line_service.specs.Segments.{Moment, IsUnprepared, IsFileCause, IsReady, IsLeft, stand_of}
-use Rattle.line_service.specs.Service.{Part, IsPart, AreParts, IsStopped}
+use Rattle.line_service.specs.Segments.{Moment}
+use Rattle.line_service.specs.Service.{Part, AreParts}
 use Rattle.tool_parts.specs.declared.requests.LocksWords.{LocksWords}
 use Rattle.tool_parts.specs.Locking.{IsLocked, StandsLocked}
-use Rattle.tool_parts.proofs.LockedFolders.{Stands, stands_locked, same_locked, put_locked, settled_locked, if_held, ended_stand, kept_stand, added_stand}
+use Rattle.tool_parts.proofs.LockedFolders.{Stands, stands_locked, same_locked, put_locked, settled_locked, if_held}
 use Rattle.lock_service.specs.Runs.{Service, answering, by_segments}
 use Rattle.lock_commands.specs.Locks.{folder_of, list_of, HasStarted, IsRun, IsRunRefused, AreUnderLock, StaysLocked}
 use Rattle.tool_parts.specs.declared.faults.ToolError.{ToolError}

@@ -1,34 +1,28 @@
 -- Where a list with a pool cannot be read, no file has changed.
-use Rattle.std.proofs.Common.{◌≡◌, ◌⊎◌, ℕ, ◌-◌, List, [], Bool, true, false, Option, None, Some, length, inl, inr, sym, ap, subst}
+use Rattle.std.proofs.Common.{◌≡◌, ℕ, ◌-◌, List, [], Bool, Option, None, Some, length, inl, inr, sym, ap, subst}
 use Rattle.std.proofs.lemmas.Bool.{false≢true}
 use Rattle.disks.specs.Held.{Held}
 use Rattle.disks.specs.Folders.{is_among, names_of}
 use Rattle.ring_state.specs.Sizes.{Size}
 use Rattle.held_locks.specs.Kept.{LockView}
 use Rattle.line_service.specs.SegmentNames.{list_name}
-use Rattle.line_service.specs.declared.faults.LoopFault.{LoopFault}
 use Rattle.line_service.specs.declared.faults.LoopFault.TheVariants as loop
 use Rattle.line_service.specs.declared.segment_numbers.SegmentNumbers.{SegmentNumbers}
 use Rattle.line_service.specs.Segments.{Moment}
-use Rattle.segment_files.specs.Remarks.{lines_in}
 use Rattle.segment_files.specs.declared.last.LastSegment.{LastSegment}
 use Rattle.folder_of_locks.specs.declared.locks.ListError.{ListError}
 use Rattle.folder_of_locks.specs.declared.locks.ListError.TheVariants as list
 use Rattle.folder_of_locks.specs.Lists.{Listed, names_of as names_in}
-use Rattle.folder_of_locks.specs.Pools.{Pooled, IsPooledWord, IsPooledWordFault, HasOne, ArePooledTexts, ArePooled, AreFixed}
+use Rattle.folder_of_locks.specs.Pools.{Pooled, IsPooledWordFault, HasOne, ArePooled}
 use Rattle.folder_of_locks.specs.Holders.{Hold}
-use Rattle.folder_of_locks.specs.Fronts.{IsFrontFault, IsRemarkFault}
 use Rattle.folder_of_locks.specs.NameRings.{with_rings, AreUnnamed}
-use Rattle.folder_of_locks.specs.NameHolders.{IsNameUnhanded}
 use Rattle.folder_of_locks.specs.declared.faults.StartFault.{StartFault}
 use Rattle.folder_of_locks.specs.declared.faults.StartFault.TheVariants as start
 use Rattle.folder_of_locks.specs.NameFolders.{NamePlace, first_pool, IsFirstNamesFault, IsTellingFault, IsNamingFault, IsLastNamesFault, AreUnnamedAt, NamesDoNotStand, IsListFileRefusal, IsNameRefusal, AreNamesUnstarted}
-use Rattle.lock_names.specs.Kept.{NamedView}
 use Rattle.name_remarks.specs.Bindings.{Bindings, nothing}
 use Rattle.ring_model.specs.declared.bases.Base.{Base}
 use Rattle.tool_parts.specs.declared.requests.LocksWords.{LocksWords}
 use Rattle.tool_parts.specs.Worlds.{World}
-use Rattle.tool_parts.specs.declared.faults.ToolError.{ToolError}
 use Rattle.tool_parts.specs.declared.faults.ToolError.TheVariants as tool
 use Rattle.lock_commands.specs.Refusals.{fault_of_list, IsStartName, IsPooledListIf}
 use Rattle.lock_commands.specs.HoldersFile.{holders_word, name_of}
@@ -173,5 +167,5 @@ unread_names_keep words was is (inr (listed, inr (holders, given, h))) = absurd 
 
 pub unread_lists_keep : (words : LocksWords) (was is : World) → IsLendingRefusal words was is tool.BadList → is.files ≡ was.files
 unread_lists_keep words was is (inl (same, h)) = ap (λ (w : World). w.files) same
-unread_lists_keep words was is (inr (inl h)) = unread_list_keeps words was is h
+unread_lists_keep words was is (inr (inl (none, h))) = unread_list_keeps words was is h
 unread_lists_keep words was is (inr (inr (pool, h))) = unread_names_keep words was is h

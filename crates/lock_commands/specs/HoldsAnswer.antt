@@ -13,6 +13,7 @@ use Rattle.line_service.specs.declared.segment_numbers.SegmentNumbers.{SegmentNu
 use Rattle.saved_history.specs.Content.{Block}
 use Rattle.ring_check.specs.declared.answers.Summary.{Summary}
 use Rattle.segment_files.specs.Files.{File}
+use Rattle.segment_files.specs.Remarks.{lines_in}
 use Rattle.segment_files.specs.Chain as segments
 use Rattle.chain_readers.specs.declared.hold_errors.ChainHoldError.TheVariants as unheld
 use Rattle.chain_readers.specs.declared.holds.Hold.{Hold}
@@ -22,7 +23,7 @@ use Rattle.chain_readers.specs.Known.{Known, all_holds}
 use Rattle.chain_readers.specs.Chains.{HoldsSoFar, LeadTo, IsHoldRefusal, of_blocks}
 use Rattle.chain_readers.specs.ChainSteps.{AreBlocksHeld}
 use Rattle.chain_readers.specs.Labels.{all_chosen, AreCounted, label_line}
-use Rattle.lock_protocol.specs.Names.{Names}
+use Rattle.name_history.specs.Said.{RingBinding, AreSaid}
 use Rattle.tool_parts.specs.declared.requests.HoldsWords.{HoldsWords}
 use Rattle.tool_parts.specs.Chained.{AreHeldFrom, IsChainIn, IsFolder, IsAddRefusal, IsFileRefused, IsNamedWrong, AreNamesRefused}
 use Rattle.tool_parts.specs.Checked.{IsLegalSavedText, IsSavedTextRefusal}
@@ -32,8 +33,9 @@ use Rattle.tool_parts.specs.Worlds.{World}
 use Rattle.tool_parts.specs.Written.{AppendsFront}
 use Rattle.tool_parts.specs.declared.faults.ToolError.{ToolError}
 use Rattle.tool_parts.specs.declared.faults.ToolError.TheVariants as tool
+use Rattle.text_commands.specs.Judged.{IsFolderNamed, AreNamesWrong}
 use Rattle.lock_commands.specs.HoldNames.{AreNamesIn, AreNoNamesIn}
-use Rattle.lock_commands.specs.ToldHolds.{all_lines}
+use Rattle.lock_commands.specs.ToldHolds.{Called, no_names, all_lines}
 
 -- ---- what is printed
 
@@ -49,21 +51,21 @@ pub record AreLabelLines (wanted : List Hold) (text : List ℕ) : Type 0 where
   pub lines : text ≡ flat_map label_line counts.entries
 
 -- by label, or a line for each hold
-abbrev pub IsTextBy : Bool → Choice → Option Names → List (List Hold) → List ℕ → Type 0
+abbrev pub IsTextBy : Bool → Choice → Called → List (List Hold) → List ℕ → Type 0
 IsTextBy true c names holds text = AreLabelLines (all_chosen c 0 holds) text
 IsTextBy false c names holds text = text ≡ all_lines c names 0 holds
 
 -- the text that the words ask for, of locks with these names, if they have any, and these holds
-abbrev pub IsHoldsText : HoldsWords → Option Names → List (List Hold) → List ℕ → Type 0
+abbrev pub IsHoldsText : HoldsWords → Called → List (List Hold) → List ℕ → Type 0
 IsHoldsText words names holds text = IsTextBy words.by_label (choice_of words) names holds text
 
 -- it is written; or the writer failed, which got a prefix of it
-abbrev pub AreHoldsTold : HoldsWords → Option Names → List (List Hold) → Option (List ℕ)
+abbrev pub AreHoldsTold : HoldsWords → Called → List (List Hold) → Option (List ℕ)
     → Option (List ℕ) → Type 0
 AreHoldsTold words names holds old new =
     (text : List ℕ) × IsHoldsText words names holds text × Appends old new text
 
-abbrev pub AreHoldsCut : HoldsWords → Option Names → List (List Hold) → Option (List ℕ)
+abbrev pub AreHoldsCut : HoldsWords → Called → List (List Hold) → Option (List ℕ)
     → Option (List ℕ) → Type 0
 AreHoldsCut words names holds old new =
     (text : List ℕ) × IsHoldsText words names holds text × AppendsFront old new text
@@ -80,40 +82,51 @@ pub record AreTextHolds (word : List ℕ) (files : Option Held) (was is : Option
   pub legal : IsLegalSavedText bytes sums
   pub held : AreBlocksHeld legal.content.rings holds
 
--- the segments of a folder held a chain, whose locks had these holds
+-- the lines of some files
+abbrev pub lines_of_files : List File → List (List ℕ)
+lines_of_files fs = flat_map (λ (f : File). lines_in f.bytes) fs
+
+-- the segments of a folder held a chain, whose locks had these holds, and whose remarks said these
+-- bindings
 pub record AreFilesHolds (files : Option Held) (name : List ℕ) (r : SegmentNumbers)
-    (holds : List (List Hold)) : Type 0 where
+    (holds : List (List Hold)) (bindings : List RingBinding) : Type 0 where
   pub fs : List File
   pub locks : List Known
   pub chain : IsChainIn files name r fs
   pub told : LeadTo [] fs locks
   pub all : holds ≡ map all_holds locks
+  pub said : AreSaid (lines_of_files fs) bindings
 
 -- whether the file of locks is among the entries of a folder
 abbrev pub has_locks : List FolderEntry → Bool
 has_locks entries = is_among (names_of entries) list_name
 
 -- The word names a folder in which there is something, with such segments. If the folder has a list
--- of locks, each of these locks has the name that the list has for its ring.
-pub record AreFolderHolds (name : List ℕ) (files : Option Held) (names : Option Names)
+-- of locks, each of these locks has the name that the list has for its ring, and the rings of a pool
+-- the names to which these remarks bind them.
+pub record AreFolderHolds (name : List ℕ) (files : Option Held) (names : Called)
     (holds : List (List Hold)) : Type 0 where
   pub entries : List FolderEntry
   pub r : SegmentNumbers
   pub listed : IsFolder files name entries
   pub numbers : IsRightNumbers entries (Ok (Some r))
-  pub held : AreFilesHolds files name r holds
-  pub named : AreNamesIn files name (has_locks entries) (length holds) names
+  pub said : List RingBinding
+  pub held : AreFilesHolds files name r holds said
+  pub named : AreNamesIn files name (has_locks entries) (length holds) said names
 
--- a text, whose locks have no names, or, if it is not a standard stream, a folder
-abbrev pub AreNamedHolds : List ℕ → World → World → Option Names → List (List Hold) → Type 0
+-- a text, whose locks have no names; or, if it is not a standard stream, a folder, of which `check`
+-- accepts what its files say of names, if its list has a pool
+abbrev pub AreNamedHolds : List ℕ → World → World → Called → List (List Hold) → Type 0
 AreNamedHolds word was is names holds =
-    ((names ≡ None) × AreTextHolds word was.files was.input is.input holds)
-    ⊎ ((names_stream word ≡ false) × AreFolderHolds word was.files names holds)
+    ((names ≡ no_names) × AreTextHolds word was.files was.input is.input holds)
+    ⊎ ((names_stream word ≡ false)
+    × AreFolderHolds word was.files names holds
+    × IsFolderNamed word was.files)
 
 -- The lines of the holds of what the word names are written, each with the name of its lock.
 abbrev pub IsHoldsAnswer : HoldsWords → World → World → Type 0
 IsHoldsAnswer words was is =
-    (names : Option Names)
+    (names : Called)
     × (holds : List (List Hold))
     × AreNamedHolds words.file.now was is names holds
     × AreHoldsTold words names holds was.out is.out
@@ -179,7 +192,8 @@ abbrev pub IsListUnheld : Option Held → List ℕ → Bool → SegmentNumbers �
 IsListUnheld files name has r e =
     IsUnheldChain files name r e
     ⊎ ((holds : List (List Hold))
-    × AreFilesHolds files name r holds
+    × (said : List RingBinding)
+    × AreFilesHolds files name r holds said
     × AreNoNamesIn files name has (length holds) e)
 
 -- the names in a folder are refused, or its files, or its list
@@ -192,14 +206,23 @@ IsFolderUnheld name files e =
     × IsRightNumbers entries (Ok (Some r))
     × IsListUnheld files name (has_locks entries) r e))
 
+-- a folder shows holds, and `check` refuses what its files say of names
+abbrev pub IsFolderMisnamed : List ℕ → Option Held → ToolError → Type 0
+IsFolderMisnamed name files e =
+    (names : Called)
+    × (holds : List (List Hold))
+    × AreFolderHolds name files names holds
+    × AreNamesWrong name files e
+
 -- a text is refused, or, if the word is not a standard stream, a folder
 abbrev pub IsNamedUnheld : List ℕ → World → World → ToolError → Type 0
 IsNamedUnheld word was is e =
     IsTextUnheld word was.files was.input is.input e
-    ⊎ ((names_stream word ≡ false) × IsFolderUnheld word was.files e)
+    ⊎ ((names_stream word ≡ false)
+    × (IsFolderUnheld word was.files e ⊎ IsFolderMisnamed word was.files e))
 
 -- there are the holds, but not all of their lines are written; or there is no memory to count them
-abbrev pub AreHoldsUntold : HoldsWords → Option Names → List (List Hold) → Option (List ℕ)
+abbrev pub AreHoldsUntold : HoldsWords → Called → List (List Hold) → Option (List ℕ)
     → Option (List ℕ) → ToolError → Type 0
 AreHoldsUntold words names holds old new tool.Write = AreHoldsCut words names holds old new
 AreHoldsUntold words names holds old new tool.OutOfMemory = words.by_label ≡ true
@@ -209,7 +232,7 @@ AreHoldsUntold words names holds old new _ = ⊥
 abbrev pub IsHoldsRefusal : HoldsWords → World → World → ToolError → Type 0
 IsHoldsRefusal words was is e =
     IsNamedUnheld words.file.now was is e
-    ⊎ ((names : Option Names)
+    ⊎ ((names : Called)
     × (holds : List (List Hold))
     × AreNamedHolds words.file.now was is names holds
     × AreHoldsUntold words names holds was.out is.out e)

@@ -5,6 +5,7 @@ pub mod Locks
 pub mod NamesStarted
 pub mod NameRuns
 pub mod NamesLasting
+pub mod NamesLife
 pub mod Lending
 pub mod Lasting
 pub mod Life

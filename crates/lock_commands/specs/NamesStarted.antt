@@ -1,17 +1,9 @@
 -- How `locks` with a list that has a pool begins to serve (this project's own).
 use Rattle.std.specs.Prelude.{◌≡◌, ◌≢◌, ℕ, ◌-◌, ◌||◌, ◌⊎◌, min, Bool, false, List, [], ◌++◌, Option, None, Some, is_some}
 use Rattle.disks.specs.Held.{Held}
-use Rattle.line_service.specs.Stands.{AnsweringWith}
-use Rattle.line_service.specs.Segmenting.{Segmenting}
 use Rattle.line_service.specs.Segments.{Moment, HasBegun, IsBegun}
 use Rattle.line_service.specs.Service.{ServesSegments}
-use Rattle.line_replica.specs.declared.replica.Replica.{Replica}
-use Rattle.line_replica.specs.declared.restorable.Restorable.{Restorable}
-use Rattle.line_replica.specs.Replies.{IsReplied}
 use Rattle.line_replica.specs.Running.{at_place}
-use Rattle.line_replica.specs.Segmented as around
-use Rattle.line_replica.specs.Restoring as behind
-use Rattle.line_replica.specs.State.{lines_of, IsRestorable}
 use Rattle.ring_state.specs.Sizes.{Size}
 use Rattle.held_locks.specs.Kept.{lock_limit}
 use Rattle.lock_names.specs.Kept.{NamedView}
@@ -23,24 +15,10 @@ use Rattle.name_service.specs.declared.service.NameService.{NameService}
 use Rattle.name_service.specs.declared.service.NameTerms.{NameTerms}
 use Rattle.name_service.specs.First.{IsNameStart}
 use Rattle.name_service.specs.NamesText.{names_text}
-use Rattle.name_service.specs.Segmented.{name_segmenting}
-use Rattle.name_service.specs.Serving.{IsNameServed, is_name_past}
-use Rattle.name_service.specs.State.{name_state_lines}
+pub use Rattle.name_service.specs.Life.{NamesService, names_answering, names_by_segments}
+use Rattle.name_service.specs.Serving.{is_name_past}
 use Rattle.tool_parts.specs.declared.requests.LocksWords.{LocksWords}
 use Rattle.lock_commands.specs.Locks.{folder_of, most_lines, terms_of}
-
--- ---- the service
-
--- a replica of locks by any name, whose state is answered where it is asked for; how it answers a
--- line, and how it lives in segments
-abbrev pub NamesService : Type 0
-NamesService = Restorable (Replica NameService)
-
-abbrev pub names_answering : AnsweringWith NamesService
-names_answering = IsRestorable (IsReplied IsNameServed) (lines_of name_state_lines)
-
-abbrev pub names_by_segments : Segmenting NamesService
-names_by_segments = behind.segmenting (around.segmenting name_segmenting)
 
 -- ---- how it begins
 

@@ -14,6 +14,7 @@ ghost use Rattle.lock_commands.specs.Locks.{StaysLocked};
 ghost use Rattle.line_service.specs.Lasting.{StaysWhole};
 ghost use Rattle.lock_commands.specs.NamesStarted.{most_rings, names_by_segments, NamesBeginWith, names_begin, IsPutAgain, ServesNothing, HasBegunAfter, HasBegunFrom};
 ghost use Rattle.lock_commands.specs.NameRuns.{IsUnended, HasNotBegunAfter, HasNotBegunFrom, IsNamesRun, IsNamesRunRefused, AreNamesServedIn, AreNamesRefusedIn, IsNamesAnswer, IsNamesRefusal};
+ghost use Rattle.lock_commands.specs.NamesLife.{NamesRunLives, NamesFolderLives, ToldNamesLive};
 ghost use Rattle.lock_commands.specs.NamesLasting.{IsWholeSince, NamesRunLasts, NamesFolderLasts, ToldNamesLast};
 
 use crate::holders::{holders_of, name_of};
@@ -237,6 +238,8 @@ fn serve_from<'a, D: Disk, I: Read, W: Write>(
     ensures lasts { outlives D.keeps_written words.now.synced ≡ true → IsSome (D.holds disk.old)
         → NamesRunLasts words.now (name_place_of start) (D.holds disk.old) (I.remaining input.old)
         (I.remaining input.new) (W.contents out.old) (W.contents out.new) (D.leaves disk.new) }
+    ensures life { NamesRunLives words.now (name_place_of start) (D.holds disk.old)
+        (I.remaining input.old) (I.remaining input.new) (W.contents out.old) (W.contents out.new) }
 {
     let NameStart {
         names,
@@ -245,6 +248,7 @@ fn serve_from<'a, D: Disk, I: Read, W: Write>(
         behind,
         front,
     } = start;
+    names.are_kept(); // says: they are right, as they start
     let rules = SegmentRules {
         folder: words.journal,
         synced: words.synced,
@@ -293,6 +297,8 @@ fn run_in_folder<'a, D: Disk, I: Read, W: Write>(
         (I.remaining input.old) (I.remaining input.new) (W.contents out.old) (W.contents out.new)
         (D.leaves disk.new) }
     ensures held { IsSome (D.holds disk.old) → StaysLocked words.now (D.holds disk.new)
+        (I.remaining input.old) (I.remaining input.new) (W.contents out.old) (W.contents out.new) }
+    ensures life { NamesFolderLives words.now (map hold_of holders.now) (D.holds disk.old)
         (I.remaining input.old) (I.remaining input.new) (W.contents out.old) (W.contents out.new) }
 {
     match lock_folder(alloc, disk, words.journal) {
@@ -366,6 +372,12 @@ pub fn run<'a, D: Disk, I: Read, W: Write, E: Write>(
     // Where the content of files is known: the folder stays locked, also where serving ends with a fault.
     ensures held { IsSome (D.holds disk.old) → StaysLocked words.now (D.holds disk.new)
         (I.remaining input.old) (I.remaining input.new) (W.contents out.old) (W.contents out.new) }
+
+    // What was reported is what one machine with names answered.
+    ensures life { ToldNamesLive words.now
+        (world (D.holds disk.old) (I.remaining input.old) (W.contents out.old) (E.contents err.old))
+        (world (D.holds disk.new) (I.remaining input.new) (W.contents out.new)
+        (E.contents err.new)) }
 {
     match check_named(alloc, words.locks) {
         Ok(()) => {}

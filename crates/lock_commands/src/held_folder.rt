@@ -1,24 +1,67 @@
 //! The holds of the locks whose segments a folder has: its files are read one after the other.
 
-ghost use Rattle.std.specs.Prelude.{◌≡◌, ◌≤◌, List, ℕ, map, IfOk, IfErr};
+ghost use Rattle.std.specs.Prelude.{◌≡◌, ◌≤◌, [], List, ℕ, map, None, IfOk, IfErr};
 ghost use Rattle.disks.specs.Held.{IsHeld};
 ghost use Rattle.line_service.specs.SegmentNames.{segment_file};
-ghost use Rattle.chain_readers.specs.Chains.{IsHeldWith};
+ghost use Rattle.chain_readers.specs.Chains.{IsHoldRefusal};
 ghost use Rattle.tool_parts.specs.Chained.{IsFolder};
 ghost use Rattle.lock_commands.specs.HoldsAnswer.{AreFilesHolds, AreFolderHolds, IsUnheld, IsFileUnheld, AreFilesUnheld, IsUnheldChain, IsFolderUnheld};
-ghost use Rattle.lock_commands.specs.HoldSteps.{HoldLeads, HoldEnds};
+ghost use Rattle.lock_commands.specs.HoldSteps.{so_far, IsReadWith, HoldLeads, HoldEnds};
+ghost use Rattle.lock_commands.specs.ToldHolds.{called};
 
-use crate::hold_names::names_in;
+use crate::hold_names::{HoldNames, names_in};
 use chain_readers::{ChainHoldError, Hold, HoldChain};
 use disks::{Disk, FolderEntry};
 use line_service::{SegmentNumbers, has_list};
-use lock_protocol::LockNames;
+use name_history::{Bound, read_bindings};
 use segment_files::SegmentError;
 use std::alloc::Global;
 use tool_parts::chain::{chain_in, folder_numbers, segment_bytes};
 use tool_parts::faults::ToolError;
 
-/// Reads the holds of the file of a segment, which may be the last one, after those before it.
+/// What was read of some files: the holds of their locks, and the bindings that their remarks say.
+#[derive(Drop)]
+struct ReadFiles {
+    holds: HoldChain,
+    said: Vec<(u32, Bound)>,
+}
+
+/// Nothing was read yet.
+fn nothing_read(alloc: Global) -> ReadFiles
+    ensures { so_far result ≡ record { holds = record { state = None; locks = [] }; said = [] } }
+{
+    ReadFiles {
+        holds: HoldChain::new(alloc),
+        said: Vec::new(alloc),
+    }
+}
+
+/// Reads the holds and the bindings of a file with these bytes, which may be the last one, after those before it.
+///
+/// # Errors
+///
+/// As [`HoldChain::with_file`].
+fn with_bytes(
+    alloc: Global,
+    before: ReadFiles,
+    bytes: &[u8],
+    last: bool,
+) -> Result<ReadFiles, ChainHoldError>
+    ensures ok { IfOk result (λ new. IsReadWith (so_far before) bytes.now last (so_far new)) }
+    ensures err { IfErr result (λ e. IsHoldRefusal (so_far before).holds bytes.now last e) }
+{
+    let ReadFiles { holds, mut said } = before;
+    let holds = match holds.with_file(alloc, bytes, last) {
+        Ok(holds) => holds,
+        Err(error) => return Err(error),
+    };
+    match read_bindings(alloc, bytes, &mut said) {
+        Ok(()) => Ok(ReadFiles { holds, said }),
+        Err(_) => Err(ChainHoldError::OutOfMemory),
+    }
+}
+
+/// Reads the file of a segment, which may be the last one, after those before it.
 ///
 /// # Errors
 ///
@@ -30,19 +73,19 @@ fn read_segment<'a, D: Disk>(
     folder: &'a str,
     number: u64,
     last: bool,
-    before: HoldChain,
-) -> Result<HoldChain, ToolError<'a>>
+    before: ReadFiles,
+) -> Result<ReadFiles, ToolError<'a>>
     ensures ok { IfOk result (λ new. (bytes : List ℕ)
         × IsHeld (D.holds disk.now) (segment_file folder.now number) bytes
-        × IsHeldWith before bytes last new) }
+        × IsReadWith (so_far before) bytes last (so_far new)) }
     ensures err { IfErr result
-        (λ e. IsUnheld (D.holds disk.now) folder.now number before last e) }
+        (λ e. IsUnheld (D.holds disk.now) folder.now number (so_far before).holds last e) }
 {
     let bytes = match segment_bytes(alloc, disk, folder, number) {
         Ok(bytes) => bytes,
         Err(fault) => return Err(fault),
     };
-    match before.with_file(alloc, bytes.as_slice(), last) {
+    match with_bytes(alloc, before, bytes.as_slice(), last) {
         Ok(new) => Ok(new),
         Err(ChainHoldError::Segment(error)) => Err(ToolError::Segment(folder, number, error)),
         Err(ChainHoldError::NoHold { lock, at }) => Err(ToolError::NoHold(folder, lock, at)),
@@ -50,19 +93,19 @@ fn read_segment<'a, D: Disk>(
     }
 }
 
-/// Reads the holds of the files of a folder but the last.
+/// Reads the files of a folder but the last.
 fn read_before_last<'a, D: Disk>(
     alloc: Global,
     disk: &D,
     folder: &'a str,
     numbers: SegmentNumbers,
-) -> Result<HoldChain, ToolError<'a>>
+) -> Result<ReadFiles, ToolError<'a>>
     requires up { numbers.first ≤ numbers.last }
-    ensures ok { IfOk result
-        (λ l. HoldLeads (D.holds disk.now) folder.now numbers.first numbers.last l) }
+    ensures ok { IfOk result (λ found.
+        HoldLeads (D.holds disk.now) folder.now numbers.first numbers.last (so_far found)) }
     ensures err { IfErr result (λ e. IsFileUnheld (D.holds disk.now) folder.now numbers e) }
 {
-    let mut found = HoldChain::new(alloc);
+    let mut found = nothing_read(alloc);
     for number in numbers.first..numbers.last {
         found = match read_segment(alloc, disk, folder, number, false, found) {
             Ok(new) => new,
@@ -72,16 +115,16 @@ fn read_before_last<'a, D: Disk>(
     Ok(found)
 }
 
-/// Reads the holds of all files of a folder.
+/// Reads all files of a folder.
 fn read_all<'a, D: Disk>(
     alloc: Global,
     disk: &D,
     folder: &'a str,
     numbers: SegmentNumbers,
-) -> Result<HoldChain, ToolError<'a>>
+) -> Result<ReadFiles, ToolError<'a>>
     requires up { numbers.first ≤ numbers.last }
-    ensures ok { IfOk result
-        (λ l. HoldEnds (D.holds disk.now) folder.now numbers.first numbers.last l) }
+    ensures ok { IfOk result (λ found.
+        HoldEnds (D.holds disk.now) folder.now numbers.first numbers.last (so_far found)) }
     ensures err { IfErr result (λ e. IsFileUnheld (D.holds disk.now) folder.now numbers e) }
 {
     let before = match read_before_last(alloc, disk, folder, numbers) {
@@ -94,7 +137,14 @@ fn read_all<'a, D: Disk>(
     }
 }
 
-/// The holds of the locks of a folder's files. The first file has to say the number of its name.
+/// The holds of the locks of a folder's files, and the bindings that the files say.
+#[derive(Drop)]
+struct FilesHolds {
+    locks: Vec<Vec<Hold>>,
+    said: Vec<(u32, Bound)>,
+}
+
+/// The holds of the locks of a folder's files, and the bindings that these say. The first file has to say the number of its name.
 ///
 /// # Errors
 ///
@@ -105,21 +155,21 @@ fn files_holds<'a, D: Disk>(
     disk: &D,
     folder: &'a str,
     numbers: SegmentNumbers,
-) -> Result<Vec<Vec<Hold>>, ToolError<'a>>
+) -> Result<FilesHolds, ToolError<'a>>
     requires up { numbers.first ≤ numbers.last }
-    ensures ok { IfOk result (λ found.
-        AreFilesHolds (D.holds disk.now) folder.now numbers (map (λ v. v.items) found.items)) }
+    ensures ok { IfOk result (λ found. AreFilesHolds (D.holds disk.now) folder.now numbers
+        (map (λ v. v.items) found.locks.items) found.said.items) }
     ensures err { IfErr result (λ e. AreFilesUnheld (D.holds disk.now) folder.now numbers e) }
 {
-    let found = match read_all(alloc, disk, folder, numbers) {
+    let ReadFiles { holds, said } = match read_all(alloc, disk, folder, numbers) {
         Ok(found) => found,
         Err(fault) => return Err(fault),
     };
-    if found.sums().first != numbers.first {
+    if holds.sums().first != numbers.first {
         return Err(ToolError::Segment(folder, numbers.first, SegmentError::Number));
     }
-    match found.holds(alloc) {
-        Ok(holds) => Ok(holds),
+    match holds.holds(alloc) {
+        Ok(locks) => Ok(FilesHolds { locks, said }),
         Err(_) => Err(ToolError::OutOfMemory),
     }
 }
@@ -134,14 +184,14 @@ fn chain_holds<'a, D: Disk>(
     disk: &D,
     folder: &'a str,
     numbers: SegmentNumbers,
-) -> Result<Vec<Vec<Hold>>, ToolError<'a>>
+) -> Result<FilesHolds, ToolError<'a>>
     requires up { numbers.first ≤ numbers.last }
-    ensures ok { IfOk result (λ found.
-        AreFilesHolds (D.holds disk.now) folder.now numbers (map (λ v. v.items) found.items)) }
+    ensures ok { IfOk result (λ found. AreFilesHolds (D.holds disk.now) folder.now numbers
+        (map (λ v. v.items) found.locks.items) found.said.items) }
     ensures err { IfErr result (λ e. IsUnheldChain (D.holds disk.now) folder.now numbers e) }
 {
     let fault = match files_holds(alloc, disk, folder, numbers) {
-        Ok(holds) => return Ok(holds),
+        Ok(found) => return Ok(found),
         Err(fault) => fault,
     };
     match chain_in(alloc, disk, folder, numbers) {
@@ -150,11 +200,11 @@ fn chain_holds<'a, D: Disk>(
     }
 }
 
-/// The holds of locks, and the names of the locks, if they have any.
+/// The holds of locks, and by what their lines call these.
 #[derive(Drop)]
 pub(crate) struct FoundHolds {
     pub locks: Vec<Vec<Hold>>,
-    pub names: Option<LockNames>,
+    pub names: HoldNames,
 }
 
 /// The holds of the locks whose segments a folder with these entries has, and the names of the locks.
@@ -169,19 +219,19 @@ pub(crate) fn folder_holds<'a, D: Disk>(
     entries: &[FolderEntry],
 ) -> Result<FoundHolds, ToolError<'a>>
     requires { IsFolder (D.holds disk.now) folder.now entries.now }
-    ensures ok { IfOk result (λ found. AreFolderHolds folder.now (D.holds disk.now) found.names
-        (map (λ v. v.items) found.locks.items)) }
+    ensures ok { IfOk result (λ found. AreFolderHolds folder.now (D.holds disk.now)
+        (called found.names) (map (λ v. v.items) found.locks.items)) }
     ensures err { IfErr result (λ e. IsFolderUnheld folder.now (D.holds disk.now) e) }
 {
     let numbers = match folder_numbers(alloc, folder, entries) {
         Ok(numbers) => numbers,
         Err(fault) => return Err(fault),
     };
-    let locks = match chain_holds(alloc, disk, folder, numbers) {
-        Ok(locks) => locks,
+    let FilesHolds { locks, said } = match chain_holds(alloc, disk, folder, numbers) {
+        Ok(found) => found,
         Err(fault) => return Err(fault),
     };
-    match names_in(alloc, disk, folder, has_list(entries), locks.len()) {
+    match names_in(alloc, disk, folder, has_list(entries), locks.len(), said) {
         Ok(names) => Ok(FoundHolds { locks, names }),
         Err(fault) => Err(fault),
     }

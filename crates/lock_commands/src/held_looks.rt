@@ -3,6 +3,7 @@
 ghost use Rattle.std.specs.Prelude.{map, IfOk, IfErr};
 ghost use Rattle.tool_parts.specs.Chained.{IsFolder};
 ghost use Rattle.lock_commands.specs.HoldsAnswer.{AreFolderHolds, IsFolderUnheld};
+ghost use Rattle.lock_commands.specs.ToldHolds.{called};
 
 use crate::held_folder::{FoundHolds, folder_holds};
 use disks::{Disk, FolderEntry};
@@ -18,11 +19,11 @@ fn look_again<'a, D: Disk>(
     folder: &'a str,
     found: Result<FoundHolds, ToolError<'a>>,
 ) -> Result<FoundHolds, ToolError<'a>>
-    requires ok { IfOk found (λ found. AreFolderHolds folder.now (D.holds disk.now) found.names
-        (map (λ v. v.items) found.locks.items)) }
+    requires ok { IfOk found (λ found. AreFolderHolds folder.now (D.holds disk.now)
+        (called found.names) (map (λ v. v.items) found.locks.items)) }
     requires err { IfErr found (λ e. IsFolderUnheld folder.now (D.holds disk.now) e) }
-    ensures ok { IfOk result (λ found. AreFolderHolds folder.now (D.holds disk.now) found.names
-        (map (λ v. v.items) found.locks.items)) }
+    ensures ok { IfOk result (λ found. AreFolderHolds folder.now (D.holds disk.now)
+        (called found.names) (map (λ v. v.items) found.locks.items)) }
     ensures err { IfErr result (λ e. IsFolderUnheld folder.now (D.holds disk.now) e) }
 {
     match found {
@@ -52,8 +53,8 @@ pub(crate) fn holds_in<'a, D: Disk>(
     entries: &[FolderEntry],
 ) -> Result<FoundHolds, ToolError<'a>>
     requires { IsFolder (D.holds disk.now) folder.now entries.now }
-    ensures ok { IfOk result (λ found. AreFolderHolds folder.now (D.holds disk.now) found.names
-        (map (λ v. v.items) found.locks.items)) }
+    ensures ok { IfOk result (λ found. AreFolderHolds folder.now (D.holds disk.now)
+        (called found.names) (map (λ v. v.items) found.locks.items)) }
     ensures err { IfErr result (λ e. IsFolderUnheld folder.now (D.holds disk.now) e) }
 {
     let mut found = folder_holds(alloc, disk, folder, entries);

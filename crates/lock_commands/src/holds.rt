@@ -1,17 +1,22 @@
 //! `holds`: the holds of the locks whose histories are a saved text, or the segments of a folder, with the names of its list.
 
-ghost use Rattle.std.specs.Prelude.{true, false, ◌≡◌, ◌≢◌, None, map, OnOk, IfOk, IfErr};
+ghost use Rattle.std.specs.Prelude.{true, false, ◌≡◌, ◌≢◌, ◌⊎◌, None, map, OnOk, IfOk, IfErr};
+ghost use Rattle.text_commands.specs.Judged.{IsFolderNamed};
+ghost use Rattle.tool_parts.specs.Chained.{IsFolder};
 ghost use Rattle.tool_parts.specs.Reading.{names_stream};
 ghost use Rattle.tool_parts.specs.Worlds.{world};
-ghost use Rattle.lock_commands.specs.HoldsAnswer.{choice_of, AreHoldsTold, AreHoldsUntold, AreTextHolds, IsTextUnheld, AreNamedHolds, IsNamedUnheld, IsHoldsAnswer, IsHoldsRefusal};
+ghost use Rattle.lock_commands.specs.HoldsAnswer.{choice_of, AreHoldsTold, AreHoldsUntold, AreTextHolds, IsTextUnheld, AreFolderHolds, IsFolderUnheld, IsFolderMisnamed, AreNamedHolds, IsNamedUnheld, IsHoldsAnswer, IsHoldsRefusal};
+ghost use Rattle.lock_commands.specs.ToldHolds.{called};
 
 use crate::held_folder::FoundHolds;
 use crate::held_looks::holds_in;
 use crate::hold_lines::put_holds;
+use crate::hold_names::HoldNames;
 use chain_readers::{ChainHoldError, Choice, Hold, count_labels, holds_of_saved, put_labels};
-use disks::Disk;
+use disks::{Disk, FolderEntry};
 use std::alloc::Global;
 use std::io::{Read, Write};
+use text_commands::names::check_names;
 use tool_parts::chain::entries_of;
 use tool_parts::faults::ToolError;
 use tool_parts::legal::legal_saved;
@@ -61,12 +66,42 @@ fn text_holds<'a, D: Disk, I: Read>(
     }
 }
 
+/// The holds of the locks of a folder with these entries, and the names of the locks. If its list has a pool, what its files say of
+/// names is judged.
+///
+/// # Errors
+///
+/// Those of [`holds_in`], and, if there are none of these, those of [`check_names`].
+#[tactic(auto, using(crate::proofs::FolderNames::misnamed))]
+fn judged_holds<'a, D: Disk>(
+    alloc: Global,
+    disk: &D,
+    folder: &'a str,
+    entries: &[FolderEntry],
+) -> Result<FoundHolds, ToolError<'a>>
+    requires { IsFolder (D.holds disk.now) folder.now entries.now }
+    ensures ok { IfOk result (λ found. AreFolderHolds folder.now (D.holds disk.now)
+        (called found.names) (map (λ v. v.items) found.locks.items)
+        × IsFolderNamed folder.now (D.holds disk.now)) }
+    ensures err { IfErr result (λ e. IsFolderUnheld folder.now (D.holds disk.now) e
+        ⊎ IsFolderMisnamed folder.now (D.holds disk.now) e) }
+{
+    let found = match holds_in(alloc, disk, folder, entries) {
+        Ok(found) => found,
+        Err(fault) => return Err(fault),
+    };
+    match check_names(alloc, disk, folder, entries) {
+        Ok(()) => Ok(found),
+        Err(fault) => Err(fault),
+    }
+}
+
 /// The holds of the locks of what a word names, and the names of the locks: those of a folder, if it
 /// leads to one in which there is something, else those of a saved text, whose locks have no names.
 ///
 /// # Errors
 ///
-/// Those of [`holds_in`] and [`text_holds`].
+/// Those of [`judged_holds`] and [`text_holds`].
 fn named_holds<'a, D: Disk, I: Read>(
     alloc: Global,
     disk: &D,
@@ -76,7 +111,7 @@ fn named_holds<'a, D: Disk, I: Read>(
     ensures ok { IfOk result (λ found. AreNamedHolds file.now
         (world (D.holds disk.now) (I.remaining input.old) None None)
         (world (D.holds disk.now) (I.remaining input.new) None None)
-        found.names (map (λ v. v.items) found.locks.items)) }
+        (called found.names) (map (λ v. v.items) found.locks.items)) }
     ensures err { IfErr result (λ e. IsNamedUnheld file.now
         (world (D.holds disk.now) (I.remaining input.old) None None)
         (world (D.holds disk.now) (I.remaining input.new) None None) e) }
@@ -84,11 +119,14 @@ fn named_holds<'a, D: Disk, I: Read>(
 {
     let Some(entries) = entries_of(disk, file) else {
         return match text_holds(alloc, disk, file, input) {
-            Ok(locks) => Ok(FoundHolds { locks, names: None }),
+            Ok(locks) => Ok(FoundHolds {
+                locks,
+                names: HoldNames::none(alloc),
+            }),
             Err(fault) => Err(fault),
         };
     };
-    match holds_in(alloc, disk, file, &entries) {
+    match judged_holds(alloc, disk, file, &entries) {
         Ok(found) => Ok(found),
         Err(fault) => Err(fault),
     }
@@ -102,9 +140,9 @@ fn tell_labels<W: Write>(
     out: &mut W,
 ) -> Result<(), ToolError<'static>>
     requires by_label { words.now.by_label ≡ true }
-    ensures ok { OnOk result (AreHoldsTold words.now found.now.names
+    ensures ok { OnOk result (AreHoldsTold words.now (called found.now.names)
         (map (λ v. v.items) found.now.locks.items) (W.contents out.old) (W.contents out.new)) }
-    ensures err { IfErr result (λ e. AreHoldsUntold words.now found.now.names
+    ensures err { IfErr result (λ e. AreHoldsUntold words.now (called found.now.names)
         (map (λ v. v.items) found.now.locks.items) (W.contents out.old) (W.contents out.new) e) }
     ensures nothing { IfErr result (λ e. e ≢ ToolError.Write → out.new ≡ out.old) }
 {
@@ -125,9 +163,9 @@ fn tell_holds<W: Write>(
     found: &FoundHolds,
     out: &mut W,
 ) -> Result<(), ToolError<'static>>
-    ensures ok { OnOk result (AreHoldsTold words.now found.now.names
+    ensures ok { OnOk result (AreHoldsTold words.now (called found.now.names)
         (map (λ v. v.items) found.now.locks.items) (W.contents out.old) (W.contents out.new)) }
-    ensures err { IfErr result (λ e. AreHoldsUntold words.now found.now.names
+    ensures err { IfErr result (λ e. AreHoldsUntold words.now (called found.now.names)
         (map (λ v. v.items) found.now.locks.items) (W.contents out.old) (W.contents out.new) e) }
     ensures nothing { IfErr result (λ e. e ≢ ToolError.Write → out.new ≡ out.old) }
 {

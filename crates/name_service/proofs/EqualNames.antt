@@ -6,7 +6,6 @@ use Rattle.disks.specs.Held.{Held}
 use Rattle.line_service.specs.Stands.{Stand, stand}
 use Rattle.held_locks.specs.declared.answers.Answer.TheVariants as answer
 use Rattle.held_locks.specs.declared.answers.Refusal.TheVariants as refusal
-use Rattle.held_locks.specs.declared.answers.Holder.{Holder}
 use Rattle.held_locks.specs.declared.answers.HoldEnd.{HoldEnd}
 use Rattle.held_locks.specs.declared.answers.Left.{Left}
 use Rattle.held_locks.specs.Locks.{Ask, Acquire, Try, Release, Cancel, Corrupt, Stats, Asked, step}
@@ -29,7 +28,7 @@ use Rattle.lock_names.specs.declared.replies.Reply.{Reply}
 use Rattle.lock_names.specs.declared.replies.Reply.TheVariants as reply
 use Rattle.lock_names.specs.declared.replies.NameAnswers.{NameAnswers}
 use Rattle.lock_names.specs.Names.{Bound, Named, Of, Said, of_ring, found, free, step_named, named_after, leave_each}
-use Rattle.lock_names.specs.Kept.{NamedView, named_of, reached, own_said, grant_said, IsRecorded, IsTaken, IsWanting}
+use Rattle.lock_names.specs.Kept.{NamedView, named_of, reached, IsRecorded, IsTaken, IsWanting}
 use Rattle.lock_names.specs.Leaves.{told_left, said_left}
 use Rattle.lock_names.proofs.Taking.{same_named}
 use Rattle.name_service.specs.declared.service.NameTerms.{NameTerms}
@@ -37,7 +36,9 @@ use Rattle.name_service.specs.declared.service.NameService.{NameService}
 use Rattle.name_service.specs.Naming.{NamingView, IsNameCounted, count_at, is_wanting, reply_told, is_name_lack}
 use Rattle.name_service.specs.Noting.{lines_of_said, note_of_new, note_of_free, note_at, is_freed, notes_of_names_left}
 use Rattle.name_service.specs.Serving.{own_told, IsOnlySaid, IsNameToldOf, IsNameToldOfLeave, IsNameTold, IsNameAnsweredIf, IsNameInputAnswered, IsNameLineAnswered, IsNameServed, is_name_past}
+use Rattle.name_service.specs.Life.{as_told_while}
 use Rattle.name_service.specs.NameEqual.{AreEqualNames, AreEqualServices, EqualNameLinesGiveEqualAnswers}
+use Rattle.name_service.proofs.Heard.{said_told}
 
 -- ---- what the machine sees
 
@@ -59,22 +60,6 @@ counted_equal a b c d m n e f named same p q = record {
   remaining = q.remaining ∙ (ap (λ (x : ℕ). x - n) e.remaining ∙ (ap (λ (x : ℕ). a.remaining - x) same ∙ sym p.remaining));
   short = q.short ∙ (ap (λ (x : Bool). x || has_short d.named.locks) e.short ∙ (ap (λ (x : Bool). a.short || x) (short_equal c.named.locks d.named.locks f) ∙ sym p.short));
 }
-
--- ---- what is said
-
--- what is said with a reply as clients get it
-abbrev as_said : Bool → Said → Said
-as_said w d = record { client = d.client; name = d.name; reply = reply_told w d.reply }
-
-said_told : (w : Bool) (c : ℕ) (x : List ℕ) (own : Option Reply) (g : Option Holder) → own_said c x (option_map (reply_told w) own) ++ grant_said x g ≡ map (as_said w) (own_said c x own ++ grant_said x g)
-said_told true c x None None = refl
-said_told true c x None (Some h) = refl
-said_told true c x (Some r) None = refl
-said_told true c x (Some r) (Some h) = refl
-said_told false c x None None = refl
-said_told false c x None (Some h) = refl
-said_told false c x (Some r) None = refl
-said_told false c x (Some r) (Some h) = refl
 
 -- ---- an ask
 
@@ -103,10 +88,10 @@ module _ (terms : NameTerms) (c : ℕ) (x : List ℕ) (ask : Ask) (old new : Nam
     | inr w ↦ absurd (not_wanting (is_wanting terms.most old.named) old.named new.named x ask t.answers w given)
   ]
 
-  pub said_is : said ≡ lines_of_said (map (as_said (is_wanting terms.most old.named)) (step_named (named_of old.named) (Of c x ask)).said)
+  pub said_is : said ≡ lines_of_said (map (as_told_while (is_wanting terms.most old.named)) (step_named (named_of old.named) (Of c x ask)).said)
   said_is =
       let w : Bool = is_wanting terms.most old.named in
-      t.says ∙ (ap (λ (ds : List Said). lines_of_said ds) (said_told w c x t.answers.own t.answers.granted) ∙ ap (λ (ds : List Said). lines_of_said (map (as_said w) ds)) taken_is.said)
+      t.says ∙ (ap (λ (ds : List Said). lines_of_said ds) (said_told w c x t.answers.own t.answers.granted) ∙ ap (λ (ds : List Said). lines_of_said (map (as_told_while w) ds)) taken_is.said)
 
 -- the rings after it, and the end of a hold
 record IsAlike (c d : NamedView) (r s : NameAnswers) : Type 0 where
@@ -174,8 +159,8 @@ module _ (terms : NameTerms) (strict : terms.lines.strict ≡ true) (a b c d : N
       record {
         said_same =
             said_is terms client x ask b d told kept q strict
-            ∙ (ap (λ (v : Bool). lines_of_said (map (as_said v) (step_named (named_of b.named) (Of client x ask)).said)) (wanting_equal terms.most a b e)
-            ∙ (ap (λ (s : Named). lines_of_said (map (as_said w) (step_named s (Of client x ask)).said)) n ∙ sym (said_is terms client x ask a c said noted p strict)));
+            ∙ (ap (λ (v : Bool). lines_of_said (map (as_told_while v) (step_named (named_of b.named) (Of client x ask)).said)) (wanting_equal terms.most a b e)
+            ∙ (ap (λ (s : Named). lines_of_said (map (as_told_while w) (step_named s (Of client x ask)).said)) n ∙ sym (said_is terms client x ask a c said noted p strict)));
         noted_same = q.notes ∙ (ap (λ (u : List ℕ). cond terms.lines.noting u []) note ∙ sym p.notes);
         segment = counted_equal a b c d (count_at p.answers.ring a.named c.named p.answers) (count_at q.answers.ring b.named d.named q.answers) e k.locks after count p.counted q.counted;
       }

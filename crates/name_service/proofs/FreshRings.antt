@@ -1,8 +1,8 @@
 -- A fresh ring is added as it is: it is settled, and has no events.
-use Rattle.std.proofs.Common.{◌≡◌, ℕ, ◌+◌, ◌-◌, ◌<◌, ◌≤◌, true, List, [], length, map, get_or, replicate, inl, inr, sym, ap, ◌∙◌, arith}
+use Rattle.std.proofs.Common.{◌≡◌, ℕ, ◌+◌, ◌-◌, ◌<◌, ◌≤◌, true, List, [], length, map, get_or, replicate, inl, inr, sym, ap, subst, ◌∙◌, arith}
 use Rattle.std.proofs.lemmas.Bool.{eq-eqb}
 use Rattle.std.proofs.lemmas.List.{length-replicate, get_or-replicate}
-use Rattle.ring_model.specs.Ring.{Ring, ring_with, is_settled}
+use Rattle.ring_model.specs.Ring.{Ring, IsRing, ring_with, is_settled}
 use Rattle.ring_model.specs.History.{State, opening, after}
 use Rattle.ring_model.specs.Resources.{till}
 use Rattle.ring_model.specs.declared.bases.Base.{Base}
@@ -50,6 +50,12 @@ added_same : (l : Listed) (e : EndlessView) (old new : List LockView) → IsKept
 added_same l e old new k f a =
     let most : ℕ = most_passes (length e.ring.book.now.ring.values) in
     made_is e a.ring (map Call (repairs most (state_of e))) [] (ap (λ (x : List Event). map Call x) (repairs_none most (state_of e) (fresh_settled l e k f))) a.repaired
+
+pub added_settled : (l : Listed) (e : EndlessView) (old new : List LockView) → IsKeptRing e → IsFreshRing l e → (a : IsAdded old new e) → is_settled (state_of a.ring).ring.values ≡ true
+added_settled l e old new k f a = ap (λ (b : BookView ℕ). is_settled b.now.ring.values) (added_same l e old new k f a).ring.book ∙ fresh_settled l e k f
+
+pub added_ring : (l : Listed) (e : EndlessView) (old new : List LockView) → IsKeptRing e → IsFreshRing l e → (a : IsAdded old new e) → IsRing (state_of a.ring).ring
+added_ring l e old new k f a = subst (λ (b : BookView ℕ). IsRing b.now.ring) (sym (added_same l e old new k f a).ring.book) k.endless.ring.book.now_ring.ring
 
 pub added_grants : (l : Listed) (e : EndlessView) (old new : List LockView) → IsKeptRing e → IsFreshRing l e → (a : IsAdded old new e) → (state_of a.ring).grants ≡ 0
 added_grants l e old new k f a =

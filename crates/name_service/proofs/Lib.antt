@@ -9,8 +9,12 @@ pub mod RingLined
 pub mod NamedJournals
 pub mod TakenNotes
 pub mod TakenLines
+pub mod CutTexts
+pub mod CutNotes
+pub mod CutNames
 pub mod NamedReplicas
 pub mod NamedRuns
+pub mod CutReplicas
 pub mod EqualNames
 pub mod Said
 pub mod LeftSame
@@ -26,3 +30,6 @@ pub mod GrownPools
 pub mod NamedTexts
 pub mod NamedStates
 pub mod Wanting
+pub mod Heard
+pub mod OtherLines
+pub mod NamedLife

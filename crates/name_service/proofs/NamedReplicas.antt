@@ -220,11 +220,11 @@ both_own : (xs ys : List (List ℕ)) → AllByRecursion IsOwnLine xs → AllByRe
 both_own [] ys p q = q
 both_own (x ∷ xs) ys p q = (p.0, both_own xs ys p.1 q)
 
-all_own : (r : Replica NameService) → IsSound r → AllByRecursion IsOwnLine (own_lines r)
+pub all_own : (r : Replica NameService) → IsSound r → AllByRecursion IsOwnLine (own_lines r)
 all_own r sound = both_own (key_lines r.numbered.keys) (lines_at r.running.place r.running.since) (keys_other r.numbered.keys sound.each)
     (place_lines_other r.running.place r.running.since (place_is_line r.running.place r.running.since (none_or_after r.running sound.running)))
 
-only_lines : (own : List (List ℕ)) → AllByRecursion IsOwnLine own → AllByRecursion IsLine own
+pub only_lines : (own : List (List ℕ)) → AllByRecursion IsOwnLine own → AllByRecursion IsLine own
 only_lines [] all = tt
 only_lines (line ∷ own) all = (all.0.is_line, only_lines own all.1)
 
@@ -282,7 +282,7 @@ module _ (terms : NameTerms) (old new : NamingView) (said noted : List ℕ) wher
   input_lines (input.Refused client why) t = inl t.notes
   input_lines input.Nobody t = inl t.notes
 
-notes_whole : (old new : Stand NameService) (all : List (List ℕ)) (said noted : List ℕ) → Answers (by_stand IsNameServed) old all said noted new → AreLines noted
+pub notes_whole : (old new : Stand NameService) (all : List (List ℕ)) (said noted : List ℕ) → Answers (by_stand IsNameServed) old all said noted new → AreLines noted
 notes_whole old new [] said noted a = inl a.1
 notes_whole old new (line ∷ all) said noted a =
     subst (λ (u : List ℕ). AreLines u) (sym a.7)
@@ -367,11 +367,11 @@ locks_of_named_replicas old new entries all said noted torn a kept none =
 
 -- ---- and so do their names
 
-taken_split : (xs ys : List (List ℕ)) (old new : Bindings) → AreTakenIn (xs ++ ys) old new → (mid : Bindings) × AreTakenIn xs old mid × AreTakenIn ys mid new
+pub taken_split : (xs ys : List (List ℕ)) (old new : Bindings) → AreTakenIn (xs ++ ys) old new → (mid : Bindings) × AreTakenIn xs old mid × AreTakenIn ys mid new
 taken_split [] ys old new p = (old, refl, p)
 taken_split (x ∷ xs) ys old new p = let r = taken_split xs ys p.0 new p.1.1 in (r.0, (p.0, (p.1.0, r.1)), r.2)
 
-own_taken : (own : List (List ℕ)) (t : Bindings) → AllByRecursion IsOwnLine own → IsTakenText (remarks_of own) t t
+pub own_taken : (own : List (List ℕ)) (t : Bindings) → AllByRecursion IsOwnLine own → IsTakenText (remarks_of own) t t
 own_taken [] t all = taken_none t
 own_taken (line ∷ own) t all =
     let once = ends_once line all.0.is_line in

@@ -40,7 +40,7 @@ pub record AreTakenSo (numbers : Numbers) (old new : Stand NameService) (all : L
   pub answered : Answers (by_stand IsNameServed) old (given numbers all) told inside new
   pub around : AreToldAround numbers all said told
 
-all_taken : (old new : Replica NameService) (was is : Option Held) (all : List (List ℕ)) (said noted : List ℕ) → AllByRecursion IsLine all → Answers (by_stand (IsReplied IsNameServed)) (stand old was) all said noted (stand new is) → new.lost ≡ false →
+pub all_taken : (old new : Replica NameService) (was is : Option Held) (all : List (List ℕ)) (said noted : List ℕ) → AllByRecursion IsLine all → Answers (by_stand (IsReplied IsNameServed)) (stand old was) all said noted (stand new is) → new.lost ≡ false →
     AreTakenSo (numbers_of old.numbered.keys) (stand old.numbered.inner was) (stand new.numbered.inner is) all said noted
 all_taken old new was is [] said noted each a whole =
     let e = ap (λ (s : Stand (Replica NameService)). stand s.service.numbered.inner s.files) a.2 in
@@ -60,7 +60,7 @@ all_taken old new was is (line ∷ all) said noted each a whole =
       around = (a.1, now.given_so.told, a.2, rest.told, a.6, refl, now.says, rest.around);
     }
 
-terms_stay : (old new : Stand NameService) (all : List (List ℕ)) (said noted : List ℕ) → Answers (by_stand IsNameServed) old all said noted new → new.service.terms ≡ old.service.terms
+pub terms_stay : (old new : Stand NameService) (all : List (List ℕ)) (said noted : List ℕ) → Answers (by_stand IsNameServed) old all said noted new → new.service.terms ≡ old.service.terms
 terms_stay old new [] said noted a = ap (λ (s : Stand NameService). s.service.terms) a.2
 terms_stay old new (line ∷ all) said noted a = terms_stay a.0 new all a.2 a.4 a.8 ∙ a.5.terms
 

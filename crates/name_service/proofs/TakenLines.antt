@@ -134,7 +134,7 @@ module _ (floor : ℕ) (c : ℕ) (x : List ℕ) (a : Ask) (old new : NamedView) 
   state : named_of new ≡ (at_ring s c i b a).named
   state = k.named ∙ ap (λ (z : NamedStep). z.named) (reaches.step c)
 
-  new_free : r.fresh ≡ true → (found x old.names ≡ None) × (old.fixed ≤ i)
+  pub new_free : r.fresh ≡ true → (found x old.names ≡ None) × (old.fixed ≤ i)
   new_free f =
       let none : found x old.names ≡ None = not_some (found x old.names) (not_true (is_some (found x old.names)) (both_true (not (is_some (found x old.names))) (is_some (found x new.names)) (sym k.fresh ∙ f)).0) in
       elim reaches.which [
@@ -142,10 +142,10 @@ module _ (floor : ℕ) (c : ℕ) (x : List ℕ) (a : Ask) (old new : NamedView) 
         | inr g ↦ (none, (right.named.each i reaches.fits.lock None reaches.fits.there g.1).0)
       ]
 
-  not_freed : r.fresh ≡ true → r.freed ≡ false
+  pub not_freed : r.fresh ≡ true → r.freed ≡ false
   not_freed f = k.freed ∙ ap (λ (o : Option (ℕ × Bound)). is_some o && not (is_some (found x new.names))) (new_free f).0
 
-  freed_pool : r.freed ≡ true → old.fixed ≤ i
+  pub freed_pool : r.freed ≡ true → old.fixed ≤ i
   freed_pool f = elim (cases_lt i old.fixed) [
     | inl lt ↦
         let some = both_true (is_some (found x old.names)) (not (is_some (found x new.names))) (sym k.freed ∙ f) in
@@ -181,14 +181,14 @@ module _ (floor : ℕ) (c : ℕ) (x : List ℕ) (a : Ask) (old new : NamedView) 
 
 -- ---- a leave
 
-abbrev IsBelow : ℕ → Left → Type 0
+abbrev pub IsBelow : ℕ → Left → Type 0
 IsBelow n l = l.lock < n
 
 below_append : (n : ℕ) (xs ys : List Left) → AllByRecursion (IsBelow n) xs → AllByRecursion (IsBelow n) ys → AllByRecursion (IsBelow n) (xs ++ ys)
 below_append n [] ys p q = q
 below_append n (x ∷ xs) ys p q = (p.0, below_append n xs ys p.1 q)
 
-left_below : (c m n : ℕ) (vs : List LockView) → m ≤ n → AllByRecursion (IsBelow n) (left_of c vs m)
+pub left_below : (c m n : ℕ) (vs : List LockView) → m ≤ n → AllByRecursion (IsBelow n) (left_of c vs m)
 left_below c zero n vs le = tt
 left_below c (suc m) n vs le = below_append n (left_of c vs m) (left_at c m (slice_get vs m)) (left_below c m n vs (omega (arith, le))) (at (slice_get vs m))
   where
@@ -200,11 +200,11 @@ left_below c (suc m) n vs le = below_append n (left_of c vs m) (left_at c m (sli
     at None = tt
     at (Some v) = by (ended_in v.ring (turn [] (lock_of v) c Leave).marks) (turn [] (lock_of v) c Leave).lock.holder
 
-told_below : (n : ℕ) (os : List (Option Bound)) (ls : List Left) → AllByRecursion (IsBelow n) ls → AllByRecursion (IsBelow n) (map (told_left os) ls)
+pub told_below : (n : ℕ) (os : List (Option Bound)) (ls : List Left) → AllByRecursion (IsBelow n) ls → AllByRecursion (IsBelow n) (map (told_left os) ls)
 told_below n os [] all = tt
 told_below n os (l ∷ ls) all = (all.0, told_below n os ls all.1)
 
-leave_taken : (floor fixed : ℕ) (vs : List LockView) (os : List (Option Bound)) (ls : List Left) → length os ≤ 1000000 → AllByRecursion (IsBelow (length os)) ls → IsTakenText (notes_of_names_left fixed vs ls) (recorded_of floor fixed os) (recorded_of floor fixed (names_left fixed os ls))
+pub leave_taken : (floor fixed : ℕ) (vs : List LockView) (os : List (Option Bound)) (ls : List Left) → length os ≤ 1000000 → AllByRecursion (IsBelow (length os)) ls → IsTakenText (notes_of_names_left fixed vs ls) (recorded_of floor fixed os) (recorded_of floor fixed (names_left fixed os ls))
 leave_taken floor fixed vs os [] most all = taken_none (recorded_of floor fixed os)
 leave_taken floor fixed vs os (l ∷ ls) most all =
     taken_both (note_of_name_left fixed vs l) (notes_of_names_left fixed vs ls) (recorded_of floor fixed os) (recorded_of floor fixed (name_left fixed os l)) (recorded_of floor fixed (names_left fixed os (l ∷ ls)))

@@ -13,6 +13,9 @@ pub mod RightNames
 pub mod RingLines
 pub mod NameLines
 pub mod NamesBack
+pub mod NamesKept
 pub mod NameReplicas
 pub mod NamedRuns
+pub mod NamesOfRuns
 pub mod NameEqual
+pub mod Life

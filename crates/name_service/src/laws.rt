@@ -1,12 +1,16 @@
 //! The laws of locks by any name whose lines are answered with a journal. Each law is the contract of a function that does
 //! nothing; the statements are in `specs/RightNames.antt`, `specs/RingLines.antt`, `specs/NameLines.antt`,
-//! `specs/NamesBack.antt`, `specs/NameReplicas.antt`, `specs/NamedRuns.antt` and `specs/NameEqual.antt`.
+//! `specs/NamesBack.antt`, `specs/NamesKept.antt`, `specs/NameReplicas.antt`, `specs/NamedRuns.antt`,
+//! `specs/NamesOfRuns.antt`, `specs/Life.antt` and `specs/NameEqual.antt`.
 
+ghost use Rattle.name_service.specs.Life.{EmptyPartsGrow, NameLinesAreHeard, PartsAreNamedLife};
 ghost use Rattle.name_service.specs.NameEqual.{EqualNameLinesGiveEqualAnswers};
 ghost use Rattle.name_service.specs.NameLines.{ServedNameLinesAreAnswered, AnsweredNameLinesFollow, NamedLocksComeBack, NothingToldOfNamesIsLost};
 ghost use Rattle.name_service.specs.NameReplicas.{LocksOfNamedReplicasComeBack, NamesOfReplicasComeBack};
 ghost use Rattle.name_service.specs.NamedRuns.{NothingToldOfReplicasIsLost};
 ghost use Rattle.name_service.specs.NamesBack.{NamesComeBackOfJournals};
+ghost use Rattle.name_service.specs.NamesKept.{NamesComeBackOfWhateverIsKept};
+ghost use Rattle.name_service.specs.NamesOfRuns.{NamesOfRunsComeBack};
 ghost use Rattle.name_service.specs.RightNames.{BegunNamesAreRight, RestoredNamesAreRight, RightNamesStay, RightNamesContinue, RightNamesGrow};
 ghost use Rattle.name_service.specs.RingLines.{NameLinesAreRingLines};
 
@@ -67,8 +71,26 @@ pub fn nothing_told_of_replicas_is_lost()
     ensures { NothingToldOfReplicasIsLost }
 {}
 
+/// Lines about names are inputs of one machine with names, and what it answers to them is said. So are lines that are delivered in
+/// parts, in one segment after the other, where the pool may get rings between them; and where no line is delivered it may get rings
+/// too.
+pub fn lines_are_inputs_of_one_machine()
+    ensures heard { NameLinesAreHeard }
+    ensures life { PartsAreNamedLife }
+    ensures grow { EmptyPartsGrow }
+{}
+
 /// On strict terms equal lines give equal answers: two services in the same state, whatever memory each has, answer the same lines
 /// about names with the same text and the same notes, and are in the same state again.
 pub fn equal_name_lines_give_equal_answers()
     ensures { EqualNameLinesGiveEqualAnswers }
+{}
+
+/// Of whatever is kept of a journal, or of a replica's file, if it has the notes of the delivered lines, the remarks of its whole
+/// lines record how the rings of the pool were bound where it ends: after the delivered lines and some more, or within the notes of
+/// the next line, where the first rings, by their numbers, are bound as after that line, and the others as before it. So no ring
+/// comes back with a name that it did not have there.
+pub fn names_come_back_of_whatever_is_kept()
+    ensures lines { NamesComeBackOfWhateverIsKept }
+    ensures runs { NamesOfRunsComeBack }
 {}

@@ -6,7 +6,7 @@
 
 pub mod check;
 pub mod check_all;
-mod names;
+pub mod names;
 pub mod picture;
 pub mod report;
 pub mod upgrade;

@@ -274,8 +274,9 @@ fn look_again<'a, D: Disk>(
 ///
 /// # Errors
 ///
-/// Those of [`judge_folder`].
-pub(crate) fn check_names<'a, D: Disk>(
+/// `UnreadLocks`, `BadLocks` and `ManyLocks` for the file of locks; if its list has a pool, those of the names in the folder, and of its
+/// first file that cannot be read or is wrong about names.
+pub fn check_names<'a, D: Disk>(
     alloc: Global,
     disk: &D,
     folder: &'a str,

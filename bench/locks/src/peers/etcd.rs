@@ -1,12 +1,25 @@
-//! etcd: the lock service, over its JSON gateway.
+//! etcd, over its JSON gateway: the lock service; and a key of a new name with the client's lease, made if it is not there, and removed.
 
+use crate::peers::fresh::Fresh;
 use crate::Peer;
 use std::io::{BufRead, BufReader, Read, Write};
 use std::net::TcpStream;
 
-pub struct Etcd {
+/// A connection, with a lease.
+struct Gateway {
     stream: BufReader<TcpStream>,
+    lease: String,
+}
+
+pub struct Etcd {
+    gateway: Gateway,
     lock: String,
+    key: String,
+}
+
+pub struct EtcdKeys {
+    gateway: Gateway,
+    fresh: Fresh,
     key: String,
 }
 
@@ -27,13 +40,12 @@ fn field(text: &str, name: &str) -> String {
     text[from..].split('"').next().unwrap().into()
 }
 
-impl Etcd {
-    pub fn open(address: &str, l: usize) -> Etcd {
+impl Gateway {
+    fn open(address: &str, seconds: u32) -> Gateway {
         let stream = TcpStream::connect(address).unwrap();
         stream.set_nodelay(true).unwrap();
-        let mut it = Etcd { stream: BufReader::new(stream), lock: String::new(), key: String::new() };
-        let lease = field(&it.post("/v3/lease/grant", "{\"TTL\":60}"), "ID");
-        it.lock = format!("{{\"name\":\"{}\",\"lease\":\"{lease}\"}}", base64(format!("lock{l}").as_bytes()));
+        let mut it = Gateway { stream: BufReader::new(stream), lease: String::new() };
+        it.lease = field(&it.post("/v3/lease/grant", &format!("{{\"TTL\":{seconds}}}")), "ID");
         it
     }
 
@@ -74,16 +86,51 @@ impl Etcd {
     }
 }
 
+impl Etcd {
+    pub fn open(address: &str, l: usize) -> Etcd {
+        let gateway = Gateway::open(address, 60);
+        let lock =
+            format!("{{\"name\":\"{}\",\"lease\":\"{}\"}}", base64(format!("lock{l}").as_bytes()), gateway.lease);
+        Etcd { gateway, lock, key: String::new() }
+    }
+}
+
 impl Peer for Etcd {
     fn acquire(&mut self) -> u64 {
-        let lock = self.lock.clone();
-        self.key = field(&self.post("/v3/lock/lock", &lock), "key");
+        self.key = field(&self.gateway.post("/v3/lock/lock", &self.lock), "key");
         0
     }
 
     fn release(&mut self) {
         let key = format!("{{\"key\":\"{}\"}}", self.key);
-        let answer = self.post("/v3/lock/unlock", &key);
+        let answer = self.gateway.post("/v3/lock/unlock", &key);
         assert!(answer.contains("header"), "{answer}");
+    }
+}
+
+impl EtcdKeys {
+    pub fn open(address: &str, c: usize) -> EtcdKeys {
+        EtcdKeys { gateway: Gateway::open(address, 3600), fresh: Fresh::of(c), key: String::new() }
+    }
+}
+
+impl Peer for EtcdKeys {
+    fn acquire(&mut self) -> u64 {
+        self.key = base64(self.fresh.name().as_bytes());
+        let (key, lease) = (&self.key, &self.gateway.lease);
+        let body = format!(
+            "{{\"compare\":[{{\"key\":\"{key}\",\"target\":\"CREATE\",\"result\":\"EQUAL\",\"create_revision\":\"0\"}}],\
+             \"success\":[{{\"request_put\":{{\"key\":\"{key}\",\"lease\":\"{lease}\"}}}}]}}"
+        );
+        let answer = self.gateway.post("/v3/kv/txn", &body);
+        assert!(answer.contains("\"succeeded\":true"), "{answer}");
+        // the revision of the key, which is the token
+        field(&answer, "revision").parse().unwrap()
+    }
+
+    fn release(&mut self) {
+        let key = format!("{{\"key\":\"{}\"}}", self.key);
+        let answer = self.gateway.post("/v3/kv/deleterange", &key);
+        assert!(answer.contains("\"deleted\":\"1\""), "{answer}");
     }
 }

@@ -2,6 +2,7 @@
 
 mod etcd;
 mod files;
+mod fresh;
 mod postgres;
 mod redis;
 mod wozgirt;
@@ -42,10 +43,13 @@ pub fn prepare(peer: &str, address: &str, locks: usize) {
 pub fn connect(peer: &str, address: &str, l: usize, c: usize) -> Option<Box<dyn Peer>> {
     Some(match peer {
         "wozgirt" => Box::new(wozgirt::Wozgirt::open(address, l)),
+        "wozgirt-new" => Box::new(wozgirt::Wozgirt::of_new_names(address, c)),
         "redis-poll" => Box::new(RedisPoll::open(address, l, c)),
+        "redis-new" => Box::new(RedisPoll::of_new_names(address, c)),
         "redis-list" => Box::new(RedisList { redis: Redis::open(address), name: format!("list{l}") }),
         "postgres" => Box::new(postgres::Postgres::open(address, l)),
         "etcd" => Box::new(etcd::Etcd::open(address, l)),
+        "etcd-new" => Box::new(etcd::EtcdKeys::open(address, c)),
         "zookeeper" => {
             Box::new(ZooLock { zk: ZooKeeper::open(address), folder: format!("/locks/{l}"), mine: String::new() })
         }

@@ -1,5 +1,6 @@
 //! Redis: a key that is set if it is not there, asked for again each millisecond; and a list that is popped.
 
+use crate::peers::fresh::Fresh;
 use crate::Peer;
 use std::io::{BufRead, BufReader, Read, Write};
 use std::os::unix::net::UnixStream;
@@ -47,6 +48,7 @@ impl Redis {
 pub struct RedisPoll {
     redis: Redis,
     name: String,
+    fresh: Option<Fresh>,
     mine: String,
     script: String,
 }
@@ -59,12 +61,19 @@ impl RedisPoll {
             b"LOAD",
             b"if redis.call('get',KEYS[1])==ARGV[1] then return redis.call('del',KEYS[1]) else return 0 end",
         ]);
-        RedisPoll { redis, name: format!("lock{l}"), mine: format!("client{c}"), script }
+        RedisPoll { redis, name: format!("lock{l}"), fresh: None, mine: format!("client{c}"), script }
+    }
+
+    pub fn of_new_names(path: &str, c: usize) -> RedisPoll {
+        RedisPoll { fresh: Some(Fresh::of(c)), ..RedisPoll::open(path, c, c) }
     }
 }
 
 impl Peer for RedisPoll {
     fn acquire(&mut self) -> u64 {
+        if let Some(fresh) = &mut self.fresh {
+            self.name = fresh.name();
+        }
         while self.redis.call(&[b"SET", self.name.as_bytes(), self.mine.as_bytes(), b"NX", b"PX", b"30000"]) != "OK" {
             std::thread::sleep(Duration::from_millis(1));
         }

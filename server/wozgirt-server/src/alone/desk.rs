@@ -66,7 +66,7 @@ impl Desk {
         } else {
             text.push_str(" alone"); // else a client of several servers would take this one's locks for those of all
         }
-        for (lock, token) in &session.holds {
+        for (lock, token) in session.holds.iter() {
             let _ = write!(text, "\nholds {lock} {token}");
         }
         if let Some(place) = &session.waits {
@@ -154,7 +154,7 @@ impl Desk {
         if let Some(place) = &it.waits {
             self.board.waits_no_longer(&place.lock, session);
         }
-        for (lock, _) in &it.holds {
+        for (lock, _) in it.holds.iter() {
             self.board.left(lock, session);
         }
         it.held().join(",")

@@ -5,6 +5,7 @@
 //! open holds. If sessions have some of them, the engine starts once more, and reads a file that says whose they are.
 
 mod desk;
+mod holds;
 mod plain;
 mod session;
 mod store;
@@ -125,7 +126,8 @@ impl Alone {
             Line::Free(number, lock) => self.change(number, |session| session.free(&lock)),
             Line::Over(number) => {
                 let session = self.remove(number);
-                session.into_iter().flat_map(|it| it.holds).for_each(|(lock, token)| self.give(lock, token));
+                let holds = session.map(|it| it.holds).unwrap_or_default();
+                holds.iter().cloned().for_each(|(lock, token)| self.give(lock, token));
             }
             Line::Plain(lock) => _ = self.plain.add(lock),
             Line::AllPlain => self.plain.add_all(),
@@ -239,7 +241,7 @@ impl Alone {
             if self.keys.get(&key) == Some(&number) {
                 self.keys.remove(&key);
             }
-            holds.into_iter().for_each(|(lock, token)| self.give(lock, token));
+            holds.iter().cloned().for_each(|(lock, token)| self.give(lock, token));
             self.put(&Line::Over(number));
         }
     }
@@ -414,8 +416,9 @@ impl Alone {
     /// These holds are open. Only sessions keep their holds. A hold of which no client learned belongs to the client that was first in the
     /// queue. Returns whether any is a session's, and a file says so.
     pub fn settle(&mut self, open: &[(Lock, Token)]) -> io::Result<bool> {
+        let is_open: HashSet<&(Lock, Token)> = open.iter().collect();
         for session in self.sessions.values_mut() {
-            session.holds.retain(|hold| open.contains(hold));
+            session.holds.retain(|hold| is_open.contains(hold));
         }
         let known: HashSet<(Lock, Token)> = self.holds().map(|(_, lock, token)| (lock.clone(), token)).collect();
         let mut plain = Plain::default();

@@ -1,5 +1,6 @@
 //! A session of a single server: what it has, and what it asked.
 
+use super::holds::Holds;
 use crate::cluster::{Key, Owner};
 use std::collections::VecDeque;
 use std::time::{Duration, Instant};
@@ -87,7 +88,7 @@ pub struct Session {
     /// The number of the last input that was done, and the first line of its answer.
     pub last: Option<(u64, String)>,
     /// The locks that it holds.
-    pub holds: Vec<(Lock, Token)>,
+    pub holds: Holds,
     /// The lock for which it waits.
     pub waits: Option<Place>,
     /// What the engine has not answered, the oldest first.
@@ -108,7 +109,7 @@ impl Session {
             at,
             last_asked: None,
             last: None,
-            holds: Vec::new(),
+            holds: Holds::default(),
             waits: None,
             asked: VecDeque::new(),
             is_left: false,
@@ -123,7 +124,7 @@ impl Session {
 
     /// Whether it holds the lock.
     pub fn has(&self, lock: &str) -> bool {
-        self.holds.iter().any(|(held, _)| *held == lock)
+        self.holds.has(lock)
     }
 
     /// How many locks it holds, with the one that it waits for.
@@ -140,12 +141,12 @@ impl Session {
     pub fn hold(&mut self, lock: Lock, token: Token) {
         self.free(&lock);
         self.note_label_of(&lock);
-        self.holds.push((lock, token));
+        self.holds.put(lock, token);
     }
 
     /// Its hold of the lock is over.
     fn lose(&mut self, lock: &str) {
-        self.holds.retain(|(held, _)| *held != lock);
+        self.holds.remove(lock);
     }
 
     /// The lock for which it waits, if it is this one.
@@ -255,7 +256,7 @@ mod tests {
         did(&mut it, 2, "5 granted b 1");
         did(&mut it, 3, "5 released a");
         did(&mut it, 2, "5 released b"); // it was known
-        assert_eq!((it.holds.as_slice(), &it.last), ([(lock("b"), 1)].as_slice(), &Some((3, "5 released a".into()))));
+        assert_eq!((it.holds.iter().collect::<Vec<_>>(), &it.last), (vec![&(lock("b"), 1)], &Some((3, "5 released a".into()))));
         it.hold(lock("a"), 9);
         assert!(it.has("a") && it.has("b") && !it.has("c"));
         let lines: Vec<String> = it.lines(5).map(|line| line.to_string()).collect();

@@ -69,7 +69,7 @@ fn inherited(journal: &Path, is_heard: bool) -> Vec<(Lock, Token)> {
     it.prepare().unwrap();
     assert_eq!(it.settle(&[(lock(), 7)]).unwrap(), !is_heard);
     assert_eq!(it.plain.has(&lock()), is_heard);
-    it.session(2).unwrap().holds.clone()
+    it.session(2).unwrap().holds.iter().cloned().collect()
 }
 
 #[test]
@@ -108,7 +108,7 @@ fn inherited_of_another_name(journal: &Path, is_server_there: bool) -> (Vec<(Loc
     it.prepare().unwrap();
     let lines = it.all();
     it.settle(&[(lock(), 7)]).unwrap();
-    (it.session(2).unwrap().holds.clone(), lines)
+    (it.session(2).unwrap().holds.iter().cloned().collect(), lines)
 }
 
 #[test]

@@ -181,9 +181,22 @@ impl Any {
 
     /// No client has anything of any.
     pub fn forget(&mut self) {
-        for lock in self.used.values().cloned().collect::<Vec<_>>() {
-            self.change(&lock, false, Sight::forget);
+        self.holds.clear();
+        self.fronts.clear();
+        (self.sums.held, self.sums.waiting) = (0, 0);
+        for lock in std::mem::take(&mut self.used).into_values() {
+            match self.sights.get_mut(&lock) {
+                Some(sight) if sight.grants > 0 => {
+                    sight.forget();
+                    sight.forget_tokens();
+                    self.last += 1;
+                    sight.number = self.last;
+                    self.unused.insert(self.last, lock);
+                }
+                _ => _ = self.sights.remove(&lock),
+            }
         }
+        self.forget_old();
     }
 }
 

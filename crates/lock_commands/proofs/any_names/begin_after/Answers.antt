@@ -1,4 +1,4 @@
-use Rattle.std.proofs.Common.{Some, refl, inl, inr}
+use Rattle.std.proofs.Common.{Some, refl}
 use Rattle.line_service.specs.SegmentNames.{segment_file}
 use Rattle.line_service.specs.Segments.{moment_at}
 use Rattle.line_service.proofs.SegmentLasting.{begun_lasts, replaced_known}

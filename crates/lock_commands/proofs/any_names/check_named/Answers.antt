@@ -1,4 +1,3 @@
-use Rattle.std.proofs.Common.{refl}
 use Rattle.folder_of_locks.specs.Pools.{pooled}
 use Rattle.lock_commands.proofs.any_names.check_named.Goals as goal
 

@@ -45,3 +45,17 @@ returns-in-Ok-tell_totals-clause-lasts g c = λ synced some.
 pub returns-clause-lasts : goal.returns-clause-lasts
 returns-clause-lasts g c = λ synced some.
     inr (map hold_of c.in-Ok-holders_of.holders.items, c.in-Ok-holders_of.ensures.ok, rw c.as_slice.ensures.value at (c.run_in_folder.ensures.lasts synced some))
+
+-- ---- what one machine with names answered
+
+pub returns-in-Err-run_in_folder-clause-life : goal.returns-in-Err-run_in_folder-clause-life
+returns-in-Err-run_in_folder-clause-life g c =
+    inr (map hold_of c.in-Ok-holders_of.holders.items, c.in-Ok-holders_of.ensures.ok, rw c.as_slice.ensures.value at c.run_in_folder.ensures.life)
+
+pub returns-in-Ok-tell_totals-clause-life : goal.returns-in-Ok-tell_totals-clause-life
+returns-in-Ok-tell_totals-clause-life g c =
+    inr (map hold_of c.in-Ok-holders_of.holders.items, c.in-Ok-holders_of.ensures.ok, rw c.as_slice.ensures.value at c.run_in_folder.ensures.life)
+
+pub returns-clause-life : goal.returns-clause-life
+returns-clause-life g c =
+    inr (map hold_of c.in-Ok-holders_of.holders.items, c.in-Ok-holders_of.ensures.ok, rw c.as_slice.ensures.value at c.run_in_folder.ensures.life)

@@ -58,3 +58,13 @@ pub returns-in-Err-serve_from-clause-held : goal.returns-in-Err-serve_from-claus
 returns-in-Err-serve_from-clause-held g c = λ some.
     let listed = g.D.Disk.holds c.start_names.new.disk in
     names_refused_locked c.args.words.now (map hold_of c.args.holders.now) (name_place_of c.in-Ok-start_names.start) (g.D.Disk.holds c.args.disk.now) (g.D.Disk.holds c.lock_folder.new.disk) listed _ _ _ _ _ _ c.in-Ok.ensures.locked c.in-Ok-start_names.ensures.ok some c.in-Err-serve_from.ensures.err
+
+-- ---- what one machine with names answered
+
+pub returns-in-Ok-serve_from-clause-life : goal.returns-in-Ok-serve_from-clause-life
+returns-in-Ok-serve_from-clause-life g c =
+    inr (g.D.Disk.holds c.lock_folder.new.disk, g.D.Disk.holds c.start_names.new.disk, name_place_of c.in-Ok-start_names.start, c.in-Ok.ensures.locked, c.in-Ok-start_names.ensures.ok, c.serve_from.ensures.life)
+
+pub returns-in-Err-serve_from-clause-life : goal.returns-in-Err-serve_from-clause-life
+returns-in-Err-serve_from-clause-life g c =
+    inr (g.D.Disk.holds c.lock_folder.new.disk, g.D.Disk.holds c.start_names.new.disk, name_place_of c.in-Ok-start_names.start, c.in-Ok.ensures.locked, c.in-Ok-start_names.ensures.ok, c.serve_from.ensures.life)

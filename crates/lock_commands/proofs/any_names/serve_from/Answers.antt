@@ -1,4 +1,4 @@
-use Rattle.std.proofs.Common.{ℕ, List, Some, refl, sym, subst, inl, inr}
+use Rattle.std.proofs.Common.{ℕ, List, refl, sym, subst, inl, inr}
 use Rattle.std.specs.Prelude.{string_bytes}
 use Rattle.disks.specs.Held.{Replaces}
 use Rattle.line_service.specs.Digested.{hashed}
@@ -9,6 +9,7 @@ use Rattle.tool_parts.specs.declared.faults.ToolError.{ToolError}
 use Rattle.lock_commands.specs.Refusals.{IsBeginName}
 use Rattle.lock_commands.specs.Locks.{folder_of}
 use Rattle.lock_commands.proofs.NamesBegun.{names_have_started, begins_with_lines}
+use Rattle.lock_commands.proofs.NamesLiving.{names_lived}
 use Rattle.lock_commands.proofs.any_names.serve_from.Goals as goal
 
 pub returns-in-Err-service_of-clause-err : goal.returns-in-Err-service_of-clause-err
@@ -72,3 +73,20 @@ returns-in-Ok-close_segment-clause-ok g c = record {
   end_is = refl;
   settled = subst (λ (n : List ℕ). Replaces (g.D.Disk.holds c.serve_segments.new.disk) (g.D.Disk.holds c.close_segment.new.disk) n (hashed (g.D.Grown.Grow.contents c.in-Ok-serve_segments.last.writer.inner) c.in-Ok-serve_segments.last.writer.hasher)) c.in-Ok-serve_segments.ensures.named c.in-Ok-close_segment.ensures.ok;
 }
+
+-- ---- what one machine with names answered
+
+pub returns-in-Err-serve_segments-clause-life : goal.returns-in-Err-serve_segments-clause-life
+returns-in-Err-serve_segments-clause-life g c =
+    let h = names_have_started (λ bytes. bytes.items) c.args.words.now (name_place_of c.args.start) (g.D.Disk.holds c.args.disk.now) _ c.in-Ok.front _ _ c.in-Ok.ensures c.is_some.ensures c.in-Ok-service_of.ensures.ok c.in-Ok-begin.ensures.ok in
+    inr (names_lived c.args.words.now (name_place_of c.args.start) (g.D.Disk.holds c.args.disk.now) _ h c.are_kept.ensures _ _ _ _ _ c.in-Err-serve_segments.ensures.noted.0 c.in-Err-serve_segments.ensures.noted.1)
+
+pub returns-in-Ok-close_segment-clause-life : goal.returns-in-Ok-close_segment-clause-life
+returns-in-Ok-close_segment-clause-life g c =
+    let h = names_have_started (λ bytes. bytes.items) c.args.words.now (name_place_of c.args.start) (g.D.Disk.holds c.args.disk.now) _ c.in-Ok.front _ _ c.in-Ok.ensures c.is_some.ensures c.in-Ok-service_of.ensures.ok c.in-Ok-begin.ensures.ok in
+    inr (names_lived c.args.words.now (name_place_of c.args.start) (g.D.Disk.holds c.args.disk.now) _ h c.are_kept.ensures _ _ _ _ _ _ c.in-Ok-serve_segments.ensures.noted)
+
+pub returns-clause-life : goal.returns-clause-life
+returns-clause-life g c =
+    let h = names_have_started (λ bytes. bytes.items) c.args.words.now (name_place_of c.args.start) (g.D.Disk.holds c.args.disk.now) _ c.in-Ok.front _ _ c.in-Ok.ensures c.is_some.ensures c.in-Ok-service_of.ensures.ok c.in-Ok-begin.ensures.ok in
+    inr (names_lived c.args.words.now (name_place_of c.args.start) (g.D.Disk.holds c.args.disk.now) _ h c.are_kept.ensures _ _ _ _ _ _ c.in-Ok-serve_segments.ensures.noted)
