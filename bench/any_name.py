@@ -9,7 +9,7 @@ restarts [NAMES [LINES]]: how long it takes until the first answer comes of an e
     names (100,000) were held, by connections or by sessions; and, of an engine, after so many lines more (900,000).
 million [NAMES [HELD [SEGMENT]]]: so many names (1,000,000) through an engine, of which HELD (100) are held at once; then `check`.
 
-`rates` and `minutes` need cargo, and build server/ and bench/locks. Server and engine sync, but for `rates` with --no-sync."""
+All but `million` need cargo, and build server/ and bench/locks. Server and engine sync their files, except where `rates` says --no-sync."""
 import contextlib
 import os
 import shutil
@@ -138,6 +138,11 @@ LOADS = {
     "one client, one lock": ("wozgirt", 1, 1),
     "one client, a new name each time": ("wozgirt-new", 1, 1),
 }
+COMPARED = [
+    ("64 clients, a new name each time", "64 clients, one lock"),
+    ("64 clients, a new name each time", "64 clients, a lock for each"),
+    ("one client, a new name each time", "one client, one lock"),
+]
 
 
 def rates(tool, folder, seconds="3", rounds="5"):
@@ -156,9 +161,9 @@ def rates(tool, folder, seconds="3", rounds="5"):
                     times[load].append((sum(map(cpu_of, processes.values())) - before) / float(seconds) / found[load][-1])
         print(*(sync or ["synced"]), f"{rounds} rounds of {seconds} s: hand-overs a second, the middle (the range); processor time of each")
         for load, all_of in found.items():
-            print(f"  {load}: {statistics.median(all_of):,.0f} ({min(all_of):,.0f} to {max(all_of):,.0f}); {statistics.median(times[load]) * 1e6:.0f} us")
-        for new, old in [("64 clients, a new name each time", "64 clients, one lock"), ("64 clients, a new name each time", "64 clients, a lock for each"),
-                         ("one client, a new name each time", "one client, one lock")]:
+            middle, cpu = statistics.median(all_of), statistics.median(times[load])
+            print(f"  {load}: {middle:,.0f} ({min(all_of):,.0f} to {max(all_of):,.0f}); {cpu * 1e6:.0f} us")
+        for new, old in COMPARED:
             each = [one / other for one, other in zip(found[new], found[old])]
             print(f"  {new}, to {old}: {statistics.median(each):.2f} ({min(each):.2f} to {max(each):.2f})", flush=True)
 
@@ -169,7 +174,8 @@ def rates(tool, folder, seconds="3", rounds="5"):
 def redis(_, folder):
     os.makedirs(folder)
     path = f"{folder}/redis.sock"
-    with open(f"{folder}/log", "wb") as log, running(["redis-server", "--port", "0", "--unixsocket", path, "--save", "", "--dir", folder], stdout=log) as it:
+    words = ["redis-server", "--port", "0", "--unixsocket", path, "--save", "", "--dir", folder]
+    with open(f"{folder}/log", "wb") as log, running(words, stdout=log) as it:
         wait_until(lambda: os.path.exists(path))
         yield path, {"redis": it.pid}
 
@@ -262,17 +268,18 @@ def ask_all(it, lines, count):
 
 
 def first_answer(words, line, expected):
-    """How long an engine takes from its start until it answers this line."""
+    """How long an engine takes from its start until it answers this line, and its processor time."""
     begun = time.time()
     with engine(words) as it:
         it.stdin.write(line)
         said = it.stdout.readline()
-        took = time.time() - begun
+        took, cpu = time.time() - begun, cpu_of(it.pid)
         assert said.startswith(expected), said
-    return took
+    return f"the first answer after {took:.2f} s, with {cpu:.2f} s of processor time"
 
 
 def restarts(tool, folder, names="100000", lines="900000"):
+    build()
     names, lines = int(names), int(lines)
     most = 1 << (names - 1).bit_length()
     restart_engine(tool, f"{folder}/journal", names, lines, most)
@@ -287,15 +294,14 @@ def restart_engine(tool, folder, names, lines, most):
     with engine(words) as it:
         ask_all(it, (f"{1 + i % 100} acquire n/{i} 7\n" for i in range(names)), names)
         print(f"engine, {names:,} names held, --most-names {most}: {memory_of(it.pid):.0f} MiB")
-    for what in ["after their grants", "again, where its file has a beginning only", "once more"]:
-        took = first_answer(words, b"1 stats n/7\n", b"1 stats n/7 2 0 1 0 ")
-        print(f"engine, killed {what}: the first answer after {took:.2f} s", flush=True)
+    asked = b"1 stats n/7\n", b"1 stats n/7 2 0 1 0 "
+    for what in ["after their grants", *["again, where its file has a beginning only"] * 5]:
+        print(f"engine, killed {what}: {first_answer(words, *asked)}", flush=True)
     if lines:
         with engine(words) as it:
-            asked = (f"1 acquire m/{i} 7\n1 release m/{i} {names + 1 + i}\n" for i in range(lines // 2))
-            ask_all(it, asked, lines // 2 * 2)
-        took = first_answer(words, b"1 stats n/7\n", b"1 stats n/7 2 0 1 0 ")
-        print(f"engine, killed after {lines:,} lines more: the first answer after {took:.2f} s")
+            pairs = (f"1 acquire m/{i} 7\n1 release m/{i} {names + 1 + i}\n" for i in range(lines // 2))
+            ask_all(it, pairs, lines // 2 * 2)
+        print(f"engine, killed after {lines:,} lines more: {first_answer(words, *asked)}")
     print(" ", checked(tool, folder), flush=True)
 
 

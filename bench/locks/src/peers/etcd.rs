@@ -114,23 +114,36 @@ impl EtcdKeys {
     }
 }
 
+/// Whether it could not answer in time: then what was asked may be done, or not.
+fn is_late(answer: &str) -> bool {
+    answer.contains("request timed out")
+}
+
 impl Peer for EtcdKeys {
     fn acquire(&mut self) -> u64 {
-        self.key = base64(self.fresh.name().as_bytes());
-        let (key, lease) = (&self.key, &self.gateway.lease);
-        let body = format!(
-            "{{\"compare\":[{{\"key\":\"{key}\",\"target\":\"CREATE\",\"result\":\"EQUAL\",\"create_revision\":\"0\"}}],\
-             \"success\":[{{\"request_put\":{{\"key\":\"{key}\",\"lease\":\"{lease}\"}}}}]}}"
-        );
-        let answer = self.gateway.post("/v3/kv/txn", &body);
-        assert!(answer.contains("\"succeeded\":true"), "{answer}");
-        // the revision of the key, which is the token
-        field(&answer, "revision").parse().unwrap()
+        loop {
+            self.key = base64(self.fresh.name().as_bytes());
+            let (key, lease) = (&self.key, &self.gateway.lease);
+            let body = format!(
+                "{{\"compare\":[{{\"key\":\"{key}\",\"target\":\"CREATE\",\"result\":\"EQUAL\",\"create_revision\":\"0\"}}],\
+                 \"success\":[{{\"request_put\":{{\"key\":\"{key}\",\"lease\":\"{lease}\"}}}}]}}"
+            );
+            let answer = self.gateway.post("/v3/kv/txn", &body);
+            if answer.contains("\"succeeded\":true") {
+                // the revision of the key, which is the token
+                return field(&answer, "revision").parse().unwrap();
+            }
+            assert!(is_late(&answer), "{answer}");
+        }
     }
 
     fn release(&mut self) {
         let key = format!("{{\"key\":\"{}\"}}", self.key);
-        let answer = self.gateway.post("/v3/kv/deleterange", &key);
-        assert!(answer.contains("\"deleted\":\"1\""), "{answer}");
+        loop {
+            let answer = self.gateway.post("/v3/kv/deleterange", &key);
+            if !is_late(&answer) {
+                return assert!(answer.contains("header"), "{answer}");
+            }
+        }
     }
 }

@@ -256,7 +256,10 @@ mod tests {
         did(&mut it, 2, "5 granted b 1");
         did(&mut it, 3, "5 released a");
         did(&mut it, 2, "5 released b"); // it was known
-        assert_eq!((it.holds.iter().collect::<Vec<_>>(), &it.last), (vec![&(lock("b"), 1)], &Some((3, "5 released a".into()))));
+        assert_eq!(
+            (it.holds.iter().collect::<Vec<_>>(), &it.last),
+            (vec![&(lock("b"), 1)], &Some((3, "5 released a".into())))
+        );
         it.hold(lock("a"), 9);
         assert!(it.has("a") && it.has("b") && !it.has("c"));
         let lines: Vec<String> = it.lines(5).map(|line| line.to_string()).collect();
