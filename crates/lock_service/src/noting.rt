@@ -21,6 +21,7 @@ pub fn events_at(locks: &Locks, lock: u32) -> usize
 }
 
 /// Adds the lines of a lock's events from a place on.
+#[inline(always)] // on the way of each hold, like the two after it
 fn note_events(
     locks: &Locks,
     lock: u32,
@@ -44,6 +45,7 @@ fn note_events(
 }
 
 /// Adds the line of the end of a hold.
+#[inline(always)]
 fn note_end(lock: u32, ended: Option<HoldEnd>, notes: &mut Vec<u8>) -> Result<(), AllocError>
     ensures { OnOk result (notes.new.items ≡ notes.old.items ++ end_line lock ended) }
 {
@@ -61,7 +63,7 @@ fn note_end(lock: u32, ended: Option<HoldEnd>, notes: &mut Vec<u8>) -> Result<()
 /// # Errors
 ///
 /// Only out of memory.
-#[inline(always)] // with two callers it is a call, which costs 5 % of the instructions of a hold
+#[inline(always)]
 pub fn note(
     locks: &Locks,
     lock: u32,
