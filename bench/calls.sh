@@ -4,7 +4,7 @@
 # two runs of `calls.c`, by the calls that the longer one has more. Word: a libwozgirt.a in place of one that is proved and built
 # here. Needs rt, valgrind, a C compiler and awk.
 set -eu
-. "$(dirname "$0")/common.sh"
+. "$(dirname "$0")/../tools/common.sh"
 library=${1:-}
 if [ -z "$library" ]; then
     echo "proving and building wozgirt_c"
@@ -12,7 +12,7 @@ if [ -z "$library" ]; then
     "$top/release/library" "$out/calls"
     library=$out/calls/libwozgirt.a
 fi
-cc -std=c11 -Wall -Wextra -Werror "-I$top/include" -O2 -o "$out/calls-program" "$top/bench/calls.c" "$library"
+cc -std=c11 -Wall -Wextra -Werror "-I$top/clients/c" -O2 -o "$out/calls-program" "$top/bench/calls.c" "$library"
 
 # of WHAT COUNT: the instructions of a whole run
 of() {

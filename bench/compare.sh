@@ -4,7 +4,7 @@
 # to before by processor time, by the clock and by the greatest memory, the best of five runs each.
 # bench/compare.sh COMMIT. Needs rt, git, awk and python3. Nothing else should run on the machine.
 set -eu
-. "$(dirname "$0")/common.sh"
+. "$(dirname "$0")/../tools/common.sh"
 commit=$(git -C "$top" rev-parse "$1^{commit}")
 base=${TMPDIR:-/tmp}/wozgirt-$(git -C "$top" rev-parse --short "$commit")
 [ -d "$base" ] || git clone -q "$top" "$base"

@@ -5,13 +5,13 @@
 # told, and the status is then 1. Word: a `ring_tool` that is counted in place of one that is proved and built here.
 # Needs rt, valgrind and awk.
 set -eu
-. "$(dirname "$0")/common.sh"
+. "$(dirname "$0")/../tools/common.sh"
 tool=${1:-}
 [ -n "$tool" ] || { build ring_tool --help; tool=$top/crates/ring_tool/out/ring_tool; }
 case $tool in /*) ;; *) tool=$PWD/$tool ;; esac
 status=0
 
-# counted COMMAND WORD..: runs it in bench/out, and answers its instructions
+# counted COMMAND WORD..: runs it in out, and answers its instructions
 counted() {
     (cd "$out" && valgrind --tool=callgrind --callgrind-out-file="$out/callgrind.out" "$@" 2>&1 >"$out/counted.txt") |
         awk '/Collected/ { print $NF }'

@@ -5,7 +5,7 @@
 # bench/lanes.rs links it, and compares each answer once with a plain loop, which has no early exit, but for `first`. Needs
 # rt, awk and rustc, and no network.
 set -eu
-. "$(dirname "$0")/common.sh"
+. "$(dirname "$0")/../tools/common.sh"
 alone "$top" ring_lanes_c staticlib
 trap 'rm -rf "$room"' EXIT
 library=$room/crates/ring_lanes_c

@@ -7,7 +7,7 @@ set -eu
 cd "$(dirname "$0")/.."
 top=$PWD
 seconds=${1:-3}
-out=$top/bench/out/peers
+out=$top/out/peers
 mkdir -p "$out"
 (cd server && cargo build -q --release)
 (cd bench/locks && cargo build -q --release --offline --target-dir "$out/target")

@@ -13,9 +13,9 @@
 #
 # Needs rt, awk and /usr/bin/time.
 set -eu
-. "$(dirname "$0")/common.sh"
+. "$(dirname "$0")/../tools/common.sh"
 
-# timed FORM COMMAND WORD..: runs it in bench/out, and tells its time and its greatest memory
+# timed FORM COMMAND WORD..: runs it in out, and tells its time and its greatest memory
 timed() {
     form=$1
     shift

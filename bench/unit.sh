@@ -3,7 +3,7 @@
 # ring_lanes from nothing at the commit below, with ring_model built beforehand. Machines differ by a factor of two and more,
 # P does not: measure it on the same machine, within the same hour, with nothing else running. Needs rt, git and python3.
 set -eu
-. "$(dirname "$0")/common.sh"
+. "$(dirname "$0")/../tools/common.sh"
 clone 9877057
 cd "$room/clone"
 (cd crates/ring_model && rt lib) >"$room/model.log" 2>&1 || { cat "$room/model.log"; exit 1; }

@@ -8,7 +8,7 @@
 # of the longest passes of a third of as many rounds. A form serves if no ratio by the clock is over 1.1.
 # Needs rt, awk, patch and python3. Nothing else should run on the machine; it takes five minutes, after the proof.
 set -eu
-. "$(dirname "$0")/common.sh"
+. "$(dirname "$0")/../tools/common.sh"
 if [ ! -x "$out/waits" ] || [ -n "$(find "$top/bench/waits" "$top/crates/ring_shared/src" -newer "$out/waits")" ]; then
     alone "$top" waits
     patch -s -d "$room" -p1 <"$top/bench/waits/forms.patch"

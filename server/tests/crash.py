@@ -7,7 +7,7 @@ fault is written. Then the journal is judged:
 - tokens rise, across restarts: one that was asked for when another one had been told is greater. Each that was told is a grant of the
   journal, with the client's label;
 - in the journal each grant of a hold is followed by its end before the next one;
-- `bench/small_recover.py`, which knows nothing of this program, finds the history of each segment legal;
+- `models/small_recover.py`, which knows nothing of this program, finds the history of each segment legal;
 - a token of a name is greater than those before it, and no two rings have one name at once;
 - `ring_tool check` finds the chain of segments legal, and counts the grants that the journal has (the engine's double has one segment,
   and checks nothing).
@@ -194,7 +194,7 @@ def said_of(text):
         journal = os.path.join(folder, "journal.txt")
         with open(journal, "w", encoding="ascii") as file:
             file.write(journals.without_remarks(text[text.index("ringjournal"):]))
-        judged = subprocess.run([sys.executable, os.path.join(TOP, "bench", "small_recover.py"), journal],
+        judged = subprocess.run([sys.executable, os.path.join(TOP, "models", "small_recover.py"), journal],
                                 capture_output=True, text=True, check=False)
     return next((line for line in judged.stdout.splitlines() if line.startswith("legal ")), judged.stdout[-200:] + judged.stderr)
 

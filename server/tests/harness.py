@@ -31,7 +31,7 @@ DOUBLE = os.path.join(BIN, "engine-double")
 IS_DOUBLE = os.path.basename(ENGINE) == "engine-double"
 COMMAND = os.path.join(BIN, "wozgirt")
 SERVER = os.path.join(BIN, "wozgirt-server")
-sys.path.insert(0, os.path.join(TOP, "python"))
+sys.path.insert(0, os.path.join(TOP, "clients", "python"))
 
 # seconds until what does not come about is taken for a fault
 PATIENCE = 50

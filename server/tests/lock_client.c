@@ -1,4 +1,4 @@
-/* lock_client PATH: takes locks by include/wozgirt_lock.h, and prints what it is answered. The test holds `b` meanwhile. */
+/* lock_client PATH: takes locks by clients/c/wozgirt_lock.h, and prints what it is answered. The test holds `b` meanwhile. */
 #include "wozgirt_lock.h"
 
 /* The token is looked at behind the call that writes it. */

@@ -5,7 +5,7 @@
 # The last line is `N passed, M failed`.
 set -u
 tool=$1
-refuser=$(cd "$(dirname "$0")/../../bench" && pwd)/refuse_memory.c
+refuser=$(cd "$(dirname "$0")/../../trials" && pwd)/refuse_memory.c
 folder=$(mktemp -d) || exit 1
 trap 'rm -rf "$folder"' EXIT
 cd "$folder" || exit 1

@@ -1,4 +1,4 @@
-/* session_client SERVERS LEASE: does what the lines of its input say by include/wozgirt_session.h, and prints what it is answered:
+/* session_client SERVERS LEASE: does what the lines of its input say by clients/c/wozgirt_session.h, and prints what it is answered:
  * `acquire NAME LABEL WAIT`, `release NAME TOKEN`, `check`, `close`. */
 #include "wozgirt_session.h"
 #include <stdlib.h>

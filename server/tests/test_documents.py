@@ -16,7 +16,7 @@ import unittest
 
 from harness import GROUPS, COMMAND, ENGINE, FOLDER, IS_DOUBLE, PATIENCE, SERVER, TOP, Server, needs_programs
 
-sys.path.insert(0, os.path.join(TOP, "bench"))
+sys.path.insert(0, os.path.join(TOP, "tools"))
 
 from page import Page  # noqa: E402
 
@@ -115,8 +115,8 @@ class InPython(unittest.TestCase):
     PLACE = re.compile(r'"(?:/run/wozgirt/)?lock\.sock"|"tcp:[^"]*"')
 
     def test_they_hold_the_lock(self):
-        env = dict(os.environ, PYTHONPATH=os.path.join(TOP, "python"))
-        for page in ("docs/OPERATING.md", "docs/CLIENTS.md", "release/FIRST.md", "python/README.md"):
+        env = dict(os.environ, PYTHONPATH=os.path.join(TOP, "clients", "python"))
+        for page in ("docs/OPERATING.md", "docs/CLIENTS.md", "release/FIRST.md", "clients/python/README.md"):
             found = [it.text() for it in Page(TOP, page).blocks if it.text().startswith("from wozgirt import Lock\n")]
             self.assertTrue(found, page)
             for text in found:

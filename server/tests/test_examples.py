@@ -22,7 +22,7 @@ def shown(example):
 class Examples(unittest.TestCase):
     def python(self, server, example, program):
         it = subprocess.run([sys.executable, "-B", program, server.path], cwd=os.path.join(EXAMPLES, example), capture_output=True,
-                            text=True, timeout=120, check=False, env=dict(os.environ, PYTHONPATH=os.path.join(TOP, "python")))
+                            text=True, timeout=120, check=False, env=dict(os.environ, PYTHONPATH=os.path.join(TOP, "clients", "python")))
         self.assertEqual((it.returncode, it.stderr), (0, ""))
         self.assertEqual(it.stdout, shown(example))
 

@@ -1,4 +1,4 @@
-"""The client in C, `include/wozgirt_lock.h`, with a server; that of several is also compiled here."""
+"""The client in C, `clients/c/wozgirt_lock.h`, with a server; that of several is also compiled here."""
 
 import os
 import re
@@ -9,7 +9,7 @@ import unittest
 
 from harness import PATIENCE, TOP, Server, needs_programs, say
 
-INCLUDE = os.path.join(TOP, "include")
+INCLUDE = os.path.join(TOP, "clients", "c")
 STRICT = ["-Wall", "-Wextra", "-Wpedantic", "-Werror"]
 #: seconds that a compiler may take, which on a quiet machine takes a few
 TO_BUILD = 10 * PATIENCE

@@ -13,7 +13,7 @@ from harness import PATIENCE, TOP
 from header_clients import needs_c
 from test_header import TO_BUILD
 
-INCLUDE = os.path.join(TOP, "include")
+INCLUDE = os.path.join(TOP, "clients", "c")
 STRICT = ["-Wall", "-Wextra", "-Wconversion", "-Wshadow", "-Wpedantic", "-Werror"]
 STANDARDS = {"c": ["c99", "c11", "c17"], "c++": ["c++11", "c++14", "c++17", "c++20"]}
 # a program of two files: each has the functions of its own, or both those of wozgirt_session.c

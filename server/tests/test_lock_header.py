@@ -1,4 +1,4 @@
-"""What `include/wozgirt_lock.h` promises whatever happens: with a server that says something else or stands still, behind a signal,
+"""What `clients/c/wozgirt_lock.h` promises whatever happens: with a server that says something else or stands still, behind a signal,
 and behind fork()."""
 
 import errno

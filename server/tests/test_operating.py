@@ -14,7 +14,7 @@ import unittest
 
 from harness import FOLDER, PATIENCE, SERVER, TOP, Server, needs_programs, say
 
-sys.path.insert(0, os.path.join(TOP, "bench"))
+sys.path.insert(0, os.path.join(TOP, "tools"))
 
 from page import Page  # noqa: E402
 

@@ -1,4 +1,4 @@
-"""That bench/documents.py finds what it looks for in pages: words, clauses, links, and the form of the first page."""
+"""That tools/documents.py finds what it looks for in pages: words, clauses, links, and the form of the first page."""
 
 import os
 import sys
@@ -8,7 +8,7 @@ import unittest
 
 from harness import TOP
 
-sys.path.insert(0, os.path.join(TOP, "bench"))
+sys.path.insert(0, os.path.join(TOP, "tools"))
 
 import documents  # noqa: E402
 import page_clauses  # noqa: E402

@@ -1,4 +1,4 @@
-"""What `include/wozgirt_session.h` promises whatever happens: with servers that say something else or stand still, behind a signal, and
+"""What `clients/c/wozgirt_session.h` promises whatever happens: with servers that say something else or stand still, behind a signal, and
 behind fork(). The servers are doors in this process, and real ones."""
 
 import errno
@@ -15,7 +15,7 @@ from harness import FOLDER, PATIENCE, TOP, at_least, by_the_clock, needs_loopbac
 from header_clients import CHILD, DONE, LATE, LOST, NAME, REFUSED, SILENT, Clients, FullDoor, Interrupted, margin, needs_c
 from test_cluster import Trial, needs_strict
 
-sys.path.insert(0, os.path.join(TOP, "python", "tests"))
+sys.path.insert(0, os.path.join(TOP, "clients", "python", "tests"))
 
 import test_sessions  # noqa: E402
 

@@ -1,4 +1,4 @@
-"""The client in C of several servers, `include/wozgirt_session.h`, with servers, and with doors in this process that fail when they are
+"""The client in C of several servers, `clients/c/wozgirt_session.h`, with servers, and with doors in this process that fail when they are
 told to."""
 
 import itertools
@@ -16,7 +16,7 @@ import test_restarts
 from test_cluster import Trial, needs_strict
 from test_header import compiles, patient_headers
 
-sys.path.insert(0, os.path.join(TOP, "python", "tests"))
+sys.path.insert(0, os.path.join(TOP, "clients", "python", "tests"))
 
 from test_sessions import Arbiter, Door  # noqa: E402
 

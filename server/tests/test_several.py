@@ -11,7 +11,7 @@ import unittest
 from harness import COMMAND, PATIENCE, TOP, Server, by_the_clock, needs_loopback, needs_programs, say, unless_late, wait_until
 from test_cluster import Trial, needs_strict
 
-sys.path.insert(0, os.path.join(TOP, "python", "tests"))
+sys.path.insert(0, os.path.join(TOP, "clients", "python", "tests"))
 
 from test_sessions import Arbiter, Door  # noqa: E402
 

@@ -194,7 +194,7 @@ class ManPages(unittest.TestCase):
     def test_options(self):
         self.assertEqual(self.options("wozgirt.1"), options_of(help_of(COMMAND)))
         self.assertEqual(self.options("wozgirt-server.8"), options_of(help_of(SERVER)) | {"--journal", "--locks"})
-        log = help_of(os.path.join(TOP, "python", "wozgirt-log"))
+        log = help_of(os.path.join(TOP, "clients", "python", "wozgirt-log"))
         self.assertEqual(self.options("wozgirt-log.8"), options_of(log) - {"-h", "--help"})
         helps = ring_tool()
         self.assertEqual(self.options("ring_tool.1"), set().union(*map(options_of, helps.values())))
@@ -203,7 +203,7 @@ class ManPages(unittest.TestCase):
 
     def declared(self, header):
         """The functions of a header, each with its parameters."""
-        found = re.findall(r"^(?:static inline )?[\w ]+ \*?(wozgirt_\w+)\(([^)]*)\)", read(TOP, "include", header), re.MULTILINE)
+        found = re.findall(r"^(?:static inline )?[\w ]+ \*?(wozgirt_\w+)\(([^)]*)\)", read(TOP, "clients", "c", header), re.MULTILINE)
         return {(name, ", ".join(it.strip() for it in " ".join(words.split()).split(","))) for name, words in found}
 
     def test_functions(self):

@@ -60,7 +60,7 @@ pub(crate) fn writer_with(alloc: Global, room: usize, at_most: usize, then: Refu
     }
 }
 
-/// A request for this many bytes, and one for a byte more, enclose calls that take no memory: `bench/refused_memory.sh`
+/// A request for this many bytes, and one for a byte more, enclose calls that take no memory: `trials/refused_memory.sh`
 /// refuses each request from the one to the other.
 const MARK: usize = 1_234_567;
 

@@ -296,7 +296,7 @@ fn play_all(rt: &impl Abort, alloc: Global, scenes: &[Scene]) {
     }
 }
 
-// Passes too where each request for memory between the marks is refused, as `bench/refused_memory.sh` has it: of the
+// Passes too where each request for memory between the marks is refused, as `trials/refused_memory.sh` has it: of the
 // room for five events a group of three leaves that for two.
 #[test]
 fn calls_with_room_and_surveys_take_no_memory(rt: HostRuntime) {

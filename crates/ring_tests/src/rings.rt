@@ -27,7 +27,7 @@ pub fn has_values(state: &RingState, wanted: &[u32]) -> bool {
     true
 }
 
-/// A request for this many bytes, and one for a byte more, enclose calls that take no memory: `bench/refused_memory.sh`
+/// A request for this many bytes, and one for a byte more, enclose calls that take no memory: `trials/refused_memory.sh`
 /// refuses each request from the one to the other.
 const MARK: usize = 1_234_567;
 

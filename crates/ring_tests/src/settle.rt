@@ -56,7 +56,7 @@ fn the_largest_ring_of_different_values(rt: HostRuntime) {
     assert!(rt; lead(&state) == 0 && rest(&state) == 523_776 && !is_settled(&state));
 }
 
-// Passes too where each request for memory between the marks is refused, as `bench/refused_memory.sh` has it.
+// Passes too where each request for memory between the marks is refused, as `trials/refused_memory.sh` has it.
 #[test]
 fn following_takes_no_memory(rt: HostRuntime) {
     let mut state = state_of(&rt, rt.alloc(), 3, &[0, 2, 0]);

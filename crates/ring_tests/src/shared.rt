@@ -464,7 +464,7 @@ fn two_seats_call_in_turn(rt: HostRuntime) {
 }
 
 // Passes too where any one request for memory is refused, and where each is between the marks round a glance and a
-// book's survey, as `bench/refused_memory.sh` has both.
+// book's survey, as `trials/refused_memory.sh` has both.
 #[test]
 fn lack_of_memory_changes_nothing(rt: HostRuntime) {
     run_calls(&rt, rt.alloc(), Scene::InTurn, true);

@@ -37,7 +37,7 @@ fn values_are_taken_or_refused_in_order(rt: HostRuntime) {
     assert!(rt; matches!(&state_of(alloc, &[0, 0, 0, 9]), Err(StateError::Length)));
 }
 
-// Passes too where any one request for memory is refused, as `bench/refused_memory.sh` has it.
+// Passes too where any one request for memory is refused, as `trials/refused_memory.sh` has it.
 #[test]
 fn a_refused_request_for_memory_is_told(rt: HostRuntime) {
     let alloc = rt.alloc();

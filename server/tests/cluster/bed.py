@@ -18,7 +18,7 @@ from harness import ENGINE, IS_DOUBLE, SERVER, TOP  # noqa: E402
 
 NAMES = "abc"
 LOCKS = "l0,l1,l2,l3"
-LOG_PROGRAM = os.path.join(TOP, "python", "wozgirt-log")
+LOG_PROGRAM = os.path.join(TOP, "clients", "python", "wozgirt-log")
 # seconds: the lease of a server in etcd, that of a client, and what is held of a server that is gone
 HOST_LEASE, LEASE, GRACE = 3, 4, 4
 

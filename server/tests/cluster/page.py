@@ -44,9 +44,9 @@ class Play:
         self.folder, programs = folder, os.path.join(folder, "programs")
         os.makedirs(programs)
         for name, path in (("ring_tool", ENGINE), ("wozgirt", f"{BIN}/wozgirt"), ("wozgirt-server", f"{BIN}/wozgirt-server"),
-                           ("wozgirt-log", f"{TOP}/python/wozgirt-log")):
+                           ("wozgirt-log", f"{TOP}/clients/python/wozgirt-log")):
             os.symlink(path, os.path.join(programs, name))
-        self.env = {**os.environ, "PATH": programs + ":" + os.environ["PATH"], "PYTHONPATH": os.path.join(TOP, "python")}
+        self.env = {**os.environ, "PATH": programs + ":" + os.environ["PATH"], "PYTHONPATH": os.path.join(TOP, "clients", "python")}
         self.env["WOZGIRT_SOCKET"] = ""
         with open(os.path.join(folder, "log"), "wb") as log:
             words = ["sh", "-c", f"mkdir -p host.a host.b host.c; {blocks()[0]}\nwait"]

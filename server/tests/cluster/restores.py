@@ -19,7 +19,7 @@ import journals  # noqa: E402
 from etcd_members import ETCD, ETCDCTL, Members  # noqa: E402
 from harness import FOLDER, IS_BUILT, PATIENCE, RUNNING, TOP, Server, say, stop_all, wait_until  # noqa: E402
 
-LOG_PROGRAM = os.path.join(TOP, "python", "wozgirt-log")
+LOG_PROGRAM = os.path.join(TOP, "clients", "python", "wozgirt-log")
 #: seconds of a server in etcd
 HOST_LEASE = 3
 

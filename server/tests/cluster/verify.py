@@ -157,7 +157,7 @@ def judge_histories(run):
             wrong += [f"{folder}: lock {lock}" for lock, holds in found.items() if holds != expected[lock][:len(holds)]]
         illegal += illegal_in(folder)
     run.judge("holds of the histories, those of the log", wrong, count)
-    by = "bench/small_recover.py of the first segment, since the engine is a double" if IS_DOUBLE else "ring_tool check and holds"
+    by = "models/small_recover.py of the first segment, since the engine is a double" if IS_DOUBLE else "ring_tool check and holds"
     run.judge(f"histories that are legal, by {by}", illegal, len(NAMES))
 
 

@@ -1,4 +1,4 @@
-"""What a journal tells, a file or a folder of segments, read by docs/FORMATS.md with the second reader of journals in bench/, which
+"""What a journal tells, a file or a folder of segments, read by docs/FORMATS.md with the second reader of journals in models/, which
 shares no code with the program: the events and surveys of each ring, with all numbers counted from the first segment on."""
 
 import functools
@@ -10,7 +10,7 @@ from dataclasses import dataclass, field
 
 HERE = os.path.dirname(os.path.abspath(__file__))
 TOP = os.path.dirname(os.path.dirname(os.path.dirname(HERE)))
-sys.path[1:1] = [os.path.dirname(HERE), os.path.join(TOP, "bench")]
+sys.path[1:1] = [os.path.dirname(HERE), os.path.join(TOP, "models")]
 
 import journals  # noqa: E402
 import small_recover  # noqa: E402

@@ -58,7 +58,7 @@ fn a_script_is_followed_at_each_run(rt: HostRuntime) {
     }
 }
 
-// Passes too where any one request for memory is refused, as `bench/refused_memory.sh` has it.
+// Passes too where any one request for memory is refused, as `trials/refused_memory.sh` has it.
 #[test]
 fn lack_of_memory_is_told_as_such(rt: HostRuntime) {
     let alloc = rt.alloc();

@@ -66,7 +66,7 @@ fn each_ring_has_its_own_refusal(rt: HostRuntime) {
     }
 }
 
-// Says more where any one request for memory is refused, as `bench/refused_memory.sh` has it: then one of two threads may
+// Says more where any one request for memory is refused, as `trials/refused_memory.sh` has it: then one of two threads may
 // not have been started, and that is reported instead of the refusal that the other's seat met.
 #[test]
 fn lack_of_memory_for_a_thread_is_told_before_a_seats_refusal(rt: HostRuntime) {

@@ -135,7 +135,7 @@ fn an_action_is_drawn_of_pcg32(rt: HostRuntime) -> Result<(), Fail> {
     Ok(())
 }
 
-// Passes too where any one request for memory is refused, as `bench/refused_memory.sh` has it.
+// Passes too where any one request for memory is refused, as `trials/refused_memory.sh` has it.
 #[test]
 fn lack_of_memory_for_a_drawn_plan_is_told(rt: HostRuntime) -> Result<(), Fail> {
     let alloc = rt.alloc();

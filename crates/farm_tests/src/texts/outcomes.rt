@@ -190,7 +190,7 @@ fn values_and_upgrades_are_written(rt: HostRuntime) {
     }
 }
 
-// Passes too where each request for memory between the marks is refused, as `bench/refused_memory.sh` has it.
+// Passes too where each request for memory between the marks is refused, as `trials/refused_memory.sh` has it.
 #[test]
 fn writing_and_reporting_take_no_memory(rt: HostRuntime) -> Result<(), Fail> {
     let alloc = rt.alloc();

@@ -168,7 +168,7 @@ fn holds(rt: &impl Abort, saved: &Saved, version: u32, blocks: &[Block]) {
     }
 }
 
-// Passes too where any one request for memory is refused, as `bench/refused_memory.sh` has it.
+// Passes too where any one request for memory is refused, as `trials/refused_memory.sh` has it.
 #[test]
 fn lack_of_memory_for_a_value_is_told(rt: HostRuntime) {
     let texts: [(&[u8], u32, &[Block]); 6] = [
@@ -194,7 +194,7 @@ fn lack_of_memory_for_a_value_is_told(rt: HostRuntime) {
     }
 }
 
-// Passes too where each request for more than 4 KiB is refused, as `bench/refused_memory.sh` has it.
+// Passes too where each request for more than 4 KiB is refused, as `trials/refused_memory.sh` has it.
 #[test]
 fn room_is_asked_for_as_values_are_read(rt: HostRuntime) {
     let cases: [(&[u8], ReadError); 3] = [

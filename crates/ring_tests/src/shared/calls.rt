@@ -56,7 +56,7 @@ pub(super) fn looked(seat: u32, told: Entry) -> Call {
     }
 }
 
-/// A request for this many bytes, and one for a byte more, enclose calls that take no memory: `bench/refused_memory.sh`
+/// A request for this many bytes, and one for a byte more, enclose calls that take no memory: `trials/refused_memory.sh`
 /// refuses each request from the one to the other.
 const MARK: usize = 1_234_567;
 

@@ -372,7 +372,7 @@ fn groups_and_other_calls_follow_one_another(rt: HostRuntime) {
     run(&rt, rt.alloc(), Script::PassInTurn { scarce: false });
 }
 
-// Passes too where any one request for memory is refused, as `bench/refused_memory.sh` has it.
+// Passes too where any one request for memory is refused, as `trials/refused_memory.sh` has it.
 #[test]
 fn lack_of_memory_leaves_groups_as_they_were(rt: HostRuntime) {
     run(&rt, rt.alloc(), Script::PassInTurn { scarce: true });

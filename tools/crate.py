@@ -1,0 +1,143 @@
+#!/usr/bin/env python3
+"""tools/crate.py [proof|tests|edits CRATE ..]: what the gate does for some crates alone: their proof, from nothing and with the search
+for contracts that no call can meet, which `rt check` leaves out; or their tests, proved and run; or their edits, also those that
+the gate tries if something has changed, which is noted in wrong/tried.txt. It prints what failed, and the processor
+seconds of each.
+
+tools/crate.py check CRATE [FLAG ..] checks a crate over what such a check kept, as `rt check` does; the flags are rattle's, such as
+--only PATH.
+
+Of the libraries below, these load the statements that ./build and such runs kept; libraries that have changed are proved first.
+
+With no words: the gate's checks that prove nothing, over all crates: the layout of files, files that nothing reads, words that mean
+something else to a reader, edits that cannot be applied.
+
+The status is 0 if nothing failed. It is no verdict: `rt ci` is. It rests on the kit's own module, as ./build does: try it at each move
+to another kit. Needs rt and python3."""
+import os
+import re
+import resource
+import shutil
+import sys
+import tempfile
+
+sys.dont_write_bytecode = True
+sys.path.insert(0, os.path.dirname(os.path.realpath(__file__)))
+
+import kit
+
+TOP = kit.TOP
+
+
+def gate():
+    """The kit's module, set up as for `rt ci`, and its crates, lowest first."""
+    rt = kit.load()
+    rt.rtlib.guarded()
+    form = kit.Statements(rt, TOP)
+    crates = sorted(rt.rtlib.crates_below(TOP), key=lambda it: len(it.below()))
+    for it in crates:
+        form.placed(it)
+    return rt, form, crates
+
+
+def stopped(rt, crate, crates):
+    """Why the gate would not begin with the crate, if so."""
+    why = []
+    for look in (lambda: rt.rtlib.stop_on_links(crate.folder), lambda: rt.rtlib.stop_on_unread(crate.folder, crates),
+                 lambda: rt.rtlib.stop_on_text(crate, "verdict"), lambda: rt.stop_on_words(crate)):
+        try:
+            look()
+        except SystemExit:
+            why.append("as said above")
+    code = rt.rtlib.code_of(crate.folder)
+    why += [f"it names what {it} reaches" for it, words in rt.REACHES.items() if it not in crate.allowed and re.search(words, code)]
+    why += ["it renames std, or takes it whole"] * bool(re.search(rt.RENAMES, code)) + ["a test is ignored"] * bool(re.search(rt.IGNORED, code))
+    why += ["its layout is another"] * bool(rt.rtlib.fmt(crate.folder, "--check", sys.stdout))
+    good, bad = rt.edits_of(crate)
+    faults = ((it, rt.read_edit(it, crate.folder)[1]) for it in [*good, *kit.edits_if_changed(crate)])
+    return why + [f"{os.path.basename(it)}: {fault}" for it, fault in faults if fault] + [f"{it} is no edit" for it in bad]
+
+
+def proved(rt, crate, tests):
+    """Proves the crate, or its tests, from nothing, and runs these; whether all is well."""
+    with tempfile.TemporaryFile("a+", errors="replace") as crate.out:
+        os.makedirs(f"{crate.folder}/out", exist_ok=True)
+        words = crate.words(["--jobs", "2"], tests=tests, keeps=False)
+        status = crate.ci(["--jobs", "2"], True) if tests else crate.prove(["check", *words])
+        crate.out.seek(0)
+        if status:
+            print(crate.out.read(), end="")
+    return not status and (not tests or rt.run(crate, True))
+
+
+def checked(rt, crate, flags):
+    """Checks the crate, with its tests if it has some, over what such a check kept; whether it is proved."""
+    tests = ["--test"] * crate.has_tests()
+    jobs = [] if any(it.startswith("--jobs") for it in flags) else ["--jobs", "2"]
+    words = [*crate.words([*jobs, *tests, *flags], keeps=False), "--incremental", "out/over-statements"]
+    return not crate.call(rt.rtlib.RATTLE, "check", *words)
+
+
+def outcomes(rt, crate, edits):
+    """What each edit came to, and what to say of it: whether it is refused, as it must be. Each begins with a copy of what a check of the
+    crate as it stands proved."""
+    if hasattr(rt, "must_fail_all"):
+        return rt.must_fail_all(crate, edits, ["--jobs", "1"])
+    room = rt.seeded(crate, ["--jobs", "2"])
+    if not room:
+        return [(False, f"{crate.name}: the crate as it stands is not proved, so no edit was tried")]
+    found = []
+    try:
+        for edit in edits:
+            with tempfile.TemporaryDirectory(dir=room) as own:
+                rt.linked(f"{room}/seed", f"{own}/seed")
+                kind, text = rt.must_fail(crate, edit, ["--jobs", "1"], f"{own}/seed")
+            found.append((kind in (rt.REFUSED, rt.AT_LIMIT), text))
+    finally:
+        shutil.rmtree(room)
+    return found
+
+
+def tried(rt, crate):
+    """Tries the crate's edits as the gate does; whether each is refused. Notes it, so that the gate leaves those out that it tries if
+    something has changed."""
+    sum = kit.sum_of_edits(rt.rtlib, crate, {})
+    found = outcomes(rt, crate, [*rt.edits_of(crate)[0], *kit.edits_if_changed(crate)])
+    print(*(text for _, text in found), sep="\n", flush=True)
+    is_well = all(refused for refused, _ in found)
+    if is_well and kit.edits_if_changed(crate) and sum == kit.sum_of_edits(rt.rtlib, crate, {}):
+        kit.note_tried({crate.name: sum})
+    return is_well
+
+
+def main(what="", *names):
+    os.chdir(TOP)
+    rt, form, crates = gate()
+    if not what:
+        faults = [f"{crate.name}: {why}" for crate in crates for why in stopped(rt, crate, crates)]
+        print(*faults, f"{len(crates)} crates, {len(faults)} faults", sep="\n")
+        return bool(faults)
+    names, flags = (names[:1], names[1:]) if what == "check" else (names, ())
+    chosen = [it for it in crates if it.name in names]
+    if what not in ("check", "proof", "tests", "edits") or len(chosen) < max(len(names), 1):
+        sys.exit(__doc__)
+    failed = []
+    for crate in chosen:
+        crate.out = sys.stdout
+        for below in form.unbuilt(crate.below()):
+            print(f"{below.name}, below {crate.name}", flush=True)
+            os.makedirs(f"{below.folder}/out", exist_ok=True)
+            with open(f"{below.folder}/out/first.log", "w", errors="replace") as below.out:
+                if form.build(below, 2):
+                    sys.exit(f"{below.name} is not proved: {os.path.relpath(below.folder)}/out/first.log says why")
+        before = resource.getrusage(resource.RUSAGE_CHILDREN)
+        is_well = tried(rt, crate) if what == "edits" else checked(rt, crate, flags) if what == "check" else proved(rt, crate, what == "tests")
+        spent = resource.getrusage(resource.RUSAGE_CHILDREN)
+        taken = spent.ru_utime + spent.ru_stime - before.ru_utime - before.ru_stime
+        print(f"{crate.name}: {what} {'well' if is_well else 'FAILED'}, {taken:.0f} processor seconds", flush=True)
+        failed += [crate.name] * (not is_well)
+    return bool(failed)
+
+
+if __name__ == "__main__":
+    sys.exit(main(*sys.argv[1:]))
