@@ -37,6 +37,7 @@ import tempfile
 
 import clauses
 import page_clauses
+import page_sums
 import page_words
 import source_words
 from page import Page, cells
@@ -479,7 +480,7 @@ def read_only(top):
         page = Page(top, path)
         said = [(number, f"\"{found}\": say {better}") for number, found, better in page_words.wrong_words(path, page.lines, excuses)]
         if path.endswith(".md"):
-            said += [*page.wrong_links(), *page_clauses.wrong_clauses(page, functions)]
+            said += [*page.wrong_links(), *page_clauses.wrong_clauses(page, functions), *page_sums.wrong_sums(page)]
         said += wrong_form(page) if path == "README.md" else ()
         print("".join(f"{path}:{number}: {it}\n" for number, it in sorted(said)), end="")
         passed, failed = (passed, failed + 1) if said else (passed + 1, failed)

@@ -91,8 +91,12 @@ class Page:
                     yield number, f"no heading {target}"
 
     def slugs(self):
-        plain = [re.sub(r"[^\w\- ]", "", it.lower()).replace(" ", "-") for it in self.headings]
-        return set(plain)
+        return {self.slug(it) for it in self.headings}
+
+    @staticmethod
+    def slug(heading):
+        """The anchor of a heading, with or without its marks."""
+        return re.sub(r"[^\w\- ]", "", heading.lstrip("#").strip().lower()).replace(" ", "-")
 
 
 def cells(line):

@@ -12,6 +12,7 @@ sys.path.insert(0, os.path.join(TOP, "tools"))
 
 import documents  # noqa: E402
 import page_clauses  # noqa: E402
+import page_sums  # noqa: E402
 import page_words  # noqa: E402
 from page import Page  # noqa: E402
 
@@ -74,6 +75,13 @@ class Pages(unittest.TestCase):
         said = [said for _, said in documents.wrong_form(self.page(text))]
         self.assertEqual(len(said), 4, said)
         self.assertEqual(list(documents.wrong_form(self.page("line\n" * 150))), [])
+
+    def test_sums_of_definitions(self):
+        table = "<!-- order: some.Definition -->\n\n| File | Definitions | Lines | Says |\n|---|---|---|---|\n| `a` | 2 | 7 | |\n| 1 files | 2 | 7 | |\n"
+        said = "[7 lines of definitions](page.md#all), [8 lines of definitions](page.md#all) and [7 lines of definitions](#after).\n\n"
+        page = self.page(f"{said}# All\n\nIt is in this table: 7 lines, in this table: 9 lines.\n\n{table}\n# After\n")
+        self.assertEqual([it for _, it in page_sums.wrong_sums(page)],
+                         ["8 lines: the table has 7", "7 lines: no table of definitions is there", "9 lines: the table has 7"])
 
 
 class Clauses(unittest.TestCase):
