@@ -9,7 +9,7 @@ top=$PWD
 seconds=${1:-3}
 out=$top/out/peers
 mkdir -p "$out"
-(cd server && cargo build -q --release)
+(cd server && cargo build -q --release && cargo double -q)
 (cd bench/locks && cargo build -q --release --offline --target-dir "$out/target")
 bench=$out/target/release/lock_bench
 folder=$(mktemp -d /tmp/wozgirt-peers-XXXXXX)
@@ -62,7 +62,7 @@ down() {
 
 run_wozgirt() {
     engine=$top/crates/ring_tool/out/ring_tool
-    [ -x "$engine" ] || engine=$top/server/out/release/engine-double
+    [ -x "$engine" ] || engine=$top/server/out/double/release/engine-double
     echo "wozgirt, engine $(basename "$engine"), $1"
     mkdir "$folder/journal$1"
     server/out/release/wozgirt-server --engine "$engine" --journal "$folder/journal$1" --locks "$(seq -s, -f l%g 0 15)" \

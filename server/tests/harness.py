@@ -1,7 +1,7 @@
 """A server in a folder of its own, with an engine: what the tests in Python share.
 
 WOZGIRT_BIN names the folder of the programs (server/out/release if it does not). WOZGIRT_ENGINE names the engine; if it does not, that
-is crates/ring_tool/out/ring_tool, and where that is not built, the double.
+is crates/ring_tool/out/ring_tool, and where that is not built, the double, which `cargo double` makes.
 
 A test waits for what has to come about, for as long as PATIENCE, and takes no time of its own for granted. Where the clock is what
 is tried, as with leases, `by_the_clock` tries again with longer times: a machine that is busy is late, and that is no fault."""
@@ -26,8 +26,8 @@ import journals
 TOP = os.path.dirname(os.path.dirname(os.path.dirname(os.path.abspath(__file__))))
 BIN = os.environ.get("WOZGIRT_BIN", os.path.join(TOP, "server", "out", "release"))
 PROVED = os.path.join(TOP, "crates", "ring_tool", "out", "ring_tool")
-ENGINE = os.environ.get("WOZGIRT_ENGINE") or (PROVED if os.access(PROVED, os.X_OK) else os.path.join(BIN, "engine-double"))
-DOUBLE = os.path.join(BIN, "engine-double")
+DOUBLE = os.path.join(TOP, "server", "out", "double", "release", "engine-double")
+ENGINE = os.environ.get("WOZGIRT_ENGINE") or (PROVED if os.access(PROVED, os.X_OK) else DOUBLE)
 IS_DOUBLE = os.path.basename(ENGINE) == "engine-double"
 COMMAND = os.path.join(BIN, "wozgirt")
 SERVER = os.path.join(BIN, "wozgirt-server")

@@ -7,7 +7,7 @@ set -u
 top=$(cd "$(dirname "$0")/../.." && pwd)
 bin=${WOZGIRT_BIN:-$top/server/out/release}
 engine=${WOZGIRT_ENGINE:-$top/crates/ring_tool/out/ring_tool}
-[ -x "$engine" ] || engine=$bin/engine-double
+[ -x "$engine" ] || engine=$top/server/out/double/release/engine-double
 passed=0 failed=0 jobs=()
 
 # skip WHY
