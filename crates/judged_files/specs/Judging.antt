@@ -1,7 +1,7 @@
 -- Which files of a folder are accepted (this project's own).
 use Rattle.std.specs.Prelude.{◌≡◌, ℕ, ◌+◌, ◌<◌, not, Bool, true, false, List, [], ◌∷◌, ◌++◌, length, Option, Some, None, ◌⊎◌}
 use Rattle.std.specs.List.{list_any}
-use Rattle.lock_names.specs.Promises.{AreDistinct}
+use Rattle.name_bindings.specs.Bindings.{AreDistinct}
 use Rattle.name_check.specs.declared.lines.Ring.{Ring}
 use Rattle.name_check.specs.declared.wrongs.Wrong.TheVariants as why
 use Rattle.name_check.specs.Entries.{Entry, Judged, begun, grants_in, File as NextFile}

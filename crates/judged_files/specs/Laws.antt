@@ -1,7 +1,7 @@
 -- What is true of a folder that is accepted (this project's own).
 use Rattle.std.specs.Prelude.{◌≡◌, ℕ, ◌≤◌, false, List, [], ◌∷◌, ◌++◌, length, ◌⊎◌}
 use Rattle.std.specs.List.{AllByRecursion}
-use Rattle.lock_names.specs.Promises.{AreDistinct}
+use Rattle.name_bindings.specs.Bindings.{AreDistinct}
 use Rattle.name_check.specs.declared.lines.Ring.{Ring}
 use Rattle.name_check.specs.Entries.{Entry, begun, File as NextFile}
 use Rattle.name_check.specs.Judged.{AreRight}

@@ -32,7 +32,7 @@ use Rattle.held_locks.proofs.Standing.{get_set_same}
 use Rattle.lock_names.specs.Names.{Bound, token_in, number_in, of_ring, grants_at}
 use Rattle.lock_names.specs.Promises.{IsRightBound}
 use Rattle.lock_names.specs.Kept.{waiting, top_limit, may_pass, own_number, with_number, IsReady, IsTellable}
-use Rattle.lock_names.proofs.Found.{some_same, none_some}
+use Rattle.name_bindings.proofs.Found.{some_same, none_some}
 use Rattle.lock_names.proofs.Fitting.{moved}
 use Rattle.lock_names.proofs.Twins.{same_token}
 

@@ -7,7 +7,7 @@ use Rattle.held_locks.specs.Queues.{Lock, client_of}
 use Rattle.lock_names.specs.Names.{Bound, total}
 use Rattle.lock_names.specs.Promises.{IsRightName, begun, NamesBegin}
 use Rattle.lock_names.specs.Alike.{OwnBegin}
-use Rattle.lock_names.proofs.Found.{some_same, none_some}
+use Rattle.name_bindings.proofs.Found.{some_same, none_some}
 
 abbrev fixed_name : List ℕ → Bound
 fixed_name x = record { name = x; before = 0; floor = 0 }

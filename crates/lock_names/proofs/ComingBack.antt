@@ -9,9 +9,9 @@ use Rattle.held_locks.specs.Queues.{Lock, holder_of}
 use Rattle.held_locks.specs.Locks.{Ask, Acquire, Try, Release, Cancel, Leave, Corrupt, Stats, restarted, step, Asked}
 use Rattle.lock_names.specs.Names.{Bound, Named, NamedInput, Of, Again, More, of_ring, total, free_lock, found, free, fresh, kept, at_ring, given, at_none, at_name, restarted_named, grown, step_named, named_after}
 use Rattle.lock_names.specs.Promises.{IsRightName, IsNamed, IsAllowed, AreAllowed, begun}
-use Rattle.lock_names.specs.Begun.{fixed_names}
+use Rattle.name_bindings.specs.Bindings.{fixed_names}
 use Rattle.lock_names.specs.Restored.{IsOfFixed, ComesBack, NamesComeBack, FixedBegin, FixedComeBack}
-use Rattle.lock_names.proofs.Found.{none_some}
+use Rattle.name_bindings.proofs.Found.{none_some}
 use Rattle.lock_names.proofs.Fitting.{Fits, fits_found, fits_free, named_step, named_stays, named_restarted}
 use Rattle.lock_names.proofs.Taking.{same_named, set_same}
 use Rattle.lock_names.proofs.Begins.{fixed_many}

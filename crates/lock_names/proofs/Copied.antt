@@ -4,10 +4,11 @@ use Rattle.std.specs.Prelude.{slice_get, option_map, string_bytes}
 use Rattle.std.proofs.lemmas.List.{length-map, take_more, take_all}
 use Rattle.std.proofs.lemmas.Option.{slice_get-map, slice_get_read, slice_get_within, get_or_from_slice_get}
 use Rattle.lock_names.specs.declared.table.Binding.{Binding}
-use Rattle.lock_names.specs.Bindings.{Bound, found}
-use Rattle.lock_names.specs.Table.{bound_of, bounds_of, AreNamedOnce}
-use Rattle.lock_names.proofs.Found.{found_nowhere}
-use Rattle.lock_names.proofs.Begins.{taken_entry, take_few}
+use Rattle.name_bindings.specs.Bindings.{Bound, found, AreNamedOnce}
+use Rattle.lock_names.specs.Table.{bound_of, bounds_of}
+use Rattle.name_bindings.proofs.Found.{found_nowhere}
+use Rattle.name_bindings.proofs.FixedNames.{taken_entry}
+use Rattle.lock_names.proofs.Begins.{take_few}
 
 -- the entry of a binding that was read
 pub entry : (bs : List (Option Binding)) (k : ℕ) (o : Option Binding) → k < length bs → o ≡ get_or bs k o → slice_get (bounds_of bs) k ≡ Some (option_map bound_of o)

@@ -21,7 +21,7 @@ use Rattle.held_locks.proofs.Tokens.{Passes, NoPass, Repaired, OnePass}
 use Rattle.lock_names.proofs.Passing.{passes_turn}
 use Rattle.lock_names.specs.Names.{Bound, Named, NamedInput, Of, Again, More, NamedStep, token_in, of_ring, said_of, found, free, grants_at, total, fresh, kept, stays, at_ring, given, at_none, at_name, restarted_named, free_lock, grown, step_named}
 use Rattle.lock_names.specs.Promises.{IsRightBound, IsRightName, IsNamed, IsAllowed, NamedStays}
-use Rattle.lock_names.proofs.Found.{some_same, none_some, there_is, pushed, found_at, unlike, free_at}
+use Rattle.name_bindings.proofs.Found.{some_same, none_some, there_is, pushed, found_at, unlike, free_at}
 
 -- ---- the step of one ring
 

@@ -14,10 +14,10 @@ use Rattle.held_locks.proofs.Standing.{get_set_same, get_set_other}
 use Rattle.lock_names.specs.declared.table.Counts.{Counts}
 use Rattle.lock_names.specs.Names.{Bound, Named, token_in, found}
 use Rattle.lock_names.specs.Promises.{IsRightName, IsNamed}
-use Rattle.lock_names.specs.Table.{ring_of}
+use Rattle.name_bindings.specs.Bindings.{ring_of}
 use Rattle.lock_names.specs.Kept.{NamedView, named_of, IsKeptNamed, bound_by, own_number, waiting}
 use Rattle.lock_names.specs.Handed.{IsHandedByName, CannotBeHandedByName}
-use Rattle.lock_names.proofs.Found.{some_same, none_some, found_at}
+use Rattle.name_bindings.proofs.Found.{some_same, none_some, found_at}
 use Rattle.lock_names.proofs.Fitting.{fits_found}
 use Rattle.lock_names.proofs.Asking.{view_lock, lock_view, ready_within, ready_held}
 use Rattle.lock_names.proofs.Taking.{numbers_of, ready_fits}

@@ -9,7 +9,7 @@ use Rattle.held_locks.proofs.Adding.{get_front}
 use Rattle.held_locks.proofs.Standing.{get_set_same, get_set_other}
 use Rattle.lock_names.specs.Names.{Bound, Named, NamedInput, Of, Again, More, of_ring, found, free, fresh, kept, stays, at_ring, given, at_none, at_name, step_named, named_after}
 use Rattle.lock_names.specs.Promises.{IsRightName, StaysHeld, WaitedIsKept, WaitedIsHeld, UsedAreHeld, IsForHold, UnusedCostsNothing, MoreIsTakenLast}
-use Rattle.lock_names.proofs.Found.{some_same, none_some, found_at, found_there, free_at, free_last, free_first}
+use Rattle.name_bindings.proofs.Found.{some_same, none_some, found_at, found_there, free_at, free_last, free_first}
 use Rattle.lock_names.proofs.Fitting.{named_stays}
 
 abbrev Keeps : Named → Named → ℕ → Bound → Type 0

@@ -11,7 +11,7 @@ use Rattle.held_locks.proofs.Shown.{locks_append}
 use Rattle.lock_names.specs.Names.{Bound, Named, Of, Said, NamedStep, said_of, found, total, at_name, step_named, named_after, said_after, leave_each}
 use Rattle.lock_names.specs.Promises.{IsNamed, AreAllowed}
 use Rattle.lock_names.specs.Leaves.{settled_name, settled_names, settled, LeavesAreSettled}
-use Rattle.lock_names.proofs.Found.{some_same, none_some, there_is, found_there}
+use Rattle.name_bindings.proofs.Found.{some_same, none_some, there_is, found_there}
 use Rattle.lock_names.proofs.Fitting.{moved, at_ring_is, named_step}
 use Rattle.lock_names.proofs.Taking.{same_named}
 

@@ -22,11 +22,12 @@ use Rattle.lock_names.specs.Names.{Bound, Named, token_in, told_holder, kept, to
 use Rattle.lock_names.specs.Promises.{IsRightBound, IsRightName, IsNamed}
 use Rattle.lock_names.specs.Leaves.{bound_or, settled_name, settled_names, settled, told_left, IsTellableLeft, name_left, names_left, grant_count, grants_in}
 use Rattle.lock_names.specs.Kept.{NamedView, named_of, waiting, IsKeptNamed}
-use Rattle.lock_names.proofs.Found.{some_same, none_some, there_is}
+use Rattle.name_bindings.proofs.Found.{some_same, none_some, there_is}
 use Rattle.lock_names.proofs.Fitting.{total_set, named_stays}
 use Rattle.lock_names.proofs.Asking.{view_lock, queue_in, fewer, few_move, next_fits}
 use Rattle.lock_names.proofs.Taking.{same_named, set_same, stays_held}
-use Rattle.lock_names.proofs.Begins.{taken_entry, take_few}
+use Rattle.name_bindings.proofs.FixedNames.{taken_entry}
+use Rattle.lock_names.proofs.Begins.{take_few}
 use Rattle.lock_names.proofs.LeftNames.{left_lock, first_left, rest_stays, next_left, all_left, locks_left, leaves_allowed, leaves_are_settled}
 
 -- ---- what a leave does to one lock

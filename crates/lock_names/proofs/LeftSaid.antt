@@ -12,7 +12,7 @@ use Rattle.lock_names.specs.Names.{Bound, Said, told_holder, said_of, said_after
 use Rattle.lock_names.specs.Promises.{IsRightName, IsNamed}
 use Rattle.lock_names.specs.Kept.{NamedView, named_of, grant_said, IsKeptNamed}
 use Rattle.lock_names.specs.Leaves.{bound_or, told_left, name_left, names_left, said_left, IsLeftByName}
-use Rattle.lock_names.proofs.Found.{some_same, none_some, there_is}
+use Rattle.name_bindings.proofs.Found.{some_same, none_some, there_is}
 use Rattle.lock_names.proofs.Asking.{view_lock}
 use Rattle.lock_names.proofs.LeftNames.{one_said, each_said, leaves_say}
 use Rattle.lock_names.proofs.LeftRings.{turn_if, left_if, free_held, IsDoneLeave, left_named}

@@ -19,7 +19,7 @@ use Rattle.held_locks.proofs.Right.{right_asked, right_restarted}
 use Rattle.lock_names.specs.Names.{Bound, Named, NamedInput, Of, Again, More, NamedStep, token_in, number_in, of_ring, found, free, fresh, at_ring, given, at_none, at_name, restarted_named, free_lock, grown, step_named}
 use Rattle.lock_names.specs.Promises.{IsNamed, IsForHold}
 use Rattle.lock_names.specs.Alike.{said_aside, answer_aside, place, told_at, own_token, own_ask, own_of, own_inputs, AreOwn, IsRefused, IsExcused, IsAnsweredAlike, NamesAreLocks}
-use Rattle.lock_names.proofs.Found.{same_name, own_name, some_same, none_some, there_is, pushed, found_at, found_more, unlike, found_nowhere, free_at, none_free}
+use Rattle.name_bindings.proofs.Found.{same_name, own_name, some_same, none_some, there_is, pushed, found_at, found_more, unlike, found_nowhere, free_at, none_free}
 use Rattle.lock_names.proofs.Fitting.{turned, name_after, at_ring_is, IsMoved, moved, Fits, kept_some, lock_at, fits_found, fits_free, was_lock, zeroth, still_none, still_held, length_restarted, named_step}
 use Rattle.lock_names.proofs.Keeping.{kept_stays}
 use Rattle.lock_names.proofs.Twins.{Same, TurnsAlike, IsPlain, AreEqualWaits, turn_alike, release_alike, held_with_alike, circle_alike, said_alike}

@@ -7,9 +7,9 @@ use Rattle.held_locks.specs.declared.asks.OneAsk.TheVariants as asks
 use Rattle.held_locks.specs.Locks.{Ask}
 use Rattle.held_locks.specs.Asked.{asked}
 use Rattle.lock_names.specs.Names.{Bound, Named, found, free, fresh}
-use Rattle.lock_names.specs.Table.{ring_of}
+use Rattle.name_bindings.specs.Bindings.{ring_of}
 use Rattle.lock_names.specs.Kept.{for_hold, unused_answer, at_free, reached_from, reached}
-use Rattle.lock_names.proofs.Found.{none_some, not_some}
+use Rattle.name_bindings.proofs.Found.{none_some, not_some}
 use Rattle.lock_names.proofs.Taking.{hold_or_told}
 
 abbrev pub ring_in : Option (ℕ × Bound) → Option ℕ

@@ -13,14 +13,15 @@ use Rattle.lock_names.specs.declared.starting.NotBegun.TheVariants as not_begun
 use Rattle.lock_names.specs.declared.restoring.NotRestored.{NotRestored}
 use Rattle.lock_names.specs.declared.restoring.NotRestored.TheVariants as not_restored
 use Rattle.lock_names.specs.Names.{Bound, Named, token_in, found, total}
-use Rattle.lock_names.specs.Promises.{IsRightBound, IsRightName, IsNamed, AreDistinct}
-use Rattle.lock_names.specs.Begun.{fixed_names}
-use Rattle.lock_names.specs.Table.{bound_of, bounds_of, ring_of, AreNamedOnce}
+use Rattle.lock_names.specs.Promises.{IsRightBound, IsRightName, IsNamed}
+use Rattle.name_bindings.specs.Bindings.{AreDistinct, fixed_names, ring_of, AreNamedOnce}
+use Rattle.lock_names.specs.Table.{bound_of, bounds_of}
 use Rattle.lock_names.specs.Kept.{named_of, waiting, top_limit, IsKeptNamed}
 use Rattle.lock_names.specs.Restored.{restored, IsRestored, IsWrongBound, IsWrongName, HasWrongName, CannotRestore, RightIsRestored}
-use Rattle.lock_names.proofs.Found.{some_same, none_some, not_some, found_at}
+use Rattle.name_bindings.proofs.Found.{some_same, none_some, not_some, found_at}
 use Rattle.lock_names.proofs.Asking.{few_waiting, lock_view}
-use Rattle.lock_names.proofs.Begins.{taken_entry, take_few, fixed_many, distinct}
+use Rattle.name_bindings.proofs.FixedNames.{taken_entry, distinct}
+use Rattle.lock_names.proofs.Begins.{take_few, fixed_many}
 use Rattle.lock_names.proofs.Copied.{entry, copied_more}
 use Rattle.lock_names.proofs.Taking.{same_named}
 

@@ -20,7 +20,7 @@ use Rattle.lock_names.specs.declared.replies.Reply.TheVariants as reply
 use Rattle.lock_names.specs.Names.{Bound, Named, NamedInput, Of, Again, More, Said, NamedStep, token_in, of_ring, as_told, said_of, found, free, fresh, at_ring, replied, given, at_none, at_name, free_lock, grown, step_named}
 use Rattle.lock_names.specs.Promises.{IsNamed, token_of, token_in_reply, token_said, tokens_said, tokens_of, Rise, IsBelow, TokensOfNamesRise}
 use Rattle.lock_names.proofs.Passing.{passes_turn}
-use Rattle.lock_names.proofs.Found.{same_name, own_name, none_some, pushed}
+use Rattle.name_bindings.proofs.Found.{same_name, own_name, none_some, pushed}
 use Rattle.lock_names.proofs.Fitting.{Fits, turned, top_after, name_after, at_ring_is, kept_some, IsMoved, moved, fits_found, fits_free, was_lock, named_step}
 
 -- ---- the tokens among what is said

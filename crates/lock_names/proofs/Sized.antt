@@ -7,7 +7,7 @@ use Rattle.std.proofs.lemmas.Option.{slice_get_within}
 use Rattle.lock_names.specs.Names.{Bound, Named}
 use Rattle.lock_names.specs.Promises.{IsNamed}
 use Rattle.lock_names.specs.Sizes.{least_pool, AreUsedUntil, WantedIsOne}
-use Rattle.lock_names.proofs.Found.{some_same, none_some, not_some, there_is}
+use Rattle.name_bindings.proofs.Found.{some_same, none_some, not_some, there_is}
 use Rattle.lock_names.proofs.Fitting.{lock_at}
 
 -- twice a size is the next one

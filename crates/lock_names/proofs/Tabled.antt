@@ -14,11 +14,12 @@ use Rattle.std.specs.Ordering.{nat_cmp, is_lt}
 use Rattle.core.specs.declared.cmp.Ordering.{Ordering}
 use Rattle.core.specs.declared.cmp.Ordering.TheVariants.{Less, Equal, Greater}
 use Rattle.core.specs.declared.cmp.Reverse.{Reverse}
-use Rattle.held_locks.proofs.Standing.{get_set_same, get_set}
-use Rattle.lock_names.specs.Bindings.{Bound, further, found, free}
+use Rattle.held_locks.proofs.Standing.{get_set}
 use Rattle.lock_names.specs.declared.table.Binding.{Binding}
 use Rattle.lock_names.specs.Table.{bound_of, bounds_of, numbers, free_sum, IsTable, IsKeptTable}
-use Rattle.lock_names.proofs.Found.{same_name, own_name, some_same, none_some, unlike, OnlyAt, found_there, found_nowhere, free_at}
+use Rattle.name_bindings.proofs.Changed.{pass, same_on, differs, ring_in, found_bound, found_forgot, found_added}
+use Rattle.name_bindings.proofs.Found.{same_name, some_same, none_some, unlike, OnlyAt, found_there, free_at}
+use Rattle.name_bindings.specs.Bindings.{Bound, found, free}
 
 -- ---- what free rings weigh
 
@@ -149,62 +150,6 @@ least_is_free os look x ys t least =
 
 pub none_is_free : (os : List (Option Bound)) (look : List ℕ → Option ℕ) → IsTable os look [] → free os ≡ None
 none_is_free os look t = none_lowest os (λ i e. let z : 1 ≡ 0 = weighs_none (λ (j : ℕ). 1) 0 os i (sym (t.free (λ (j : ℕ). 1))) e in absurd (omega arith))
-
--- ---- what is found after a change
-
-abbrev IsNot : List ℕ → Option Bound → Type 0
-IsNot y None = Unit {0}
-IsNot y (Some b) = bytes_eq y b.name ≡ false
-
-pass : (y : List ℕ) (o : Option Bound) (os : List (Option Bound)) → IsNot y o → found y (o ∷ os) ≡ further (found y os)
-pass y None os n = refl
-pass y (Some b) os n = ap (λ (q : Bool). if q then Some (zero, b) else further (found y os)) n
-
-same_on : (y : List ℕ) (o : Option Bound) (os rest : List (Option Bound)) → found y os ≡ found y rest → found y (o ∷ os) ≡ found y (o ∷ rest)
-same_on y None os rest e = ap (λ (f : Option (ℕ × Bound)). further f) e
-same_on y (Some b) os rest e = ap (λ (f : Option (ℕ × Bound)). if bytes_eq y b.name then Some (zero, b) else further f) e
-
-found_other : (y : List ℕ) (os : List (Option Bound)) (i : ℕ) (w o : Option Bound) → slice_get os i ≡ Some w → IsNot y w → IsNot y o → found y (slice_set os i o) ≡ found y os
-found_other y [] i w o e n m = absurd (none_some w e)
-found_other y (v ∷ os) zero w o e n m = pass y o os m ∙ sym (pass y v os (subst (λ (x : Option Bound). IsNot y x) (sym (some_same v w e)) n))
-found_other y (v ∷ os) (suc i) w o e n m = same_on y v (slice_set os i o) os (found_other y os i w o e n m)
-
-differs : (x y : List ℕ) → bytes_eq x y ≡ false → bytes_eq y x ≡ false
-differs x y e = by (cases_Bool (bytes_eq y x))
-  where
-    by : (bytes_eq y x ≡ true) ⊎ (bytes_eq y x ≡ false) → bytes_eq y x ≡ false
-    by (inl p) = absurd (both_ways (bytes_eq x y) e (own_name x y (sym (same_name y x p))))
-    by (inr p) = p
-
-abbrev ring_in : Option (ℕ × Bound) → Option ℕ
-ring_in o = option_map (λ (p : ℕ × Bound). p.0) o
-
-only_bound : (os : List (Option Bound)) (i : ℕ) (b : Bound) → slice_get os i ≡ Some None → found b.name os ≡ None → OnlyAt (slice_set os i (Some b)) i b
-only_bound os i b e none j d f same = elim (get_set os i j (Some b) None (Some d) e f) [
-  | inl p ↦ p.0
-  | inr p ↦ absurd (unlike b.name os j d none p.1 same)
-]
-
-pub found_bound : (os : List (Option Bound)) (i : ℕ) (b : Bound) (y : List ℕ) → slice_get os i ≡ Some None → found b.name os ≡ None → ring_in (found y (slice_set os i (Some b))) ≡ cond (bytes_eq b.name y) (Some i) (ring_in (found y os))
-found_bound os i b y e none = by (bytes_eq b.name y) refl
-  where
-    by : (q : Bool) → bytes_eq b.name y ≡ q → ring_in (found y (slice_set os i (Some b))) ≡ cond q (Some i) (ring_in (found y os))
-    by true q = ap ring_in (found_there y (slice_set os i (Some b)) i b (get_set_same os i (Some b) None e) (sym (same_name b.name y q)) (only_bound os i b e none))
-    by false q = ap ring_in (found_other y os i None (Some b) e tt (differs b.name y q))
-
-pub found_forgot : (os : List (Option Bound)) (i : ℕ) (b : Bound) (y : List ℕ) → slice_get os i ≡ Some (Some b) → OnlyAt os i b → ring_in (found y (slice_set os i None)) ≡ cond (bytes_eq b.name y) None (ring_in (found y os))
-found_forgot os i b y e only = by (bytes_eq b.name y) refl
-  where
-    by : (q : Bool) → bytes_eq b.name y ≡ q → ring_in (found y (slice_set os i None)) ≡ cond q None (ring_in (found y os))
-    by true q = ap ring_in (found_nowhere y (slice_set os i None) (λ j d f same. elim (get_set os i j None (Some b) (Some d) e f) [
-      | inl p ↦ none_some d (sym p.1)
-      | inr p ↦ p.0 (only j d p.1 (same ∙ sym (same_name b.name y q)))
-    ]))
-    by false q = ap ring_in (found_other y os i (Some b) None e (differs b.name y q) tt)
-
-pub found_added : (y : List ℕ) (os : List (Option Bound)) → found y (os ++ None ∷ []) ≡ found y os
-found_added y [] = refl
-found_added y (o ∷ os) = same_on y o (os ++ None ∷ []) os (found_added y os)
 
 -- ---- tables after a change
 

@@ -21,11 +21,11 @@ use Rattle.lock_names.specs.declared.replies.NameAnswers.{NameAnswers}
 use Rattle.lock_names.specs.declared.table.Counts.{Counts}
 use Rattle.lock_names.specs.Names.{Bound, Named, Of, NamedStep, of_ring, told_holder, as_told, said_of, found, free, grants_at, fresh, kept, stays, at_ring, given, at_none, at_name, step_named}
 use Rattle.lock_names.specs.Promises.{IsRightBound, IsNamed}
-use Rattle.lock_names.specs.Table.{ring_of}
+use Rattle.name_bindings.specs.Bindings.{ring_of}
 use Rattle.lock_names.specs.Kept.{NamedView, named_of, top_limit, IsKeptNamed, for_hold, may_pass, unused_answer, bound_by, IsReady, told_of, IsTold, reached_from, reached, at_free, own_said, grant_said, IsRecorded, noted_at, IsTaken, HasNoRoom, IsWanting, IsAsked}
-use Rattle.lock_names.proofs.Found.{own_name, some_same, none_some, not_some, OnlyAt, found_at, free_at}
+use Rattle.name_bindings.proofs.Found.{own_name, some_same, none_some, not_some, OnlyAt, found_at, free_at}
 use Rattle.lock_names.proofs.Fitting.{Fits, name_after, at_ring_is, fits_found, fits_free, lock_at, named_step}
-use Rattle.lock_names.proofs.Tabled.{found_bound, found_forgot}
+use Rattle.name_bindings.proofs.Changed.{found_bound, found_forgot}
 use Rattle.lock_names.proofs.Asking.{view_lock, lock_view, done_locks, done_answers, done_or_lack}
 
 -- ---- bindings by their numbers

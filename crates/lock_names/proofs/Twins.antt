@@ -16,7 +16,7 @@ use Rattle.lock_names.specs.declared.replies.Reply.{Reply}
 use Rattle.lock_names.specs.declared.replies.Reply.TheVariants as reply
 use Rattle.lock_names.specs.Names.{Bound, token_in, number_in, as_told, said_of}
 use Rattle.lock_names.specs.Alike.{aside, said_aside, answer_aside, own_token}
-use Rattle.lock_names.proofs.Found.{some_same, none_some}
+use Rattle.name_bindings.proofs.Found.{some_same, none_some}
 
 -- the same holder, and the same waiting clients
 pub record Same (l m : Lock) : Type 0 where

@@ -10,7 +10,8 @@ use Rattle.held_locks.specs.Promises.{AreRight, locks_after, answers_after}
 use Rattle.lock_names.specs.declared.replies.Reply.{Reply}
 use Rattle.lock_names.specs.declared.replies.Reply.TheVariants as reply
 use Rattle.lock_names.specs.Names.{Bound, Named, NamedInput, Of, Again, More, Said, token_in, found, free, replied, step_named}
-use Rattle.lock_names.specs.Promises.{IsNamed, AreAllowed, IsForHold, NoneHeld, AreDistinct, beginning}
+use Rattle.lock_names.specs.Promises.{IsNamed, AreAllowed, IsForHold, NoneHeld, beginning}
+use Rattle.name_bindings.specs.Bindings.{AreDistinct}
 
 -- ---- tokens aside
 

@@ -1,19 +1,13 @@
 -- Locks that begin to have names (this project's own).
-use Rattle.std.specs.Prelude.{◌≡◌, ℕ, zero, suc, ◌<◌, ◌≤◌, List, [], ◌∷◌, length, map, Option, Some, None}
+use Rattle.std.specs.Prelude.{◌≡◌, ℕ, ◌<◌, ◌≤◌, List, length}
 use Rattle.held_locks.specs.Kept.{LockView, locks_of}
 use Rattle.lock_names.specs.declared.starting.NotBegun.{NotBegun}
-use Rattle.lock_names.specs.declared.starting.NotBegun.TheVariants as not_begun
-use Rattle.lock_names.specs.Names.{Bound, total}
-use Rattle.lock_names.specs.Promises.{NoneHeld, AreDistinct, beginning}
+use Rattle.lock_names.specs.Names.{total}
+use Rattle.lock_names.specs.Promises.{NoneHeld, beginning}
 use Rattle.lock_names.specs.Kept.{NamedView, named_of, top_limit}
-
--- the names of fixed locks, and n free rings
-abbrev pub fixed_names : List (List ℕ) → List (Option Bound)
-fixed_names ns = map (λ (n : List ℕ). Some (record { name = n; before = 0; floor = 0 })) ns
-
-abbrev pub frees : ℕ → List (Option Bound)
-frees zero = []
-frees (suc n) = None ∷ frees n
+use Rattle.name_bindings.specs.Bindings.{AreDistinct}
+use Rattle.lock_names.specs.declared.starting.NotBegun.TheVariants as not_begun
+pub use Rattle.name_bindings.specs.Bindings.{fixed_names, frees}
 
 -- The locks are these, and the state is the machine's beginning.
 pub record IsBegun (vs : List LockView) (ns : List (List ℕ)) (s : NamedView) : Type 0 where

@@ -1,16 +1,16 @@
 -- Locks by any name: the machine (this project's own). A ring of the pool has a name just while it
 -- is held; the ring of a fixed lock has one for ever.
+pub use Rattle.name_bindings.specs.Bindings.{Bound, further, found, free, token_in}
 use Rattle.std.specs.Prelude.{ℕ, ◌+◌, ◌-◌, nat_le, nat_lt, ◌||◌, Bool, if◌then◌else◌, List, [], ◌∷◌, ◌++◌, map, slice_get, slice_set, Option, Some, None, is_some, option_map}
 use Rattle.ring_model.specs.History.{State}
 use Rattle.held_locks.specs.declared.answers.Holder.{Holder}
 use Rattle.held_locks.specs.declared.answers.Answer.{Answer}
-use Rattle.held_locks.specs.declared.answers.Answer.TheVariants as answer
-use Rattle.held_locks.specs.declared.answers.Refusal.TheVariants as refusal
 use Rattle.held_locks.specs.Queues.{Lock, holder_of}
 use Rattle.held_locks.specs.Locks.{Ask, Acquire, Try, Release, Cancel, Leave, Corrupt, Stats, Asked, Restart, Step, step}
-pub use Rattle.lock_names.specs.Bindings.{Bound, further, found, free}
 use Rattle.lock_names.specs.declared.replies.Reply.{Reply}
 use Rattle.lock_names.specs.declared.replies.Reply.TheVariants as reply
+use Rattle.held_locks.specs.declared.answers.Answer.TheVariants as answer
+use Rattle.held_locks.specs.declared.answers.Refusal.TheVariants as refusal
 
 -- the locks of all rings; the name of each ring that has one; how many rings belong to fixed locks,
 -- which come first; and how many grants there were of all rings for ever
@@ -36,12 +36,6 @@ pub record Said : Type 0 where
 pub record NamedStep : Type 0 where
   pub named : Named
   pub said : List Said
-
--- ---- tokens
-
--- the name's token of the ring's grant n
-abbrev pub token_in : Bound → ℕ → ℕ
-token_in b n = b.floor + (n - b.before)
 
 -- the ring's grant that has this token; 0 is none
 abbrev pub number_in : Bound → ℕ → ℕ

@@ -5,13 +5,15 @@ use Rattle.ring_model.specs.Ring.{IsRing, is_settled}
 use Rattle.ring_model.specs.History.{State}
 use Rattle.held_locks.specs.declared.answers.Holder.{Holder}
 use Rattle.held_locks.specs.declared.answers.Answer.{Answer}
-use Rattle.held_locks.specs.declared.answers.Answer.TheVariants as answer
 use Rattle.held_locks.specs.Queues.{Lock, holder_of}
 use Rattle.held_locks.specs.Locks.{Ask, Acquire, Try}
 use Rattle.held_locks.specs.Promises.{AreRight}
 use Rattle.lock_names.specs.declared.replies.Reply.{Reply}
+use Rattle.lock_names.specs.Names.{Named, NamedInput, Of, Again, More, Said, total, step_named, named_after}
+use Rattle.name_bindings.specs.Bindings.{token_in, Bound, found, free}
+use Rattle.held_locks.specs.declared.answers.Answer.TheVariants as answer
 use Rattle.lock_names.specs.declared.replies.Reply.TheVariants as reply
-use Rattle.lock_names.specs.Names.{Bound, Named, NamedInput, Of, Again, More, Said, token_in, total, found, free, step_named, named_after}
+pub use Rattle.name_bindings.specs.Bindings.{AreDistinct}
 
 -- ---- what is true at every moment
 
@@ -64,11 +66,6 @@ MoreIsTakenLast =
 -- no client holds one of the locks
 abbrev pub NoneHeld : List Lock → Type 0
 NoneHeld ls = (i : ℕ) (l : Lock) → slice_get ls i ≡ Some l → l.holder ≡ None
-
--- no name is twice in the list
-abbrev pub AreDistinct : List (List ℕ) → Type 0
-AreDistinct ns =
-    (i j : ℕ) (x : List ℕ) → slice_get ns i ≡ Some x → slice_get ns j ≡ Some x → i ≡ j
 
 -- the first rings have the names of fixed locks, whose tokens are the numbers of their grants; the
 -- others are free

@@ -7,8 +7,7 @@ use Rattle.lock_names.specs.declared.restoring.NotRestored.{NotRestored}
 use Rattle.lock_names.specs.declared.restoring.NotRestored.TheVariants as not_restored
 use Rattle.lock_names.specs.Names.{Bound, Named, NamedInput, Again, token_in, total, step_named, named_after}
 use Rattle.lock_names.specs.Promises.{IsNamed, AreAllowed, beginning}
-use Rattle.lock_names.specs.Begun.{fixed_names}
-use Rattle.lock_names.specs.Table.{AreNamedOnce}
+use Rattle.name_bindings.specs.Bindings.{fixed_names, AreNamedOnce}
 use Rattle.lock_names.specs.Kept.{NamedView, named_of, top_limit}
 
 -- the state of these locks: the first ones are fixed, with these names; the others are the pool,

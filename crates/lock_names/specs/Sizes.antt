@@ -1,6 +1,6 @@
 -- How many rings a pool should have (this project's own).
 use Rattle.std.specs.Prelude.{◌≡◌, ◌⊎◌, ℕ, ◌-◌, ◌*◌, ◌^◌, ◌<◌, ◌≤◌, List, slice_get, Option, Some}
-use Rattle.lock_names.specs.Bindings.{Bound}
+use Rattle.name_bindings.specs.Bindings.{Bound}
 
 -- the rings from this one on have no name, and the one before it has one
 pub record AreUsedUntil (os : List (Option Bound)) (end : ℕ) : Type 0 where

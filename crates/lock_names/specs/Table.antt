@@ -1,11 +1,11 @@
 -- A table of names: the ring of each, and the rings that have none (this project's own).
-use Rattle.std.specs.Prelude.{◌≡◌, ℕ, suc, ◌+◌, ◌≤◌, List, [], ◌∷◌, map, length, slice_get, Option, Some, None, option_map, string_bytes}
+use Rattle.std.specs.Prelude.{◌≡◌, ℕ, suc, ◌+◌, ◌≤◌, List, [], ◌∷◌, map, length, Option, Some, None, option_map, string_bytes}
 use Rattle.std.specs.List.{sum_by}
 use Rattle.std.specs.BinaryHeap.{IsHeap}
 use Rattle.std.specs.Ordering.{nat_cmp}
 use Rattle.core.specs.declared.cmp.Reverse.{Reverse}
 use Rattle.lock_names.specs.declared.table.Binding.{Binding}
-use Rattle.lock_names.specs.Bindings.{Bound, found}
+use Rattle.name_bindings.specs.Bindings.{Bound, ring_of, AreNamedOnce}
 
 -- contracts see the name as its bytes
 abbrev pub bound_of : Binding → Bound
@@ -13,10 +13,6 @@ bound_of b = record { name = string_bytes b.name; before = b.before; floor = b.f
 
 abbrev pub bounds_of : List (Option Binding) → List (Option Bound)
 bounds_of os = map (λ (o : Option Binding). option_map bound_of o) os
-
--- the ring of a name
-abbrev pub ring_of : List ℕ → List (Option Bound) → Option ℕ
-ring_of x os = option_map (λ (p : ℕ × Bound). p.0) (found x os)
 
 -- the rings of a list
 abbrev pub numbers : List (Reverse ℕ) → List ℕ
@@ -27,12 +23,6 @@ abbrev pub free_sum : (ℕ → ℕ) → ℕ → List (Option Bound) → ℕ
 free_sum f at [] = 0
 free_sum f at (None ∷ os) = f at + free_sum f (suc at) os
 free_sum f at (Some b ∷ os) = free_sum f (suc at) os
-
--- no two rings have one name
-abbrev pub AreNamedOnce : List (Option Bound) → Type 0
-AreNamedOnce os =
-    (i j : ℕ) (b d : Bound) → slice_get os i ≡ Some (Some b) → slice_get os j ≡ Some (Some d)
-    → b.name ≡ d.name → i ≡ j
 
 -- The look-up finds the ring of each name, and the list has each free ring once, in any order: what
 -- its elements weigh, however they are weighed, is what the free rings weigh.

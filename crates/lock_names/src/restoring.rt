@@ -5,8 +5,8 @@ ghost use Rattle.held_locks.specs.Queues.{Lock};
 ghost use Rattle.held_locks.specs.Kept.{lock_of, locks_of, LockView};
 ghost use Rattle.lock_names.specs.Names.{Bound, total, found};
 ghost use Rattle.lock_names.specs.Promises.{IsRightBound, IsRightName};
-ghost use Rattle.lock_names.specs.Begun.{fixed_names};
-ghost use Rattle.lock_names.specs.Table.{bound_of, bounds_of, AreNamedOnce};
+ghost use Rattle.name_bindings.specs.Bindings.{fixed_names, AreNamedOnce};
+ghost use Rattle.lock_names.specs.Table.{bound_of, bounds_of};
 ghost use Rattle.lock_names.specs.Restored.{IsWrongBound, IsWrongName, HasWrongName};
 ghost use Rattle.lock_names.specs.declared.restoring.NotRestored.{NotRestored};
 

@@ -3,8 +3,9 @@
 ghost use Rattle.std.specs.Prelude.{◌≡◌, ℕ, ◌+◌, ◌-◌, ◌<◌, ◌≤◌, ◌++◌, ◌⊎◌, [], List, length, map, IfOk, IfErr, OnOk, string_bytes};
 ghost use Rattle.held_locks.specs.Kept.{locks_of};
 ghost use Rattle.lock_names.specs.Names.{total};
-ghost use Rattle.lock_names.specs.Promises.{NoneHeld, AreDistinct};
-ghost use Rattle.lock_names.specs.Begun.{fixed_names, frees, CannotBegin};
+ghost use Rattle.lock_names.specs.Promises.{NoneHeld};
+ghost use Rattle.name_bindings.specs.Bindings.{AreDistinct, fixed_names, frees};
+ghost use Rattle.lock_names.specs.Begun.{CannotBegin};
 ghost use Rattle.lock_names.specs.Kept.{top_limit};
 ghost use Rattle.lock_names.specs.declared.starting.NotBegun.{NotBegun};
 

@@ -3,8 +3,8 @@
 ghost use Rattle.std.specs.Prelude.{◌≡◌, ℕ, ◌+◌, ◌^◌, ◌<◌, ◌≤◌, ◌++◌, ◌∷◌, [], List, map, length, slice_get, slice_set, Option, None, Some, IfOk, OnOk, OnErr, option_map, string_bytes};
 ghost use Rattle.std.specs.HashMap.{get_by_text};
 ghost use Rattle.std.specs.BinaryHeap.{heap_capacity, heap_items, heap_len};
-ghost use Rattle.lock_names.specs.Bindings.{Bound, found, free};
-ghost use Rattle.lock_names.specs.Table.{bound_of, bounds_of, ring_of, AreNamedOnce, IsKeptTable};
+ghost use Rattle.name_bindings.specs.Bindings.{Bound, found, free, ring_of, AreNamedOnce};
+ghost use Rattle.lock_names.specs.Table.{bound_of, bounds_of, IsKeptTable};
 
 use std::alloc::{AllocError, Global};
 use std::cmp::Reverse;
@@ -41,7 +41,7 @@ impl Model for Table {
     ghost use Rattle.std.specs.Prelude.{List, Option};
     ghost use Rattle.std.specs.HashMap.{get_by_text};
     ghost use Rattle.std.specs.BinaryHeap.{heap_capacity, heap_items};
-    ghost use Rattle.lock_names.specs.Bindings.{Bound};
+    ghost use Rattle.name_bindings.specs.Bindings.{Bound};
     ghost use Rattle.lock_names.specs.Table.{bounds_of, IsKeptTable};
 
     ghost Value = { List (Option Bound) };

@@ -2,9 +2,8 @@
 use Rattle.std.proofs.Common.{◌≡◌, ℕ, zero, suc, ◌+◌, ◌<◌, ◌≤◌, Bool, true, false, List, [], ◌∷◌, ◌++◌, Option, None, Some, refl, sym, ◌∙◌, ap, subst}
 use Rattle.std.specs.Prelude.{nat_lt, ◌==◌, if◌then◌else◌, slice_get, slice_set, option_map}
 use Rattle.std.proofs.lemmas.Bool.{false≢true, lt-leb, lt-ltb, le-ltb, ltb-true, eq-eqb}
-use Rattle.held_locks.proofs.Standing.{get_set_same}
-use Rattle.lock_names.specs.Names.{Bound, found}
-use Rattle.lock_names.specs.Table.{ring_of}
+use Rattle.name_bindings.proofs.Places.{get_set_same}
+use Rattle.name_bindings.specs.Bindings.{Bound, found, ring_of}
 use Rattle.name_check.specs.declared.lines.Ring.{Ring}
 use Rattle.name_check.specs.declared.lines.Due.{Due}
 use Rattle.name_check.specs.declared.lines.Due.TheVariants as due

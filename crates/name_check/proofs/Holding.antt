@@ -5,10 +5,9 @@ use Rattle.std.specs.List.{cons_option}
 use Rattle.std.specs.Str.{bytes_eq}
 use Rattle.std.proofs.lemmas.Bool.{cases_Bool, both_ways, eq-eqb, false≢true}
 use Rattle.std.proofs.lemmas.Option.{slice_get_within}
-use Rattle.held_locks.proofs.Standing.{get_set, get_set_same, get_set_other}
-use Rattle.lock_names.specs.Names.{Bound, token_in}
-use Rattle.lock_names.specs.Begun.{frees}
-use Rattle.lock_names.proofs.Found.{same_name, own_name, some_same, none_some, unlike, there_is}
+use Rattle.name_bindings.proofs.Places.{get_set, get_set_same, get_set_other}
+use Rattle.name_bindings.specs.Bindings.{Bound, token_in, frees}
+use Rattle.name_bindings.proofs.Found.{same_name, own_name, some_same, none_some, unlike, there_is}
 use Rattle.name_check.specs.declared.lines.Ring.{Ring}
 use Rattle.name_check.specs.declared.lines.Due.{Due}
 use Rattle.name_check.specs.declared.lines.Due.TheVariants as due

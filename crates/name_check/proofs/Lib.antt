@@ -7,5 +7,3 @@ pub mod Starting
 pub mod Opening
 pub mod Remaining
 pub mod Accepting
-pub mod Saying
-pub mod Filing

@@ -5,9 +5,8 @@ use Rattle.std.proofs.lemmas.Bool.{false≢true}
 use Rattle.std.proofs.lemmas.List.{length-append, length-map}
 use Rattle.std.proofs.lemmas.List.Sums.{sum_by-cons}
 use Rattle.std.proofs.lemmas.Option.{slice_get_within}
-use Rattle.lock_names.specs.Names.{Bound}
-use Rattle.lock_names.specs.Begun.{fixed_names, frees}
-use Rattle.lock_names.proofs.Found.{some_same, none_some}
+use Rattle.name_bindings.specs.Bindings.{Bound, fixed_names, frees}
+use Rattle.name_bindings.proofs.Found.{some_same, none_some}
 use Rattle.name_check.specs.declared.lines.Ring.{Ring}
 use Rattle.name_check.specs.declared.lines.Due.{Due}
 use Rattle.name_check.specs.declared.lines.Due.TheVariants as due

@@ -3,9 +3,8 @@ use Rattle.std.proofs.Common.{◌≡◌, ℕ, ◌<◌, ◌≤◌, Bool, true, fa
 use Rattle.std.specs.Prelude.{nat_le, nat_lt, ◌==◌, ◌&&◌, if◌then◌else◌, slice_get, option_map}
 use Rattle.std.specs.Str.{bytes_eq}
 use Rattle.std.proofs.lemmas.Bool.{eqb-true, ltb-true, ltb-false, leb-true, leb-false, and_parts}
-use Rattle.lock_names.specs.Names.{Bound, token_in, found}
-use Rattle.lock_names.specs.Table.{ring_of}
-use Rattle.lock_names.proofs.Found.{same_name, none_some}
+use Rattle.name_bindings.specs.Bindings.{Bound, token_in, found, ring_of}
+use Rattle.name_bindings.proofs.Found.{same_name, none_some}
 use Rattle.name_check.specs.declared.lines.Ring.{Ring}
 use Rattle.name_check.specs.declared.lines.Due.{Due}
 use Rattle.name_check.specs.declared.lines.Due.TheVariants as due

@@ -5,10 +5,9 @@ use Rattle.std.specs.Str.{bytes_eq}
 use Rattle.std.proofs.lemmas.Bool.{false≢true, leb-true, le-leb, lt-ltb, eq-eqb, cases_Bool, and_from}
 use Rattle.std.proofs.lemmas.List.{length-set}
 use Rattle.std.proofs.lemmas.Option.{slice_get_within}
-use Rattle.held_locks.proofs.Standing.{get_set, get_set_same, get_set_other}
-use Rattle.lock_names.specs.Names.{Bound, token_in, found}
-use Rattle.lock_names.specs.Table.{ring_of}
-use Rattle.lock_names.proofs.Found.{some_same, none_some, own_name, there_is, found_nowhere}
+use Rattle.name_bindings.proofs.Places.{get_set, get_set_same, get_set_other}
+use Rattle.name_bindings.specs.Bindings.{Bound, token_in, found, ring_of}
+use Rattle.name_bindings.proofs.Found.{some_same, none_some, own_name, there_is, found_nowhere}
 use Rattle.name_check.specs.declared.lines.Ring.{Ring}
 use Rattle.name_check.specs.declared.lines.Due.{Due}
 use Rattle.name_check.specs.declared.lines.Due.TheVariants as due

@@ -4,7 +4,7 @@ use Rattle.std.specs.Prelude.{nat_le, nat_lt, ◌&&◌, if◌then◌else◌, sli
 use Rattle.std.proofs.lemmas.Bool.{le-leb, leb-true, and_parts, and_from, both_ways, cases_Bool, cases_eq, ltb-true, ltb-false}
 use Rattle.std.proofs.lemmas.List.{ext_get_or}
 use Rattle.std.proofs.lemmas.Option.{slice_get-get_or, slice_get_within, get_or_from_slice_get}
-use Rattle.lock_names.proofs.Found.{some_same, none_some}
+use Rattle.name_bindings.proofs.Found.{some_same, none_some}
 use Rattle.name_check.specs.declared.lines.Ring.{Ring}
 use Rattle.name_check.specs.Entries.{fresh_ring}
 use Rattle.name_check.specs.Judged.{first_held, restated}

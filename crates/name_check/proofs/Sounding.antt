@@ -4,11 +4,9 @@ use Rattle.std.specs.Prelude.{Result, Ok, Err, OnOk, IfErr, nat_lt, if◌then◌
 use Rattle.std.proofs.lemmas.Bool.{eq-eqb, eqb-true, ne_eqb, leb-true, ltb-true, ltb-false, false≢true}
 use Rattle.std.proofs.lemmas.List.{length-set, length-append}
 use Rattle.std.proofs.lemmas.Option.{slice_get_within}
-use Rattle.held_locks.proofs.Standing.{get_set}
-use Rattle.lock_names.specs.Names.{Bound, token_in}
-use Rattle.lock_names.specs.Table.{AreNamedOnce}
-use Rattle.lock_names.specs.Begun.{frees}
-use Rattle.lock_names.proofs.Found.{some_same, none_some, there_is}
+use Rattle.name_bindings.proofs.Places.{get_set}
+use Rattle.name_bindings.specs.Bindings.{Bound, token_in, AreNamedOnce, frees}
+use Rattle.name_bindings.proofs.Found.{some_same, none_some, there_is}
 use Rattle.name_check.specs.declared.lines.Ring.{Ring}
 use Rattle.name_check.specs.declared.lines.Due.{Due}
 use Rattle.name_check.specs.declared.lines.Due.TheVariants as due

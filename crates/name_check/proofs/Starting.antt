@@ -2,9 +2,8 @@
 use Rattle.std.proofs.Common.{◌≡◌, ℕ, suc, ◌+◌, ◌-◌, ◌<◌, ◌≤◌, List, [], ◌∷◌, ◌++◌, length, Option, None, Some, refl, sym, ◌∙◌, ap, arith}
 use Rattle.std.specs.Prelude.{Result, Ok, Err, OnOk, slice_get, slice_set}
 use Rattle.std.proofs.lemmas.List.{length-append, append_assoc, append-nil}
-use Rattle.lock_names.specs.Names.{Bound, found}
-use Rattle.lock_names.specs.Begun.{fixed_names, frees}
-use Rattle.lock_names.proofs.Tabled.{found_added}
+use Rattle.name_bindings.specs.Bindings.{Bound, found, fixed_names, frees}
+use Rattle.name_bindings.proofs.Changed.{found_added}
 use Rattle.name_check.specs.declared.lines.Ring.{Ring}
 use Rattle.name_check.specs.declared.lines.Due.TheVariants as due
 use Rattle.name_check.specs.Entries.{fresh_ring, fresh_rings, grants_in, begun}

@@ -4,11 +4,10 @@ use Rattle.std.specs.Prelude.{slice_get, slice_set, slice_index_or, option_map}
 use Rattle.std.specs.Str.{bytes_eq}
 use Rattle.std.proofs.lemmas.List.{length-map}
 use Rattle.std.proofs.lemmas.Option.{slice_get_within, slice_get_read, slice_get-map}
-use Rattle.held_locks.proofs.Standing.{get_set}
-use Rattle.lock_names.specs.Bindings.{Bound, found}
-use Rattle.lock_names.specs.Table.{AreNamedOnce}
-use Rattle.lock_names.proofs.Found.{some_same, none_some, unlike, pushed}
-use Rattle.lock_names.proofs.Tabled.{found_bound, found_forgot, found_added}
+use Rattle.name_bindings.proofs.Places.{get_set}
+use Rattle.name_bindings.specs.Bindings.{Bound, found, AreNamedOnce}
+use Rattle.name_bindings.proofs.Found.{some_same, none_some, unlike, pushed}
+use Rattle.name_bindings.proofs.Changed.{found_bound, found_forgot, found_added}
 use Rattle.name_check.specs.declared.table.Binding.{Binding}
 use Rattle.name_check.specs.Tables.{bound_of, bounds_of, IsTable}
 

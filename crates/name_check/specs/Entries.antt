@@ -2,8 +2,7 @@
 -- own).
 use Rattle.std.specs.Prelude.{ℕ, zero, suc, ◌-◌, ◌++◌, false, List, [], ◌∷◌, length, Option}
 use Rattle.std.specs.List.{sum_by}
-use Rattle.lock_names.specs.Bindings.{Bound}
-use Rattle.lock_names.specs.Begun.{fixed_names, frees}
+use Rattle.name_bindings.specs.Bindings.{Bound, fixed_names, frees}
 use Rattle.name_check.specs.declared.lines.Ring.{Ring}
 use Rattle.name_check.specs.declared.lines.Due.{Due}
 use Rattle.name_check.specs.declared.lines.Due.TheVariants as due

@@ -1,9 +1,7 @@
 -- Which lines are right (this project's own).
 use Rattle.std.specs.Prelude.{◌≡◌, ℕ, suc, ◌+◌, ◌-◌, nat_le, nat_lt, ◌==◌, ◌&&◌, Bool, true, false, if◌then◌else◌, List, [], ◌∷◌, ◌++◌, length, slice_get, slice_set, Option, Some, None}
 use Rattle.std.specs.Str.{bytes_eq}
-use Rattle.lock_names.specs.Names.{Bound, token_in}
-use Rattle.lock_names.specs.Table.{ring_of}
-use Rattle.lock_names.specs.Begun.{frees}
+use Rattle.name_bindings.specs.Bindings.{Bound, token_in, ring_of, frees}
 use Rattle.name_check.specs.declared.lines.Ring.{Ring}
 use Rattle.name_check.specs.declared.lines.Due.{Due}
 use Rattle.name_check.specs.declared.lines.Due.TheVariants as due

@@ -1,8 +1,6 @@
 -- What is true of what is known, after every right line; and how a line is read (this project's own).
 use Rattle.std.specs.Prelude.{◌≡◌, ℕ, ◌<◌, ◌≤◌, nat_le, ◌==◌, Bool, true, false, List, length, slice_get, Option, Some, None, ◌⊎◌}
-use Rattle.lock_names.specs.Names.{Bound, token_in, found}
-use Rattle.lock_names.specs.Table.{AreNamedOnce}
-use Rattle.lock_names.specs.Promises.{AreDistinct}
+use Rattle.name_bindings.specs.Bindings.{Bound, token_in, found, AreNamedOnce, AreDistinct}
 use Rattle.name_check.specs.declared.begin.NotJudged.{NotJudged}
 use Rattle.name_check.specs.declared.begin.NotJudged.TheVariants as not_judged
 use Rattle.name_check.specs.declared.lines.Ring.{Ring}

@@ -3,4 +3,3 @@ pub mod Judged
 pub mod Tables
 pub mod Kept
 pub mod Laws
-pub mod Written

@@ -1,7 +1,6 @@
 -- A table of names: the ring of each (this project's own).
 use Rattle.std.specs.Prelude.{◌≡◌, ℕ, List, map, Option, option_map, string_bytes}
-use Rattle.lock_names.specs.Bindings.{Bound}
-use Rattle.lock_names.specs.Table.{ring_of, AreNamedOnce}
+use Rattle.name_bindings.specs.Bindings.{Bound, ring_of, AreNamedOnce}
 use Rattle.name_check.specs.declared.table.Binding.{Binding}
 
 -- contracts see the name as its bytes

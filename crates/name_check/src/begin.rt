@@ -1,9 +1,7 @@
 //! The first file that is judged, and the rings of a later one.
 
 ghost use Rattle.std.specs.Prelude.{◌≡◌, ℕ, ◌-◌, ◌≤◌, ◌++◌, ◌∷◌, ◌<◌, ◌⊎◌, [], None, Some, true, length, map, IfOk, IfErr, OnOk, string_bytes};
-ghost use Rattle.lock_names.specs.Bindings.{found};
-ghost use Rattle.lock_names.specs.Begun.{fixed_names, frees};
-ghost use Rattle.lock_names.specs.Promises.{AreDistinct};
+ghost use Rattle.name_bindings.specs.Bindings.{found, fixed_names, frees, AreDistinct};
 ghost use Rattle.name_check.specs.Entries.{begun, fresh_rings, grants_in};
 ghost use Rattle.name_check.specs.Judged.{most_grants};
 ghost use Rattle.name_check.specs.Kept.{seen, CannotBegin, IsSound};

@@ -1,8 +1,7 @@
 //! What is true of the lines that the judge accepts. Each law is the contract of a function that does nothing; the statements
-//! are in `specs/Laws.antt` and `specs/Written.antt`.
+//! are in `specs/Laws.antt`.
 
 ghost use Rattle.name_check.specs.Laws.{JudgedAreNamed, RemaindersAreNamed, SoundStays, SoundBegins, TrustEnds};
-ghost use Rattle.name_check.specs.Written.{LinesAreSaid, FilesAreSaid};
 
 /// What is known is sound before the first file, and stays so after each line that is accepted; once a file that begins with holds
 /// has restated their names, nothing rests on trust.
@@ -21,11 +20,4 @@ pub fn judged_are_named()
 /// A file and those after it are judged alike without the files before them: the bindings that it restates are taken on trust.
 pub fn remainders_are_named()
     ensures { RemaindersAreNamed }
-{}
-
-/// The lines of whatever is asked of the machine with names are accepted, with the state after them; and so is the beginning of a
-/// file, wherever one begins.
-pub fn lines_are_said()
-    ensures asked { LinesAreSaid }
-    ensures files { FilesAreSaid }
 {}

@@ -1,7 +1,7 @@
 //! What is wrong with a line.
 
 ghost use Rattle.std.specs.Prelude.{◌≡◌, ℕ, ◌<◌, ◌≤◌, Some, None, length, slice_get, true};
-ghost use Rattle.lock_names.specs.Bindings.{Bound};
+ghost use Rattle.name_bindings.specs.Bindings.{Bound};
 ghost use Rattle.name_check.specs.Judged.{spent, refused_top, taken, refused_new, refused_trust, refused_again, refused_bind, refused_free, refused_grant, refused_repair, refused_end, refused_file};
 ghost use Rattle.name_check.specs.Kept.{seen, IsSound};
 

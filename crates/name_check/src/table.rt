@@ -2,8 +2,7 @@
 
 ghost use Rattle.std.specs.Prelude.{◌≡◌, ℕ, ◌<◌, ◌++◌, ◌∷◌, [], List, length, slice_get, slice_set, None, Some, OnOk, OnErr, option_map, string_bytes};
 ghost use Rattle.std.specs.HashMap.{get_by_text};
-ghost use Rattle.lock_names.specs.Bindings.{Bound, found};
-ghost use Rattle.lock_names.specs.Table.{ring_of, AreNamedOnce};
+ghost use Rattle.name_bindings.specs.Bindings.{Bound, found, ring_of, AreNamedOnce};
 ghost use Rattle.name_check.specs.Judged.{same_bound};
 ghost use Rattle.name_check.specs.Tables.{bound_of, bounds_of, IsTable};
 
@@ -36,7 +35,7 @@ pub(crate) struct Table {
 impl Model for Table {
     ghost use Rattle.std.specs.Prelude.{List, Option};
     ghost use Rattle.std.specs.HashMap.{get_by_text};
-    ghost use Rattle.lock_names.specs.Bindings.{Bound};
+    ghost use Rattle.name_bindings.specs.Bindings.{Bound};
     ghost use Rattle.name_check.specs.Tables.{bounds_of, IsTable};
 
     ghost Value = { List (Option Bound) };

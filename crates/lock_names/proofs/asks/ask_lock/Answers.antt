@@ -3,7 +3,7 @@ use Rattle.held_locks.specs.declared.answers.Holder.{Holder}
 use Rattle.held_locks.specs.Locks.{Ask}
 use Rattle.held_locks.specs.Asked.{asked, IsAnswerTo}
 use Rattle.lock_names.specs.Kept.{bound_by, with_number}
-use Rattle.lock_names.proofs.Found.{there_is}
+use Rattle.name_bindings.proofs.Found.{there_is}
 use Rattle.lock_names.proofs.Asking.{numbered}
 use Rattle.lock_names.proofs.asks.ask_lock.Goals as goal
 

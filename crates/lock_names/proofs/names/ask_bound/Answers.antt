@@ -5,7 +5,7 @@ use Rattle.held_locks.specs.Kept.{locks_of}
 use Rattle.lock_names.specs.Names.{of_ring, kept, stays}
 use Rattle.held_locks.specs.Asked.{asked}
 use Rattle.lock_names.specs.Kept.{seen, named_of, bound_by}
-use Rattle.lock_names.proofs.Found.{found_at}
+use Rattle.name_bindings.proofs.Found.{found_at}
 use Rattle.lock_names.proofs.Asking.{answer_within, ready_within}
 use Rattle.lock_names.proofs.Taking.{told_as, ready_fits, reaches_found, asked_bound, asked_kept}
 use Rattle.lock_names.proofs.names.ask_bound.Goals as goal

@@ -1,7 +1,7 @@
 use Rattle.std.proofs.Common.{sym, ◌∙◌, ap, arith, Option}
 use Rattle.std.specs.Prelude.{is_some}
 use Rattle.held_locks.specs.declared.answers.Holder.{Holder}
-use Rattle.lock_names.proofs.Found.{there_is}
+use Rattle.name_bindings.proofs.Found.{there_is}
 use Rattle.lock_names.proofs.Taking.{settle_free, settle_kept, gone_free, gone_kept}
 use Rattle.lock_names.proofs.names.settle.Goals as goal
 

@@ -1,5 +1,5 @@
 use Rattle.std.proofs.Common.{◌++◌, take, List, Option, inl, refl, ◌∙◌, ap}
-use Rattle.lock_names.specs.Bindings.{Bound}
+use Rattle.name_bindings.specs.Bindings.{Bound}
 use Rattle.lock_names.specs.Table.{bounds_of}
 use Rattle.lock_names.proofs.Copied.{copied_all}
 use Rattle.lock_names.proofs.Restores.{pool_twice, pool_few, pool_more}

@@ -2,7 +2,7 @@ use Rattle.std.proofs.Common.{◌≡◌, ◌+◌, ◌<◌, ◌≤◌, length, re
 use Rattle.endless_ring.specs.Endless.{EndlessView}
 use Rattle.held_locks.specs.Kept.{lock_of, locks_of}
 use Rattle.lock_names.specs.Names.{total}
-use Rattle.lock_names.proofs.Found.{there_is}
+use Rattle.name_bindings.proofs.Found.{there_is}
 use Rattle.lock_names.proofs.Asking.{view_lock}
 use Rattle.lock_names.proofs.Begins.{total_before, counted, counted_most, counted_all}
 use Rattle.lock_names.proofs.restoring.are_counted.Goals as goal

@@ -1,6 +1,6 @@
 use Rattle.std.proofs.Common.{◌<◌, ◌≤◌, length, arith}
 use Rattle.held_locks.specs.Kept.{lock_of}
-use Rattle.lock_names.proofs.Found.{there_is}
+use Rattle.name_bindings.proofs.Found.{there_is}
 use Rattle.lock_names.proofs.Asking.{view_lock}
 use Rattle.lock_names.proofs.Restores.{one_more_right, all_right}
 use Rattle.lock_names.proofs.restoring.check_names.Goals as goal

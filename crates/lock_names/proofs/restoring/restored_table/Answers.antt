@@ -2,8 +2,8 @@ use Rattle.std.proofs.Common.{◌≡◌, ℕ, ◌+◌, ◌≤◌, ◌++◌, ◌�
 use Rattle.std.specs.Prelude.{string_bytes}
 use Rattle.std.proofs.lemmas.List.{length-map}
 use Rattle.lock_names.specs.Names.{Bound}
-use Rattle.lock_names.specs.Begun.{fixed_names}
-use Rattle.lock_names.specs.Table.{bounds_of, AreNamedOnce}
+use Rattle.name_bindings.specs.Bindings.{fixed_names, AreNamedOnce}
+use Rattle.lock_names.specs.Table.{bounds_of}
 use Rattle.lock_names.specs.declared.restoring.NotRestored.TheVariants as not_restored
 use Rattle.lock_names.proofs.Begins.{fixed_many}
 use Rattle.lock_names.proofs.Restores.{names_wrong}

@@ -1,7 +1,7 @@
 use Rattle.std.proofs.Common.{◌-◌, ◌≤◌, Option, length, sym, ◌∙◌, ap, arith}
 use Rattle.std.specs.Prelude.{is_some}
-use Rattle.lock_names.specs.Bindings.{Bound}
-use Rattle.lock_names.proofs.Found.{there_is}
+use Rattle.name_bindings.specs.Bindings.{Bound}
+use Rattle.name_bindings.proofs.Found.{there_is}
 use Rattle.lock_names.proofs.Sized.{all_used, used_here, used_none}
 use Rattle.lock_names.proofs.Taking.{some_mapped}
 use Rattle.lock_names.proofs.sizes.used_among.Goals as goal

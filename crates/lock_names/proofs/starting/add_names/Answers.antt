@@ -1,7 +1,8 @@
 use Rattle.std.proofs.Common.{◌≡◌, ℕ, map, List, Option, Some, inl, refl, sym, ◌∙◌, ap}
 use Rattle.std.specs.Prelude.{slice_get, is_some, string_bytes}
-use Rattle.lock_names.specs.Table.{ring_of}
-use Rattle.lock_names.proofs.Begins.{mapped_entry, found_twice, few_names, not_yet, name_added, item_entry, all_names, names_within}
+use Rattle.name_bindings.specs.Bindings.{ring_of}
+use Rattle.name_bindings.proofs.FixedNames.{mapped_entry, found_twice, not_yet, name_added, item_entry, all_names}
+use Rattle.lock_names.proofs.Begins.{few_names, names_within}
 use Rattle.lock_names.proofs.starting.add_names.Goals as goal
 
 pub returns-then-is_some-clause-why : goal.returns-then-is_some-clause-why

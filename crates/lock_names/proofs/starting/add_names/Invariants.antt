@@ -1,5 +1,5 @@
 use Rattle.std.proofs.Common.{◌≡◌, map, take, string_bytes}
-use Rattle.lock_names.specs.Begun.{fixed_names}
+use Rattle.name_bindings.specs.Bindings.{fixed_names}
 use Rattle.lock_names.proofs.starting.add_names.Given as goal
 
 abbrev pub invariant-loop-name : goal.invariant-loop-name

@@ -2,8 +2,9 @@ use Rattle.std.proofs.Common.{◌≡◌, ℕ, ◌-◌, List, map, length, Option
 use Rattle.std.specs.Prelude.{slice_get, string_bytes}
 use Rattle.std.proofs.lemmas.List.{length-map}
 use Rattle.lock_names.specs.Names.{Bound}
-use Rattle.lock_names.specs.Begun.{frees}
-use Rattle.lock_names.proofs.Begins.{names_within, table_within, begun_both, distinct}
+use Rattle.name_bindings.specs.Bindings.{frees}
+use Rattle.lock_names.proofs.Begins.{names_within, table_within}
+use Rattle.name_bindings.proofs.FixedNames.{begun_both, distinct}
 use Rattle.lock_names.proofs.starting.begun_table.Goals as goal
 
 pub add_pool-requires-clause-more : goal.add_pool-requires-clause-more

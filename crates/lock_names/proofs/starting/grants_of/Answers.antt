@@ -4,7 +4,7 @@ use Rattle.endless_ring.specs.Endless.{EndlessView}
 use Rattle.held_locks.specs.declared.answers.Holder.{Holder}
 use Rattle.held_locks.specs.Kept.{lock_of, locks_of}
 use Rattle.lock_names.specs.Names.{total}
-use Rattle.lock_names.proofs.Found.{there_is}
+use Rattle.name_bindings.proofs.Found.{there_is}
 use Rattle.lock_names.proofs.Asking.{view_lock}
 use Rattle.lock_names.proofs.Begins.{total_before, counted, counted_most, counted_all, none_held, held_one, one_more_free}
 use Rattle.lock_names.proofs.starting.grants_of.Goals as goal

@@ -5,7 +5,7 @@ use Rattle.std.specs.BinaryHeap.{heap_capacity, heap_items}
 use Rattle.std.proofs.lemmas.List.{length-map, map-append}
 use Rattle.core.specs.declared.cmp.Reverse.{Reverse}
 use Rattle.lock_names.specs.declared.table.Binding.{Binding}
-use Rattle.lock_names.specs.Bindings.{Bound}
+use Rattle.name_bindings.specs.Bindings.{Bound}
 use Rattle.lock_names.specs.Table.{bound_of, bounds_of, IsKeptTable}
 use Rattle.lock_names.proofs.Tabled.{kept_freed}
 use Rattle.lock_names.proofs.table.add_free_among.Goals as goal

@@ -5,7 +5,7 @@ use Rattle.std.specs.BinaryHeap.{heap_capacity, heap_items}
 use Rattle.std.proofs.lemmas.List.{length-map, map-append}
 use Rattle.std.proofs.lemmas.Map.Text.{hash_map_updates_text}
 use Rattle.lock_names.specs.declared.table.Binding.{Binding}
-use Rattle.lock_names.specs.Bindings.{Bound}
+use Rattle.name_bindings.specs.Bindings.{Bound}
 use Rattle.lock_names.specs.Table.{bound_of, bounds_of, IsKeptTable}
 use Rattle.lock_names.proofs.Tabled.{kept_named}
 use Rattle.lock_names.proofs.table.add_named_among.Goals as goal

@@ -5,9 +5,9 @@ use Rattle.std.specs.BinaryHeap.{heap_capacity, heap_items}
 use Rattle.std.proofs.lemmas.List.{map-set}
 use Rattle.std.proofs.lemmas.Map.Text.{hash_map_updates_text}
 use Rattle.lock_names.specs.declared.table.Binding.{Binding}
-use Rattle.lock_names.specs.Bindings.{Bound}
+use Rattle.name_bindings.specs.Bindings.{Bound}
 use Rattle.lock_names.specs.Table.{bound_of, bounds_of, IsKeptTable}
-use Rattle.lock_names.proofs.Found.{free_at}
+use Rattle.name_bindings.proofs.Found.{free_at}
 use Rattle.lock_names.proofs.Tabled.{kept_bound, empty_contradicts, entry_within}
 use Rattle.lock_names.proofs.table.bind_among.Goals as goal
 

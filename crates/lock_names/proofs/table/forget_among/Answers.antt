@@ -7,7 +7,7 @@ use Rattle.std.specs.Str.{bytes_eq}
 use Rattle.std.proofs.lemmas.List.{map-set}
 use Rattle.std.proofs.lemmas.Map.Text.{hash_map_updates_text}
 use Rattle.lock_names.specs.declared.table.Binding.{Binding}
-use Rattle.lock_names.specs.Bindings.{Bound}
+use Rattle.name_bindings.specs.Bindings.{Bound}
 use Rattle.lock_names.specs.Table.{bound_of, bounds_of, IsKeptTable}
 use Rattle.lock_names.proofs.Tabled.{kept_forgot, heap_below, entry_read}
 use Rattle.lock_names.proofs.table.forget_among.Goals as goal

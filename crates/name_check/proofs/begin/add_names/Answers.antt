@@ -1,7 +1,7 @@
 use Rattle.std.proofs.Common.{◌≡◌, ℕ, map, List, Option, Some, inl, refl, sym, ◌∙◌, ap}
 use Rattle.std.specs.Prelude.{slice_get, is_some, string_bytes}
-use Rattle.lock_names.specs.Table.{ring_of}
-use Rattle.lock_names.proofs.Begins.{mapped_entry, found_twice, not_yet, name_added, item_entry, all_names}
+use Rattle.name_bindings.specs.Bindings.{ring_of}
+use Rattle.name_bindings.proofs.FixedNames.{mapped_entry, found_twice, not_yet, name_added, item_entry, all_names}
 use Rattle.name_check.proofs.begin.add_names.Goals as goal
 
 pub returns-then-is_some-clause-why : goal.returns-then-is_some-clause-why

@@ -1,6 +1,6 @@
 use Rattle.std.proofs.Common.{◌<◌, ◌≤◌, ◌-◌, ◌++◌, length, ◌∙◌, arith}
-use Rattle.lock_names.specs.Begun.{frees}
-use Rattle.lock_names.proofs.Begins.{pool_more, pool_done}
+use Rattle.name_bindings.specs.Bindings.{frees}
+use Rattle.name_bindings.proofs.FixedNames.{pool_more, pool_done}
 use Rattle.name_check.proofs.begin.add_pool.Goals as goal
 
 pub loop-table-preserved : goal.loop-table-preserved

@@ -1,5 +1,5 @@
 use Rattle.std.proofs.Common.{◌≡◌, ◌-◌, ◌++◌, length}
-use Rattle.lock_names.specs.Begun.{frees}
+use Rattle.name_bindings.specs.Bindings.{frees}
 use Rattle.name_check.proofs.begin.add_pool.Given as goal
 
 abbrev pub invariant-loop-table : goal.invariant-loop-table

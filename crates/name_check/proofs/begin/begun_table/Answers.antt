@@ -1,9 +1,8 @@
 use Rattle.std.proofs.Common.{◌≡◌, ℕ, ◌-◌, List, map, length, Option, Some, sym, subst}
 use Rattle.std.specs.Prelude.{slice_get, string_bytes}
 use Rattle.std.proofs.lemmas.List.{length-map}
-use Rattle.lock_names.specs.Names.{Bound}
-use Rattle.lock_names.specs.Begun.{frees}
-use Rattle.lock_names.proofs.Begins.{begun_both, distinct}
+use Rattle.name_bindings.specs.Bindings.{Bound, frees}
+use Rattle.name_bindings.proofs.FixedNames.{begun_both, distinct}
 use Rattle.name_check.proofs.begin.begun_table.Goals as goal
 
 pub returns-clause-ok : goal.returns-clause-ok

@@ -2,7 +2,7 @@ use Rattle.std.proofs.Common.{◌≡◌, ℕ, List, [], ◌∷◌, ◌++◌, Opt
 use Rattle.std.specs.Prelude.{option_map}
 use Rattle.std.specs.HashMap.{get_by_text}
 use Rattle.std.proofs.lemmas.List.{map-append}
-use Rattle.lock_names.specs.Bindings.{Bound}
+use Rattle.name_bindings.specs.Bindings.{Bound}
 use Rattle.name_check.specs.declared.table.Binding.{Binding}
 use Rattle.name_check.specs.Tables.{bound_of, bounds_of, IsTable}
 use Rattle.name_check.proofs.Tabling.{freed_table}

@@ -4,7 +4,7 @@ use Rattle.std.specs.HashMap.{get_by_text}
 use Rattle.std.specs.Str.{bytes_eq}
 use Rattle.std.proofs.lemmas.List.{map-set}
 use Rattle.std.proofs.lemmas.Map.Text.{hash_map_updates_text}
-use Rattle.lock_names.specs.Bindings.{Bound}
+use Rattle.name_bindings.specs.Bindings.{Bound}
 use Rattle.name_check.specs.declared.table.Binding.{Binding}
 use Rattle.name_check.specs.Tables.{bound_of, bounds_of, IsTable}
 use Rattle.name_check.proofs.Tabling.{forgot_table, entry_read}

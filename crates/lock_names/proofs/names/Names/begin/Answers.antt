@@ -1,7 +1,7 @@
 use Rattle.std.proofs.Common.{◌≡◌, ℕ, ◌≤◌, ◌-◌, ◌++◌, List, map, length, refl, ◌∙◌, ap, arith}
 use Rattle.std.specs.Prelude.{string_bytes}
 use Rattle.std.proofs.lemmas.List.{length-map}
-use Rattle.lock_names.specs.Begun.{fixed_names, frees}
+use Rattle.name_bindings.specs.Bindings.{fixed_names, frees}
 use Rattle.lock_names.proofs.Begins.{begins, begins_kept}
 use Rattle.lock_names.proofs.names.Names.begin.Goals as goal
 

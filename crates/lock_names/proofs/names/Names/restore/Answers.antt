@@ -3,7 +3,8 @@ use Rattle.std.specs.Prelude.{string_bytes, option_map}
 use Rattle.std.proofs.lemmas.List.{length-map}
 use Rattle.lock_names.specs.declared.table.Binding.{Binding}
 use Rattle.lock_names.specs.Names.{Bound}
-use Rattle.lock_names.specs.Table.{bound_of, bounds_of, AreNamedOnce}
+use Rattle.lock_names.specs.Table.{bound_of, bounds_of}
+use Rattle.name_bindings.specs.Bindings.{AreNamedOnce}
 use Rattle.lock_names.proofs.Restores.{pool_from, restored_many, restored_named, restored_kept, restored_right, cannot_name}
 use Rattle.lock_names.proofs.names.Names.restore.Goals as goal
 

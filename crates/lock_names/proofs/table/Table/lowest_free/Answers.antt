@@ -2,7 +2,7 @@ use Rattle.std.proofs.Common.{ℕ, ◌<◌, List, length, refl, sym, ◌∙◌, 
 use Rattle.std.specs.HashMap.{get_by_text}
 use Rattle.std.specs.BinaryHeap.{heap_capacity, heap_items}
 use Rattle.std.proofs.lemmas.Bool.{false≢true}
-use Rattle.lock_names.specs.Bindings.{free}
+use Rattle.name_bindings.specs.Bindings.{free}
 use Rattle.lock_names.specs.Table.{bounds_of}
 use Rattle.lock_names.proofs.Tabled.{peeked_is_free, empty_is_full}
 use Rattle.lock_names.proofs.table.Table.lowest_free.Goals as goal

@@ -1,37 +1,38 @@
 -- The judge accepts the lines of each step.
-use Rattle.std.proofs.Common.{◌≡◌, ℕ, zero, suc, ◌+◌, ◌-◌, ◌<◌, ◌≤◌, Bool, true, false, List, [], ◌∷◌, map, length, Option, None, Some, inl, inr, refl, sym, ◌∙◌, ap, subst, arith}
-use Rattle.std.specs.Prelude.{nat_lt, ◌||◌, if◌then◌else◌, slice_get, slice_set, slice_index, is_some, option_map}
-use Rattle.std.proofs.lemmas.Bool.{false≢true, ltb-true, ltb-false, lt-ltb, le-ltb, cases_Bool}
+use Rattle.std.proofs.Common.{◌≡◌, ℕ, zero, suc, ◌<◌, Bool, true, false, List, [], ◌∷◌, length, Option, None, Some, inl, inr, refl, sym, ◌∙◌, ap, subst, arith, ◌+◌, ◌≤◌, ◌-◌, map}
+use Rattle.std.specs.Prelude.{if◌then◌else◌, option_map, slice_get, nat_lt, ◌||◌, slice_set, is_some, slice_index}
+use Rattle.std.proofs.lemmas.Bool.{false≢true, cases_Bool, ltb-true, ltb-false, lt-ltb, le-ltb}
 use Rattle.std.proofs.lemmas.List.{map-set}
 use Rattle.std.proofs.lemmas.Option.{slice_get-map}
 use Rattle.ring_model.specs.Ring.{IsRing, is_settled}
 use Rattle.ring_model.specs.History.{State, next, reply, after}
 use Rattle.ring_model.specs.Resources.{till}
-use Rattle.ring_model.specs.declared.events.Op.TheVariants as op
 use Rattle.ring_model.specs.declared.events.Reply.{Reply}
 use Rattle.ring_model.specs.declared.events.Event.{Event}
 use Rattle.ring_model.proofs.Places.{set_ring}
 use Rattle.held_locks.specs.declared.answers.Waiter.{Waiter}
 use Rattle.held_locks.specs.declared.answers.Holder.{Holder}
 use Rattle.held_locks.specs.declared.answers.Answer.{Answer}
-use Rattle.held_locks.specs.declared.answers.Answer.TheVariants as answer
 use Rattle.held_locks.specs.Queues.{Lock, client_of, without}
 use Rattle.held_locks.specs.Grants.{most_passes}
-use Rattle.held_locks.specs.Locks.{Ask, Acquire, Try, Release, Cancel, Leave, Corrupt, Stats, Turn, Mark, Call, called, first_pass, granted, ended, repairs, fault, joined, told, turn, step_at}
+use Rattle.held_locks.specs.Locks.{Ask, Acquire, Try, Release, Cancel, Leave, Corrupt, Stats, Mark, Call, Turn, called, first_pass, granted, ended, repairs, fault, joined, told, turn, step_at}
 use Rattle.held_locks.proofs.Rings.{grant_reply, grant_grants, grant_ring}
 use Rattle.held_locks.proofs.Moves.{waiter, Move, Stays, Waits, Gets, Ends, Drops, Faults, move_of}
 use Rattle.held_locks.proofs.Standing.{get_set_same}
-use Rattle.lock_names.specs.Names.{Bound, Named, NamedStep, of_ring, found, free, fresh, grants_at, kept, at_ring, given, at_none, at_name}
+use Rattle.lock_names.specs.Names.{Named, of_ring, fresh, at_ring, NamedStep, grants_at, kept, given, at_none, at_name}
 use Rattle.lock_names.specs.Promises.{IsNamed}
-use Rattle.lock_names.proofs.Found.{none_some, found_at, free_at}
 use Rattle.lock_names.proofs.Fitting.{top_after, name_after, turned, at_ring_is, lock_at}
 use Rattle.name_check.specs.declared.lines.Ring.{Ring}
-use Rattle.name_check.specs.declared.lines.Due.TheVariants as due
 use Rattle.name_check.specs.Entries.{Entry, Bind, Free, Grant, Repair, End, Other, Judged}
 use Rattle.name_check.specs.Judged.{most_grants, AreSaid}
-use Rattle.name_check.specs.Written.{ring_seen, state_seen, line_of_call, line_of_mark, lines_between, asked_ring, lines_at}
 use Rattle.name_check.proofs.Sounding.{set_same}
 use Rattle.name_check.proofs.Accepting.{state, nothing_said, said_first, set_twice, may_repair, noted_repair, said_grant, said_bind, said_end, said_free, said_handed}
+use Rattle.name_bindings.proofs.Found.{none_some, free_at, found_at}
+use Rattle.name_bindings.specs.Bindings.{Bound, found, free}
+use Rattle.name_laws.specs.Written.{ring_seen, state_seen, line_of_call, line_of_mark, lines_between, asked_ring, lines_at}
+use Rattle.name_check.specs.declared.lines.Due.TheVariants as due
+use Rattle.ring_model.specs.declared.events.Op.TheVariants as op
+use Rattle.held_locks.specs.declared.answers.Answer.TheVariants as answer
 
 -- ---- the locks, as the judge knows them
 

@@ -1,29 +1,29 @@
 -- The judge accepts the beginning of each file, and the lines of all inputs.
-use Rattle.std.proofs.Common.{◌≡◌, ℕ, zero, suc, ◌+◌, ◌-◌, ◌<◌, ◌≤◌, Bool, true, false, List, [], ◌∷◌, ◌++◌, map, length, Option, None, Some, inl, inr, refl, sym, ◌∙◌, ap, subst, arith}
-use Rattle.std.specs.Prelude.{nat_le, nat_lt, ◌==◌, ◌&&◌, if◌then◌else◌, slice_get, is_some, option_map}
+use Rattle.std.proofs.Common.{◌≡◌, ℕ, zero, suc, ◌<◌, Bool, true, false, List, [], ◌∷◌, ◌++◌, length, Option, None, Some, inl, inr, refl, sym, ◌∙◌, ap, subst, arith, ◌+◌, ◌≤◌, ◌-◌, map}
+use Rattle.std.specs.Prelude.{if◌then◌else◌, option_map, slice_get, nat_le, nat_lt, is_some, ◌==◌, ◌&&◌}
 use Rattle.std.specs.Str.{bytes_eq}
-use Rattle.std.proofs.lemmas.Bool.{false≢true, ltb-true, ltb-false, le-ltb, le-leb, lt-leb, eq-eqb, and_from, and_right, cases_Bool, cases_eq}
-use Rattle.std.proofs.lemmas.List.{length-map, length-append, append-nil, map-append}
+use Rattle.std.proofs.lemmas.Bool.{false≢true, cases_Bool, ltb-true, ltb-false, eq-eqb, cases_eq, le-ltb, le-leb, lt-leb, and_from, and_right}
+use Rattle.std.proofs.lemmas.List.{length-map, length-append, map-append, append-nil}
 use Rattle.std.proofs.lemmas.Option.{slice_get_within}
 use Rattle.ring_model.specs.History.{State}
 use Rattle.held_locks.specs.declared.answers.Holder.{Holder}
 use Rattle.held_locks.specs.Queues.{Lock}
 use Rattle.held_locks.specs.Locks.{Ask, Acquire, Try, Release, Cancel, Leave, Corrupt, Stats, restarted}
-use Rattle.lock_names.specs.Names.{Bound, Named, NamedInput, Of, Again, More, found, free, free_lock, grown, restarted_named, given, at_none, at_name, step_named, named_after}
-use Rattle.lock_names.specs.Begun.{frees}
+use Rattle.lock_names.specs.Names.{Named, NamedInput, Of, Again, More, step_named, named_after, grown, given, at_none, at_name, free_lock, restarted_named}
 use Rattle.lock_names.specs.Promises.{IsNamed, IsAllowed}
-use Rattle.lock_names.proofs.Found.{some_same, none_some, own_name, there_is}
 use Rattle.lock_names.proofs.Fitting.{zeroth, named_step}
 use Rattle.name_check.specs.declared.lines.Ring.{Ring}
-use Rattle.name_check.specs.declared.lines.Due.TheVariants as due
-use Rattle.name_check.specs.declared.wrongs.Wrong.TheVariants as why
 use Rattle.name_check.specs.Entries.{Top, Bind, File, Judged, fresh_ring, fresh_rings}
-use Rattle.name_check.specs.Judged.{most_grants, same_bound, refused_bind, refused_again, of_ring, refusal, first_held, restated, noted, AreSaid}
-use Rattle.name_check.specs.Written.{ring_seen, state_seen, restated_lines, file_lines, lines_of, lines_after, AreFresh, LinesAreSaid, FilesAreSaid}
+use Rattle.name_check.specs.Judged.{most_grants, AreSaid, same_bound, refused_bind, refused_again, of_ring, refusal, first_held, restated, noted}
 use Rattle.name_check.proofs.Scanning.{scan_found, scan_none}
 use Rattle.name_check.proofs.Sounding.{set_same}
 use Rattle.name_check.proofs.Accepting.{state, nothing_said, said_first, said_both}
-use Rattle.name_check.proofs.Saying.{said_asked}
+use Rattle.name_bindings.proofs.Found.{own_name, some_same, none_some, there_is}
+use Rattle.name_bindings.specs.Bindings.{Bound, found, free, frees}
+use Rattle.name_laws.proofs.Saying.{said_asked}
+use Rattle.name_laws.specs.Written.{ring_seen, state_seen, restated_lines, file_lines, lines_of, lines_after, AreFresh, LinesAreSaid, FilesAreSaid}
+use Rattle.name_check.specs.declared.wrongs.Wrong.TheVariants as why
+use Rattle.name_check.specs.declared.lines.Due.TheVariants as due
 
 -- ---- bindings that are restated
 

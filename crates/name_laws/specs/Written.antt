@@ -1,16 +1,17 @@
 -- How the steps of the machine with names are written as lines (this project's own).
-use Rattle.std.specs.Prelude.{◌≡◌, ℕ, suc, ◌≤◌, ◌==◌, nat_lt, if◌then◌else◌, List, [], ◌∷◌, ◌++◌, map, length, slice_get, Option, Some, None, is_some, option_map}
+use Rattle.std.specs.Prelude.{ℕ, suc, if◌then◌else◌, List, [], ◌∷◌, Option, Some, None, option_map, ◌≡◌, ◌≤◌, map, length, slice_get, nat_lt, ◌++◌, is_some, ◌==◌}
 use Rattle.ring_model.specs.LockSeats.{grant_seat}
 use Rattle.ring_model.specs.declared.events.Reply.{Reply}
-use Rattle.ring_model.specs.declared.events.Reply.TheVariants as reply
 use Rattle.held_locks.specs.Queues.{Lock}
-use Rattle.held_locks.specs.Locks.{Ask, Acquire, Try, Mark, Call, Survey, Asked, step}
-use Rattle.lock_names.specs.Names.{Bound, Named, NamedInput, Of, Again, More, of_ring, found, free, fresh, at_ring, grown, step_named, named_after}
+use Rattle.held_locks.specs.Locks.{Ask, Acquire, Try, Asked, step, Mark, Call, Survey}
+use Rattle.lock_names.specs.Names.{Named, NamedInput, Of, Again, More, step_named, named_after, of_ring, fresh, at_ring, grown}
 use Rattle.lock_names.specs.Promises.{IsNamed, AreAllowed}
 use Rattle.name_check.specs.declared.lines.Ring.{Ring}
-use Rattle.name_check.specs.declared.lines.Due.TheVariants as due
 use Rattle.name_check.specs.Entries.{Entry, Top, Bind, Free, Grant, Repair, End, Other, File, Judged}
 use Rattle.name_check.specs.Judged.{most_grants, AreSaid}
+use Rattle.name_bindings.specs.Bindings.{Bound, found, free}
+use Rattle.name_check.specs.declared.lines.Due.TheVariants as due
+use Rattle.ring_model.specs.declared.events.Reply.TheVariants as reply
 
 -- the state of the machine, as the judge knows it
 abbrev pub ring_seen : Lock → Ring
