@@ -5,7 +5,8 @@ TERM and by KILL, and started again; `full` is 50 restarts. Some clients stay aw
 - who was back in time has what it had: its holds, with their tokens, or its place in the line;
 - nobody is inside while another is; what an absent client held is granted to nobody before its lease is over;
 - tokens rise, and each that was told is a grant of the journal, with the client's label;
-- each grant of the journal was told to its client, if that was back in time: none was lost on its way, and none was done twice;
+- each grant of the journal was told to its client, if that was back in time: none was done twice, and one that was on its way when the
+  engine or the server ended is nobody's, and ends with the grace;
 - in the journal each grant of a hold is followed by its end before the next one;
 - `ring_tool check` finds the chain of segments legal (the engine's double checks nothing).
 """
@@ -284,21 +285,22 @@ def disturb(server, draw, lease):
     return server, f"{what} {number.name[3:]}"
 
 
-def judge(calls, told, late):
-    """What is wrong with the holds of the journal, and with what the clients were told of them."""
-    wrong, open_, grants = [], set(), {}
+def judge(calls, told, late, restarts):
+    """What is wrong with the holds of the journal, and with what the clients were told of them. Of each lock one grant may have been on its
+    way at a restart: no client gave it back."""
+    wrong, open_, grants, ends = [], {}, {}, {}
     for line in calls:
         words = line.split(" ")
         name, kind, seat = NAMES[int(words[0])], words[1], words[2]
         if kind == "p" and seat == "0":
             if name in open_:
                 wrong.append("granted while a hold is open: " + line)
-            open_.add(name)
+            open_[name] = int(words[6])
             grants[name, int(words[6])] = int(words[4])
         elif kind == "s" and seat in "12":
             if name not in open_:
                 wrong.append("an end of no hold: " + line)
-            open_.discard(name)
+            ends[name, open_.pop(name, 0)] = seat
     last = dict.fromkeys(NAMES, 0)
     for name, token, label in told:
         if token <= last[name]:
@@ -307,8 +309,10 @@ def judge(calls, told, late):
         if grants.get((name, token)) != label:
             wrong.append(f"token {token} of {name} is not in the journal as {label}'s")
     known = {(name, token) for name, token, _ in told}
-    return wrong + [f"{label} was never told of token {token} of {name}" for (name, token), label in grants.items()
-                    if (name, token) not in known and label not in late]
+    untold = [(name, token) for (name, token), label in grants.items() if (name, token) not in known and label not in late]
+    wrong += [f"{grants[it]} was never told of {it}, and gave it back" for it in untold if ends.get(it, "2") != "2"]
+    return wrong + [f"of {name} more grants were on their way than there were restarts" for name in NAMES
+                    if sum(it[0] == name for it in untold) > restarts]
 
 
 def main():
@@ -340,7 +344,7 @@ def main():
         server.stop()
         calls = server.calls()
         verdict, of_chain = judge_chain(server.journal, calls)
-        wrong = trial.faults + judge(calls, trial.told, trial.late) + of_chain
+        wrong = trial.faults + judge(calls, trial.told, trial.late, count) + of_chain
     kills = ", ".join(f"{what} {number}" for what, number in sorted(done.items()))
     print(f"seed {seed} clients {clients} lease {lease:.1f} restarts {count} ({kills}) in {time.monotonic() - begun:.0f} s; returns {trial.returns}, late "
           f"{len(trial.late)}, absences {trial.truancies}, grants told {len(trial.told)}; verdict {verdict}")

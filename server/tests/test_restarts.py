@@ -192,18 +192,22 @@ class Restarts(Trial):
         os.remove(gate)
         return server if is_of_engine else self.server(lease=lease)
 
-    def test_a_hold_that_the_server_never_heard_of(self):
-        """It is that of who stood first, and the release that brought it is not done again."""
+    @by_the_clock
+    def test_a_hold_that_the_server_never_heard_of(self, longer):
+        """It is nobody's until the grace is over, though one session waited for it alone; and the release that brought it is not done
+        again."""
+        lease = str(2 * longer)
         for is_of_engine in (True, False):
             with self.subTest(is_of_engine=is_of_engine):
-                server = self.behind_a_gate("30")
+                server = self.behind_a_gate(lease)
                 (one, _), (two, _) = self.session(server, 1), self.session(server, 2)
                 self.assertEqual(say(one, "1 acquire a 5\n"), ["1 granted a 1"])
                 self.assertEqual(say(two, "1 acquire a 6\n"), ["1 waiting a 0"])
-                server = self.hand_over_unheard(server, one, "30", is_of_engine)
+                server = self.hand_over_unheard(server, one, lease, is_of_engine)
                 (one, none), (two, lines) = self.session(server, 1), self.session(server, 2, 1)
-                self.assertEqual((none, lines), ([], ["holds a 2"]))
+                self.assertEqual((none, lines), ([], ["waits a"]))
                 self.assertEqual(say(one, "2 release a 1\n"), ["2 released a"])
+                self.assertEqual(granted_late(two), "granted a 3")
                 self.end(server)
                 for name in ("journal", "journal.sessions"):
                     shutil.rmtree(os.path.join(self.folder, name))
@@ -397,22 +401,18 @@ class Restarts(Trial):
         self.assertEqual(read_lines(operator, 3), ["ended a", "ended b", "pong"])
         self.assertEqual(say(operator, "acquire a 1\nacquire b 1\n", 2), ["granted a 2", "granted b 2"])
 
-    @by_the_clock
-    def test_holds_that_cannot_be_written(self, longer):
-        """Then the sessions are over: what they held is nobody's, and nobody is told that it is theirs."""
-        lease = str(2 * longer)
-        server = self.server(lease=lease)
+    def test_holds_that_cannot_be_written(self):
+        """Then no engine serves, and nothing that is kept goes: as soon as they can, the session has what it had."""
+        server = self.server()
         one, _ = self.session(server, 1)
         self.assertEqual(say(one, "1 acquire a 5\n"), ["1 granted a 1"])
-        os.mkdir(os.path.join(self.folder, "journal.sessions", "holders"))
-        server = self.again(server, signal.SIGKILL, lease=lease)
-        server.wait_for_log("sessions-unkept")
-        one, _ = self.session(server, 1)
-        self.assertEqual(say(one, "1 acquire a 5\n"), ["1 waiting a 0"])
-        self.assertEqual(granted_late(one), "granted a 2")
-        os.rmdir(os.path.join(self.folder, "journal.sessions", "holders"))
-        server = self.again(server, signal.SIGKILL, lease=lease)
-        self.assertEqual(self.session(server, 1, 1)[1], ["holds a 2"])
+        part = os.path.join(self.folder, "journal.sessions", "holders.part")
+        os.mkdir(part)
+        with self.assertRaisesRegex(RuntimeError, "what is kept of sessions, beside the journal"):
+            self.again(server, signal.SIGKILL)
+        os.rmdir(part)
+        server = self.server()
+        self.assertEqual(self.session(server, 1, 1)[1], ["holds a 1"])
 
     def test_a_folder_that_cannot_be_written(self):
         """Then there are no sessions, and all else is as it was."""

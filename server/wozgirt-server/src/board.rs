@@ -73,8 +73,6 @@ pub struct Sight {
     pub last_fault: Option<Fault>,
     /// How many acquires the engine has not answered yet.
     asked: usize,
-    /// The greatest token that the engine has answered of it since it came into use.
-    pub told: Token,
     /// Whether it is of the list; the number of one of another name.
     is_listed: bool,
     number: u64,
@@ -94,7 +92,6 @@ impl Sight {
             faults: 0,
             last_fault: None,
             asked: 0,
-            told: 0,
             is_listed: true,
             number: 0,
         }
@@ -123,11 +120,6 @@ impl Sight {
         self.asked = 0;
     }
 
-    /// What the engine said of its tokens and passes says nothing of its next use.
-    fn forget_tokens(&mut self) {
-        (self.passes, self.told) = (0, 0);
-    }
-
     /// The client holds it: how long that had waited.
     fn grant(&mut self, client: Client, token: Token, label: Option<Label>, now: Instant) -> Duration {
         let waiter = self.take_waiter(client);
@@ -142,7 +134,6 @@ impl Sight {
     /// Its ring has had a pass: a token is the number of it, or, where the name is not of the list, only rises with it.
     fn hold(&mut self, holder: Holder) {
         self.passes = if self.is_listed { self.passes.max(holder.token) } else { self.passes + 1 };
-        self.told = self.told.max(holder.token);
         self.holder = Some(holder);
     }
 
@@ -233,11 +224,6 @@ impl Board {
         self.any.as_ref()
     }
 
-    /// Each lock that a client may have something of.
-    pub fn in_use(&self) -> impl Iterator<Item = &Sight> {
-        self.locks.iter().chain(self.any.iter().flat_map(Any::in_use))
-    }
-
     /// Whether the lock is one of the list.
     pub fn is_listed(&self, name: &str) -> bool {
         self.any.is_none() || self.places.contains_key(name)
@@ -323,14 +309,8 @@ impl Board {
     /// The client holds the lock since before this server started.
     pub fn holds(&mut self, lock: &str, client: Client, token: Token, now: Instant) {
         self.change(lock, true, |sight| {
-            sight.told = sight.told.max(token);
             sight.holder = Some(Holder { client, token, label: None, since: now });
         });
-    }
-
-    /// The engine has granted this token to a client that is gone.
-    pub fn told(&mut self, lock: &str, token: Token) {
-        self.change(lock, false, |sight| sight.told = sight.told.max(token));
     }
 
     /// The client's hold ended.

@@ -229,9 +229,6 @@ impl Desk {
     }
 
     fn ask_plainly(&mut self, connection: &mut Connection, input: Input) {
-        if let (Input::Acquire { lock, .. } | Input::Try { lock, .. }, Some(alone)) = (&input, self.alone()) {
-            alone.note_plain(lock);
-        }
         self.ask_engine(connection.client, &input);
         self.note_asked(connection, Pending::Asked(input));
     }
@@ -317,7 +314,6 @@ impl Desk {
         if let (Answer::Granted { lock: l, token }, Some(lock)) = (answer, connection.waits_for.clone()) {
             if lock == *l {
                 connection.waits_for = None;
-                self.note_token(&lock, *token);
                 self.board.granted(l, connection.client, *token, None, self.now);
                 connection.holds.push(lock);
                 connection.tell(answer);
@@ -359,7 +355,6 @@ impl Desk {
                 if lock == l =>
             {
                 connection.holds.push(lock.clone());
-                self.note_token(lock, *token);
                 self.board.granted(lock, client, *token, Some(*label), self.now);
             }
             (Input::Acquire { lock, label }, Answer::Waiting { lock: l, .. }) if lock == l => {

@@ -197,7 +197,6 @@ impl Desk {
 
     /// The engine has granted a session the lock for which it waited.
     pub(crate) fn granted_late(&mut self, session: Client, lock: Lock, token: Token) {
-        self.note_token(&lock, token);
         self.board.granted(&lock, session, token, None, self.now);
         if let Some(alone) = self.alone() {
             alone.hold(session, lock, token);
@@ -250,7 +249,6 @@ impl Desk {
             (Input::Acquire { lock, label } | Input::Try { lock, label }, Answer::Granted { lock: l, token })
                 if lock == l =>
             {
-                self.note_token(lock, *token);
                 self.board.granted(lock, session, *token, Some(*label), self.now);
             }
             (Input::Acquire { lock, label }, Answer::Waiting { lock: l, .. }) if lock == l => {
@@ -294,13 +292,6 @@ impl Desk {
         if connection.pending.iter().any(its) {
             self.note_answered(connection);
             connection.tell_in_place(its, format_args!("{number} left"));
-        }
-    }
-
-    /// A client was granted the lock.
-    pub(crate) fn note_token(&mut self, lock: &Lock, token: Token) {
-        if let Some(alone) = self.alone() {
-            alone.note_token(lock, token);
         }
     }
 }

@@ -27,12 +27,18 @@ impl Holds {
         self.places.contains_key(lock)
     }
 
-    /// The lock comes last, with this token.
-    pub fn put(&mut self, lock: Lock, token: Token) {
+    /// The lock comes last, with this token, unless it is there with one that is as great: whether it was not. Tokens rise, so a hold with
+    /// a smaller one is over.
+    pub fn put(&mut self, lock: Lock, token: Token) -> bool {
+        let known = self.places.get(&lock).and_then(|place| self.holds.get(place));
+        if known.is_some_and(|(_, known)| *known >= token) {
+            return false;
+        }
         self.remove(&lock);
         self.last += 1;
         self.places.insert(lock.clone(), self.last);
         self.holds.insert(self.last, (lock, token));
+        true
     }
 
     /// The lock is not one of them any more.
@@ -72,6 +78,8 @@ mod tests {
         }
         let found = |holds: &Holds| holds.iter().map(|(lock, token)| format!("{lock} {token}")).collect::<Vec<_>>();
         assert_eq!((found(&holds), holds.len()), (vec!["b 2".into(), "c 3".into(), "a 4".into()], 3));
+        assert!(!holds.put("a".parse().unwrap(), 4) && !holds.put("b".parse().unwrap(), 1));
+        assert_eq!(found(&holds), vec!["b 2", "c 3", "a 4"]);
         holds.remove("c");
         holds.remove("x");
         assert!(holds.has("a") && !holds.has("c"));

@@ -3,25 +3,27 @@
 //! An input of a session goes to the engine with the session's number as its key, so the journal has what was done last of each. A
 //! [`Store`] beside the journal records whose each session is, and what the engine answered it. When the engine starts, it lists the
 //! open holds. If sessions have some of them, the engine starts once more, and reads a file that says whose they are.
+//!
+//! **The rule.** An open hold is a session's if exactly this lock and token were reported to that session, or if a remark of the journal
+//! says that an input of this session was answered with them. Every other open hold is nobody's until the grace is over, which is at least
+//! as long as the longest lease: a client that knows of it has stopped by then. Nothing is concluded from a queue, a label, or another
+//! token. Of two holds of a lock the one with the smaller token is over. Whether a hold is open only the journal says, so no `released` of
+//! a remark ends one. [`Alone::hear_remarks`] and [`Alone::settle`] are this rule.
 
 mod desk;
 mod holds;
-mod plain;
 mod session;
 mod store;
 #[cfg(test)]
 mod tests;
 
-use plain::Plain;
 pub use session::{Ask, At, Ended, Place, Session, What};
-pub use store::{boot, Line, Store};
+pub use store::{Line, Store};
 
-use crate::board::{Board, Sight};
 use crate::cluster::{Key, Owner, Who};
-use crate::names::{ByName, Names};
-use std::collections::{BTreeMap, HashMap, HashSet};
+use std::collections::{BTreeMap, HashMap};
 use std::io;
-use std::rc::Rc;
+use std::path::PathBuf;
 use std::time::{Duration, Instant};
 use wozgirt_engine::{Answer, Answered, Client, Label, Lock, StateLine, Token};
 
@@ -48,11 +50,6 @@ pub enum NoSession {
 /// The sessions of a single server.
 pub struct Alone {
     store: Option<Store>,
-    /// The list of locks. Of names that are not there nothing is kept but what sessions have: so for each of them a client without a
-    /// session may have been answered.
-    names: Rc<Names>,
-    /// The system's word for this start of the machine, if it has one.
-    boot: Option<String>,
     sessions: BTreeMap<Client, Session>,
     keys: HashMap<Key, Client>,
     /// How many there may be.
@@ -62,45 +59,28 @@ pub struct Alone {
     last_order: u64,
     /// What the engine runs for.
     pub start: Start,
-    /// The greatest token of each lock of the list that this server has heard of.
-    heard: ByName<Token>,
-    /// The first client in the queue of each lock when the engine was lost, if there was one, and the greatest token that this server had
-    /// heard of since the lock was in use.
-    firsts: HashMap<Lock, (Client, Token)>,
-    /// Of which locks the server may have answered clients without a session since the engine started, or before.
-    plain: Plain,
-    /// Holds that were given up, where the engine may not have heard that: of each lock of the list the last.
-    given: BTreeMap<Lock, Token>,
     /// Holds of sessions that are over, and the operators that wait for an answer about them.
     ended: Vec<Ended>,
+    /// All is to be written anew.
+    is_stale: bool,
 }
 
 impl Alone {
-    /// With the sessions of this store; without one there are none. `boot` is the system's word for this start of the machine.
-    pub fn new(store: Option<Store>, boot: Option<String>, most: usize, names: Rc<Names>) -> io::Result<Alone> {
+    /// With the sessions of this store; without one there are none.
+    pub fn new(store: Option<Store>, most: usize) -> io::Result<Alone> {
         let mut alone = Alone {
-            names,
-            boot,
             sessions: BTreeMap::new(),
             keys: HashMap::new(),
             most,
             last: 0,
             last_order: 0,
             start: Start::Serving,
-            heard: ByName::default(),
-            firsts: HashMap::new(),
-            plain: Plain::default(),
-            given: BTreeMap::new(),
             ended: Vec::new(),
+            is_stale: false,
             store: None,
         };
         if let Some(store) = store {
-            let lines = store.read()?;
-            let is_of_this_start = |boot: &String| lines.contains(&Line::Boot(boot.clone()));
-            if !alone.boot.as_ref().is_some_and(is_of_this_start) {
-                alone.plain.add_all(); // the last answers may be missing
-            }
-            lines.into_iter().for_each(|line| alone.read(line));
+            store.read()?.into_iter().for_each(|line| alone.read(line));
             alone.store = Some(store);
         }
         Ok(alone)
@@ -121,36 +101,14 @@ impl Alone {
                 self.change(client, |session| session.hold(lock, token));
             }
             Line::Has(StateLine::Wait { client, lock, label }) => self.wait(client, lock, label),
-            Line::Has(StateLine::Did { key, number, answer }) => self.read_done(key, number, &answer),
+            Line::Has(StateLine::Did { key, number, answer }) => {
+                let told = Answered::parse(&answer).ok().map(|it| it.answer);
+                self.change(key, |session| session.did(number, told, &answer));
+            }
             Line::Has(StateLine::At { .. }) => {}
             Line::Free(number, lock) => self.change(number, |session| session.free(&lock)),
-            Line::Over(number) => {
-                let session = self.remove(number);
-                let holds = session.map(|it| it.holds).unwrap_or_default();
-                holds.iter().cloned().for_each(|(lock, token)| self.give(lock, token));
-            }
-            Line::Plain(lock) => _ = self.plain.add(lock),
-            Line::AllPlain => self.plain.add_all(),
-            Line::Given(lock, token) => self.give(lock, token),
-            Line::Boot(_) => {}
-        }
-    }
-
-    /// What is kept of an input that was done: its answer as a text.
-    fn read_done(&mut self, session: Client, number: u64, text: &str) {
-        self.note_done(session, number, Answered::parse(text).ok().map(|it| it.answer), text);
-    }
-
-    fn note_done(&mut self, session: Client, number: u64, answer: Option<Answer<'_>>, text: &str) {
-        self.last_order += 1;
-        let order = self.last_order;
-        self.change(session, |session| session.did(number, answer, text, order));
-    }
-
-    /// A client without a session asks for the lock.
-    pub fn note_plain(&mut self, lock: &Lock) {
-        if self.names.is_listed(lock) && self.plain.add(lock.clone()) {
-            self.put(&Line::Plain(lock.clone()));
+            Line::Over(number) => _ = self.remove(number),
+            Line::Nothing => {}
         }
     }
 
@@ -214,10 +172,9 @@ impl Alone {
         }
         let mut owner = Owner::default();
         owner.admits(who);
-        // its connection has asked for nothing else; if that had another session, the engine may not have done with it
-        let is_taken = self.sessions.contains_key(&client);
-        self.last += Client::from(is_taken);
-        let number = if is_taken { self.last } else { client };
+        // not that of its connection: an answer to what another session of that asked may be on its way
+        self.last += 1;
+        let number = self.last;
         store.put(&Line::Session(number, key, lease, owner));
         self.sessions.insert(number, Session::new(key, owner, lease, At::Here(client)));
         self.keys.insert(key, number);
@@ -237,11 +194,9 @@ impl Alone {
     pub fn end(&mut self, number: Client) {
         if let Some(session) = self.sessions.get_mut(&number) {
             session.is_left = true;
-            let (key, holds) = (session.key, session.holds.clone());
-            if self.keys.get(&key) == Some(&number) {
-                self.keys.remove(&key);
+            if self.keys.get(&session.key) == Some(&number) {
+                self.keys.remove(&session.key);
             }
-            holds.iter().cloned().for_each(|(lock, token)| self.give(lock, token));
             self.put(&Line::Over(number));
         }
     }
@@ -261,17 +216,6 @@ impl Alone {
     /// Holds whose operators have to learn that they ended with their sessions.
     pub fn take_ended(&mut self) -> Vec<Ended> {
         std::mem::take(&mut self.ended)
-    }
-
-    /// All sessions are over, since the engine cannot learn what they hold: no session has that any more.
-    pub fn end_all(&mut self) {
-        self.sessions.clear();
-        self.keys.clear();
-        self.plain.add_all();
-        if let Some(store) = &mut self.store {
-            let _ = store.remove(); // if it stays, it is replaced next
-            store.put(&Line::Last(self.last));
-        }
     }
 
     /// Puts a line among those that are written next.
@@ -296,7 +240,7 @@ impl Alone {
     /// An input was done.
     pub fn did(&mut self, number: Client, input: u64, answer: Answer<'_>) {
         let text = Answered { client: number, answer }.to_string();
-        self.note_done(number, input, Some(answer), &text);
+        self.change(number, |session| session.did(input, Some(answer), &text));
         self.put(&Line::Has(StateLine::Did { key: number, number: input, answer: text }));
     }
 
@@ -307,56 +251,17 @@ impl Alone {
         self.read(line);
     }
 
-    /// The engine grants the lock to a client that may be gone: no client learns of it, and the engine may not know that.
-    pub fn note_grant(&mut self, number: Client, lock: &str, token: Token) {
-        let is_known = self.sessions.get(&number).is_some_and(|session| !session.is_left);
-        if is_known || self.is_given(lock, token) || !self.names.is_listed(lock) {
-            return;
-        }
-        let Ok(lock) = lock.parse() else { return };
-        self.note_token(&lock, token);
-        self.put(&Line::Given(lock.clone(), token));
-        self.give(lock, token);
-    }
-
-    fn give(&mut self, lock: Lock, token: Token) {
-        if !self.names.is_listed(&lock) {
-            return;
-        }
-        let last = self.given.entry(lock).or_insert(token);
-        *last = token.max(*last);
-    }
-
-    fn is_given(&self, lock: &str, token: Token) -> bool {
-        self.given.get(lock) == Some(&token)
-    }
-
-    /// A client was granted the lock.
-    pub fn note_token(&mut self, lock: &Lock, token: Token) {
-        if !self.names.is_listed(lock) {
-            return;
-        }
-        let heard = self.heard.entry(lock.clone()).or_default();
-        *heard = token.max(*heard);
-        if self.given.get(lock).is_some_and(|last| *last < token) {
-            self.given.remove(lock);
-        }
-    }
-
     /// Writes what is new, before any client gets an answer about it.
     pub fn write(&mut self) -> io::Result<()> {
         let Some(store) = &mut self.store else { return Ok(()) };
-        if !store.write()? {
+        if !store.write()? && !self.is_stale {
             return Ok(());
         }
+        self.is_stale = true; // until that is begun
         let lines = self.all();
-        self.store.as_mut().map_or(Ok(()), |store| store.begin_to_replace(&lines))
-    }
-
-    /// Writes all anew; it is on the disk then.
-    fn rewrite(&mut self) -> io::Result<()> {
-        let lines = self.all();
-        self.store.as_mut().map_or(Ok(()), |store| store.replace(&lines))
+        self.store.as_mut().map_or(Ok(()), |store| store.begin_to_replace(&lines))?;
+        self.is_stale = false;
+        Ok(())
     }
 
     /// The lines that bring all of it back.
@@ -368,105 +273,70 @@ impl Alone {
             waits.into_iter().map(|(client, Place { lock, label, .. })| StateLine::Wait { client, lock, label });
         let kept = || self.sessions.iter().filter(|(_, session)| !session.is_left);
         let sessions = kept().map(|(number, it)| Line::Session(*number, it.key, it.lease, it.owner));
-        let has = kept().flat_map(|(number, session)| session.lines(*number));
-        let given = self.given.iter().map(|(lock, token)| Line::Given(lock.clone(), *token));
-        let first = self.boot.iter().cloned().map(Line::Boot).chain([Line::Last(self.last)]);
-        first.chain(sessions).chain(has.chain(waits).map(Line::Has)).chain(self.plain.lines()).chain(given).collect()
+        let has = kept().flat_map(|(number, session)| session.all(*number));
+        [Line::Last(self.last)].into_iter().chain(sessions).chain(has).chain(waits.map(Line::Has)).collect()
     }
 
-    /// The engine is lost, and so are all connections. The client that was first in a queue then, on this board, may have been granted
-    /// the lock without an answer.
-    pub fn lose_engine(&mut self, board: &Board, was_serving: bool) {
-        self.start = Start::Serving;
-        if was_serving {
-            let first = |sight: &Sight| Some((sight.lock.clone(), (sight.line.front()?.client, sight.told)));
-            self.firsts = board.in_use().filter_map(first).collect();
-        }
-    }
-
-    /// The engine starts. What the journal says of inputs that were done counts, since no other client learns of it. It is written to the
-    /// disk.
+    /// The engine starts: what the journal says of inputs that were done is heard, and written to the disk, since the engine drops it.
+    /// Where the disk has all but what is the same as before, it need not take it.
     pub fn prepare(&mut self) -> io::Result<()> {
         let Some(store) = &self.store else { return Ok(()) };
         let remarks = if self.sessions.is_empty() { Vec::new() } else { store.remarks()? };
-        for line in remarks {
-            let StateLine::Did { key, number, answer } = line else { continue };
-            let label = self.session(key).and_then(|session| session.label(number));
-            self.read_done(key, number, &answer);
-            let lock = self.session(key).and_then(|session| session.unlabelled.as_ref()).map(|it| it.lock.clone());
-            if let (Some(label), Some(lock)) = (label, lock) {
-                self.wait(key, lock, label);
-            }
-        }
+        let has_news = self.hear_remarks(remarks);
         self.sessions.retain(|_, session| !session.is_left);
         for session in self.sessions.values_mut() {
             session.forget_asked();
             session.at = At::Away(None);
         }
-        let has_some = |it: &Session| !it.holds.is_empty() || it.waits.is_some() || it.unlabelled.is_some();
-        let has_holds = self.sessions.values().any(has_some);
+        let has_holds = self.sessions.values().any(|session| !session.holds.is_empty());
         self.start = if has_holds { Start::Looking } else { Start::Serving };
-        if !has_holds {
-            self.plain = Plain::default();
-            self.given.clear();
+        let lines = self.all();
+        let Some(store) = &mut self.store else { return Ok(()) };
+        if let Err(fault) = store.replace(&lines) {
+            if has_news || !store.is_whole() {
+                return Err(fault);
+            }
+            self.is_stale = true;
         }
-        self.rewrite()
+        Ok(())
     }
 
-    /// These holds are open. Only sessions keep their holds. A hold of which no client learned belongs to the client that was first in the
-    /// queue. Returns whether any is a session's, and a file says so.
-    pub fn settle(&mut self, open: &[(Lock, Token)]) -> io::Result<bool> {
-        let is_open: HashSet<&(Lock, Token)> = open.iter().collect();
-        for session in self.sessions.values_mut() {
-            session.holds.retain(|hold| is_open.contains(hold));
-        }
-        let known: HashSet<(Lock, Token)> = self.holds().map(|(_, lock, token)| (lock.clone(), token)).collect();
-        let mut plain = Plain::default();
-        for (lock, token) in open.iter().filter(|hold| !known.contains(*hold)) {
-            match self.heir(lock, *token).and_then(|heir| self.sessions.get_mut(&heir)) {
-                Some(session) => session.hold(lock.clone(), *token),
-                None if self.names.is_listed(lock) => _ = plain.add(lock.clone()),
-                None => {}
+    /// The journal's remarks of inputs of sessions, in their order: whether they bring anything new.
+    fn hear_remarks(&mut self, remarks: Vec<StateLine>) -> bool {
+        let mut has_news = false;
+        for line in remarks {
+            let StateLine::Did { key, number, answer } = line else { continue };
+            let Some(session) = self.sessions.get_mut(&key) else { continue };
+            let told = Answered::parse(&answer).ok().map(|it| it.answer);
+            has_news |= session.was_done(number, told, &answer);
+            let lock = session.unlabelled.as_ref().map(|it| it.lock.clone());
+            if let Some((lock, label)) = lock.zip(session.label(number)) {
+                self.wait(key, lock, label);
             }
         }
-        self.plain = plain;
-        self.given.clear();
-        self.sessions.values_mut().for_each(|session| session.unlabelled = None);
-        self.firsts.clear();
-        self.rewrite()?;
-        let lines = self.sessions.iter().flat_map(|(number, session)| session.lines(*number));
-        let holds = lines.filter(|line| matches!(line, StateLine::Hold { .. }));
-        let text: String = holds.map(|line| format!("{line}\n")).collect();
-        if let Some(store) = self.store.as_ref().filter(|_| !text.is_empty()) {
-            store.write_holders(&text)?;
-        }
-        Ok(!text.is_empty())
+        has_news
     }
 
-    /// The holder of an open hold of which no client learned: the client that was first in the queue. If every client has a session, this
-    /// is known of each hold that no session has; else only if this server knows all tokens that were answered.
-    fn heir(&self, lock: &Lock, token: Token) -> Option<Client> {
-        if self.is_given(lock, token) {
-            return None;
+    /// These holds are open: no other is a session's any more, and none that two sessions claim. Returns whether any is a session's.
+    pub fn settle(&mut self, open: &[(Lock, Token)]) -> bool {
+        let mut claims: HashMap<(Lock, Token), usize> = open.iter().map(|hold| (hold.clone(), 0)).collect();
+        for hold in self.sessions.values().flat_map(|session| session.holds.iter()) {
+            claims.entry(hold.clone()).and_modify(|count| *count += 1);
         }
-        if self.names.is_listed(lock) && !self.plain.has(lock) {
-            let places = self.sessions.iter().filter_map(|(number, session)| Some((session.order(lock)?, *number)));
-            return places.min().map(|(_, number)| number);
+        for session in self.sessions.values_mut() {
+            session.holds.retain(|hold| claims.get(hold) == Some(&1));
         }
-        let (first, told) = self.firsts.get(lock).copied()?;
-        let heard = if self.names.is_listed(lock) { self.heard.get(lock).copied().unwrap_or(0) } else { told };
-        let is_untold = heard > 0 && token > heard;
-        self.session(first).filter(|session| is_untold && session.order(lock).is_some()).map(|_| first)
+        self.is_stale = true;
+        self.sessions.values().any(|session| !session.holds.is_empty())
     }
 
-    /// Locks are held since before the engine started, and not by sessions.
-    pub fn note_held_before(&mut self, locks: &[Lock]) {
-        locks.iter().for_each(|lock| self.note_plain(lock));
-    }
-
-    /// The file with the holds that are sessions'.
-    pub fn holders(&self) -> Option<std::path::PathBuf> {
-        self.store.as_ref().map(Store::holders)
+    /// Writes the file with the holds that are sessions', which the engine reads: its path.
+    pub fn write_holders(&self) -> io::Result<Option<PathBuf>> {
+        let Some(store) = &self.store else { return Ok(None) };
+        let lines = self.sessions.iter().flat_map(|(number, session)| session.hold_lines(*number));
+        let text: String = lines.map(|line| format!("{line}\n")).collect();
+        store.write_holders(&text)?;
+        Ok(Some(store.holders()))
     }
 
     /// What the engine gets first: what was done, and which sessions wait, in their order.
@@ -474,7 +344,7 @@ impl Alone {
         let mut lines = Vec::new();
         let mut waits = Vec::new();
         for (number, session) in &mut self.sessions {
-            lines.extend(session.lines(*number).filter(|line| matches!(line, StateLine::Did { .. })));
+            lines.extend(session.done_line(*number));
             if let Some(Place { lock, label, order }) = session.waits.clone() {
                 waits.push((order, StateLine::Wait { client: *number, lock: lock.clone(), label }));
                 session.asked.push_back(Ask { client: 0, what: What::Place(lock, label) });

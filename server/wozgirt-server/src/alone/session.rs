@@ -1,10 +1,11 @@
 //! A session of a single server: what it has, and what it asked.
 
 use super::holds::Holds;
+use super::Line;
 use crate::cluster::{Key, Owner};
 use std::collections::VecDeque;
 use std::time::{Duration, Instant};
-use wozgirt_engine::{Answer, Client, Input, Label, Lock, StateLine, Token};
+use wozgirt_engine::{Answer, Answered, Client, Input, Label, Lock, StateLine, Token};
 
 /// Where the client of a session is.
 #[derive(Debug, Clone, Copy, PartialEq, Eq)]
@@ -66,8 +67,6 @@ pub struct Place {
 pub struct Unlabelled {
     /// The lock.
     pub lock: Lock,
-    /// A client with a smaller one came before.
-    pub order: u64,
     /// The input's number, and its answer.
     pub done: (u64, String),
 }
@@ -140,13 +139,7 @@ impl Session {
     /// It holds the lock, and waits for it no longer.
     pub fn hold(&mut self, lock: Lock, token: Token) {
         self.free(&lock);
-        self.note_label_of(&lock);
         self.holds.put(lock, token);
-    }
-
-    /// Its hold of the lock is over.
-    fn lose(&mut self, lock: &str) {
-        self.holds.remove(lock);
     }
 
     /// The lock for which it waits, if it is this one.
@@ -163,7 +156,8 @@ impl Session {
 
     /// It has nothing of the lock any more.
     pub fn free(&mut self, lock: &str) {
-        self.lose(lock);
+        self.note_label_of(lock);
+        self.holds.remove(lock);
         self.cancel(lock);
     }
 
@@ -173,30 +167,49 @@ impl Session {
         self.waits = Some(place);
     }
 
-    /// An input whose label was not known is done, if it was for this lock; else it is as if it was not.
-    fn note_label_of(&mut self, lock: &Lock) {
-        self.unlabelled.take().filter(|it| it.lock == *lock).into_iter().for_each(|it| self.last = Some(it.done));
+    /// More is said of the lock: an input for it whose label was not known is done. What is said of another lock says nothing of that.
+    fn note_label_of(&mut self, lock: &str) {
+        if self.unlabelled.as_ref().is_some_and(|it| *it.lock == *lock) {
+            self.last = self.unlabelled.take().map(|it| it.done);
+        }
     }
 
-    /// An input was done. One whose answer was to wait, with a label that is not known, counts as not done unless it is: no client waits
-    /// any more when the engine has ended, and the client asks again. Its place would be after those that have a smaller `order`.
-    pub fn did(&mut self, number: u64, answer: Option<Answer<'_>>, text: &str, order: u64) {
-        if self.last.as_ref().is_some_and(|(last, _)| number <= *last) {
-            return;
+    /// An input was done, as the server heard.
+    pub fn did(&mut self, number: u64, answer: Option<Answer<'_>>, text: &str) {
+        if let (true, Some(Answer::Released { lock })) = (self.is_new(number), answer) {
+            self.holds.remove(lock);
+        }
+        self.was_done(number, answer, text);
+    }
+
+    fn is_new(&self, number: u64) -> bool {
+        self.last.as_ref().map_or(true, |(last, _)| number > *last)
+    }
+
+    /// An input was done, as the journal says: whether that is new. It had the hold that it was granted; whether that is over is seen when
+    /// the open ones are known. One whose answer was to wait, with a label that is not known, counts as not done unless it is: no client
+    /// waits any more when the engine has ended, and the client asks again.
+    pub fn was_done(&mut self, number: u64, answer: Option<Answer<'_>>, text: &str) -> bool {
+        if !self.is_new(number) {
+            let Some(Answer::Granted { lock, token }) = answer else { return false };
+            return lock.parse().is_ok_and(|lock| self.holds.put(lock, token));
         }
         self.unlabelled = None;
         match answer {
-            Some(Answer::Granted { lock, token }) => lock.parse().into_iter().for_each(|lock| self.hold(lock, token)),
-            Some(Answer::Released { lock }) => self.lose(lock),
+            Some(Answer::Granted { lock, token }) => lock.parse().into_iter().for_each(|lock: Lock| {
+                self.cancel(&lock);
+                self.holds.put(lock, token);
+            }),
             Some(Answer::Cancelled { lock }) => self.cancel(lock),
             Some(Answer::Waiting { lock, .. }) if self.place(lock).is_none() => {
                 let done = (number, text.into());
-                self.unlabelled = lock.parse().ok().map(|lock| Unlabelled { lock, order, done });
-                return;
+                self.unlabelled = lock.parse().ok().map(|lock| Unlabelled { lock, done });
+                return true;
             }
             _ => {}
         }
         self.last = Some((number, text.into()));
+        true
     }
 
     /// The label with which an input that has no answer asks for the lock.
@@ -207,35 +220,41 @@ impl Session {
         })
     }
 
-    /// The order of its place in the queue of the lock, if it has one, or may have.
-    pub fn order(&self, lock: &str) -> Option<u64> {
-        let waits = self.place(lock).map(|place| place.order);
-        waits.or(self.unlabelled.as_ref().filter(|it| it.lock == lock).map(|it| it.order))
-    }
-
     /// The engine is gone: no question is open any more.
     pub fn forget_asked(&mut self) {
         self.asked.clear();
+        self.unlabelled = None;
         self.last_asked = self.last.as_ref().map(|(number, _)| *number);
     }
 
-    /// The lines that bring back what it has, except its place.
-    pub fn lines(&self, session: Client) -> impl Iterator<Item = StateLine> + '_ {
-        let did = self.last.iter().map(move |(number, answer)| StateLine::Did {
-            key: session,
-            number: *number,
-            answer: answer.clone(),
-        });
-        let hold =
+    /// The line of the last input that was done.
+    pub fn done_line(&self, session: Client) -> Option<StateLine> {
+        let (number, answer) = self.last.as_ref()?;
+        Some(StateLine::Did { key: session, number: *number, answer: answer.clone() })
+    }
+
+    /// The lines of its holds.
+    pub fn hold_lines(&self, session: Client) -> impl Iterator<Item = StateLine> + '_ {
+        let line =
             move |(lock, token): &(Lock, Token)| StateLine::Hold { lock: lock.clone(), token: *token, client: session };
-        did.chain(self.holds.iter().map(hold))
+        self.holds.iter().map(line)
+    }
+
+    /// The lines that bring back what it has, except its place. If its last answer was to wait for a lock of which it has nothing, they say so: else
+    /// that input would count as not done.
+    pub fn all(&self, session: Client) -> impl Iterator<Item = Line> + '_ {
+        let answer = self.last.as_ref().and_then(|(_, text)| Answered::parse(text).ok());
+        let lock = answer.and_then(|it| if let Answer::Waiting { lock, .. } = it.answer { Some(lock) } else { None });
+        let nothing = lock.filter(|lock| !self.has(lock) && self.place(lock).is_none());
+        let free = nothing.and_then(|lock| Some(Line::Free(session, lock.parse().ok()?)));
+        let done = self.done_line(session).map(Line::Has);
+        done.into_iter().chain(free).chain(self.hold_lines(session).map(Line::Has))
     }
 }
 
 #[cfg(test)]
 mod tests {
     use super::*;
-    use wozgirt_engine::Answered;
 
     fn session() -> Session {
         Session::new(7, Owner::default(), Duration::from_secs(1), At::Away(None))
@@ -246,7 +265,7 @@ mod tests {
     }
 
     fn did(it: &mut Session, number: u64, text: &str) {
-        it.did(number, Some(Answered::parse(text).unwrap().answer), text, 9);
+        it.did(number, Some(Answered::parse(text).unwrap().answer), text);
     }
 
     #[test]
@@ -262,7 +281,7 @@ mod tests {
         );
         it.hold(lock("a"), 9);
         assert!(it.has("a") && it.has("b") && !it.has("c"));
-        let lines: Vec<String> = it.lines(5).map(|line| line.to_string()).collect();
+        let lines: Vec<String> = it.all(5).map(|line| line.to_string()).collect();
         assert_eq!(lines, ["5 3 did 5 released a", "hold b 1 5", "hold a 9 5"]);
     }
 
@@ -270,7 +289,8 @@ mod tests {
     fn who_waits_without_a_label_asks_again() {
         let mut it = session();
         did(&mut it, 4, "5 waiting a 2");
-        assert_eq!((&it.waits, &it.last, it.order("a"), it.order("b")), (&None, &None, Some(9), None));
+        it.hold(lock("b"), 7); // that says nothing of the lock for which it waits
+        assert_eq!((&it.waits, &it.last), (&None, &None));
         let place = Place { lock: lock("a"), label: 8, order: 1 };
         it.wait(place.clone());
         assert_eq!((&it.waits, &it.last), (&Some(place), &Some((4, "5 waiting a 2".into()))));
@@ -280,7 +300,7 @@ mod tests {
         assert_eq!((&it.waits, it.last.as_ref().map(|(number, _)| *number)), (&None, Some(6)));
         did(&mut it, 7, "5 waiting a 0");
         it.hold(lock("a"), 5);
-        assert_eq!((it.order("a"), it.last.as_ref().map(|(number, _)| *number)), (None, Some(7)));
+        assert_eq!(it.last.as_ref().map(|(number, _)| *number), Some(7));
         it.wait(Place { lock: lock("b"), label: 8, order: 1 });
         did(&mut it, 8, "5 cancelled b");
         assert_eq!(it.waits, None);

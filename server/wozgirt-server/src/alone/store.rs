@@ -2,11 +2,11 @@
 //!
 //! The file `sessions` has a line for each change. It is written before a client gets an answer about the change, so it outlives the
 //! server. It is on the disk when the server starts its engine, which writes the last segment anew, without what that has of sessions. A
-//! file that has become long is replaced, by one that is on the disk before it gets that name; the server does not wait for that.
+//! file that has become long is replaced, by one that is on the disk before it gets that name; the server does not wait for that. A file
+//! stays until the next one is complete: what a file that misses the last changes says of a hold is true as long as that hold is open.
 //!
 //! ```text
 //! wozgirt sessions 2
-//! boot WORD
 //! last NUMBER
 //! session NUMBER KEY LEASE USER ADDRESS
 //! NUMBER INPUT did ANSWER
@@ -14,13 +14,10 @@
 //! hold LOCK TOKEN NUMBER
 //! free NUMBER LOCK
 //! over NUMBER
-//! plain LOCK
-//! plain *
-//! given LOCK TOKEN
 //! ```
 //!
-//! LOCK is the name of a lock. The first version had numbers of locks: of such a file no line counts.
-//! What was not on the disk when the machine lost its power is not there; WORD is another one then.
+//! LOCK is the name of a lock. The first version had numbers of locks: of such a file no line counts. Lines that begin with `boot`, `plain`
+//! or `given`, which other servers write, say nothing.
 
 use crate::cluster::{NoFolder, Owner};
 use std::ffi::OsString;
@@ -31,7 +28,7 @@ use std::path::{Path, PathBuf};
 use std::sync::mpsc::{channel, Receiver, TryRecvError};
 use std::thread;
 use std::time::Duration;
-use wozgirt_engine::{decimal, Client, Lock, NotALine, StateLine, Token};
+use wozgirt_engine::{decimal, Client, Lock, NotALine, StateLine};
 use wozgirt_system::{inherit, try_lock};
 
 const FIRST: &str = "wozgirt sessions 2";
@@ -54,14 +51,8 @@ pub enum Line {
     Free(Client, Lock),
     /// It is over.
     Over(Client),
-    /// Clients without a session may hold the lock, or wait for it.
-    Plain(Lock),
-    /// The same of every lock.
-    AllPlain,
-    /// The holder of the lock with this token has given it up; the engine may not know that.
-    Given(Lock, Token),
-    /// The start of the machine in which all this was written.
-    Boot(String),
+    /// What other servers write.
+    Nothing,
 }
 
 impl fmt::Display for Line {
@@ -74,10 +65,7 @@ impl fmt::Display for Line {
             Line::Has(line) => line.fmt(f),
             Line::Free(number, lock) => write!(f, "free {number} {lock}"),
             Line::Over(number) => write!(f, "over {number}"),
-            Line::Plain(lock) => write!(f, "plain {lock}"),
-            Line::AllPlain => f.write_str("plain *"),
-            Line::Given(lock, token) => write!(f, "given {lock} {token}"),
-            Line::Boot(word) => write!(f, "boot {word}"),
+            Line::Nothing => f.write_str("plain *"),
         }
     }
 }
@@ -95,18 +83,10 @@ impl std::str::FromStr for Line {
             }
             ["free", number, lock] => Ok(Line::Free(decimal(number)?, lock.parse()?)),
             ["over", number] => Ok(Line::Over(decimal(number)?)),
-            ["plain", "*"] => Ok(Line::AllPlain),
-            ["plain", lock] => Ok(Line::Plain(lock.parse()?)),
-            ["given", lock, token] => Ok(Line::Given(lock.parse()?, decimal(token)?)),
-            ["boot", word] => Ok(Line::Boot(word.into())),
+            ["boot" | "plain", _] | ["given", _, _] => Ok(Line::Nothing),
             _ => line.parse().map(Line::Has),
         }
     }
-}
-
-/// The word that the system has for this start of the machine, if it has one.
-pub fn boot() -> Option<String> {
-    fs::read_to_string("/proc/sys/kernel/random/boot_id").ok().map(|word| word.trim().into())
 }
 
 /// A file that takes the place of the one that there is as soon as it is on the disk. What comes until then is written to both.
@@ -134,6 +114,8 @@ pub struct Store {
     next: Option<Next>,
     /// How much was added to it.
     size: usize,
+    /// Whether the file on the disk misses nothing but what is not written yet.
+    is_whole: bool,
     /// Lines that are not written yet.
     lines: Vec<u8>,
 }
@@ -163,6 +145,7 @@ impl Store {
             file: None,
             next: None,
             size: 0,
+            is_whole: true,
             lines: Vec::new(),
         })
     }
@@ -181,9 +164,16 @@ impl Store {
         self.folder.join("holders")
     }
 
-    /// Writes the open holds for the engine.
+    /// Writes the open holds for the engine. The file is whole, or the one that was there.
     pub fn write_holders(&self, text: &str) -> io::Result<()> {
-        fs::write(self.holders(), text)
+        let part = self.folder.join("holders.part");
+        write_anew(&part, text.as_bytes())?;
+        fs::rename(part, self.holders())
+    }
+
+    /// Whether the file on the disk has all.
+    pub fn is_whole(&self) -> bool {
+        self.is_whole && self.lines.is_empty()
     }
 
     /// The lines of the file. After a line that cannot be read, as after a loss of power, no line counts.
@@ -220,14 +210,16 @@ impl Store {
         let _ = writeln!(self.lines, "{line}"); // a list takes whatever is written
     }
 
-    /// Writes these. Whether all is to be written anew: much was added, or there is no file.
+    /// Writes these. Whether all is to be written anew: much was added, or the file cannot be added to. Of a file in which some lines are
+    /// missing the first ones stay, until there is one with all.
     pub fn write(&mut self) -> io::Result<bool> {
         if self.lines.is_empty() {
             return Ok(false);
         }
         let Some(file) = &mut self.file else { return Ok(true) };
         if let Err(fault) = file.write_all(&self.lines) {
-            return Err(self.without(fault));
+            self.stop_adding();
+            return Err(fault);
         }
         if self.next.as_mut().is_some_and(|next| next.file.write_all(&self.lines).is_err()) {
             self.next = None; // the other one has all
@@ -253,24 +245,18 @@ impl Store {
         }
     }
 
-    /// A file that misses something would mislead: it is removed until all is written anew.
-    pub fn remove(&mut self) -> io::Result<()> {
-        (self.file, self.next) = (None, None);
+    fn stop_adding(&mut self) {
+        (self.file, self.next, self.is_whole) = (None, None, false);
         self.lines.clear();
-        fs::remove_file(self.sessions()).or_else(|fault| match fault.kind() {
-            ErrorKind::NotFound => Ok(()),
-            _ => Err(fault),
-        })
     }
 
-    fn without(&mut self, fault: io::Error) -> io::Error {
-        self.remove().err().unwrap_or(fault)
-    }
-
-    /// Begins to replace the file: another thread waits for the disk. Where there is no file, the new one is there at once.
+    /// Begins to replace the file: another thread waits for the disk. Where nothing can be added to the file, the new one is there at once.
     pub fn begin_to_replace(&mut self, lines: &[Line]) -> io::Result<()> {
         match self.begin(lines) {
-            Err(fault) if self.file.is_none() => Err(self.without(fault)),
+            Err(fault) if self.file.is_none() => {
+                self.stop_adding();
+                Err(fault)
+            }
             Err(_) => {
                 self.size = 0; // the file has all, and it is tried again when as much was added
                 Ok(())
@@ -291,13 +277,9 @@ impl Store {
         Ok(())
     }
 
-    /// Replaces the file; it is on the disk then.
+    /// Replaces the file; it is on the disk then. If that cannot be, the old one stays as it is.
     pub fn replace(&mut self, lines: &[Line]) -> io::Result<()> {
         self.next = None;
-        self.replace_now(lines).map_err(|fault| self.without(fault))
-    }
-
-    fn replace_now(&mut self, lines: &[Line]) -> io::Result<()> {
         let file = self.write_part(lines)?;
         file.sync_all()?;
         fs::rename(self.part(), self.sessions())?;
@@ -307,7 +289,7 @@ impl Store {
     }
 
     fn take(&mut self, file: File) {
-        (self.file, self.size) = (Some(file), 0);
+        (self.file, self.size, self.is_whole) = (Some(file), 0, true);
         self.lines.clear();
     }
 
@@ -316,10 +298,23 @@ impl Store {
         for line in lines {
             let _ = writeln!(text, "{line}"); // the same
         }
-        let mut file = OpenOptions::new().create(true).write(true).truncate(true).open(self.part())?;
-        file.write_all(&text)?;
-        Ok(file)
+        write_anew(&self.part(), &text)
     }
+}
+
+/// Writes a file of this name that was not there. What a link of this name leads to is not written.
+fn write_anew(path: &Path, text: &[u8]) -> io::Result<File> {
+    remove_if_there(path)?;
+    let mut file = OpenOptions::new().write(true).create_new(true).open(path)?;
+    file.write_all(text)?;
+    Ok(file)
+}
+
+fn remove_if_there(path: &Path) -> io::Result<()> {
+    fs::remove_file(path).or_else(|fault| match fault.kind() {
+        ErrorKind::NotFound => Ok(()),
+        _ => Err(fault),
+    })
 }
 
 #[cfg(test)]
@@ -338,15 +333,14 @@ mod tests {
             ("session 7 70 1000 u1 a::1", Line::Session(7, 70, second, Owner::parse("u1", "a::1").unwrap())),
             ("free 7 a", Line::Free(7, lock("a"))),
             ("over 7", Line::Over(7)),
-            ("plain 1", Line::Plain(lock("1"))),
-            ("plain *", Line::AllPlain),
-            ("given a 2", Line::Given(lock("a"), 2)),
-            ("boot x-1", Line::Boot("x-1".into())),
             ("hold a 2 7", Line::Has(StateLine::Hold { lock: lock("a"), token: 2, client: 7 })),
         ] {
             assert_eq!((text.parse(), line.to_string()), (Ok(line), text.into()));
         }
-        for line in ["", "last", "session 7 70 x - -", "free 7", "over", "plain a*"] {
+        for line in ["boot x-1", "plain 1", "plain *", "given a 2"] {
+            assert_eq!(line.parse(), Ok(Line::Nothing));
+        }
+        for line in ["", "last", "session 7 70 x - -", "free 7", "over", "given a"] {
             assert!(line.parse::<Line>().is_err(), "{line:?}");
         }
     }
@@ -408,10 +402,10 @@ mod tests {
     #[test]
     fn a_file_is_replaced_while_more_is_written() {
         let (mut store, journal) = new_store("next");
-        store.replace(&[Line::Last(9), Line::AllPlain]).unwrap();
+        store.replace(&[Line::Last(9), Line::Over(9)]).unwrap();
         store.begin_to_replace(&[Line::Last(9)]).unwrap();
         assert!(store.next.is_some()); // it is not waited for
-        assert_eq!(store.read().unwrap(), [Line::Last(9), Line::AllPlain]);
+        assert_eq!(store.read().unwrap(), [Line::Last(9), Line::Over(9)]);
         let mut told = vec![Line::Last(9)];
         while store.next.is_some() {
             thread::sleep(Duration::from_millis(1));
@@ -448,21 +442,52 @@ mod tests {
     }
 
     #[test]
-    fn a_file_that_cannot_be_written_anew_is_none() {
+    fn a_file_stays_until_another_one_is_whole() {
         let (mut store, journal) = new_store("full");
         store.replace(&[Line::Last(9)]).unwrap();
-        fs::create_dir(store.folder.join("sessions.part")).unwrap();
+        fs::create_dir(store.part()).unwrap();
         store.begin_to_replace(&[Line::Last(8)]).unwrap();
-        assert_eq!(store.read().unwrap(), [Line::Last(9)]); // it has all
+        assert!(store.is_whole());
         store.put(&Line::Over(7));
-        assert!(store.replace(&[Line::Last(9)]).is_err() && store.lines.is_empty());
-        assert_eq!(store.read().unwrap(), []);
+        assert!(store.replace(&[Line::Last(9)]).is_err() && !store.is_whole());
+        assert!(!store.write().unwrap() && store.is_whole());
+        assert_eq!(store.read().unwrap(), [Line::Last(9), Line::Over(7)]);
+        store.stop_adding(); // as if the last line could not be written
         store.put(&Line::Over(8));
-        assert!(store.write().unwrap()); // all of it is to be written, and not to a file that has no name
-        assert!(store.begin_to_replace(&[Line::Last(9)]).is_err());
-        fs::remove_dir(store.folder.join("sessions.part")).unwrap();
-        store.replace(&[Line::Last(10)]).unwrap();
+        assert!(store.write().unwrap()); // all of it is to be written
+        assert!(store.begin_to_replace(&[Line::Last(9)]).is_err() && !store.is_whole());
+        assert_eq!(store.read().unwrap(), [Line::Last(9), Line::Over(7)]);
+        fs::remove_dir(store.part()).unwrap();
+        store.begin_to_replace(&[Line::Last(10)]).unwrap();
+        assert!(store.is_whole());
         assert_eq!(store.read().unwrap(), [Line::Last(10)]);
+        fs::remove_dir_all(&store.folder).unwrap();
+        fs::remove_dir_all(journal).unwrap();
+    }
+
+    #[test]
+    fn holders_are_whole_or_those_that_were_there() {
+        let (store, journal) = new_store("holders");
+        store.write_holders("hold a 1 7\n").unwrap();
+        fs::create_dir(store.folder.join("holders.part")).unwrap();
+        assert!(store.write_holders("hold a 2 8\n").is_err());
+        assert_eq!(fs::read_to_string(store.holders()).unwrap(), "hold a 1 7\n");
+        fs::remove_dir_all(&store.folder).unwrap();
+        fs::remove_dir_all(journal).unwrap();
+    }
+
+    #[test]
+    fn what_a_link_leads_to_is_not_written() {
+        let (mut store, journal) = new_store("link");
+        let other = journal.join("other");
+        fs::write(&other, "as it was").unwrap();
+        for name in ["sessions.part", "holders.part", "sessions", "holders"] {
+            std::os::unix::fs::symlink(&other, store.folder.join(name)).unwrap();
+        }
+        store.replace(&[Line::Last(9)]).unwrap();
+        store.write_holders("hold a 1 7\n").unwrap();
+        assert_eq!(fs::read_to_string(&other).unwrap(), "as it was");
+        assert_eq!(store.read().unwrap(), [Line::Last(9)]);
         fs::remove_dir_all(&store.folder).unwrap();
         fs::remove_dir_all(journal).unwrap();
     }

@@ -119,11 +119,6 @@ impl Any {
         Some((self.sights.get(lock)?, *number))
     }
 
-    /// All that are in use.
-    pub fn in_use(&self) -> impl Iterator<Item = &Sight> {
-        self.used.values().filter_map(|lock| self.sights.get(lock))
-    }
-
     /// The lock of this name, if it is known.
     pub fn lock(&self, name: &str) -> Option<&Sight> {
         self.sights.get(name)
@@ -148,7 +143,7 @@ impl Any {
             if after.is_used {
                 self.used.insert(self.last, lock.clone());
             } else if sight.grants > 0 {
-                sight.forget_tokens();
+                sight.passes = 0; // what the engine said of them says nothing of its next use
                 self.unused.insert(self.last, lock.clone());
             } else {
                 self.sights.remove(&lock); // it was refused, or held before the server started
@@ -188,7 +183,7 @@ impl Any {
             match self.sights.get_mut(&lock) {
                 Some(sight) if sight.grants > 0 => {
                     sight.forget();
-                    sight.forget_tokens();
+                    sight.passes = 0; // what the engine said of them says nothing of its next use
                     self.last += 1;
                     sight.number = self.last;
                     self.unused.insert(self.last, lock);
@@ -241,7 +236,7 @@ mod tests {
         assert_eq!((any.used(), any.oldest_hold(), any.oldest_wait()), (1, None, Some(start + Duration::from_secs(1))));
         board.granted("x/1", 2, 813, None, start + Duration::from_secs(4));
         let (any, sight) = (board.any().unwrap(), board.lock("x/1").unwrap());
-        assert_eq!((sight.machines, sight.passes, sight.told), (3, 2, 813));
+        assert_eq!((sight.machines, sight.passes), (3, 2));
         assert_eq!((any.sums().held, any.sums().waiting, any.sums().grants), (1, 0, 2));
         assert_eq!(
             (any.sums().waited, any.sums().longest_wait, any.oldest_wait()),
@@ -249,7 +244,7 @@ mod tests {
         );
         assert!(board.left("x/1", 2));
         let (any, sight) = (board.any().unwrap(), board.lock("x/1").unwrap());
-        assert_eq!((any.used(), any.sums().held, any.oldest_hold(), sight.passes, sight.told), (0, 0, None, 0, 0));
+        assert_eq!((any.used(), any.sums().held, any.oldest_hold(), sight.passes), (0, 0, None, 0));
         assert_eq!((sight.grants, sight.longest_wait), (2, Duration::from_secs(3)));
     }
 

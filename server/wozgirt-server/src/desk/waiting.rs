@@ -93,7 +93,7 @@ mod tests {
             board: Board::new(&listed),
             sums: Default::default(),
             log: Log::start().unwrap(),
-            mode: Mode::Alone(Alone::new(None, None, 9, Rc::new(listed)).unwrap()),
+            mode: Mode::Alone(Alone::new(None, 9).unwrap()),
             now,
             settings: *settings,
         }

@@ -1,6 +1,7 @@
 //! The engine: started, heard, lost.
 
 use super::{Server, ENGINE, ENGINE_INPUT};
+use crate::alone::Start;
 use crate::desk::Unasked;
 use crate::engine::{Outcome, Unheard};
 use crate::log::{End, Event};
@@ -83,9 +84,6 @@ impl Server {
             }
             self.tell_ended(operator, NOBODY, &lock, token, answer);
         } else if let (Own::Begin(lock), Answer::Stats(stats)) = (own, answer) {
-            if stats.token > 0 {
-                self.desk.note_token(&lock, stats.token);
-            }
             if self.desk.board.begin(stats, self.desk.now) {
                 self.held_before.push(lock);
             }
@@ -216,7 +214,7 @@ impl Server {
         self.desk.engine.give_up(is_ended, self.desk.now);
         self.part_all(if self.stopping.is_some() { End::Stop } else { End::Engine });
         if let Mode::Alone(alone) = &mut self.desk.mode {
-            alone.lose_engine(&self.desk.board, self.is_begun);
+            alone.start = Start::Serving;
         }
         self.desk.board.forget();
         self.desk.questions.forget(self.desk.now);

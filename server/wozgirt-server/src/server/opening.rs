@@ -2,7 +2,7 @@
 
 use super::{MOST_VISITORS, OTHER_FILES};
 use crate::accounts::Accounts;
-use crate::alone::{boot, Alone, Store};
+use crate::alone::{Alone, Store};
 use crate::board::Board;
 use crate::cluster::{NoFolder, Other, LONGEST_LIST};
 use crate::doors::CannotListen;
@@ -17,7 +17,6 @@ use std::fs;
 use std::io;
 use std::path::PathBuf;
 use std::process::ExitStatus;
-use std::rc::Rc;
 use wozgirt_system::permit_files;
 
 /// How many sessions there may be for each connection: those of clients that are away are some.
@@ -198,7 +197,7 @@ pub(super) fn read_rules(settings: &Settings, board: &Board, accounts: &Accounts
 }
 
 /// The sessions that are kept beside the journal of a single server. If nothing can be kept there, it has none.
-pub(super) fn open_sessions(settings: &Settings, names: Rc<Names>, log: &mut Log) -> Result<Alone, CannotServe> {
+pub(super) fn open_sessions(settings: &Settings, log: &mut Log) -> Result<Alone, CannotServe> {
     let store = match Store::open(&settings.journal) {
         Ok(store) => Some(store),
         Err(NoFolder::System(fault)) => {
@@ -207,7 +206,7 @@ pub(super) fn open_sessions(settings: &Settings, names: Rc<Names>, log: &mut Log
         }
         Err(fault) => return Err(CannotServe::Folder(settings.journal.clone(), fault)),
     };
-    Alone::new(store, boot(), SESSIONS_EACH * settings.connections, names).map_err(CannotServe::Sessions)
+    Alone::new(store, SESSIONS_EACH * settings.connections).map_err(CannotServe::Sessions)
 }
 
 /// The system's limit of open files, which the server raises to the hard limit at its start.

@@ -14,11 +14,6 @@ impl Server {
     /// The engine answers a session.
     pub(super) fn answer_session(&mut self, number: Client, answer: &Answer<'_>) -> Result<(), Unasked> {
         let Some(alone) = self.desk.alone() else { return Err(Unasked) };
-        if let Answer::Granted { lock, token } = answer {
-            alone.note_grant(number, lock, *token);
-            self.desk.board.told(lock, *token);
-        }
-        let Some(alone) = self.desk.alone() else { return Err(Unasked) };
         let Some(session) = alone.session_mut(number) else {
             return Ok(()); // it is over
         };
@@ -112,8 +107,9 @@ impl Server {
         let mut words = self.desk.settings.engine_words();
         let Mode::Alone(alone) = &mut self.desk.mode else { return Ok(()) };
         if alone.start == Start::Turning {
+            let holders = alone.write_holders().map_err(CannotServe::Sessions)?;
             alone.start = Start::Serving;
-            let holders = alone.holders().map(|path| path.to_string_lossy().into_owned());
+            let holders = holders.map(|path| path.to_string_lossy().into_owned());
             words.extend(holders.into_iter().flat_map(|path| ["--holders".into(), path]));
         } else {
             alone.prepare().map_err(CannotServe::Sessions)?;
@@ -157,21 +153,11 @@ impl Server {
         let now = self.desk.now;
         let Mode::Alone(alone) = &mut self.desk.mode else { return true };
         if alone.start == Start::Serving {
-            alone.note_held_before(&self.held_before);
             alone.begin(now);
             return true;
         }
-        let has_holds = match alone.settle(&open) {
-            Ok(has_holds) => has_holds,
-            Err(fault) => {
-                alone.end_all();
-                self.say_unkept(&fault);
-                false
-            }
-        };
-        if let Some(alone) = self.desk.alone() {
-            alone.start = if has_holds { Start::Turning } else { Start::Serving };
-        }
+        let has_holds = alone.settle(&open);
+        alone.start = if has_holds { Start::Turning } else { Start::Serving };
         self.desk.engine.note_ready();
         if has_holds {
             self.desk.engine.end();
