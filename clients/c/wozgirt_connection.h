@@ -39,7 +39,7 @@ enum wozgirt_lock_answer {
     WOZGIRT_LOCK_NO       /* refused */
 };
 
-enum { WOZGIRT_LOCK_LONGEST_NAME = 200, WOZGIRT_LOCK_LONGEST_LINE = 256 };
+enum { WOZGIRT_LOCK_LONGEST_NAME = 128, WOZGIRT_LOCK_LONGEST_LINE = 256 };
 
 /* A client. Programs read only `line`. */
 struct wozgirt_lock_client {
@@ -188,13 +188,11 @@ static inline int wozgirt_lock_hear(struct wozgirt_lock_client *client, int64_t 
     return 1;
 }
 
-/* Whether a lock may have this name: 1 to 200 visible ASCII characters. */
+/* Whether a lock may have this name: 1 to 128 ASCII letters, digits, '.', '_', '-' and '/'. */
 static inline int wozgirt_lock_is_name(const char *name)
 {
-    const char *at = name;
-    while (*at > ' ' && *at <= '~' && at - name <= WOZGIRT_LOCK_LONGEST_NAME)
-        at++;
-    return !*at && at != name && at - name <= WOZGIRT_LOCK_LONGEST_NAME;
+    size_t length = strspn(name, "ABCDEFGHIJKLMNOPQRSTUVWXYZabcdefghijklmnopqrstuvwxyz0123456789._-/");
+    return !name[length] && length > 0 && length <= WOZGIRT_LOCK_LONGEST_NAME;
 }
 
 /* Writes a decimal, of at most 20 digits, without an end: its length. */

@@ -35,7 +35,7 @@ enum wozgirt_lock_result {
     WOZGIRT_LOCK_LOST = 3,    /* the connection is closed, and so all that was held is lost: others may have it. errno says why:
                                  ETIMEDOUT if no answer came in time, EPROTO if it was one to something else, ECANCELED if a call was
                                  left in its middle, ENOTCONN if it was closed before */
-    WOZGIRT_LOCK_NAME = 4,    /* a lock's name has 1 to 200 visible ASCII characters, and a socket's fits its struct */
+    WOZGIRT_LOCK_NAME = 4,    /* a lock's name has 1 to 128 letters, digits, '.', '_', '-' and '/', and a socket's fits its struct */
     WOZGIRT_LOCK_CHILD = 5,   /* another process opened this, or none: nothing was done */
     WOZGIRT_LOCK_SILENT = 6   /* only of a session: see wozgirt_session.h */
 };

@@ -48,6 +48,11 @@ class Examples(unittest.TestCase):
                     versions.add(file.read())
             self.assertEqual(len(versions), 1, said)
 
+    def test_deploy_without_its_words(self):
+        script = os.path.join(EXAMPLES, "deploy", "deploy.sh")
+        it = subprocess.run([script, "www"], capture_output=True, text=True, timeout=60, check=False)
+        self.assertEqual((it.returncode, it.stdout, it.stderr), (64, "", f"usage: wozgirt lock deploy -- {script} FOLDER VERSION\n"))
+
 
 if __name__ == "__main__":
     unittest.main()

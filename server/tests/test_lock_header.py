@@ -78,8 +78,8 @@ class Answers(Clients):
 
     def test_names(self):
         client = self.client(self.door(lambda line: line.replace("try", "granted") + "\n").path)
-        self.assertEqual(client.ask(f"acquire {'x' * 200} 7 0")[1:3], (DONE, 7))
-        for line in (f"acquire {'x' * 201} 7 0", f"release {'x' * 201} 7", "acquire a\x7f 1 0", "acquire \xe9 1 0"):
+        self.assertEqual(client.ask(f"acquire {'x' * 121}/aZ.9_- 7 0")[1:3], (DONE, 7))
+        for line in (f"acquire {'x' * 129} 7 0", f"release {'x' * 129} 7", "acquire a\x7f 1 0", "acquire \xe9 1 0", "acquire a* 1 0", "acquire a,b 1 0"):
             self.assertEqual(client.ask(line).result, NAME, line)
 
 

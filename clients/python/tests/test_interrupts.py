@@ -8,7 +8,7 @@ import threading
 import time
 import unittest
 
-sys.path.insert(0, os.path.join(os.path.dirname(os.path.abspath(__file__)), "..", "..", "server", "tests"))
+sys.path.insert(0, os.path.join(os.path.dirname(os.path.abspath(__file__)), "..", "..", "..", "server", "tests"))
 
 import interrupts  # noqa: E402
 from harness import PATIENCE, Server, needs_loopback, needs_programs, wait_until  # noqa: E402

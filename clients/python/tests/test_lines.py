@@ -31,7 +31,8 @@ class Lines(unittest.TestCase):
                          [b"lease\n", b"lease 2000\n", b"lease 30000\n", b"lease 2000\n"])
 
     def test_what_is_never_said(self):
-        for name in ("", "a b", "a\nleave", "\u00e9", "a\t"):
+        lines.acquire(f"{'x' * 120}/aZ.9_-", 0)
+        for name in ("", "a b", "a\nleave", "\u00e9", "a\t", "a*", "a,b", "x" * 129):
             with self.assertRaises(ValueError):
                 lines.acquire(name, 0)
         for number in (-1, 2 ** 64):

@@ -12,11 +12,11 @@ import threading
 import time
 import unittest
 
-sys.path.insert(0, os.path.join(os.path.dirname(os.path.abspath(__file__)), "..", "..", "server", "tests"))
+sys.path.insert(0, os.path.join(os.path.dirname(os.path.abspath(__file__)), "..", "..", "..", "server", "tests"))
 
-from harness import PATIENCE, Server, needs_loopback, needs_programs, wait_until  # noqa: E402
+from harness import FOLDER, PATIENCE, Server, needs_loopback, needs_programs, wait_until  # noqa: E402
 from test_sessions import Arbiter, Door  # noqa: E402
-from wozgirt import Client, Holds, Inherited, Lock, LockError, LockLost, NotInTime, Session, TooMany, aio, lines  # noqa: E402
+from wozgirt import Client, Holds, Inherited, Lock, LockError, LockLost, NotInTime, Session, TooMany, aio, lines, wire  # noqa: E402
 
 
 def in_child(do):
@@ -51,13 +51,57 @@ def raises(error, do, *words):
         return True
 
 
+class NoServer(unittest.TestCase):
+    """What is said of a server that is not there, and how long one that may be starting is waited for."""
+
+    def setUp(self):
+        folder = tempfile.TemporaryDirectory(dir=FOLDER)
+        self.addCleanup(folder.cleanup)
+        self.path = os.path.join(folder.name, "door")
+
+    def test_the_fault_names_the_place(self):
+        for connect in (wire.connected, lambda path: asyncio.run(aio._connected(path, 0.0, 0.0))):
+            for path, hint in ((self.path, ""), ("127.0.0.1:7100", " (a server over TCP is tcp:127.0.0.1:7100)")):
+                with self.assertRaises(FileNotFoundError) as raised:
+                    connect(path)
+                self.assertEqual(str(raised.exception), f"[Errno 2] No such file or directory{hint}: {path!r}")
+        with socket.socket(socket.AF_UNIX) as door, self.assertRaises(ConnectionRefusedError) as raised:
+            door.bind(self.path)
+            wire.connected(self.path)
+        self.assertEqual(raised.exception.filename, self.path)
+
+    def test_it_is_waited_for_no_longer_than_asked(self):
+        begun = time.monotonic()
+        with self.assertRaises(NotInTime):
+            Lock(self.path, "a", wait=0.3).acquire()
+        self.assertGreater(time.monotonic() - begun, 0.29)
+        with self.assertRaises(FileNotFoundError):
+            Client(self.path, timeout=0.3)
+
+    @needs_programs
+    def test_one_that_starts(self):
+        async def taken():
+            async with aio.Lock(self.path, "a") as token:
+                return token
+
+        for take in (lambda: Lock(self.path, "a").__enter__(), lambda: asyncio.run(taken())):
+            with Server() as server:
+                timer = threading.Timer(0.3, os.symlink, (server.path, self.path))
+                timer.start()
+                self.assertEqual(take(), 1)
+                timer.join()
+            os.remove(self.path)
+
+
 @needs_programs
 class OfThreads(unittest.TestCase):
     def test_acquire_and_release(self):
         with Server() as server:
             lock, other = Lock(server.path, "a", label=5), Lock(server.path, "a")
             self.assertEqual((lock.locked, lock.token), (False, None))
+            self.assertEqual(repr(lock), f"<wozgirt.lock.Lock 'a' at {server.path!r}, not held>")
             token = lock.acquire()
+            self.assertEqual(repr(lock), f"<wozgirt.lock.Lock 'a' at {server.path!r}, token {token}>")
             self.assertEqual((lock.locked, lock.token, token), (True, 1, 1))
             lock.check()
             got = []

@@ -15,7 +15,7 @@ import types
 import unittest
 
 sys.path.insert(0, os.path.dirname(os.path.dirname(os.path.abspath(__file__))))
-sys.path.insert(0, os.path.join(os.path.dirname(os.path.abspath(__file__)), "..", "..", "server", "tests"))
+sys.path.insert(0, os.path.join(os.path.dirname(os.path.abspath(__file__)), "..", "..", "..", "server", "tests"))
 
 from etcd_members import ETCD, ETCDCTL, Members  # noqa: E402
 from harness import FOLDER, PATIENCE, by_the_clock, needs_loopback, wait_until  # noqa: E402

@@ -17,7 +17,7 @@ import unittest
 import zipfile
 
 PYTHON = os.path.dirname(os.path.dirname(os.path.abspath(__file__)))
-TOP = os.path.dirname(PYTHON)
+TOP = os.path.dirname(os.path.dirname(PYTHON))
 sys.path.insert(0, PYTHON)
 
 import build_backend  # noqa: E402

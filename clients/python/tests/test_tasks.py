@@ -12,7 +12,7 @@ import time
 import unittest
 from unittest import mock
 
-sys.path.insert(0, os.path.join(os.path.dirname(os.path.abspath(__file__)), "..", "..", "server", "tests"))
+sys.path.insert(0, os.path.join(os.path.dirname(os.path.abspath(__file__)), "..", "..", "..", "server", "tests"))
 
 from harness import PATIENCE, Server, by_the_clock, needs_loopback, needs_programs, wait_until  # noqa: E402
 from test_deadlines import LATE, WAIT, Stopped, silent_door  # noqa: E402

@@ -18,7 +18,7 @@ from .client import INTERRUPTED, PART, PING, STATUS, WITHDRAW
 from .lines import Inherited, LockError, LockLost, LockStatus, NotInTime, NotWaiter, Place, Places, Question, Refused
 from .lock import Default, Function, Settings, is_too_late, left, to_connect, until
 from .process import OfOneProcess
-from .wire import AGAIN, CONNECT
+from .wire import ABSENT, AGAIN, CONNECT, START, TRY
 
 __all__ = ["Client", "Lock", "Session"]
 
@@ -51,11 +51,11 @@ class Client(OfOneProcess):
 
     @classmethod
     async def connect(cls, place: Place, *, lease: Optional[float] = None, timeout: float = CONNECT) -> Client:
-        """Connects within `timeout` seconds."""
+        """Connects within `timeout` seconds, of which a server that starts may take 5 to be there."""
         deadline = time.monotonic() + timeout
         server = lines.place(place)
         asked = lines.lease_of(lease, server)
-        sock = await _connected(server, deadline)
+        sock = await _connected(server, deadline, time.monotonic() + min(START, timeout))
         try:
             opened = asyncio.open_connection if isinstance(server, tuple) else asyncio.open_unix_connection
             client = cls(*await opened(sock=sock), sock, (server,))
@@ -297,10 +297,18 @@ def _tell(call: _Call, fault: Optional[LockError] = None) -> None:
             call.outcome.set_exception(fault)
 
 
-async def _connected(server: Union[str, Tuple[str, int]], deadline: float) -> socket.socket:
-    """As that of the client for threads."""
-    if isinstance(server, tuple):
-        return await _over_tcp(server[0], server[1], deadline)
+async def _connected(server: Union[str, Tuple[str, int]], deadline: float, started: float) -> socket.socket:
+    """As that of the client for threads. Until `started` a server that is not there is taken for one that starts."""
+    while True:
+        try:
+            return await (_over_tcp(server[0], server[1], deadline) if isinstance(server, tuple) else _over_unix(server, deadline))
+        except ABSENT:
+            if time.monotonic() >= started:
+                raise
+        await asyncio.sleep(max(0.0, min(TRY, started - time.monotonic())))
+
+
+async def _over_unix(server: str, deadline: float) -> socket.socket:
     sock = socket.socket(socket.AF_UNIX)
     try:
         sock.setblocking(False)
@@ -312,6 +320,8 @@ async def _connected(server: Union[str, Tuple[str, int]], deadline: float) -> so
                 if time.monotonic() >= deadline:
                     raise TimeoutError(errno.ETIMEDOUT, "the server accepts no connection", server) from None
                 await asyncio.sleep(AGAIN)
+            except OSError as fault:
+                raise lines.why_not(fault.errno or errno.EIO, server) from None
     except BaseException:
         sock.close()
         raise
@@ -354,6 +364,7 @@ class Lock(Settings):
 
     def __init__(self, place: Union[Places, Client, Session], name: str, *, wait: Optional[float] = None, label: int = 0,
                  lease: Optional[float] = None):
+        """`wait`, `label` and `lease` are those of `wozgirt.Lock`."""
         super().__init__(place, name, wait=wait, label=label, lease=lease)
 
     async def acquire(self, *, timeout: Union[float, None, Type[Default]] = Default) -> int:

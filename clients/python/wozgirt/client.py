@@ -12,7 +12,7 @@ from typing import Callable, Deque, Dict, List, NoReturn, Optional, Tuple, TypeV
 from . import lines
 from .lines import LockError, LockLost, LockStatus, NotHolder, NotInTime, NotWaiter, Place, Question, Refused
 from .turns import Turns
-from .wire import CONNECT, Late, Wire, connected
+from .wire import CONNECT, START, Late, Wire, connected
 
 __all__ = ["CONNECT", "Client", "connected"]
 
@@ -28,7 +28,7 @@ Answer = TypeVar("Answer", int, Optional[int])
 
 
 class Client(Turns):
-    """A connection, made within `timeout` seconds. Threads may share it, but a call waits until the one before it is answered; while
+    """A connection, made within `timeout` seconds, of which a server that starts may take 5 to be there. Threads may share it, but a call waits until the one before it is answered; while
     one waits for a lock, the others wait for that. A child that inherits it over a fork cannot use it (`Inherited`).
 
     An exception out of a signal handler may break off a call. What was asked is then withdrawn, and what was granted is given back,
@@ -44,7 +44,7 @@ class Client(Turns):
         server = lines.place(place)
         until = time.monotonic() + timeout
         asked = lines.lease_of(lease, server)
-        self._prepare([server], Wire(connected(server, timeout)))
+        self._prepare([server], Wire(connected(server, timeout, START)))
         try:
             self._lease = self._in_turn(lambda: self._granted_lease(asked, until))
         except BaseException as fault:

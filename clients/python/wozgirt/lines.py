@@ -2,11 +2,12 @@
 
 from __future__ import annotations
 
+import errno
 import operator
 import os
 import re
 from dataclasses import dataclass
-from typing import TYPE_CHECKING, Dict, List, Optional, Tuple, Union
+from typing import TYPE_CHECKING, Dict, List, Optional, Sequence, Tuple, Union
 
 if TYPE_CHECKING:
     _Path = os.PathLike[str]
@@ -16,8 +17,10 @@ else:
 #: Where a server is: the path of its socket, or host and port, also as tcp:HOST:PORT.
 Place = Union[str, _Path, Tuple[str, int]]
 #: One server, or several that share their locks: a list, or in one text with commas.
-Places = Union[Place, List[Place]]
+Places = Union[Place, Sequence[Place]]
 
+#: The names that locks can have.
+NAME = re.compile("[A-Za-z0-9._/-]{1,128}")
 MOST = 1 << 64
 LONGEST_LEASE = 365 * 24 * 3600.0
 #: The lease that a client asks for that has to have one, in seconds.
@@ -133,9 +136,20 @@ def places(given: Places) -> List[Union[str, Tuple[str, int]]]:
     return [place(it) for it in pieces]
 
 
+def at(server: Union[str, Tuple[str, int]]) -> str:
+    """A place as it is written, on one line."""
+    return f"tcp:{server[0]}:{server[1]}" if isinstance(server, tuple) else server
+
+
+def why_not(code: int, path: str) -> OSError:
+    """Why no socket of this path answers. The error has the path, and says how a server over TCP is named where that was meant."""
+    is_tcp = code == errno.ENOENT and re.fullmatch(r"[^/]+:\d+", path)
+    return OSError(code, os.strerror(code) + (f" (a server over TCP is tcp:{path})" if is_tcp else ""), path)
+
+
 def checked_name(name: str) -> str:
     """The name of a lock, if it can be one."""
-    if not name or not name.isascii() or not name.isprintable() or " " in name:
+    if not NAME.fullmatch(name):
         raise ValueError(f"no name of a lock: {name!r}")
     return name
 

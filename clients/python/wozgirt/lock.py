@@ -60,6 +60,10 @@ class Settings:
         self.token: Optional[int] = None
         self._hold: Optional[nesting.Hold] = None
 
+    def __repr__(self) -> str:
+        hold = "not held" if self.token is None else f"token {self.token}"
+        return f"<{type(self).__module__}.{type(self).__qualname__} {self.name!r} at {self._place!r}, {hold}>"
+
     @property
     def locked(self) -> bool:
         """Whether this object holds the lock, as far as its client knows. Never waits."""
@@ -108,10 +112,17 @@ class Lock(Settings):
 
     It is a decorator too: `@Lock(place, name)` has each call of a function hold the lock.
 
+    `token` is the number of the hold, or None. It is above those of all earlier holds of this lock: give it to what you write to, and
+    have that refuse a token that is below one it has seen.
+
     A thread that holds the lock by such an object, and asks for it by another one, would wait for itself: `Holds`."""
 
     def __init__(self, place: Union[Places, Client], name: str, *, wait: Optional[float] = None, label: int = 0,
                  lease: Optional[float] = None):
+        """`wait`: how many seconds `acquire` and `with` may take, the time to connect included; None: no limit. `label`: a number below
+        2^64 that `wozgirt status` and the journal show, as a process or a host. `lease`: after this many seconds of silence the server
+        takes this client's program for dead, and others get the lock; a thread speaks meanwhile. None: the server's choice, and over
+        TCP and with several servers 30."""
         super().__init__(place, name, wait=wait, label=label, lease=lease)
 
     def acquire(self, *, timeout: Union[float, None, Type[Default]] = Default) -> int:

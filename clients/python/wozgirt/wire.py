@@ -10,14 +10,18 @@ import threading
 import time
 from typing import Any, List, Optional
 
-from .lines import LockLost, Place, is_own
+from .lines import LockLost, Place, is_own, why_not
 
 #: How long the server may take to be there.
 CONNECT = 10.0
 #: How much is read at once, and the longest line that is read.
 ROOM = 1 << 16
-#: Seconds between two tries at a server whose queue of connections is full.
-AGAIN = 0.01
+#: How long a server that is not there may take to start: as long as the command `wozgirt` waits for one.
+START = 5.0
+#: Seconds between two tries at a server whose queue of connections is full, and at one that may be starting.
+AGAIN, TRY = 0.01, 0.05
+#: What is said of a server that is not there
+ABSENT = (FileNotFoundError, ConnectionRefusedError)
 
 
 _SIZE, _WAIT, _NOW, _QUIETLY = (ROOM,), (0,), (socket.MSG_DONTWAIT,), (socket.MSG_DONTWAIT | socket.MSG_NOSIGNAL,)
@@ -27,12 +31,20 @@ class Late(Exception):
     """The deadline came first."""
 
 
-def connected(place: Place, timeout: float = CONNECT) -> socket.socket:
-    """A socket that is connected to the server, or an OSError: a TimeoutError after `timeout` seconds."""
+def connected(place: Place, timeout: float = CONNECT, start: float = 0.0) -> socket.socket:
+    """A socket that is connected to the server, or an OSError: a TimeoutError after `timeout` seconds. For `start` of them a server that
+    is not there is taken for one that starts."""
     deadline = time.monotonic() + timeout
-    sock = _over_tcp(place[0], place[1], deadline) if isinstance(place, tuple) else _over_unix(place, deadline)
-    sock.settimeout(None)
-    return sock
+    started = time.monotonic() + min(start, timeout)
+    while True:
+        try:
+            sock = _over_tcp(place[0], place[1], deadline) if isinstance(place, tuple) else _over_unix(place, deadline)
+            sock.settimeout(None)
+            return sock
+        except ABSENT as fault:
+            if not is_own(fault) or time.monotonic() >= started:
+                raise
+        time.sleep(max(0.0, min(TRY, started - time.monotonic())))
 
 
 def _over_unix(path: str, deadline: float) -> socket.socket:
@@ -48,6 +60,10 @@ def _over_unix(path: str, deadline: float) -> socket.socket:
                 if left <= 0:
                     raise TimeoutError(errno.ETIMEDOUT, "the server accepts no connection", path) from None
                 time.sleep(min(AGAIN, left))
+            except OSError as fault:
+                if fault.errno is None:  # of a signal handler
+                    raise
+                raise why_not(fault.errno, path) from None
     except BaseException:
         sock.close()
         raise

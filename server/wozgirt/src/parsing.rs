@@ -43,7 +43,7 @@ pub fn parse(words: impl IntoIterator<Item = OsString>, usual: Usual) -> Result<
         Word::Help => return Ok(Words::Help),
         Word::Version => return Ok(Words::Version),
         Word::Other(word) if word == "help" => return Ok(Words::Help),
-        Word::Other(word) => COMMANDS.iter().find(|it| word == it.name).ok_or_else(|| BadWords::Unknown(text(word)))?,
+        Word::Other(word) => COMMANDS.iter().find(|it| word == it.name).ok_or_else(|| BadWords::Command(text(word)))?,
         Word::Option(_, word, _) => return Err(BadWords::Unknown(word)),
         Word::End => return Err(BadWords::Unknown("--".into())),
     };
@@ -293,7 +293,7 @@ mod tests {
         }
         assert!(matches!(words(&[b"lock", b"--wait=\xff", b"a", b"--", b"true"]), Err(BadWords::Value(..))));
         assert!(matches!(words(&[b"status", b"--socket", b"tcp:\xff:1"]), Err(BadWords::Value(..))));
-        assert!(matches!(words(&[b"\xff"]), Err(BadWords::Unknown(_))));
+        assert!(matches!(words(&[b"\xff"]), Err(BadWords::Command(_))));
     }
 
     #[test]
@@ -335,7 +335,7 @@ mod tests {
     fn refusals() {
         for (words, why) in [
             ("", "lock, try, status, watch, bench or admin is wanted"),
-            ("jump", "`jump` has no place here"),
+            ("lcok", "`lcok` is not a command: lock, try, status, watch, bench or admin is wanted"),
             ("-w 1 lock deploy -- true", "`-w` has no place here"),
             ("-- lock deploy true", "`--` has no place here"),
             ("status --", "`--` has no place here"),

@@ -114,6 +114,8 @@ pub struct Load {
 pub enum BadWords {
     /// No word says what to do.
     None,
+    /// The first word is not a command.
+    Command(String),
     /// There is no such word here.
     Unknown(String),
     /// It needs a value.
@@ -138,6 +140,7 @@ impl fmt::Display for BadWords {
     fn fmt(&self, f: &mut fmt::Formatter<'_>) -> fmt::Result {
         match self {
             BadWords::None => write!(f, "{} is wanted", one_of(COMMANDS.iter().map(|it| it.name))),
+            BadWords::Command(word) => write!(f, "`{word}` is not a command: {}", BadWords::None),
             BadWords::Unknown(word) => write!(f, "`{word}` has no place here"),
             BadWords::NoValue(word) => write!(f, "{word} needs a value"),
             BadWords::Value(word, value) => write!(f, "{word}: bad value `{value}`"),
