@@ -263,6 +263,13 @@ static inline void wozgirt_lock_drop(char *line, const char *end)
         line[length - count] = '\0';
 }
 
+/* Whether the rules forbid by now to wait for the lock: this comes after `waiting`, and nothing waits for it any more. */
+static inline int wozgirt_lock_denies(const char *line, const char *name)
+{
+    static const char denial[] = "refused permission ";
+    return strncmp(line, denial, sizeof denial - 1) == 0 && strcmp(line + sizeof denial - 1, name) == 0;
+}
+
 /* What a line answers to this question. The token is written where a lock is granted. */
 static inline enum wozgirt_lock_answer wozgirt_lock_read(const char *line, enum wozgirt_lock_verb verb, const char *name,
                                                          uint64_t *token)

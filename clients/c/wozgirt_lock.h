@@ -135,7 +135,8 @@ static inline int wozgirt_lock_withdraw(struct wozgirt_lock_client *client, cons
             return wozgirt_lock_lose(client, ready ? errno : ETIMEDOUT);
         enum wozgirt_lock_answer first = wozgirt_lock_read(client->line, WOZGIRT_LOCK_ACQUIRE, name, token);
         enum wozgirt_lock_answer second = wozgirt_lock_read(client->line, WOZGIRT_LOCK_CANCEL, name, NULL);
-        if ((answer == WOZGIRT_LOCK_OTHER && first) || (answer == WOZGIRT_LOCK_NOT_YET && first == WOZGIRT_LOCK_YES)) {
+        const int ends = first == WOZGIRT_LOCK_YES || wozgirt_lock_denies(client->line, name);
+        if ((answer == WOZGIRT_LOCK_OTHER && first) || (answer == WOZGIRT_LOCK_NOT_YET && ends)) {
             answer = first;
             continue;
         }
@@ -168,7 +169,7 @@ static inline int wozgirt_lock_acquire(struct wozgirt_lock_client *client, const
         return wozgirt_lock_lose(client, ETIMEDOUT);
     if (result == WOZGIRT_LOCK_DONE && answer == WOZGIRT_LOCK_NOT_YET) {
         result = wozgirt_lock_listen(client, WOZGIRT_LOCK_ACQUIRE, name, until, &answer, token);
-        if (result == WOZGIRT_LOCK_DONE && answer != WOZGIRT_LOCK_YES)
+        if (result == WOZGIRT_LOCK_DONE && answer != WOZGIRT_LOCK_YES && !wozgirt_lock_denies(client->line, name))
             return wozgirt_lock_lose(client, EPROTO);
     }
     if (result != WOZGIRT_LOCK_DONE)

@@ -192,6 +192,11 @@ static inline void wozgirt_session_take(struct wozgirt_session *it, int64_t unti
         wozgirt_session_granted(it, token);
         return;
     }
+    if (it->is_waiting && wozgirt_lock_denies(line, it->name)) {
+        it->is_waiting = 0;
+        it->is_refused = 1;
+        return;
+    }
     if (rest)
         *rest = '\0';
     if (!rest || !wozgirt_lock_number(line, &number) || number > it->number) {
@@ -441,7 +446,7 @@ static inline int wozgirt_session_get(struct wozgirt_session *it, const char *na
     if (result != WOZGIRT_LOCK_DONE)
         return result;
     if (!it->token)
-        return WOZGIRT_LOCK_LATE; /* it was only tried */
+        return it->is_refused ? WOZGIRT_LOCK_REFUSED : WOZGIRT_LOCK_LATE; /* it was only tried */
     *token = it->last = it->token;
     return WOZGIRT_LOCK_DONE;
 }

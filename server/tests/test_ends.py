@@ -146,6 +146,23 @@ class Hangs(unittest.TestCase):
                 self.assertEqual(say(sock, "acquire a 1\n"), ["granted a 1"])
 
     @by_the_clock
+    def test_it_is_ended_also_when_an_operator_has_asked_it_last(self, longer):
+        """Where the server asks nothing more of it, since it has not answered the operator."""
+        with Server("--engine-patience", str(1.5 * longer)) as server:
+            with server.raw() as sock:
+                say(sock, "acquire a 1\n")
+                server.kill_engine()
+                self.assertEqual(sock.recv(10), b"")
+            wait_until(lambda: server.text_of_log().count("engine ready") == 2)
+            second = server.engine_number()
+            os.kill(second, signal.SIGSTOP)
+            with server.raw(True) as operator:
+                operator.sendall(b"end a 1\n")
+                server.wait_for_log(" s, and is ended\n")
+                wait_until(lambda: server.text_of_log().count("engine ready") == 3)
+                self.assertEqual(operator.recv(10), b"")
+
+    @by_the_clock
     def test_a_server_that_stood_still_itself_ends_no_engine(self, longer):
         patience = 1.2 * min(longer, 5)
         with Server("--engine-patience", str(patience)) as server:

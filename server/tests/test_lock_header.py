@@ -18,7 +18,8 @@ WRONG = {
     "acquire a 1 0": ["granted b 1", "granted a", "granted a 1x", "granted a 18446744073709551616", "granted a 1 1", "granted ab 1",
                       "grantedx a 1", "busy b", "waiting a 1", "released a", "cancelled a", "pong", "refused holds b", "refusedx", ""],
     "acquire a 1 5000": ["granted b 1", "busy a", "waiting b 0", "waiting a", "released a", "pong", "waiting a 0\nwaiting a 0",
-                         "waiting a 0\ngranted b 1", "waiting a 0\nrefused holds a", "waiting a 0\ncancelled a"],
+                         "waiting a 0\ngranted b 1", "waiting a 0\nrefused holds a", "waiting a 0\ncancelled a",
+                         "waiting a 0\nrefused permission b"],
     "release a 1": ["released b", "released", "released a 1", "granted a 1", "pong", "refused holder b"],
     "check": ["released a", "granted a 1", "pong pong", "waiting a 1", "refused holder a"],
 }
@@ -58,6 +59,11 @@ class Answers(Clients):
         self.assertEqual([client.ask("release a 1")[1::4], client.ask("acquire a 1 0")[1::4], client.ask("check")[1::4]],
                          [(REFUSED, "refused holder a"), (REFUSED, "refused memory"), (DONE, "")])
 
+    def test_the_rules_forbid_what_is_waited_for(self):
+        client = self.client(self.door("waiting a 0\nrefused permission a\n", "pong\n").path)
+        self.assertEqual(client.ask("acquire a 1 5000")[1::4], (REFUSED, "refused permission a"))
+        self.assertEqual(client.ask("check").result, DONE)
+
     def test_a_deadline_and_an_answer_cross(self):
         """What a withdrawal is answered: the grant came first, or a refusal, or none of both."""
         for first, second, wanted in (("waiting a 0\n", "cancelled a\n", (LATE, 0)),
@@ -65,6 +71,8 @@ class Answers(Clients):
                                       ("", "waiting a 0\ncancelled a\n", (LATE, 0)),
                                       ("", "granted a 9\nrefused waiter a\n", (DONE, 9)),
                                       ("", "waiting a 0\ngranted a 9\nrefused waiter a\n", (DONE, 9)),
+                                      ("waiting a 0\n", "refused permission a\nrefused waiter a\n", (LATE, 0)),
+                                      ("", "waiting a 0\nrefused permission a\nrefused waiter a\n", (LATE, 0)),
                                       ("", "refused circle a\nrefused waiter a\n", (LATE, 0))):
             door = self.door(first, second, "pong\n")
             client = self.client(door.path)

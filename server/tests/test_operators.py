@@ -1,5 +1,6 @@
 """What operators do: a hold that they end, a client that they send away, rules that are read again; and what systemd is told."""
 
+import asyncio
 import contextlib
 import hashlib
 import os
@@ -8,10 +9,12 @@ import signal
 import socket
 import subprocess
 import tempfile
+import threading
 import time
 import unittest
 
-from harness import ENGINE, FOLDER, IS_DOUBLE, PATIENCE, TOP, Server, needs_programs, read_lines, say, wait_until
+from harness import COMMAND, ENGINE, FOLDER, IS_DOUBLE, PATIENCE, TOP, Server, needs_programs, read_lines, say, wait_until
+from wozgirt import Client, NotPermitted, Session, aio
 
 
 def number_of(server, client):
@@ -133,11 +136,139 @@ class Rules(unittest.TestCase):
                     server.process.send_signal(signal.SIGHUP)
                     wait_until(lambda: server.text_of_log().count("rules read again\n") == times)
                     line = "granted c 1" if of_all == user else "refused permission c"
-                    self.assertEqual(say(sock, "release b 2\ntry c 1\n", 2), ["refused permission b", line])
+                    self.assertEqual(say(sock, "stats b\ntry c 1\n", 2), ["refused permission b", line])
                 write(f"lock b*: {user}\nlock *b: {user}\n")
                 server.process.send_signal(signal.SIGHUP)
                 wait_until(lambda: "line 2: in *b a `*` is not at the end" in server.text_of_log())
-                self.assertEqual(say(sock, "release b 2\n"), ["refused permission b"])
+                self.assertEqual(say(sock, "try b 1\nrelease b 2\nrelease b 2\n", 3),
+                                 ["refused permission b", "released b", "refused holder b"])
+
+
+class Narrower(contextlib.ExitStack):
+    """A server whose rules are read again. A context manager, as which it ends the server."""
+
+    def __init__(self, **more):
+        super().__init__()
+        self.rules = os.path.join(self.enter_context(tempfile.TemporaryDirectory(dir=FOLDER)), "rules")
+        self.write("*")
+        self.server = self.enter_context(Server("--rules", self.rules, **more))
+
+    def write(self, who):
+        """All locks are for these alone."""
+        with open(self.rules, "w", encoding="ascii") as file:
+            file.write(f"lock *: {who}\n")
+
+    def narrow(self):
+        """Until no lock is for anybody."""
+        self.write("")
+        before = self.server.text_of_log().count("rules read again\n")
+        self.server.process.send_signal(signal.SIGHUP)
+        wait_until(lambda: self.server.text_of_log().count("rules read again\n") > before)
+
+
+@needs_programs
+class NarrowerRules(unittest.TestCase):
+    def test_what_is_held_is_given_back(self):
+        with Narrower() as it, it.server.raw() as sock, it.server.raw() as session:
+            say(sock, "acquire a 1\n")
+            say(session, "session 7 attached\n1 acquire b 1\n", 2)
+            it.narrow()
+            self.assertEqual(say(sock, "release a 1\nacquire a 1\ncancel c\n", 3),
+                             ["released a", "refused permission a", "refused waiter c"])
+            self.assertEqual(say(session, "2 release b 1\n3 try b 1\n", 2), ["2 released b", "3 refused permission b"])
+
+    def test_who_waits_is_told_and_the_next_has_its_place(self):
+        with Narrower() as it, it.server.raw(True) as holder, it.server.raw() as one, it.server.raw() as two, it.server.raw(True) as last:
+            say(holder, "acquire a 1\nacquire b 1\n", 2)
+            self.assertEqual(say(one, "acquire a 1\n"), ["waiting a 0"])
+            self.assertEqual(say(two, "session 7 attached\n1 acquire a 1\n", 2)[1], "1 waiting a 1")
+            self.assertEqual(say(last, "acquire a 1\n"), ["waiting a 2"])
+            it.narrow()
+            self.assertEqual(read_lines(one, 1) + read_lines(two, 1), ["refused permission a"] * 2)
+            self.assertEqual(say(one, "cancel a\nstats a\n", 2), ["refused waiter a", "refused permission a"])
+            self.assertEqual(say(two, "2 cancel a\n"), ["2 refused waiter a"])
+            self.assertEqual(it.server.waiters("a"), 1)
+            say(holder, "release a 1\n")
+            self.assertEqual(read_lines(last, 1), ["granted a 2"])
+
+    def test_what_was_asked_before_and_not_answered(self):
+        with Narrower() as it, it.server.raw(True) as holder, it.server.raw() as one, it.server.raw() as two:
+            say(holder, "acquire a 1\n")
+            say(two, "session 7 attached\n")
+            engine = it.server.engine_number()
+            os.kill(engine, signal.SIGSTOP)
+            one.sendall(b"acquire a 1\n")
+            two.sendall(b"1 acquire a 1\n")
+            wait_until(lambda: it.server.operate("status", 4).count(" held ") == 1)
+            time.sleep(0.2)  # both lines are taken
+            it.narrow()
+            os.kill(engine, signal.SIGCONT)
+            self.assertEqual(read_lines(one, 2)[1], "refused permission a")
+            self.assertEqual(read_lines(two, 2)[1], "refused permission a")
+            self.assertEqual(it.server.waiters("a"), 0)
+
+    def test_a_session_that_comes_back(self):
+        with Narrower() as it, it.server.raw(True) as holder:
+            say(holder, "acquire a 1\n")
+            with it.server.raw() as sock:
+                say(sock, "session 7\n1 acquire a 1\n", 2)
+            it.narrow()
+            with it.server.raw() as sock:
+                self.assertEqual(say(sock, "session 7\n", 3), ["session 7 1 alone", "waits a", "refused permission a"])
+            with it.server.raw() as sock:
+                self.assertEqual(say(sock, "session 7\n"), ["session 7 0 alone"])
+
+
+@needs_programs
+class ClientsOfNarrowerRules(unittest.TestCase):
+    """A client whose place in a queue is taken from it by the rules goes on, with what it holds."""
+
+    def test_threads(self):
+        for kind in (Client, Session):
+            with self.subTest(kind=kind.__name__), Narrower() as it, it.server.raw(True) as holder, kind(it.server.path) as client:
+                say(holder, "acquire a 1\n")
+                token, raised = client.acquire("b"), []
+
+                def wait(client=client, raised=raised):
+                    try:
+                        client.acquire("a", wait=PATIENCE)
+                    except NotPermitted as fault:
+                        raised.append(fault)
+                waiting = threading.Thread(target=wait)
+                waiting.start()
+                it.server.wait_for_waiters("a", 1)
+                it.narrow()
+                waiting.join(PATIENCE)
+                self.assertEqual([fault.lock for fault in raised], ["a"])
+                client.check()
+                client.release("b", token)
+                with self.assertRaises(NotPermitted):
+                    client.try_acquire("b")
+
+    def test_tasks(self):
+        async def scene(it, kind):
+            async with await kind.connect(it.server.path) as client:
+                token = await client.acquire("b")
+                waiting = asyncio.ensure_future(client.acquire("a", wait=PATIENCE))
+                while it.server.waiters("a") < 1:
+                    await asyncio.sleep(0.01)
+                it.narrow()
+                with self.assertRaises(NotPermitted):
+                    await waiting
+                client.check()
+                await client.release("b", token)
+        for kind in (aio.Client, aio.Session):
+            with self.subTest(kind=kind.__name__), Narrower() as it, it.server.raw(True) as holder:
+                say(holder, "acquire a 1\n")
+                asyncio.run(scene(it, kind))
+
+    def test_the_command(self):
+        with Narrower() as it, it.server.raw(True) as holder:
+            say(holder, "acquire a 1\n")
+            command = subprocess.Popen([COMMAND, "lock", "--socket", it.server.path, "a", "--", "true"], stderr=subprocess.PIPE, text=True)
+            it.server.wait_for_waiters("a", 1)
+            it.narrow()
+            self.assertEqual((command.communicate(timeout=PATIENCE)[1], command.returncode), ("wozgirt: refused: permission a\n", 76))
 
 
 @needs_programs

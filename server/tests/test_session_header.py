@@ -15,6 +15,7 @@ from harness import PATIENCE, TOP, by_the_clock, needs_loopback, needs_programs,
 import test_restarts
 from test_cluster import Trial, needs_strict
 from test_header import compiles, patient_headers
+from test_operators import Narrower
 
 sys.path.insert(0, os.path.join(TOP, "clients", "python", "tests"))
 
@@ -74,6 +75,16 @@ class OfOne(Clients, test_restarts.Trial):
             wait_until(lambda: self.ask(it, "check") == "check 0" and " a - " in server.operate("clients", 2))
             self.assertEqual(say(self.raw(server), "try a 1\n"), ["busy a"])
         self.assertEqual([self.ask(it, line) for line in ("release a 1", "acquire a 7 0")], ["release 0", "acquire 0 2"])
+
+    def test_the_rules_forbid_what_is_waited_for(self):
+        with Narrower() as of, of.server.raw(True) as holder:
+            say(holder, "acquire a 1\n")
+            it = self.client([of.server.path])
+            self.tell(it, "acquire a 7 -1")
+            of.server.wait_for_waiters("a", 1)
+            of.narrow()
+            self.assertEqual(it.stdout.readline(), "acquire 2 refused permission a\n")
+            self.assertEqual([self.ask(it, line) for line in ("check", "acquire b 7 0")], ["check 0", "acquire 2 refused permission b"])
 
 
 @needs_c

@@ -62,6 +62,30 @@ class Starting(unittest.TestCase):
         with Server(folder=self.folder):
             self.both_end(each)
 
+    def test_a_server_ends_that_has_answered_nothing(self):
+        """It has their connections, as one has that is being stopped, and closes them."""
+        with socket.socket(socket.AF_UNIX) as door:
+            door.bind(self.path)
+            door.listen()
+            each = self.begin_both(self.path)
+        time.sleep(0.2)
+        self.assertEqual([it.poll() for it in each], [None, None])
+        with Server(folder=self.folder):
+            self.both_end(each)
+
+    @needs_loopback
+    def test_such_a_one_over_tcp(self):
+        with socket.socket() as door:
+            door.setsockopt(socket.SOL_SOCKET, socket.SO_REUSEADDR, 1)
+            door.bind(("127.0.0.1", 0))
+            door.listen()
+            place = "127.0.0.1:%d" % door.getsockname()[1]
+            each = self.begin_both("tcp:" + place)
+        time.sleep(0.2)
+        self.assertEqual([it.poll() for it in each], [None, None])
+        with Server("--tcp", place):
+            self.both_end(each)
+
     @needs_loopback
     def test_over_tcp(self):
         place = f"127.0.0.1:{a_port(self)}"

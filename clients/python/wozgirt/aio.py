@@ -246,6 +246,10 @@ class Client(OfOneProcess):
             wait.question.words, self._wait = words, None
             _tell(wait)
             return
+        if wait is not None and lines.is_denial(words, wait.question.name):
+            self._wait = None
+            _tell(wait, lines.refusal(words))
+            return
         if not self._calls:
             raise LockLost(f"the server sent {' '.join(words)!r}, which nobody asked for")
         call = self._calls[0]

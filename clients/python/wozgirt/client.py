@@ -68,6 +68,7 @@ class Client(Turns):
         self._latest = Question(PING, 0.0)  # what was asked last
         self._waits: Optional[str] = None
         self._grant: Optional[Tuple[str, int]] = None  # that no caller has yet
+        self._denied: Optional[LockError] = None  # why the place in the queue is gone, if the rules forbid it by now
         self._held: Dict[str, int] = {}
         self._unclaimed: Dict[str, int] = {}  # holds whose holder never learned of them, or gave up
         self._is_closed, self._wake = False, threading.Event()
@@ -176,6 +177,7 @@ class Client(Turns):
         return self._in_turn(take, until)
 
     def _acquired(self, line: bytes, name: str, until: Optional[float]) -> int:
+        self._denied = None
         try:
             self._ask(line, until)
             while self._waits is not None:
@@ -183,7 +185,7 @@ class Client(Turns):
         except Late:
             self._withdraw_in_time(name)
         if self._grant is None:
-            raise NotInTime(f"{name}: it was not granted in time, and is no longer waited for")
+            raise self._denied or NotInTime(f"{name}: it was not granted in time, and is no longer waited for")
         return self._grant[1]
 
     def _tried(self, line: bytes) -> Optional[int]:
@@ -347,6 +349,9 @@ class Client(Turns):
         words = lines.words_of(line)
         if words[0] == "granted" and self._waits is not None and words[1:2] == [self._waits] and len(words) == 3:
             self._hold(words[1], lines.number(words, 2))
+            return
+        if self._waits is not None and lines.is_denial(words, self._waits):
+            self._waits, self._denied = None, lines.refusal(words)
             return
         if not self._questions:
             raise LockLost(f"the server sent {' '.join(words)!r}, for which it was not asked")

@@ -208,6 +208,11 @@ def refusal(words: list[str]) -> Optional[Refused]:
     return _BY_WORD.get(why, Refused)(why, words[2] if len(words) > 2 else None)
 
 
+def is_denial(words: list[str], name: str) -> bool:
+    """Whether the rules forbid by now to wait for the lock: this comes after `waiting`, and nothing waits for it any more."""
+    return words == ["refused", "permission", name]
+
+
 def is_number(word: str) -> bool:
     """Whether this is a decimal below 2 ** 64."""
     return word.isascii() and word.isdigit() and int(word) < MOST

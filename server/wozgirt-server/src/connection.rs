@@ -40,6 +40,8 @@ pub enum Pending {
     Left,
     /// An operator, this client, ends its hold of a lock with a token: a release that it has not asked for itself.
     Ended(Client, Lock, Token),
+    /// It waited for the lock, and the rules forbid that by now: a cancel that it has not asked for itself.
+    Withdrawn(Lock),
     /// An operator waits for the end of a hold that it has asked for.
     Ending,
     /// The same, with their numbers, where the log says what the engine is asked.
@@ -298,7 +300,8 @@ impl Connection {
 
     /// Takes out the line that the engine answers next. Before one that an operator asked for there may be a list that is being sent.
     pub fn take_asked(&mut self) -> Option<Pending> {
-        let is_asked = |it: &Pending| matches!(it, Pending::Asked(_) | Pending::Left | Pending::Ended(..));
+        let is_asked =
+            |it: &Pending| matches!(it, Pending::Asked(_) | Pending::Left | Pending::Ended(..) | Pending::Withdrawn(_));
         match self.pending.iter().position(is_asked)? {
             0 => self.pending.pop_front(),
             place => self.pending.remove(place),

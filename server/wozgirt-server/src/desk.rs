@@ -2,6 +2,9 @@
 
 mod holding;
 mod waiting;
+mod withdrawing;
+
+pub(crate) use withdrawing::NotPermitted;
 
 use crate::board::Board;
 use crate::connection::{Connection, Door, Pending};
@@ -249,10 +252,12 @@ impl Desk {
     /// The engine's input, or why the server refuses it.
     fn input(&mut self, connection: &Connection, name: &str, verb: Verb) -> Result<Input, &'static str> {
         let lock = self.board.name(name).ok_or("lock")?;
-        if connection.door != Door::Operators && !self.rules.permits(name, connection.peer.as_ref()) {
+        let is_for_it = matches!(verb, Verb::Acquire(_) | Verb::Try(_));
+        // what a client has it may give back, whatever the rules say by now
+        let is_ruled = is_for_it || matches!(verb, Verb::Stats);
+        if is_ruled && connection.door != Door::Operators && !self.rules.permits(name, connection.peer.as_ref()) {
             return Err("permission");
         }
-        let is_for_it = matches!(verb, Verb::Acquire(_) | Verb::Try(_));
         if is_for_it && self.mode.has_enough(connection, name, self.settings.most_holds) {
             return Err("many");
         }
@@ -327,6 +332,12 @@ impl Desk {
             (Pending::Ended(operator, lock, token), _) => {
                 self.note(connection, &Input::Release { lock: lock.clone(), token }, answer)?;
                 ended = Some((operator, lock, token));
+            }
+            (Pending::Withdrawn(lock), Answer::Cancelled { .. } | Answer::Refused { .. }) => {
+                if self.is_withdrawn(connection.client, &lock, answer) {
+                    connection.waits_for = None;
+                    connection.tell(NotPermitted(&lock));
+                }
             }
             (Pending::Left, Answer::Stats(_)) => {
                 self.forget(connection);

@@ -23,6 +23,7 @@ mod options;
 mod outbox;
 mod pages;
 mod places;
+mod private;
 mod questions;
 pub mod requests;
 mod retention;

@@ -31,13 +31,21 @@ pub enum Own {
     State,
     /// Whether it is there: how many lines were asked by then, how many it had before it, and when.
     Mark(u64, usize, Instant),
-    /// An operator ends a hold that was open when the engine started.
-    End(Client, Lock, Token),
+    /// An operator ends a hold that was open when the engine started, and since when.
+    End(Client, Lock, Token, Instant),
 }
 
 impl Own {
     fn is_of_a_start(&self) -> bool {
         matches!(self, Own::Begin(_) | Own::State)
+    }
+
+    /// When it was asked. Those of a start were when the engine was started.
+    fn asked(&self) -> Option<Instant> {
+        match self {
+            Own::Mark(_, _, asked) | Own::End(.., asked) => Some(*asked),
+            Own::Begin(_) | Own::State => None,
+        }
     }
 }
 
@@ -103,7 +111,7 @@ impl Questions {
         (self.marked, self.last_mark) = (self.asked, now);
     }
 
-    /// When the next mark is due, unless the last one is unanswered. Nobody waits for it: fewer lines than lie between marks were asked
+    /// When the next mark is due, unless a question of the server's own is unanswered, which shows the same. Nobody waits for it: fewer lines than lie between marks were asked
     /// since the last one, so there is room.
     pub fn next_mark(&self) -> Option<Instant> {
         self.own.is_empty().then_some(self.last_mark + PERIOD)
@@ -118,7 +126,7 @@ impl Questions {
         let is_right = match (&own, answer) {
             (Own::Begin(lock), Answer::Stats(stats)) => *lock == stats.lock,
             (Own::Mark(..), Answer::Stats(_)) => true,
-            (Own::End(_, lock, _), Answer::Released { lock: released }) => lock == released,
+            (Own::End(_, lock, ..), Answer::Released { lock: released }) => lock == released,
             (Own::Mark(..) | Own::End(..), Answer::Refused { .. }) => true,
             _ => false,
         };
@@ -183,7 +191,7 @@ impl Questions {
 
     /// Since when the oldest question of the server's own is unanswered.
     pub fn oldest(&self) -> Option<Instant> {
-        self.own.iter().find_map(|own| if let Own::Mark(_, _, asked) = own { Some(*asked) } else { None })
+        self.own.iter().find_map(Own::asked)
     }
 
     /// The engine is gone.
@@ -220,6 +228,19 @@ mod tests {
         assert_eq!(questions.answered(&stats("a"), now), Some(Own::Mark(32, 32, now)));
         assert_eq!((questions.waiting(), questions.oldest()), (1, None));
         assert_eq!(questions.answered(&stats("a"), now), None);
+    }
+
+    #[test]
+    fn each_question_of_its_own_shows_whether_the_engine_answers() {
+        let now = Instant::now();
+        let later = now + PERIOD;
+        let mut questions = Questions::new(now);
+        questions.put(Own::End(7, lock("a"), 3, now));
+        assert_eq!((questions.next_mark(), questions.oldest()), (None, Some(now)));
+        questions.mark(later);
+        assert_eq!(questions.oldest(), Some(now));
+        assert!(questions.answered(&Answer::Released { lock: "a" }, later).is_some());
+        assert_eq!(questions.oldest(), Some(later));
     }
 
     #[test]

@@ -49,6 +49,17 @@ impl Lease {
     }
 }
 
+/// Connects, and asks for the lease.
+fn begin(place: &Place, hold: &Hold, deadline: Option<Instant>) -> Result<(Client, Option<Lease>), Fault> {
+    let mut client = Client::open(place, soon(deadline))?;
+    let heard = Instant::now();
+    let time = match hold.lease.or(client.is_tcp().then_some(LEASE)) {
+        None => client.given_lease(soon(deadline))?,
+        Some(asked) => Some(client.lease(asked, soon(deadline))?),
+    };
+    Ok((client, time.map(|time| Lease { time, heard, pinged: None })))
+}
+
 /// A connection to the server.
 pub struct Alone {
     client: Client,
@@ -64,19 +75,13 @@ impl Alone {
         let there = Instant::now() + hold.server_wait;
         let there = deadline.map_or(there, |deadline| deadline.min(there));
         let mut attempts = 0;
-        let mut client = while_starting(there, || {
+        let (client, lease) = while_starting(there, || {
             attempts += 1;
-            Client::open(place, soon(deadline))
+            begin(place, hold, deadline).map_err(Fault::before_an_answer)
         })?;
         if attempts > 1 && hold.patience == Patience::None {
             thread::sleep(AFTER_OTHERS);
         }
-        let heard = Instant::now();
-        let time = match hold.lease.or(client.is_tcp().then_some(LEASE)) {
-            None => client.given_lease(soon(deadline))?,
-            Some(asked) => Some(client.lease(asked, soon(deadline))?),
-        };
-        let lease = time.map(|time| Lease { time, heard, pinged: None });
         Ok(Alone { client, lease, name: hold.name.clone(), closes: hold.closes, poller: Poller::new()? })
     }
 

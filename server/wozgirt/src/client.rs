@@ -29,6 +29,8 @@ pub enum Fault {
     Connect(Place, io::Error),
     /// The server closed the connection.
     Closed,
+    /// It did so before its first answer, so nothing was granted on it.
+    ClosedFirst,
     /// The connection failed.
     System(io::Error),
     /// The time is over.
@@ -49,7 +51,7 @@ impl fmt::Display for Fault {
     fn fmt(&self, f: &mut fmt::Formatter<'_>) -> fmt::Result {
         match self {
             Fault::Connect(place, fault) => write!(f, "{place}: {fault}"),
-            Fault::Closed => f.write_str("the server closed the connection"),
+            Fault::Closed | Fault::ClosedFirst => f.write_str("the server closed the connection"),
             Fault::System(fault) => fault.fmt(f),
             Fault::Late => f.write_str("the server does not answer"),
             Fault::Refused(why) => write!(f, "refused: {why}"),
@@ -83,10 +85,19 @@ impl Fault {
         }
     }
 
-    /// Whether it is that of a server that may just be starting: no program listens at its place yet.
+    /// The same, of a connection on which the server has answered nothing yet.
+    pub fn before_an_answer(self) -> Fault {
+        match self {
+            Fault::Closed => Fault::ClosedFirst,
+            other => other,
+        }
+    }
+
+    /// Whether it is that of a server that may just be starting: no program listens at its place yet, or the one that did has ended.
     pub fn is_of_a_start(&self) -> bool {
         match self {
             Fault::Connect(_, fault) => matches!(fault.kind(), ErrorKind::NotFound | ErrorKind::ConnectionRefused),
+            Fault::ClosedFirst => true,
             Fault::At(_, fault) => fault.is_of_a_start(),
             _ => false,
         }

@@ -66,7 +66,7 @@ impl Search {
             let mut is_starting = false;
             for i in 0..count {
                 let at = (self.first + i) % count;
-                let other = match self.try_one(at, count - i) {
+                let other = match self.try_one(at, count - i).map_err(Fault::before_an_answer) {
                     Ok(found) => return Ok(Found { has_come: round > 1, ..found }),
                     Err(known @ (Fault::Connect(..) | Fault::At(..))) => known,
                     Err(other) if count == 1 => other,

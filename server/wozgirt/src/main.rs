@@ -126,7 +126,7 @@ fn status_of(fault: &NotRun) -> u8 {
 
 fn status_of_fault(fault: &Fault) -> u8 {
     match fault {
-        Fault::Connect(..) | Fault::Closed | Fault::System(_) | Fault::Late => UNAVAILABLE,
+        Fault::Connect(..) | Fault::Closed | Fault::ClosedFirst | Fault::System(_) | Fault::Late => UNAVAILABLE,
         Fault::Nobody | Fault::Gone(_) => UNAVAILABLE,
         Fault::At(_, fault) => status_of_fault(fault),
         Fault::Refused(_) | Fault::Unexpected(_) => PROTOCOL,

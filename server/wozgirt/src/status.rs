@@ -45,7 +45,8 @@ fn first(look: &Look) -> Result<(Client, Vec<String>), Fault> {
     for place in &look.places {
         let until = soon((look.places.len() > 1).then(|| Instant::now() + SOON));
         let client = Client::open(place, until);
-        match client.and_then(|mut client| client.list("status", soon(None)).map(|lines| (client, lines))) {
+        let found = client.and_then(|mut client| client.list("status", soon(None)).map(|lines| (client, lines)));
+        match found.map_err(Fault::before_an_answer) {
             Ok(found) => return Ok(found),
             // one that may just be starting is waited for, whatever the others say
             Err(other) if !fault.is_of_a_start() => fault = other,

@@ -73,6 +73,7 @@ impl Desk {
             let _ = write!(text, "\nwaits {}", place.lock);
         }
         connection.tell_in_place(|it| matches!(it, Pending::Opening), text);
+        self.withdraw(connection); // the rules may have been read again meanwhile
     }
 
     /// The session of a client that says something, and the connection where it was, if it comes from there. One that has left

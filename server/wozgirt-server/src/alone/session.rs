@@ -25,6 +25,8 @@ pub enum What {
     Place(Lock, Label),
     /// The end of its hold, by this operator.
     End(Client, Lock, Token),
+    /// It waits for the lock no longer, since the rules forbid that.
+    Withdraw(Lock),
     /// It leaves, with this number.
     Leave(u64),
 }

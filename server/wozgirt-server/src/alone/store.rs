@@ -20,9 +20,10 @@
 //! or `given`, which other servers write, say nothing.
 
 use crate::cluster::{NoFolder, Owner};
+use crate::private;
 use std::ffi::OsString;
 use std::fmt;
-use std::fs::{self, File, OpenOptions};
+use std::fs::{self, File};
 use std::io::{self, BufRead, BufReader, ErrorKind, Write};
 use std::path::{Path, PathBuf};
 use std::sync::mpsc::{channel, Receiver, TryRecvError};
@@ -126,7 +127,8 @@ impl Store {
         let mut name: OsString = journal.file_name().ok_or(io::Error::from(ErrorKind::InvalidInput))?.to_owned();
         name.push(".sessions");
         let folder = journal.with_file_name(name);
-        fs::create_dir_all(&folder)?;
+        private::make_folder(&folder)?;
+        private::close_folder(&folder)?; // an earlier version left it open
         let lock = File::create(folder.join("lock"))?;
         for tried in 1.. {
             if try_lock(&lock)? {
@@ -304,17 +306,9 @@ impl Store {
 
 /// Writes a file of this name that was not there. What a link of this name leads to is not written.
 fn write_anew(path: &Path, text: &[u8]) -> io::Result<File> {
-    remove_if_there(path)?;
-    let mut file = OpenOptions::new().write(true).create_new(true).open(path)?;
+    let mut file = private::create(path)?;
     file.write_all(text)?;
     Ok(file)
-}
-
-fn remove_if_there(path: &Path) -> io::Result<()> {
-    fs::remove_file(path).or_else(|fault| match fault.kind() {
-        ErrorKind::NotFound => Ok(()),
-        _ => Err(fault),
-    })
 }
 
 #[cfg(test)]

@@ -4,6 +4,7 @@ use super::apply::{Applied, Known};
 use super::entries::server;
 use super::owner::Owner;
 use crate::names::Names;
+use crate::private;
 use std::fmt::Write as _;
 use std::fs::{self, File};
 use std::io::{self, Write as _};
@@ -171,7 +172,7 @@ impl From<io::Error> for NoFolder {
 impl Folder {
     /// Makes what is missing, and locks it for this server.
     pub fn open(path: &Path) -> Result<Folder, NoFolder> {
-        fs::create_dir_all(path.join("journal"))?;
+        private::make_folder(&path.join("journal"))?;
         if numbers(path)?.next().is_some() {
             return Err(NoFolder::Alone);
         }
@@ -186,7 +187,9 @@ impl Folder {
             thread::sleep(PAUSE);
         }
         inherit(&lock)?;
-        Ok(Folder { path: path.to_owned(), _lock: lock })
+        let folder = Folder { path: path.to_owned(), _lock: lock };
+        private::close_file(&folder.checkpoint())?; // an earlier version left it open
+        Ok(folder)
     }
 
     /// The folder of the engine's journal.
@@ -281,7 +284,7 @@ impl Folder {
     /// Replaces the checkpoint.
     pub fn write(&self, text: &str) -> io::Result<()> {
         let part = self.path.join("CHECKPOINT.part");
-        let mut file = File::create(&part)?;
+        let mut file = private::create(&part)?;
         file.write_all(text.as_bytes())?;
         file.sync_all()?;
         fs::rename(part, self.checkpoint())?;
@@ -290,7 +293,7 @@ impl Folder {
 
     /// Writes the open holds for the engine.
     pub fn write_holders(&self, text: &str) -> io::Result<()> {
-        fs::write(self.holders(), text)
+        private::write(&self.holders(), text)
     }
 }
 

@@ -77,7 +77,6 @@ mod tests {
     use crate::stream::Stream;
     use std::io::Write;
     use std::os::unix::net::UnixStream;
-    use std::rc::Rc;
     use std::time::Instant;
 
     /// A desk of the locks a1, a2 and so on, whose engine is not there.

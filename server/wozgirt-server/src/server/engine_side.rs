@@ -77,7 +77,7 @@ impl Server {
     /// The answer to a question of the server's own.
     fn answer_own(&mut self, answer: &Answer<'_>) -> Result<(), Unasked> {
         let own = self.desk.questions.answered(answer, self.desk.now).ok_or(Unasked)?;
-        if let Own::End(operator, lock, token) = own {
+        if let Own::End(operator, lock, token, _) = own {
             if matches!(answer, Answer::Released { .. }) {
                 self.held_before.retain(|held| *held != lock);
                 self.desk.board.released(&lock, NOBODY);
@@ -126,7 +126,7 @@ impl Server {
     /// An operator has a hold end: of a client that is connected, or of one from before the engine's start.
     pub(super) fn end_hold(&mut self, operator: Client, holder: Client, lock: Lock, token: Token) {
         if holder == NOBODY {
-            self.desk.questions.put(Own::End(operator, lock.clone(), token));
+            self.desk.questions.put(Own::End(operator, lock.clone(), token, self.desk.now));
             self.desk.engine.ask_line(format_args!("{NOBODY} {}", Input::Release { lock, token }));
         } else if let Some(connection) = self.connections.get_mut(&holder).filter(|it| it.seat.is_none()) {
             self.desk.ask_to_end(connection, operator, lock, token);

@@ -373,7 +373,7 @@ impl Server {
         }
     }
 
-    /// Rules hold for what is asked from now on. If they are wrong, the old ones stay in force.
+    /// Rules hold for what is asked from now on, and for who waits. If they are wrong, the old ones stay in force.
     fn read_rules_again(&mut self) {
         let accounts = Accounts::of_the_system();
         if self.desk.settings.rules.is_some() {
@@ -381,6 +381,7 @@ impl Server {
                 Ok(rules) => {
                     self.desk.rules = Rc::new(rules);
                     self.desk.log.say(&Event::RulesRead);
+                    self.connections.values_mut().for_each(|connection| self.desk.withdraw(connection));
                 }
                 Err(fault) => self.desk.log.say(&Event::RulesBad { fault: &fault }),
             }

@@ -2,7 +2,7 @@
 
 use super::Server;
 use crate::alone::{Ask, At, Start, What};
-use crate::desk::Unasked;
+use crate::desk::{NotPermitted, Unasked};
 use crate::log::Event;
 use crate::mode::Mode;
 use crate::questions::Own;
@@ -37,6 +37,7 @@ impl Server {
                 }
             }
             What::End(operator, lock, token) => self.ended_for_session(number, operator, lock, token, answer),
+            What::Withdraw(lock) => self.withdrawn_for_session(number, client, lock, answer),
             What::Leave(leave) => {
                 self.desk.forget_session(number);
                 if let Some(connection) = self.connections.get_mut(&client) {
@@ -83,6 +84,18 @@ impl Server {
             }
         }
         self.tell_ended(operator, session, &lock, token, answer);
+    }
+
+    fn withdrawn_for_session(&mut self, session: Client, client: Client, lock: Lock, answer: &Answer<'_>) {
+        if !self.desk.is_withdrawn(session, &lock, answer) {
+            return;
+        }
+        if let Some(alone) = self.desk.alone() {
+            alone.free(session, lock.clone());
+        }
+        if let Some(connection) = self.connections.get_mut(&client) {
+            connection.tell(NotPermitted(&lock));
+        }
     }
 
     /// Writes what is new of sessions, before a client gets an answer about it. If that cannot be, they end with this server.
