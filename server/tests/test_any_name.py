@@ -398,7 +398,7 @@ class OfSeveral(OfCluster):
         self.assertIn("\twith 2 60 - 1 a:8:8,b:8:8,*:2:2 1000", "\n".join(self.log.texts()))
         for words in (("--locks", "a,b,*"), ("--locks", "a,b,c,*", "--most-names", "1000"), ("--locks", "a,b,*", "--most-names", "999")):
             it = subprocess.run([*self.words_of("c"), *words], capture_output=True, text=True, timeout=PATIENCE, check=False)
-            self.assertEqual(it.returncode, 1, it.stderr)
+            self.assertEqual(it.returncode, 78, it.stderr)
             self.assertIn("--locks are the same for all servers; in the log they are `", it.stderr)
         d = self.server("d", checkpoint=60, locks="a")
         wait_until(lambda: say(self.raw(d), "try x 1\n") == ["busy x"])

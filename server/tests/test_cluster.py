@@ -289,7 +289,7 @@ class Ends(Trial):
             kept = self.files(server.journal)
             for locks in ("b,a,c", "a,b:3,c", "a,b,d"):
                 it = subprocess.run([*server.words, "--locks", locks], capture_output=True, text=True, timeout=PATIENCE, check=False)
-                self.assertEqual(it.returncode, 1, it.stderr)
+                self.assertEqual(it.returncode, 78, it.stderr)
                 self.assertIn("are the same for all servers; in the log they are `", it.stderr)
                 self.assertEqual(self.files(server.journal), kept)
             self.hand_over(self.server(name, checkpoint=checkpoint))
@@ -309,7 +309,7 @@ class Ends(Trial):
                            (["--locks", "a,c,b"], "`2 100000 - 1 a:8:8,c:8:8,b:8:8`"), (["--locks", "a,b:9,c,d"], "`2 100000 - 1 a:8:8,b:9:9,c:8:8,d:8:8`")):
             with self.subTest(more):
                 it = subprocess.run(self.words("b", "--journal", b.journal, *more), capture_output=True, text=True, timeout=PATIENCE)
-                self.assertEqual(it.returncode, 1)
+                self.assertEqual(it.returncode, 78)
                 self.assertIn(f"are the same for all servers; in the log they are `2 100000 - 1 a:8:8,b:8:8,c:8:8`, here {here}", it.stderr)
                 self.assertEqual(self.files(b.journal), before)
         self.hand_over(self.server("b"))
@@ -318,7 +318,7 @@ class Ends(Trial):
         """Its entries have numbers of locks, so no server begins in it; nor with a checkpoint of that version."""
         self.log.put(f"by a 1 1 0 {'0' * 64}\twith 100000 - 1 a:8:8,b:8:8,c:8:8\there 7 u0\t7 1 acquire 0 5")
         it = subprocess.run(self.words("b"), capture_output=True, text=True, timeout=PATIENCE)
-        self.assertEqual(it.returncode, 1)
+        self.assertEqual(it.returncode, 78)
         self.assertIn("the version of entries, --checkpoint, --segment, --faults and --locks are the same for all servers; "
                       "in the log they are `100000 - 1 a:8:8,b:8:8,c:8:8`, here `2 100000 - 1 a:8:8,b:8:8,c:8:8`", it.stderr)
         with open(os.path.join(self.folder, "b", "CHECKPOINT"), "w", encoding="ascii") as file:
@@ -422,7 +422,7 @@ class Checkpoints(Trial):
         [server.stop() for server in servers]
         self.assertGreater(self.compare("a", "b", "c", "d"), 0)
         with open(a.journal + "/journal/locks", encoding="ascii") as file:
-            self.assertEqual(file.read().split()[::1 if IS_DOUBLE else 3], ["a", "b", "c", "d", "e"])
+            self.assertEqual(file.read().split()[::3], ["a", "b", "c", "d", "e"])
 
     def test_a_new_host(self):
         a, b = (self.server(name, checkpoint=30) for name in "ab")

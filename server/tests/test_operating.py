@@ -79,6 +79,23 @@ class Blocks(unittest.TestCase):
         for words in (["verify", "-CAfile", "ca.pem", "10.0.0.1.pem"], ["x509", "-in", "10.0.0.1.pem", "-noout", "-checkip", "10.0.0.1"]):
             done = subprocess.run(["openssl", *words], cwd=self.folder, capture_output=True, text=True, check=False)
             self.assertEqual((done.returncode, "NOT match" in done.stdout), (0, False), done.stdout + done.stderr)
+        text = subprocess.run(["openssl", "x509", "-in", "10.0.0.1.pem", "-noout", "-text"], cwd=self.folder, capture_output=True, text=True,
+                              check=True).stdout
+        self.assertRegex(text, r"Basic Constraints: critical\n\s*CA:FALSE")
+
+    @unittest.skipUnless(shutil.which("openssl"), "openssl is not installed")
+    def test_a_host_signs_for_no_other(self):
+        """A certificate that is made with a host's key, for another address, is refused by who trusts the one that signs."""
+        made = block("### Certificates", "openssl")
+        self.paste(made)
+        first, second = made.split("openssl req")[1:]
+        other = second.replace("10.0.0.1", "10.0.0.9").replace("-CA ca.pem -CAkey ca.key", "-CA 10.0.0.1.pem -CAkey 10.0.0.1.key")
+        self.assertNotEqual((first, other), ("", second))
+        self.paste("openssl req" + other)
+        done = subprocess.run(["openssl", "verify", "-CAfile", "ca.pem", "-untrusted", "10.0.0.1.pem", "10.0.0.9.pem"], cwd=self.folder,
+                              capture_output=True, text=True, check=False)
+        self.assertNotEqual(done.returncode, 0)
+        self.assertIn("invalid CA certificate", done.stderr)
 
     def test_alerts_are_of_metrics_that_there_are(self):
         with open(os.path.join(TOP, "server", "wozgirt-server", "src", "pages", "metrics.rs"), encoding="utf-8") as file:

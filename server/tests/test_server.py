@@ -240,7 +240,7 @@ class Others(unittest.TestCase):
         with a_folder() as folder:
             fewer = lambda: resource.setrlimit(resource.RLIMIT_NOFILE, (100, 100))
             it = run("--journal", folder, "--locks", "a", "--socket", folder + "/s", preexec_fn=fewer)
-            self.assertEqual(it.returncode, 1)
+            self.assertEqual(it.returncode, 78)
             self.assertIn("100 files may be open, and 1160 are needed", it.stderr)
 
     def test_the_limit_of_open_files_is_raised(self):
@@ -424,7 +424,7 @@ class Ends(unittest.TestCase):
             self.assertEqual(process.wait(PATIENCE), 0)
         with a_folder() as folder:
             it = run("--journal", folder, "--socket", folder + "/s")
-            self.assertEqual(it.returncode, 1)
+            self.assertEqual(it.returncode, 78)
             self.assertIn("--locks is missing", it.stderr)
 
 
@@ -447,7 +447,7 @@ class Permissions(unittest.TestCase):
             with open(rules, "a", encoding="ascii") as file:
                 file.write("lock d: *\n")
             it = run("--journal", folder, "--locks", "a,b,c", "--socket", folder + "/s", "--rules", rules)
-            self.assertEqual(it.returncode, 1)
+            self.assertEqual(it.returncode, 78)
             self.assertIn("rules: line 4: there is no lock d", it.stderr)
 
     def test_rules_of_patterns(self):
@@ -471,7 +471,7 @@ class Permissions(unittest.TestCase):
                               ("order/ *", "no name of a lock begins with `order/ `")):
                 write(f"lock deploy: *\nlock {name}: *\n")
                 it = run("--journal", folder, "--locks", "deploy", "--socket", folder + "/s", "--rules", rules)
-                self.assertEqual(it.returncode, 1)
+                self.assertEqual(it.returncode, 78)
                 self.assertIn("rules: line 2: " + why, it.stderr)
 
     @unittest.skipUnless(os.getuid() == 0 and os.access("/usr/bin/python3", os.X_OK), "only root can be another user")

@@ -2,10 +2,11 @@
 
 use crate::notify;
 use crate::outbox::Outbox;
+use crate::remarks::Remarks;
 use std::fmt;
 use std::io::{self, ErrorKind, Read};
 use std::os::unix::process::CommandExt;
-use std::process::{Child, ChildStdin, ChildStdout, Command, ExitStatus, Stdio};
+use std::process::{Child, ChildStderr, ChildStdin, ChildStdout, Command, ExitStatus, Stdio};
 use std::time::{Duration, Instant};
 use wozgirt_system::{never_wait, Interest, Signals};
 
@@ -29,6 +30,9 @@ pub struct Engine {
     words: Vec<String>,
     state: State,
     inputs: Outbox,
+    /// What it says to people, and the last line of that.
+    remarks: Option<Remarks>,
+    last_remark: Option<String>,
     /// Room for answers, which grows up to a size, and how much of it was read.
     answers: Vec<u8>,
     most_room: usize,
@@ -102,6 +106,8 @@ impl Engine {
             words,
             state: State::Away(now),
             inputs: Outbox::default(),
+            remarks: None,
+            last_remark: None,
             answers: vec![0; ROOM],
             most_room,
             have: 0,
@@ -153,6 +159,31 @@ impl Engine {
         }
     }
 
+    /// Where it says something to people, as long as it does.
+    pub fn complaints(&self) -> Option<&ChildStderr> {
+        self.remarks.as_ref().map(Remarks::pipe)
+    }
+
+    /// The lines that it has said there; if it has ended, all that are left.
+    pub fn remarks(&mut self) -> Vec<String> {
+        let mut lines = Vec::new();
+        let has_ended = matches!(self.state, State::Away(_) | State::Over);
+        if let Some(mut remarks) = self.remarks.take() {
+            if has_ended {
+                remarks.read_last(&mut lines);
+            } else if remarks.read(&mut lines) {
+                self.remarks = Some(remarks);
+            }
+        }
+        self.last_remark = lines.last().cloned().or(self.last_remark.take());
+        lines
+    }
+
+    /// The last of them since it was started.
+    pub fn last_remark(&self) -> Option<&str> {
+        self.last_remark.as_deref()
+    }
+
     /// It has answered how all locks are.
     pub fn note_ready(&mut self) {
         self.is_ready = true;
@@ -178,15 +209,18 @@ impl Engine {
             return Ok(None);
         }
         let mut command = Command::new(&self.program);
-        command.args(&self.words).stdin(Stdio::piped()).stdout(Stdio::piped());
+        command.args(&self.words).stdin(Stdio::piped()).stdout(Stdio::piped()).stderr(Stdio::piped());
         // a key of the terminal is only for the server, which has this one answer what it was asked
         command.process_group(0);
         command.env_remove(notify::SOCKET);
         Signals::hear_all(&mut command).map_err(CannotStart::Pipes)?;
         let mut child = command.spawn().map_err(|fault| CannotStart::Program(self.program.clone(), fault))?;
-        let (input, Some(output)) = (child.stdin.take(), child.stdout.take()) else { return Ok(None) };
-        input.as_ref().map_or(Ok(()), never_wait).and_then(|()| never_wait(&output)).map_err(CannotStart::Pipes)?;
+        let (input, remarks) = (child.stdin.take(), child.stderr.take());
+        let Some(output) = child.stdout.take() else { return Ok(None) };
+        let never_waits = input.as_ref().map_or(Ok(()), never_wait).and_then(|()| never_wait(&output));
+        never_waits.and_then(|()| remarks.as_ref().map_or(Ok(()), never_wait)).map_err(CannotStart::Pipes)?;
         let process = child.id();
+        (self.remarks, self.last_remark) = (remarks.map(Remarks::new), None);
         self.state = State::Running(child, input, output);
         self.inputs.clear();
         self.have = 0;

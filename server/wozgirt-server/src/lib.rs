@@ -25,6 +25,7 @@ mod pages;
 mod places;
 mod private;
 mod questions;
+mod remarks;
 pub mod requests;
 mod retention;
 pub mod rules;

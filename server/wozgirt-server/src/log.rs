@@ -80,6 +80,7 @@ pub enum Event<'a> {
     EngineStarted { process: u32, grace: Duration },
     EngineReady { held: usize },
     EngineEnded { status: String },
+    EngineSaid { line: &'a str },
     EngineUnreadable { line: String, fault: Option<NotALine> },
     EngineSilent { time: Duration },
     EngineAnswers { time: Duration },
@@ -100,6 +101,7 @@ pub enum Event<'a> {
     Stopped,
     LogStarted { process: u32 },
     LogEnded { status: String },
+    LogSaid { line: &'a str },
     LogUnreadable { line: &'a str },
     LogLeft { why: &'a str },
     LogFull,
@@ -124,6 +126,7 @@ impl Event<'_> {
             Event::EngineStarted { .. } => "engine-started",
             Event::EngineReady { .. } => "engine-ready",
             Event::EngineEnded { .. } => "engine-ended",
+            Event::EngineSaid { .. } => "engine-said",
             Event::EngineUnreadable { .. } => "engine-unreadable",
             Event::EngineSilent { .. } => "engine-silent",
             Event::EngineAnswers { .. } => "engine-answers",
@@ -144,6 +147,7 @@ impl Event<'_> {
             Event::Stopped => "stopped",
             Event::LogStarted { .. } => "log-started",
             Event::LogEnded { .. } => "log-ended",
+            Event::LogSaid { .. } => "log-said",
             Event::LogUnreadable { .. } => "log-unreadable",
             Event::LogLeft { .. } => "log-left",
             Event::LogFull => "log-full",
@@ -174,6 +178,7 @@ impl fmt::Display for Event<'_> {
             }
             Event::EngineReady { held } => write!(f, "engine ready, {held} locks held from before"),
             Event::EngineEnded { status } => write!(f, "engine ended: {status}"),
+            Event::EngineSaid { line } | Event::LogSaid { line } => f.write_str(line),
             Event::EngineUnreadable { line, fault: Some(fault) } => {
                 write!(f, "engine said something that is not an answer ({fault}): {line}")
             }

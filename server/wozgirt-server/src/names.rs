@@ -32,6 +32,8 @@ const ANY: &str = "*";
 /// How many machines a lock has, if nothing is said: one of the list, and one of any other name.
 const MACHINES: u32 = 8;
 const MACHINES_OF_ANY: u32 = 2;
+/// After this many bytes the rest of a list is a number.
+const LONGEST_SHORT: usize = 200;
 
 /// All locks with their sizes, in the order of the list; and the size of those of any other name, if there may be any. One of the two is
 /// there.
@@ -114,6 +116,34 @@ impl Names {
         self.any.is_none() || self.fixed.contains_key(name)
     }
 
+    /// The list as a person would write it: without the sizes that a lock has if nothing is said, and no longer than is read at a glance.
+    pub fn short(&self) -> String {
+        let listed = self.listed.iter().map(|(lock, n, k)| (&**lock, *n, *k, MACHINES));
+        let any = self.any.map(|(n, k)| (ANY, n, k, MACHINES_OF_ANY));
+        let (mut text, mut left) = (String::new(), self.listed.len() + usize::from(any.is_some()));
+        for (name, n, k, usual) in listed.chain(any) {
+            if text.len() > LONGEST_SHORT {
+                return format!("{text},.. ({left} more)");
+            }
+            let comma = if text.is_empty() { "" } else { "," };
+            text += &match (n == usual, k == n) {
+                (true, true) => format!("{comma}{name}"),
+                (false, true) => format!("{comma}{name}:{n}"),
+                _ => format!("{comma}{name}:{n}:{k}"),
+            };
+            left -= 1;
+        }
+        text
+    }
+
+    /// The first place, from 0, at which this list has not what the other has there; nothing if it is the other one, with more at its end.
+    /// After `*` nothing can be added.
+    pub fn first_change(&self, old: &Names) -> Option<usize> {
+        let place = old.listed.iter().enumerate().position(|(i, lock)| self.listed.get(i) != Some(lock));
+        let has_other_end = old.any.is_some() && (self.any != old.any || self.listed.len() != old.listed.len());
+        place.or_else(|| has_other_end.then_some(old.listed.len()))
+    }
+
     /// The list with all sizes.
     pub fn list(&self) -> String {
         let any = self.any.map(|(n, k)| format!("{ANY}:{n}:{k}"));
@@ -157,6 +187,39 @@ mod tests {
             assert_eq!((names.list().as_str(), names.any()), (list, Some(machines)));
             assert_eq!((names.is_listed("b"), names.is_listed("c")), (list.contains("b:"), false));
         }
+    }
+
+    #[test]
+    fn lists_that_continue_others() {
+        for (old, new, place) in [
+            ("a,b", "a,b", None),
+            ("a,b", "a,b,c", None),
+            ("a,b", "a,b,c,*", None),
+            ("*", "*:2", None),
+            ("a,b:3,*", "a:8:8,b:3:3,*:2:2", None),
+            ("a,b", "a", Some(1)),
+            ("a,b", "b,a", Some(0)),
+            ("a,b", "a,b:3", Some(1)),
+            ("a,b", "*", Some(0)),
+            ("a,*", "a", Some(1)),
+            ("a,*", "a,b,*", Some(1)),
+            ("a,*", "a,*:3", Some(1)),
+            ("*", "a,*", Some(0)),
+        ] {
+            let [old, new] = [old, new].map(|list| Names::parse(list).unwrap());
+            assert_eq!(new.first_change(&old), place, "{} {}", old.list(), new.list());
+        }
+    }
+
+    #[test]
+    fn lists_as_they_are_written() {
+        for list in ["a,b:3,c:3:5,*", "*:3", "a,*:2:5", "a:8:9"] {
+            assert_eq!(Names::parse(list).unwrap().short(), list);
+        }
+        assert_eq!(Names::parse("a 8 8\nb 3 3\n* 2 2\n").unwrap().short(), "a,b:3,*");
+        let many = (0..1000).map(|i| format!("lock/{i}")).collect::<Vec<_>>().join(",");
+        let short = Names::parse(&many).unwrap().short();
+        assert!(short.starts_with("lock/0,lock/1,") && short.ends_with(" more)") && short.len() < 300, "{short}");
     }
 
     #[test]

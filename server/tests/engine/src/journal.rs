@@ -58,8 +58,7 @@ impl Journal {
     /// Opens the folder, and does again what stands there, without what stands after the last end of a line.
     pub fn open(folder: &Path, list: &str, locks: &mut Locks, most_lines: u64, is_synced: bool) -> io::Result<Journal> {
         claim(folder)?;
-        let names: Vec<&str> = list.split(',').map(name).collect();
-        fs::write(folder.join("locks"), names.join("\n") + "\n")?;
+        fs::write(folder.join("locks"), list.replace(':', " ").replace(',', "\n") + "\n")?;
         let (mut number, mut whole, mut lines) = (0, 0, 0);
         while let Ok(text) = fs::read_to_string(path(folder, number + 1)) {
             number += 1;

@@ -1,6 +1,7 @@
 //! One of several servers: it reads the log, its engine does what the log says, and clients get the answers.
 
 use super::checkpoints::check_settings;
+use super::engine_side::poll_process;
 use super::{Server, ENGINE, ENGINE_INPUT};
 use crate::cluster::{list, Block, Effect, Key, Phase, Read, Server as LogServer, Verdict};
 use crate::engine::{Outcome, Unheard};
@@ -9,7 +10,6 @@ use crate::CannotServe;
 use std::mem;
 use std::process::ExitStatus;
 use wozgirt_engine::{Answer, Answered, Client, Input, StateLine, NOBODY};
-use wozgirt_system::Interest;
 
 /// The status with which the process that speaks to etcd says that the log is not the one that is asked for.
 const LOST: i32 = 4;
@@ -19,9 +19,16 @@ impl Server {
     pub(super) fn look_at_cluster(&mut self) -> Result<(), CannotServe> {
         let (now, is_stopping) = (self.desk.now, self.stopping.is_some());
         let outcome = self.desk.engine.look(is_stopping, now)?;
+        if !matches!(outcome, Outcome::NotYet) {
+            self.log_remarks();
+        }
         self.engine_ended(outcome)?;
         let Some(cluster) = self.desk.mode.in_log_mut() else { return Ok(()) };
-        match cluster.log.look(is_stopping, now)? {
+        let outcome = cluster.log.look(is_stopping, now)?;
+        if !matches!(outcome, Outcome::NotYet) {
+            self.log_remarks();
+        }
+        match outcome {
             Outcome::NotYet => {}
             Outcome::Again(status) | Outcome::Over(status) if status.code() == Some(LOST) && !is_stopping => {
                 return Err(CannotServe::LogLost);
@@ -55,7 +62,7 @@ impl Server {
             Outcome::Over(status) => {
                 self.desk.log.say(&Event::EngineEnded { status: status.to_string() });
                 if self.stopping.is_none() {
-                    return Err(CannotServe::EngineEnds(status));
+                    return Err(self.engine_ends(status));
                 }
             }
         }
@@ -70,10 +77,7 @@ impl Server {
         if !cluster.is_restored {
             desk.log.say(&Event::EngineStarted { process, grace: desk.settings.grace });
         }
-        if let (Some(input), Some(output)) = (desk.engine.input(), desk.engine.output()) {
-            self.poller.add(output, ENGINE, Interest::READS)?;
-            self.poller.add(input, ENGINE_INPUT, Interest { reads: false, writes: false })?;
-        }
+        poll_process(&self.poller, &desk.engine, ENGINE, ENGINE_INPUT)?;
         for sight in desk.board.locks() {
             desk.engine.ask_line(format_args!("{NOBODY} {}", Input::Stats { lock: sight.lock.clone() }));
         }

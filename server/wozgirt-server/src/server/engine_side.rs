@@ -1,21 +1,32 @@
 //! The engine: started, heard, lost.
 
-use super::{Server, ENGINE, ENGINE_INPUT};
+use super::{Server, ENGINE, ENGINE_INPUT, REMARKS};
 use crate::alone::Start;
 use crate::desk::Unasked;
-use crate::engine::{Outcome, Unheard};
+use crate::engine::{Engine, Outcome, Unheard};
 use crate::log::{End, Event};
 use crate::mode::Mode;
 use crate::questions::Own;
 use crate::CannotServe;
+use std::io;
+use std::process::ExitStatus;
 use std::time::{Duration, Instant};
 use wozgirt_engine::{decimal, Answer, Answered, Client, Input, Lock, NotALine, StateLine, Token, NOBODY};
-use wozgirt_system::Interest;
+use wozgirt_system::{Interest, Poller};
 
 /// An engine that leaves a question unanswered for this time is called silent.
 const SILENCE: Duration = Duration::from_secs(2);
 /// How many times longer it may take to answer when it starts.
 const TIMES_AT_START: u32 = 10;
+
+/// Has the poller look at what a process says and takes, by these keys.
+pub(super) fn poll_process(poller: &Poller, process: &Engine, output: u64, input: u64) -> io::Result<()> {
+    if let (Some(pipe), Some(answers)) = (process.input(), process.output()) {
+        poller.add(answers, output, Interest::READS)?;
+        poller.add(pipe, input, Interest { reads: false, writes: false })?;
+    }
+    process.complaints().map_or(Ok(()), |pipe| poller.add(pipe, REMARKS, Interest::READS))
+}
 
 impl Server {
     /// What the engine has answered.
@@ -234,13 +245,17 @@ impl Server {
 
     fn look_at_engine_alone(&mut self) -> Result<(), CannotServe> {
         let now = self.desk.now;
-        match self.desk.engine.look(self.stopping.is_some(), now)? {
+        let outcome = self.desk.engine.look(self.stopping.is_some(), now)?;
+        if !matches!(outcome, Outcome::NotYet) {
+            self.log_remarks();
+        }
+        match outcome {
             Outcome::NotYet => {}
             Outcome::Again(status) if self.is_turning() && status.success() => self.desk.engine.start_at_once(now),
             Outcome::Again(status) => self.desk.log.say(&Event::EngineEnded { status: status.to_string() }),
             Outcome::Over(status) => {
                 self.desk.log.say(&Event::EngineEnded { status: status.to_string() });
-                return if self.stopping.is_some() { Ok(()) } else { Err(CannotServe::EngineEnds(status)) };
+                return if self.stopping.is_some() { Ok(()) } else { Err(self.engine_ends(status)) };
             }
         }
         if self.stopping.is_some() {
@@ -253,14 +268,28 @@ impl Server {
         let Some(process) = self.desk.engine.start(now).map_err(CannotServe::Engine)? else { return Ok(()) };
         let grace = self.desk.settings.grace;
         self.desk.log.say(&Event::EngineStarted { process, grace });
-        if let (Some(input), Some(output)) = (self.desk.engine.input(), self.desk.engine.output()) {
-            self.poller.add(output, ENGINE, Interest::READS)?;
-            self.poller.add(input, ENGINE_INPUT, Interest { reads: false, writes: false })?;
-        }
+        poll_process(&self.poller, &self.desk.engine, ENGINE, ENGINE_INPUT)?;
         self.engine_since = now;
         self.grace_until = Some(now + grace);
         self.begin_engine();
         Ok(())
+    }
+
+    /// It keeps ending before it is ready, and has said why.
+    pub(super) fn engine_ends(&self, status: ExitStatus) -> CannotServe {
+        CannotServe::EngineEnds(status, self.desk.engine.last_remark().map(String::from))
+    }
+
+    /// Puts into the log what the processes said on their standard errors.
+    pub(super) fn log_remarks(&mut self) {
+        let desk = &mut self.desk;
+        for line in desk.engine.remarks() {
+            desk.log.say(&Event::EngineSaid { line: &line });
+        }
+        let of_log = desk.mode.in_log_mut().map(|cluster| cluster.log.remarks());
+        for line in of_log.into_iter().flatten() {
+            desk.log.say(&Event::LogSaid { line: &line });
+        }
     }
 
     /// A holder of a lock when the engine ended knows by now that it lost it, or its lease is over.

@@ -1,5 +1,6 @@
 //! The log that several servers have: read, written, lost.
 
+use super::engine_side::poll_process;
 use super::{Server, LOG, LOG_INPUT};
 use crate::cluster::{Cluster, Told};
 use crate::engine::Unheard;
@@ -16,10 +17,7 @@ impl Server {
         let Some(process) = cluster.log.start(desk.now).map_err(CannotServe::Log)? else { return Ok(()) };
         desk.log.say(&Event::LogStarted { process });
         cluster.log.ask_line(cluster.known());
-        if let (Some(input), Some(output)) = (cluster.log.input(), cluster.log.output()) {
-            self.poller.add(output, LOG, Interest::READS)?;
-            self.poller.add(input, LOG_INPUT, Interest { reads: false, writes: false })?;
-        }
+        poll_process(&self.poller, &cluster.log, LOG, LOG_INPUT)?;
         self.reads_log = true;
         Ok(())
     }

@@ -30,7 +30,7 @@ use crate::retention::{self, Removal};
 use crate::settings::Settings;
 use crate::sums::Sums;
 use arrivals::Doors;
-use opening::{check_files, open_sessions, read_names, read_rules};
+use opening::{check_files, check_list, make_journal, open_sessions, read_names, read_rules};
 use std::collections::{HashMap, VecDeque};
 use std::io;
 use std::rc::Rc;
@@ -45,6 +45,7 @@ const ENGINE: u64 = 1;
 const ENGINE_INPUT: u64 = 6;
 const LOG: u64 = 7;
 const LOG_INPUT: u64 = 8;
+const REMARKS: u64 = 9;
 const CLIENTS: u64 = 2;
 const OPERATORS: u64 = 3;
 const NETWORK: u64 = 4;
@@ -134,6 +135,8 @@ impl Server {
         let mut log = Log::start()?;
         let accounts = Accounts::of_the_system();
         let names = Rc::new(read_names(&settings)?);
+        make_journal(&settings)?;
+        check_list(&settings, &names)?;
         let board = Board::new(&names);
         let rules = Rc::new(read_rules(&settings, &board, &accounts)?);
         check_files(&settings)?;
@@ -240,6 +243,7 @@ impl Server {
             }
             ENGINE => self.hear_engine()?,
             LOG => self.hear_log()?,
+            REMARKS => self.log_remarks(),
             ENGINE_INPUT | LOG_INPUT => {} // what they take is written at the end of each round
             PAGE => self.let_visitors_in(),
             key if key >= VISITORS => self.visit(key),

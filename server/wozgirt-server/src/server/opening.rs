@@ -13,14 +13,38 @@ use crate::places::Places;
 use crate::rules::{BadRule, Rules};
 use crate::settings::Settings;
 use std::fmt;
-use std::fs;
-use std::io;
-use std::path::PathBuf;
+use std::fs::{self, DirBuilder, File};
+use std::io::{self, ErrorKind};
+use std::os::unix::fs::DirBuilderExt;
+use std::path::{Path, PathBuf};
 use std::process::ExitStatus;
 use wozgirt_system::permit_files;
 
 /// How many sessions there may be for each connection: those of clients that are away are some.
 const SESSIONS_EACH: usize = 8;
+
+/// A list of locks that does not continue that of the journal.
+#[derive(Debug)]
+pub struct OtherList {
+    /// Where that of the journal is.
+    file: PathBuf,
+    old: Names,
+    new: Rc<Names>,
+    /// The first place, from 0, at which they differ.
+    place: usize,
+}
+
+impl fmt::Display for OtherList {
+    fn fmt(&self, f: &mut fmt::Formatter<'_>) -> fmt::Result {
+        let (new, old, file, number) = (self.new.short(), self.old.short(), self.file.display(), self.place + 1);
+        write!(f, "--locks names {new}, but this journal has {old} ({file}): lock {number} there is another one. ")?;
+        f.write_str(match self.old.any() {
+            Some(_) => "Its list ends with `*`, so it stays as it is. ",
+            None => "Names, and `*`, can be added at the end of its list; none can be removed, renamed, reordered or resized. ",
+        })?;
+        f.write_str("Another list needs another journal, whose tokens begin at 1")
+    }
+}
 
 /// Why the server does not serve.
 #[derive(Debug)]
@@ -29,6 +53,10 @@ pub enum CannotServe {
     Locks(PathBuf, io::Error),
     /// The locks are not named well.
     Names(BadNames),
+    /// The list does not continue that of the journal.
+    OtherList(Box<OtherList>),
+    /// The folder of the journal cannot be made.
+    Journal(PathBuf, io::Error),
     /// The rules cannot be read.
     Rules(PathBuf, io::Error),
     /// The rules are wrong.
@@ -47,7 +75,7 @@ pub enum CannotServe {
     /// The engine cannot be started.
     Engine(CannotStart),
     /// The engine keeps ending before it is ready.
-    EngineEnds(ExitStatus),
+    EngineEnds(ExitStatus, Option<String>),
     /// What is kept of sessions cannot be read or written.
     Sessions(io::Error),
     /// The folder cannot be had.
@@ -86,6 +114,8 @@ impl fmt::Display for CannotServe {
         match self {
             CannotServe::Locks(path, fault) => write!(f, "--locks is missing, and {}: {fault}", path.display()),
             CannotServe::Names(fault) => write!(f, "--locks: {fault}"),
+            CannotServe::OtherList(lists) => lists.fmt(f),
+            CannotServe::Journal(path, fault) => write!(f, "the journal's folder {} cannot be made: {fault}", path.display()),
             CannotServe::Rules(path, fault) => write!(f, "{}: {fault}", path.display()),
             CannotServe::Rule(path, fault) => write!(f, "{}: {fault}", path.display()),
             CannotServe::Files { limit, needed } => {
@@ -142,7 +172,10 @@ impl fmt::Display for CannotServe {
                 f,
                 "two other servers had other answers up to position {position}: keep the folder for an inquiry, and begin again with one of theirs"
             ),
-            CannotServe::EngineEnds(status) => write!(f, "the engine keeps ending before it is ready: {status}"),
+            CannotServe::EngineEnds(status, None) => write!(f, "the engine keeps ending before it is ready: {status}"),
+            CannotServe::EngineEnds(status, Some(said)) => {
+                write!(f, "the engine keeps ending before it is ready: {status}; it said: {said}")
+            }
             CannotServe::System(fault) => fault.fmt(f),
         }
     }
@@ -151,9 +184,17 @@ impl fmt::Display for CannotServe {
 impl std::error::Error for CannotServe {}
 
 impl CannotServe {
-    /// The status of the process: 3 if this server's answers are wrong, 4 if the log is not the one that it needs, else 1.
+    /// The status of the process: 3 if this server's answers are wrong, 4 if the log is not the one that it needs, 78 (as `sysexits.h` has
+    /// it) if the settings have to be changed before it can serve, else 1.
     pub fn status(&self) -> u8 {
         match self {
+            CannotServe::Locks(..)
+            | CannotServe::Names(_)
+            | CannotServe::OtherList(_)
+            | CannotServe::Rule(..)
+            | CannotServe::Files { .. }
+            | CannotServe::Memory(_)
+            | CannotServe::Settings { .. } => 78,
             CannotServe::Restored | CannotServe::Contradicted(_) => 3,
             CannotServe::OtherLog(_) | CannotServe::LogGone(_) | CannotServe::LogLost => 4,
             _ => 1,
@@ -188,6 +229,35 @@ pub(super) fn read_names(settings: &Settings) -> Result<Names, CannotServe> {
         }
     };
     Names::parse(&list).map_err(CannotServe::Names)
+}
+
+/// Makes the folder of a single server's journal, if it is missing, so that a loss of power leaves it there.
+pub(super) fn make_journal(settings: &Settings) -> Result<(), CannotServe> {
+    if settings.cluster.is_some() {
+        return Ok(()); // the checkpoint's folder is made with it
+    }
+    let path = &settings.journal;
+    let cannot = |fault| CannotServe::Journal(path.clone(), fault);
+    match DirBuilder::new().mode(0o700).create(path) {
+        Err(fault) if fault.kind() == ErrorKind::AlreadyExists => Ok(()),
+        Err(fault) => Err(cannot(fault)),
+        Ok(()) => {
+            let parent = path.parent().filter(|parent| !parent.as_os_str().is_empty()).unwrap_or(Path::new("."));
+            File::open(parent).and_then(|parent| parent.sync_all()).map_err(cannot)
+        }
+    }
+}
+
+/// Compares the list of a single server with that of its journal, which the engine would refuse each time that it is started. (What is
+/// there and is not a list, the engine refuses.)
+pub(super) fn check_list(settings: &Settings, new: &Rc<Names>) -> Result<(), CannotServe> {
+    let file = settings.engine_journal().join("locks");
+    let text = fs::read_to_string(&file).ok().filter(|_| settings.cluster.is_none());
+    let Some(old) = text.and_then(|text| Names::parse(&text).ok()) else { return Ok(()) };
+    match new.first_change(&old) {
+        None => Ok(()),
+        Some(place) => Err(CannotServe::OtherList(Box::new(OtherList { file, old, new: new.clone(), place }))),
+    }
 }
 
 pub(super) fn read_rules(settings: &Settings, board: &Board, accounts: &Accounts) -> Result<Rules, CannotServe> {
