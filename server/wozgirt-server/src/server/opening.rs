@@ -28,19 +28,23 @@ const SESSIONS_EACH: usize = 8;
 pub struct OtherList {
     /// Where that of the journal is.
     file: PathBuf,
-    old: Names,
-    new: Rc<Names>,
-    /// The first place, from 0, at which they differ.
-    place: usize,
+    /// Both lists, in short.
+    old: String,
+    new: String,
+    /// The number of the first lock in which they differ, from 1.
+    number: usize,
+    /// Whether that of the journal ends with `*`.
+    is_closed: bool,
 }
 
 impl fmt::Display for OtherList {
     fn fmt(&self, f: &mut fmt::Formatter<'_>) -> fmt::Result {
-        let (new, old, file, number) = (self.new.short(), self.old.short(), self.file.display(), self.place + 1);
+        let OtherList { file, old, new, number, is_closed } = self;
+        let file = file.display();
         write!(f, "--locks names {new}, but this journal has {old} ({file}): lock {number} there is another one. ")?;
-        f.write_str(match self.old.any() {
-            Some(_) => "Its list ends with `*`, so it stays as it is. ",
-            None => "Names, and `*`, can be added at the end of its list; none can be removed, renamed, reordered or resized. ",
+        f.write_str(match is_closed {
+            true => "Its list ends with `*`, so it stays as it is. ",
+            false => "Names, and `*`, can be added at the end of its list; none can be removed, renamed, reordered or resized. ",
         })?;
         f.write_str("Another list needs another journal, whose tokens begin at 1")
     }
@@ -250,14 +254,14 @@ pub(super) fn make_journal(settings: &Settings) -> Result<(), CannotServe> {
 
 /// Compares the list of a single server with that of its journal, which the engine would refuse each time that it is started. (What is
 /// there and is not a list, the engine refuses.)
-pub(super) fn check_list(settings: &Settings, new: &Rc<Names>) -> Result<(), CannotServe> {
+pub(super) fn check_list(settings: &Settings, new: &Names) -> Result<(), CannotServe> {
     let file = settings.engine_journal().join("locks");
     let text = fs::read_to_string(&file).ok().filter(|_| settings.cluster.is_none());
     let Some(old) = text.and_then(|text| Names::parse(&text).ok()) else { return Ok(()) };
-    match new.first_change(&old) {
-        None => Ok(()),
-        Some(place) => Err(CannotServe::OtherList(Box::new(OtherList { file, old, new: new.clone(), place }))),
-    }
+    let Some(place) = new.first_change(&old) else { return Ok(()) };
+    let is_closed = old.any().is_some();
+    let lists = OtherList { file, old: old.short(), new: new.short(), number: place + 1, is_closed };
+    Err(CannotServe::OtherList(Box::new(lists)))
 }
 
 pub(super) fn read_rules(settings: &Settings, board: &Board, accounts: &Accounts) -> Result<Rules, CannotServe> {
