@@ -11,6 +11,7 @@ import resource
 import subprocess
 import sys
 import time
+from collections import Counter
 
 TICK = os.sysconf("SC_CLK_TCK")
 LOOKS_A_SECOND = 10
@@ -82,18 +83,14 @@ def crates_of_this_folder():
     return {crate: [name for name in names if name in below] for crate, names in below.items()}
 
 
-def edits_in(folder):
-    return sorted(it for it in os.listdir(folder) if it.endswith(".edit")) if os.path.isdir(folder) else []
-
-
-def edits_of(crate, costs):
-    """The edits of a crate that were tried, of which these are the costs: those that are tried if something has changed come last."""
-    each, if_changed = edits_in(f"crates/{crate}/must-fail"), edits_in(f"crates/{crate}/must-fail-if-changed")
-    return each + if_changed if len(costs) > len(each) + 1 or costs and not each else each
+def edits_told(log):
+    """How many edits of each crate the gate told of."""
+    with open(log, encoding="utf-8", errors="replace") as file:
+        return Counter(re.findall(r"^(?:rt: )?edit (\w+)/\w+: ", file.read(), re.MULTILINE))
 
 
 def costs_of_edits(checks, crate):
-    """The processor seconds of each check of an edit, in the order in which they ran; the last one has no edit."""
+    """The processor seconds of each check of edits, in the order in which they ran: the first one is of the crate as it stands."""
     rooms = {}
     for check in sorted(checks, key=lambda it: it.begun):
         if check.crate == crate and check.task == "edits":
@@ -126,21 +123,16 @@ def longest_chain(checks, below):
     return max(chain(crate, task) for crate in below for task in ("proof", "tests", "edits"))
 
 
-def print_table(checks, below, edits_file):
-    print(f"{'crate':<18} {'proof':>7} {'tests':>7} {'edits':>6} {'first':>7} {'each':>6} {'again':>6} {'sum':>7}")
+def print_table(checks, below, edits):
+    print(f"{'crate':<18} {'proof':>7} {'tests':>7} {'edits':>6} {'checks':>7} {'first':>7} {'each':>6} {'sum':>7}")
     sums = [0.0] * 4
     for crate in below:
         costs = costs_of_edits(checks, crate)
-        names = edits_of(crate, costs)
-        each = [cost for _, cost in list(zip(names, costs))[1:]]
-        for name, cost in zip(names, costs):
-            edits_file.write(f"{cost:7.1f} {crate}/{name}\n")
-        again = costs[len(names)] if len(costs) > len(names) else 0.0
         row = [spent_on(checks, crate, "proof"), spent_on(checks, crate, "tests"), sum(costs)]
         row.append(sum(row))
         sums = [a + b for a, b in zip(sums, row)]
-        first, mean = (costs[0] if costs else 0.0), (sum(each) / len(each) if each else 0.0)
-        print(f"{crate:<18} {row[0]:7.0f} {row[1]:7.0f} {len(names):6} {first:7.0f} {mean:6.1f} {again:6.0f} {row[3]:7.0f}")
+        first, each = (costs[0] if costs else 0.0), (sum(costs[1:]) / edits[crate] if edits[crate] else 0.0)
+        print(f"{crate:<18} {row[0]:7.0f} {row[1]:7.0f} {edits[crate]:6} {len(costs):7} {first:7.0f} {each:6.1f} {row[3]:7.0f}")
     print(f"all: proofs {sums[0]:.0f}, tests {sums[1]:.0f}, edits {sums[2]:.0f}, together {sums[3]:.0f} processor seconds")
 
 
@@ -148,8 +140,7 @@ def main(out, command):
     below = crates_of_this_folder()
     log = f"{out}/gate.log"
     checks, status, processor, clock = watch(command, log)
-    with open(f"{out}/gate-edits.txt", "w", encoding="utf-8") as edits_file:
-        print_table(checks, below, edits_file)
+    print_table(checks, below, edits_told(log))
     seconds, names = longest_chain(checks, below)
     print(f"longest chain, {seconds:.0f} s by the clock: {', '.join(names)}")
     processors = len(os.sched_getaffinity(0))
@@ -157,7 +148,7 @@ def main(out, command):
     with open(log, encoding="utf-8", errors="replace") as file:
         lines = file.read().rstrip("\n").split("\n")
     print(lines[-1])
-    notes = [it for it in lines if re.search(r"BAD EDIT|NOT REFUSED|NOT PROVED|says little|FAILED", it)]
+    notes = [it for it in lines if re.search(r"^(?:rt: )?edit \S+: [A-Z]|NOT PROVED|FAILED|^minutes", it)]
     print("\n".join(notes), end="\n" if notes else "")
     return status
 

@@ -1,8 +1,10 @@
 #!/usr/bin/env python3
 """tools/crate.py [proof|tests|edits CRATE ..]: what the gate does for some crates alone: their proof, from nothing and with the search
-for contracts that no call can meet, which `rt check` leaves out; or their tests, proved and run; or their edits, also those that
-the gate tries if something has changed, which is noted in wrong/tried.txt. It prints what failed, and the processor
-seconds of each.
+for contracts that no call can meet, which `rt check` leaves out; or their tests, proved and run; or those of their edits that
+the gate would try, since something has changed, and notes in wrong/tried.txt which are refused. It prints what failed, and the
+processor seconds of each.
+
+tools/crate.py edits --all [CRATE ..] tries every edit of these crates, or of all.
 
 tools/crate.py check CRATE [FLAG ..] checks a crate over what such a check kept, as `rt check` does; the flags are rattle's, such as
 --only PATH.
@@ -10,20 +12,22 @@ tools/crate.py check CRATE [FLAG ..] checks a crate over what such a check kept,
 Of the libraries below, these load the statements that ./build and such runs kept; libraries that have changed are proved first.
 
 With no words: the gate's checks that prove nothing, over all crates: the layout of files, files that nothing reads, words that mean
-something else to a reader, edits that cannot be applied.
+something else to a reader, edits that cannot be applied or name no promise.
 
 The status is 0 if nothing failed. It is no verdict: `rt ci` is. It rests on the kit's own module, as ./build does: try it at each move
 to another kit. Needs rt and python3."""
 import os
 import re
 import resource
-import shutil
 import sys
 import tempfile
 
 sys.dont_write_bytecode = True
 sys.path.insert(0, os.path.dirname(os.path.realpath(__file__)))
 
+import edit_checks
+import edit_sums
+import edits
 import kit
 
 TOP = kit.TOP
@@ -53,9 +57,18 @@ def stopped(rt, crate, crates):
     why += [f"it names what {it} reaches" for it, words in rt.REACHES.items() if it not in crate.allowed and re.search(words, code)]
     why += ["it renames std, or takes it whole"] * bool(re.search(rt.RENAMES, code)) + ["a test is ignored"] * bool(re.search(rt.IGNORED, code))
     why += ["its layout is another"] * bool(rt.rtlib.fmt(crate.folder, "--check", sys.stdout))
-    good, bad = rt.edits_of(crate)
-    faults = ((it, rt.read_edit(it, crate.folder)[1]) for it in [*good, *kit.edits_if_changed(crate)])
-    return why + [f"{os.path.basename(it)}: {fault}" for it, fault in faults if fault] + [f"{it} is no edit" for it in bad]
+    return why + faults_of_edits(rt, crate)
+
+
+def faults_of_edits(rt, crate):
+    """What is wrong with the crate's edits, as far as it shows without a proof."""
+    found, faults = edits.read(crate)
+    of_the_kit = [*rt.edits_of(crate)[0], *rt.edits_of(crate)[1]]
+    return [
+        *(f"{os.path.basename(edits.path_of(crate))}: {it}" for it in faults),
+        *(f"edit {it.name}: {why}" for it in found for why in [edits.apply(it, {})[0]] if why),
+        *(f"{os.path.relpath(it)}: edits are in {os.path.relpath(edits.path_of(crate))}" for it in of_the_kit),
+    ]
 
 
 def proved(rt, crate, tests):
@@ -78,36 +91,24 @@ def checked(rt, crate, flags):
     return not crate.call(rt.rtlib.RATTLE, "check", *words)
 
 
-def outcomes(rt, crate, edits):
-    """What each edit came to, and what to say of it: whether it is refused, as it must be. Each begins with a copy of what a check of the
-    crate as it stands proved."""
-    if hasattr(rt, "must_fail_all"):
-        return rt.must_fail_all(crate, edits, ["--jobs", "1"])
-    room = rt.seeded(crate, ["--jobs", "2"])
-    if not room:
-        return [(False, f"{crate.name}: the crate as it stands is not proved, so no edit was tried")]
-    found = []
-    try:
-        for edit in edits:
-            with tempfile.TemporaryDirectory(dir=room) as own:
-                rt.linked(f"{room}/seed", f"{own}/seed")
-                kind, text = rt.must_fail(crate, edit, ["--jobs", "1"], f"{own}/seed")
-            found.append((kind in (rt.REFUSED, rt.AT_LIMIT), text))
-    finally:
-        shutil.rmtree(room)
-    return found
-
-
-def tried(rt, crate):
-    """Tries the crate's edits as the gate does; whether each is refused. Notes it, so that the gate leaves those out that it tries if
-    something has changed."""
-    sum = kit.sum_of_edits(rt.rtlib, crate, {})
-    found = outcomes(rt, crate, [*rt.edits_of(crate)[0], *kit.edits_if_changed(crate)])
-    print(*(text for _, text in found), sep="\n", flush=True)
-    is_well = all(refused for refused, _ in found)
-    if is_well and kit.edits_if_changed(crate) and sum == kit.sum_of_edits(rt.rtlib, crate, {}):
-        kit.note_tried({crate.name: sum})
-    return is_well
+def tried(rt, crate, flags):
+    """Tries the crate's edits as the gate does, all of them or those of which something has changed; whether each is refused. Notes those
+    that are as the checks end, so that the gate leaves them out until something changes."""
+    chosen = edits.read(crate)[0] if "--all" in flags else edit_sums.untried(rt.rtlib, [crate]).get(crate.name, [])
+    sums = {it: edit_sums.sum_of(rt.rtlib, it, {}) for it in chosen}
+    trial, is_well = edit_checks.begun(rt, crate, 2) if chosen else None, True
+    if chosen and not trial:
+        print(f"{crate.name}: the crate as it stands is not proved, so no edit was tried")
+        return False
+    for group in edits.groups_of(chosen, edit_checks.MOST):
+        verdicts = trial.tried(group)
+        for edit, verdict in verdicts.items():
+            is_refused, line = edit_checks.told(edit, verdict)
+            is_well = is_well and is_refused
+            print(line, flush=True)
+        same = {it for it in group if sums[it] == edit_sums.sum_of(rt.rtlib, it, {})}
+        edit_sums.note_tried({str(it): (sums[it], *verdicts[it]) for it in same if verdicts[it][0] in edit_checks.TELLS})
+    return is_well and (trial is None or trial.ended())
 
 
 def main(what="", *names):
@@ -117,7 +118,8 @@ def main(what="", *names):
         faults = [f"{crate.name}: {why}" for crate in crates for why in stopped(rt, crate, crates)]
         print(*faults, f"{len(crates)} crates, {len(faults)} faults", sep="\n")
         return bool(faults)
-    names, flags = (names[:1], names[1:]) if what == "check" else (names, ())
+    flags = names[1:] if what == "check" else [it for it in names if it.startswith("-")]
+    names = [it for it in names if it not in flags] or [it.name for it in crates if edits.read(it)[0] and "--all" in flags]
     chosen = [it for it in crates if it.name in names]
     if what not in ("check", "proof", "tests", "edits") or len(chosen) < max(len(names), 1):
         sys.exit(__doc__)
@@ -131,7 +133,7 @@ def main(what="", *names):
                 if form.build(below, 2):
                     sys.exit(f"{below.name} is not proved: {os.path.relpath(below.folder)}/out/first.log says why")
         before = resource.getrusage(resource.RUSAGE_CHILDREN)
-        is_well = tried(rt, crate) if what == "edits" else checked(rt, crate, flags) if what == "check" else proved(rt, crate, what == "tests")
+        is_well = tried(rt, crate, flags) if what == "edits" else checked(rt, crate, flags) if what == "check" else proved(rt, crate, what == "tests")
         spent = resource.getrusage(resource.RUSAGE_CHILDREN)
         taken = spent.ru_utime + spent.ru_stime - before.ru_utime - before.ru_stime
         print(f"{crate.name}: {what} {'well' if is_well else 'FAILED'}, {taken:.0f} processor seconds", flush=True)

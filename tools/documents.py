@@ -44,13 +44,11 @@ from page import Page, cells
 
 PLACEHOLDER = re.compile(r"\b[A-Z][A-Z_]+\b|[][|]|\.\.\.|\b[A-Z]\b")
 IDENTIFIER = re.compile(r"[A-Za-z_][A-Za-z0-9_]*(?:(?:::|\.)(?:[A-Za-z_][A-Za-z0-9_]*|\*))*(?:\(\))?!?$")
-FILE_ENDS = (".rt", ".antt", ".md", ".sh", ".py", ".c", ".rs", ".json", ".txt", ".svg", ".png", ".edit")
+FILE_ENDS = (".rt", ".antt", ".md", ".sh", ".py", ".c", ".rs", ".json", ".txt", ".svg", ".png", ".edits")
 COMMIT = re.compile(r"[0-9a-f]{7,40}$")
 reading_order = None
 #: the most lines of the first page, characters of a line, characters of a cell
 FIRST_PAGE = (150, 120, 200)
-#: its words are those of the edits
-WRITTEN_BY_SCRIPTS = ("wrong/TABLE.md",)
 
 # what is made and not kept, or lies elsewhere; names of tools that no script here calls
 OTHERS = ("perf", "nix", "memoffset", "clap_complete", "ureq", "rustls")
@@ -456,7 +454,7 @@ def pages_of(top):
         folders[:] = sorted(it for it in folders if it not in ("out", "target", "node_modules") and not it.startswith("."))
         for it in sorted(files):
             path = os.path.relpath(os.path.join(folder, it), top)
-            if (it.endswith(".md") or os.path.basename(folder) == "man") and path not in WRITTEN_BY_SCRIPTS:
+            if it.endswith(".md") or os.path.basename(folder) == "man":
                 yield path
 
 

@@ -1,19 +1,17 @@
-"""The kit's own module, as the scripts of this repository use it: `./build`, `.ci/prove`, `tools/crate.py` and
-`tools/wrong_bodies.py`. It rests on names inside the kit's command `rt`: try it at each move to another kit."""
-import hashlib
+"""The kit's own module, as the scripts of this repository use it: `./build`, `.ci/prove` and `tools/crate.py`. It rests on names
+inside the kit's command `rt`: try it at each move to another kit."""
 import importlib.machinery
 import importlib.util
 import os
-import re
 import shutil
 import sys
 import threading
 
-TOP = os.path.dirname(os.path.dirname(os.path.realpath(__file__)))
-# The edits that are tried where their crate, or one below it, is not as it was when they were tried last
-IF_CHANGED = "must-fail-if-changed"
-# For each crate with such edits, the sum of what they were tried on: lines `CRATE SUM`
-TRIED = f"{TOP}/wrong/tried.txt"
+import edit_checks
+import edit_sums
+import edits
+
+TOP = edits.TOP
 
 
 def load():
@@ -47,61 +45,66 @@ def once_each(rtlib):
 
 
 def edits_if_changed(crate):
-    """The paths of the edits of a crate that are not tried at each run."""
-    folder = f"{crate.folder}/{IF_CHANGED}"
-    return [f"{folder}/{it}" for it in sorted(os.listdir(folder)) if it.endswith(".edit")] if os.path.isdir(folder) else []
-
-
-def logic(rtlib):
-    """The sum of the kit's logic: kits with the same one prove the same."""
-    with open(f"{rtlib.KIT}/KIT-ID", encoding="utf-8") as it:
-        found = re.search(r"logic (\w+)", it.read())
-    return found[1] if found else sys.exit("the kit's line names no logic")
-
-
-def sum_of_edits(rtlib, crate, known):
-    """The sum of all on which the verdict of the crate's edits depends: their texts, the sources of the crate and of those below it,
-    and the kit's logic. `known` has the sums of sources that were made before."""
-    sum = hashlib.sha256(f"{logic(rtlib)} {sum_of_sources(rtlib, crate, known)}".encode())
-    for path in edits_if_changed(crate):
-        with open(path, "rb") as it:
-            sum.update(repr((os.path.basename(path), it.read())).encode())
-    return sum.hexdigest()[:32]
-
-
-def sum_of_sources(rtlib, crate, known):
-    if crate.folder not in known:
-        sum = hashlib.sha256(repr(sorted(crate.said.items(), key=repr)).encode())
-        for file in rtlib.files_of(crate.folder):
-            with open(file, "rb") as it:
-                sum.update(repr((os.path.relpath(file, crate.folder), it.read())).encode())
-        for dep in crate.deps:
-            sum.update(sum_of_sources(rtlib, dep, known).encode())
-        known[crate.folder] = sum.hexdigest()
-    return known[crate.folder]
-
-
-def tried():
-    """The sums on which the edits of each crate were tried last, by the crate's name."""
-    with open(TRIED, encoding="utf-8") as it:
-        return dict(line.split() for line in it if line.strip() and not line.startswith("#"))
-
-
-def note_tried(sums):
-    """Writes these sums, by the crate's name, into the list; those of other crates stay."""
-    kept = {**tried(), **sums}
-    with open(TRIED, encoding="utf-8") as it:
-        head = [line for line in it if line.startswith("#")]
-    with open(f"{TRIED}.new", "w", encoding="utf-8") as it:
-        it.writelines([*head, *(f"{name} {kept[name]}\n" for name in sorted(kept))])
-    os.replace(f"{TRIED}.new", TRIED)
+    """The edits of a crate. They are tried where something on which their verdict rests is not as it was."""
+    return edits.read(crate)[0]
 
 
 def untried(rtlib, crates):
-    """The crates whose edits have to be tried, since something on which their verdict depends is not as it was, with their sums."""
-    known, seen = {}, tried()
-    sums = {it.name: sum_of_edits(rtlib, it, known) for it in crates if edits_if_changed(it)}
-    return {name: sum for name, sum in sums.items() if seen.get(name) != sum}
+    """Of each crate, by its name, the edits that have to be tried: others were seen to be refused, and nothing of that has changed."""
+    return edit_sums.untried(rtlib, crates)
+
+
+def with_edits(rt, wanted):
+    """Has `rt ci` try these edits too, by the crate's name, behind the proof and the tests of their crate. By itself it tries only
+    the files of must-fail/ in a crate, each by a check of its own. Returns a dict that gets the verdict of each edit."""
+    edits_of, add_edits, verdicts = rt.edits_of, rt.add_edits, {}
+
+    def all_edits_of(crate):
+        good, bad = edits_of(crate)
+        return [*good, *map(str, wanted.get(crate.name, []))], bad
+
+    def add_all(tasks, crate, names, first, waits, is_well, *given, **named):
+        joined = edits.groups_of(wanted.get(crate.name, []), edit_checks.MOST)
+        mine = [it for it in wanted.get(crate.name, []) if str(it) in names]
+        theirs, known = add_edits(tasks, crate, names[: len(names) - len(mine)], first, waits, is_well, *given, **named)
+        if mine:
+            add_groups(rt, tasks, crate, joined, first, waits, is_well, verdicts)
+
+        def results(given):
+            return [*theirs(given), *(outcome(rt, it, verdicts) for it in mine)]
+
+        return results, known
+
+    rt.edits_of, rt.add_edits = all_edits_of, add_all
+    return verdicts
+
+
+def add_groups(rt, tasks, crate, groups, first, waits, is_well, verdicts):
+    """Adds the tasks that try a crate's edits, which are joined in these groups: what they begin with, each group, and the end."""
+    seed, lines, needs, keys = (crate.name, "seed", "joined"), crate.count(rb"\n"), rt.OVER * rt.need(crate), []
+
+    def begin(given, jobs):
+        return edit_checks.begun(rt, crate, jobs) if all(given[it] for it in first) else None
+
+    def one(given, jobs, group):
+        if given[seed] and is_well(given, len(group)):
+            verdicts.update(given[seed].tried(group))
+
+    def end(given, jobs):
+        if given[seed] and not given[seed].ended():
+            verdicts.update({it: (edit_checks.NO_VERDICT, "what the tries begin with was changed") for group in groups for it in group})
+
+    tasks[seed] = (first, 0, rt.need(crate), begin)
+    for number, group in enumerate(groups):
+        keys.append((crate.name, "edits", f"joined {number}"))
+        tasks[keys[-1]] = ([*waits, seed], lines, needs, lambda given, jobs, group=group: one(given, jobs, group))
+    tasks[crate.name, "sound", "joined"] = ([seed, *keys], 0, 0, end)
+
+
+def outcome(rt, edit, verdicts):
+    """What an edit came to, as `rt ci` counts it, and what to say."""
+    is_refused, line = edit_checks.told(edit, verdicts.get(edit, (edit_checks.NO_VERDICT, "it was not tried")))
+    return rt.REFUSED if is_refused else rt.MISSED, line
 
 
 class Statements:
