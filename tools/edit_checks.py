@@ -40,7 +40,7 @@ def kind_of(goal, said, own_names):
         return "condition" if goal.partition("-")[0] in own_names else "safety"
     if re.match(r"returns|clause", goal):
         return "clause"
-    if re.match(r"loop-|invariant", goal) or "invariant" in said or "ghost fields" in said:
+    if re.match(r"loop-|invariant|\S+-(preserved|init)\b", goal) or "invariant" in said or "ghost fields" in said:
         return "invariant"
     return "condition" if goal else ""
 
@@ -78,14 +78,12 @@ def reasons_in(lines, own_names):
 
 
 def said_of(found, place):
-    """What was said against the function at this place."""
+    """What was said against the function at this place. A method is named by its type, wherever that is."""
     file, function, owner = place
     module = file.removeprefix("src/").removesuffix(".rt").replace("/", "::")
-    names = [it for it in found if f"::{it}".endswith(f"::{owner}::{function}" if owner else f"::{function}")]
-    near = [it for it in names if it == f"{module}::{function}" or owner]
-    if module == "lib" and not owner:
-        near = [function] if function in names else []
-    return [reason for name in near or names for reason in found[name]]
+    own = f"{module}::{function}" if module not in ("lib", "main") else function
+    names = [it for it in found if f"::{it}".endswith(f"::{owner}::{function}")] if owner else [own] if own in found else []
+    return [reason for name in names for reason in found[name]]
 
 
 def judged(reasons):

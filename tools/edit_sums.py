@@ -143,10 +143,10 @@ def sum_of(rtlib, edit, known):
     return hashlib.sha256(f"{sum_of_sources(rtlib, edit.crate, known)} {edit.text()}".encode()).hexdigest()[:32]
 
 
-def tried(path=TRIED):
+def tried():
     """What each edit came to when it was tried last, by its crate and name: the sum, and what refused it."""
     found = {}
-    with open(path, encoding="utf-8") as it:
+    with open(TRIED, encoding="utf-8") as it:
         for line in it:
             if line.strip() and not line.startswith("#"):
                 name, sum, *why = line.split()
@@ -154,8 +154,10 @@ def tried(path=TRIED):
     return found
 
 
-def note_tried(rows, path=TRIED):
-    """Writes these rows, by the crate's and the edit's name, into a list; those of other edits stay, if there still are such edits."""
+def note_tried(rows, path=""):
+    """Writes these rows, by the crate's and the edit's name, into the list, or into a copy of it at this path; those of other edits stay,
+    if there still are such edits."""
+    path = path or TRIED
     with open(TRIED, encoding="utf-8") as it:
         head = [line for line in it if line.startswith("#")]
     kept = {**tried(), **rows}

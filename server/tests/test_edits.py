@@ -1,0 +1,247 @@
+"""That tools/edits.py, tools/edit_sums.py and tools/edit_checks.py read wrong bodies, join those of different functions, know after which
+changes one has to be tried again, and take no refusal for one of a clause that is none."""
+
+import os
+import sys
+import tempfile
+import textwrap
+import types
+import unittest
+
+from harness import TOP
+
+sys.path.insert(0, os.path.join(TOP, "tools"))
+
+import edit_checks  # noqa: E402
+import edit_sums  # noqa: E402
+import edits  # noqa: E402
+
+LOW = """\
+    /// Adds.
+    pub fn add(a: u32, b: u32) -> u64
+        ensures { result ≡ a + b }
+    {
+        let sum = a as u64;
+        sum + b as u64
+    }
+
+    fn hidden() -> u32 {
+        7
+    }
+
+    pub const fn seven() -> u32 {
+        7
+    }
+
+    impl Reader for Pair {
+        fn first(&self) -> u32
+            ensures { result ≡ self.now.first }
+        {
+            self.first
+        }
+    }
+    """
+LEMMAS = """\
+    use Rattle.std.proofs.Common.{◌≡◌, ℕ, refl, sym}
+    use Rattle.std.proofs.Math.Nat.{add_comm}
+
+    -- what a sum is
+    abbrev pub Sum : ℕ → ℕ → Type 0
+    Sum a b = a ≡ b
+
+    pub turned : (a b : ℕ) → a ≡ b → b ≡ a
+    turned a b e =
+        sym e
+
+    helper : (a : ℕ) → a ≡ a
+    helper a = refl
+    """
+HIGH = """\
+    pub fn twice(a: u32) -> u64
+        ensures { result ≡ a + a }
+    {
+        low::add(a, a)
+    }
+
+    pub fn thrice(a: u32) -> u64 {
+        twice(a) + a as u64
+    }
+    """
+EDITS = """\
+    # for readers
+    edit: adds_once
+    promise: a number is added twice
+    file: src/lib.rt
+    old: low::add(a, a)
+    new: low::add(a, 0)
+
+    edit: adds_twice
+    promise: a number is added three times
+    file: src/lib.rt
+    old: twice(a) + a as u64
+    new: twice(a)
+
+    edit: adds_nothing
+    promise: a number is added twice
+    file: src/lib.rt
+    old: low::add(a, a)
+    new: 0
+
+    edit: another_twice
+    promise: twice says what it answers
+    file: src/lib.rt
+    old: ensures { result ≡ a + a }
+    new: ensures { result ≡ a }
+    """
+
+
+class Tree(unittest.TestCase):
+    """A crate `high` above a crate `low`, with four edits."""
+
+    def setUp(self):
+        room = tempfile.TemporaryDirectory()
+        self.addCleanup(room.cleanup)
+        self.top = room.name
+        for path, text in (("low/src/lib.rt", LOW), ("low/proofs/Lib.antt", "    pub mod Sums\n    mod Own\n"), ("low/proofs/Sums.antt", LEMMAS),
+                           ("low/proofs/Own.antt", LEMMAS), ("high/src/lib.rt", HIGH), ("high.edits", EDITS)):
+            os.makedirs(os.path.dirname(f"{self.top}/{path}"), exist_ok=True)
+            self.write(path, textwrap.dedent(text))
+        self.write("KIT-ID", "kit 1 logic abc\n")
+        low = types.SimpleNamespace(name="low", folder=f"{self.top}/low", said={}, deps=[])
+        self.high = types.SimpleNamespace(name="high", folder=f"{self.top}/high", said={}, deps=[low])
+        self.rtlib = types.SimpleNamespace(KIT=self.top, files_of=self.files_of)
+        self.addCleanup(setattr, edits, "FOLDER", edits.FOLDER)
+        edits.FOLDER = self.top
+
+    def write(self, path, text):
+        with open(f"{self.top}/{path}", "w", encoding="utf-8") as file:
+            file.write(text)
+
+    @staticmethod
+    def files_of(folder):
+        return sorted(os.path.join(at, name) for at, _, names in os.walk(folder) for name in names)
+
+    def edits(self):
+        return edits.read(self.high)[0]
+
+    def sums(self):
+        return [edit_sums.sum_of(self.rtlib, it, {}) for it in self.edits()]
+
+    def changed(self, path, old, new):
+        """How many of the edits have another sum after this change, which is undone."""
+        before = self.sums()
+        with open(f"{self.top}/{path}", encoding="utf-8") as file:
+            text = file.read()
+        self.assertEqual(text.count(old), 1, old)
+        self.write(path, text.replace(old, new))
+        after = self.sums()
+        self.write(path, text)
+        return sum(a != b for a, b in zip(before, after))
+
+
+class Reading(Tree):
+    def test_edits_are_read_with_their_promises(self):
+        found, faults = edits.read(self.high)
+        self.assertEqual(faults, [])
+        self.assertEqual([(it.name, it.promise) for it in found][:2], [("adds_once", "a number is added twice"), ("adds_twice", "a number is added three times")])
+        self.assertEqual(found[0].pairs, [("src/lib.rt", "low::add(a, a)", "low::add(a, 0)")])
+
+    def test_what_is_wrong_with_the_file_is_told(self):
+        self.write("high.edits", "edit: a\nfile: src/lib.rt\nold: x\nnew: y\nodd line\n\nedit: a\npromise: p\n")
+        self.assertEqual(edits.read(self.high)[1], ["line 5 cannot be read: odd line", "a is there twice", "a names no promise", "a has no pair of texts"])
+
+    def test_an_edit_that_cannot_be_applied_says_why(self):
+        for old, new, file, why in (("none", "x", "src/lib.rt", "0 times"), ("u64", "x", "src/lib.rt", "3 times"), ("twice(a)", "twice(a)", "src/lib.rt", "nothing"),
+                                    ("x", "y", "src/no.rt", "no file"), ("x", "y", "../low/src/lib.rt", "no file below")):
+            edit = edits.Edit(self.high, "it")
+            edit.pairs = [(file, old, new)]
+            self.assertIn(why, edits.apply(edit, {})[0], old)
+
+    def test_edits_of_different_functions_are_joined(self):
+        groups = [[it.name for it in group] for group in edits.groups_of(self.edits(), 24)]
+        self.assertEqual(groups, [["adds_once", "adds_twice"], ["adds_nothing"], ["another_twice"]])
+        self.assertEqual([len(it) for it in edits.groups_of(self.edits(), 1)], [1, 1, 1, 1])
+
+    def test_a_method_is_of_its_type(self):
+        text = textwrap.dedent(LOW)
+        self.assertEqual(edits.body_at(text, text.index("self.first\n")), ("first", "PairReader"))
+        self.assertIsNone(edits.body_at(text, text.index("self.now.first")))
+
+
+class Sums(Tree):
+    def test_what_no_check_reads_changes_no_sum(self):
+        for path, old, new in (("low/src/lib.rt", "let sum = a as u64;", "let sum = 0 + a as u64;"), ("low/src/lib.rt", "    7\n}\n\npub const", "    8\n}\n\npub const"),
+                               ("low/src/lib.rt", "            self.first\n".replace("    ", "", 1), "        (self.first)\n"), ("low/src/lib.rt", "/// Adds.", "/// Adds up."),
+                               ("low/src/lib.rt", "fn hidden() -> u32", "fn hidden() -> u64"), ("low/proofs/Sums.antt", "    sym e", "    sym (sym (sym e))"),
+                               ("low/proofs/Sums.antt", "helper a = refl", "helper a = sym refl"), ("low/proofs/Sums.antt", "Nat.{add_comm}", "Nat.{add_comm, add_assoc}"),
+                               ("low/proofs/Sums.antt", "-- what a sum is", "-- a sum"), ("low/proofs/Own.antt", "(a b : ℕ) →", "(b a : ℕ) →"),
+                               ("low/proofs/Lib.antt", "mod Own", "mod Own\nmod Mine"), ("high/src/lib.rt", "pub fn twice", "// a remark\npub fn twice")):
+            with self.subTest(path=path, new=new):
+                self.assertEqual(self.changed(path, old, new), 0)
+
+    def test_a_statement_below_changes_every_sum(self):
+        for path, old, new in (("low/src/lib.rt", "ensures { result ≡ a + b }", "ensures { result ≡ b + a }"), ("low/src/lib.rt", "pub fn add(a: u32", "pub fn add(a: u8"),
+                               ("low/src/lib.rt", "pub const fn seven() -> u32 {\n    7", "pub const fn seven() -> u32 {\n    8"), ("low/src/lib.rt", "self.now.first }", "self.now.second }"),
+                               ("low/proofs/Sums.antt", "Sum a b = a ≡ b", "Sum a b = b ≡ a"), ("low/proofs/Sums.antt", "→ b ≡ a", "→ a ≡ b"), ("KIT-ID", "abc", "abd")):
+            with self.subTest(path=path, new=new):
+                self.assertEqual(self.changed(path, old, new), 4)
+
+    def test_the_own_text_changes_every_sum_and_an_edit_its_own(self):
+        self.assertEqual(self.changed("high/src/lib.rt", "twice(a) + a as u64", "a as u64 + twice(a)"), 4)
+        self.assertEqual(self.changed("high.edits", "new: twice(a)\n", "new: thrice(a)\n"), 1)
+        self.assertEqual(self.changed("high.edits", "promise: a number is added three times", "promise: three times a number is added"), 0)
+
+    def test_an_edit_with_its_sum_is_left_out(self):
+        path = f"{self.top}/tried.txt"
+        self.addCleanup(setattr, edit_sums, "TRIED", edit_sums.TRIED)
+        edit_sums.TRIED = path
+        self.write("tried.txt", "# head\nhigh/gone 1 clause returns\n")
+        known = {}
+        edit_sums.note_tried({"high/adds_once": (edit_sums.sum_of(self.rtlib, self.edits()[0], known), "clause", "returns")})
+        with open(path, encoding="utf-8") as file:
+            self.assertEqual([it.split()[0] for it in file], ["#", "high/adds_once"])
+        self.assertEqual([it.name for it in edit_sums.untried(self.rtlib, [self.high])["high"]], ["adds_twice", "adds_nothing", "another_twice"])
+
+
+class Verdicts(unittest.TestCase):
+    PLACE = "src/counts.rt", "count", ""
+
+    def told(self, *lines):
+        return edit_checks.judged(edit_checks.said_of(edit_checks.reasons_in(lines, {"follow"}), self.PLACE))
+
+    def test_a_goal_of_the_function_refuses(self):
+        note = "note: src/counts.rt:4:9: it is not proved that %s (`%s` in the answers)"
+        for goal, kind in (("returns-in-Ok-clause-said", "clause"), ("loop-i-preserved", "invariant"), ("cuts-preserved", "invariant"), ("follow-requires-clause-onward", "condition"),
+                           ("push-requires", "safety"), ("overflow-add", "safety"), ("index-2", "safety")):
+            self.assertEqual(self.told(note % ("it holds", goal), "fn high::counts::count: not proved"), (kind, goal))
+        self.assertEqual(self.told("fn high::counts::count: no proof: search did not prove `returns`"), ("clause", "returns"))
+
+    def test_what_is_said_of_another_function_does_not_count(self):
+        note = "note: src/counts.rt:4:9: it is not proved that it holds (`returns` in the answers)"
+        self.assertEqual(self.told(note, "fn high::counts::other: not proved", "fn high::counts::count: no proof: it calls high::counts::other, which is not proved"), ("", ""))
+        self.assertEqual(self.told(note, "fn high::others::count: not proved"), ("", ""))
+        self.assertEqual(self.told(note, "fn high::others::count: not proved", "fn high::counts::count: not proved"), ("", ""))
+
+    def test_a_name_that_a_proof_misses_is_no_clause(self):
+        line = "proofs/counts/count/Answers.antt:3:5: error: `returns`: the type has no field `n`"
+        self.assertEqual(self.told(line)[0], "name")
+        for kind in edit_checks.LITTLE:
+            self.assertFalse(edit_checks.told("high/it", (kind, "goal"))[0], kind)
+        for kind in edit_checks.TELLS:
+            self.assertTrue(edit_checks.told("high/it", (kind, "goal"))[0], kind)
+
+
+class Files(unittest.TestCase):
+    def test_each_edit_of_the_tree_names_its_promise(self):
+        folders = sorted(os.listdir(f"{TOP}/crates"))
+        names = [it.removesuffix(".edits") for it in sorted(os.listdir(f"{TOP}/wrong")) if it.endswith(".edits")]
+        self.assertGreater(len(names), 30)
+        for name in names:
+            self.assertIn(name, folders)
+            found, faults = edits.read(types.SimpleNamespace(name=name, folder=f"{TOP}/crates/{name}"))
+            self.assertEqual(faults, [], name)
+            self.assertEqual([(it.name, why) for it in found for why in [edits.apply(it, {})[0]] if why], [], name)
+
+
+if __name__ == "__main__":
+    unittest.main()
