@@ -3,6 +3,7 @@
 import importlib
 import inspect
 import os
+import shutil
 import subprocess
 import sys
 import tempfile
@@ -123,6 +124,19 @@ class Annotations(unittest.TestCase):
     def test_they_can_be_read(self):
         for function in self.functions():
             typing.get_type_hints(function)
+
+    @unittest.skipUnless(shutil.which("mypy"), "mypy is not installed")
+    def test_a_list_of_texts_is_several_servers(self):
+        program = ('from wozgirt import Lock, Session, aio\nservers: list[str] = ["/a", "/b"]\n'
+                   'Lock(servers, "a")\nSession(servers)\naio.Lock(servers, "a")\n')
+        with tempfile.TemporaryDirectory() as folder:
+            path = os.path.join(folder, "uses.py")
+            with open(path, "w", encoding="ascii") as file:
+                file.write(program)
+            ran = subprocess.run(["mypy", "--strict", "--cache-dir", folder, path], capture_output=True, text=True, check=False,
+                                 env=dict(os.environ, MYPYPATH=PYTHON))
+        self.assertIn("checked 1 source file", ran.stdout)
+        self.assertNotIn("uses.py:", ran.stdout)
 
 
 class Wheel(unittest.TestCase):

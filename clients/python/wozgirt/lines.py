@@ -129,7 +129,7 @@ def place(given: Place) -> Union[str, Tuple[str, int]]:
 def places(given: Places) -> List[Union[str, Tuple[str, int]]]:
     """One server or several: a text is cut at each comma after which another place begins, with tcp:, / or ./."""
     if isinstance(given, (tuple, os.PathLike)):
-        return [place(given)]
+        return [place(given)]  # type: ignore[arg-type]  # a tuple is host and port
     pieces = re.split(",(?=tcp:|/|[.]/)", given) if isinstance(given, str) else given
     if not pieces:
         raise ValueError("no server")
