@@ -31,6 +31,8 @@ import edits
 import kit
 
 TOP = kit.TOP
+# What the check of a crate keeps: the libraries below are statements
+KEPT = "out/over-statements"
 
 
 def gate():
@@ -87,8 +89,14 @@ def checked(rt, crate, flags):
     """Checks the crate, with its tests if it has some, over what such a check kept; whether it is proved."""
     tests = ["--test"] * crate.has_tests()
     jobs = [] if any(it.startswith("--jobs") for it in flags) else ["--jobs", "2"]
-    words = [*crate.words([*jobs, *tests, *flags], keeps=False), "--incremental", "out/over-statements"]
+    words = [*crate.words([*jobs, *tests, *flags], keeps=False), "--incremental", KEPT]
     return not crate.call(rt.rtlib.RATTLE, "check", *words)
+
+
+def spent():
+    """The processor seconds of all checks so far."""
+    children = resource.getrusage(resource.RUSAGE_CHILDREN)
+    return children.ru_utime + children.ru_stime
 
 
 def tried(rt, crate, flags):
@@ -96,19 +104,24 @@ def tried(rt, crate, flags):
     that are as the checks end, so that the gate leaves them out until something changes."""
     chosen = edits.read(crate)[0] if "--all" in flags else edit_sums.untried(rt.rtlib, [crate]).get(crate.name, [])
     sums = {it: edit_sums.sum_of(rt.rtlib, it, {}) for it in chosen}
-    trial, is_well = edit_checks.begun(rt, crate, 2) if chosen else None, True
+    trial, is_well = edit_checks.begun(rt, crate, 2, f"{crate.folder}/{KEPT}") if chosen else None, True
     if chosen and not trial:
         print(f"{crate.name}: the crate as it stands is not proved, so no edit was tried")
         return False
     for group in edits.groups_of(chosen, edit_checks.MOST):
+        before = spent()
         verdicts = trial.tried(group)
+        print(f"{len(group)} joined: {(spent() - before) / len(group):.1f} processor seconds each", flush=True)
         for edit, verdict in verdicts.items():
             is_refused, line = edit_checks.told(edit, verdict)
             is_well = is_well and is_refused
             print(line, flush=True)
         same = {it for it in group if sums[it] == edit_sums.sum_of(rt.rtlib, it, {})}
         edit_sums.note_tried({str(it): (sums[it], *verdicts[it]) for it in same if verdicts[it][0] in edit_checks.TELLS})
-    return is_well and (trial is None or trial.ended())
+    if trial and not trial.ended():
+        print(f"{crate.name}: what the tries begin with was changed meanwhile, so remove what they noted", flush=True)
+        return False
+    return is_well
 
 
 def main(what="", *names):
@@ -132,11 +145,9 @@ def main(what="", *names):
             with open(f"{below.folder}/out/first.log", "w", errors="replace") as below.out:
                 if form.build(below, 2):
                     sys.exit(f"{below.name} is not proved: {os.path.relpath(below.folder)}/out/first.log says why")
-        before = resource.getrusage(resource.RUSAGE_CHILDREN)
+        before = spent()
         is_well = tried(rt, crate, flags) if what == "edits" else checked(rt, crate, flags) if what == "check" else proved(rt, crate, what == "tests")
-        spent = resource.getrusage(resource.RUSAGE_CHILDREN)
-        taken = spent.ru_utime + spent.ru_stime - before.ru_utime - before.ru_stime
-        print(f"{crate.name}: {what} {'well' if is_well else 'FAILED'}, {taken:.0f} processor seconds", flush=True)
+        print(f"{crate.name}: {what} {'well' if is_well else 'FAILED'}, {spent() - before:.0f} processor seconds", flush=True)
         failed += [crate.name] * (not is_well)
     return bool(failed)
 

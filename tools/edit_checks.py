@@ -156,9 +156,10 @@ class Trial:
         return kind, goals
 
 
-def begun(rt, crate, jobs):
-    """A trial over what a check of the crate as it stands keeps; none where the crate is not proved."""
-    room = rt.seeded(crate, ["--jobs", str(jobs)])
+def begun(rt, crate, jobs, kept=None):
+    """A trial over what a check of the crate as it stands keeps, which begins with what an earlier one kept in a folder; none where the
+    crate is not proved."""
+    room = rt.seeded(crate, ["--jobs", str(jobs)], kept if kept and os.path.isdir(kept) else None)
     return Trial(rt, crate, f"{room}/seed") if room else None
 
 

@@ -3,6 +3,7 @@
 A verdict rests on the edit's text, on the sources of its crate, on the kit's logic, and of the crates below on their statements. A
 check of a crate reads no body and no proof of those below: a definition is opaque to other crates unless it is marked `abbrev` or
 `unfoldable`. So these are left out of the sum, and a change of them has no edit of the crates above tried again."""
+import fcntl
 import hashlib
 import os
 import re
@@ -156,15 +157,19 @@ def tried():
 
 def note_tried(rows, path=""):
     """Writes these rows, by the crate's and the edit's name, into the list, or into a copy of it at this path; those of other edits stay,
-    if there still are such edits."""
-    path = path or TRIED
-    with open(TRIED, encoding="utf-8") as it:
-        head = [line for line in it if line.startswith("#")]
-    kept = {**tried(), **rows}
-    there = {f"{name}/{edit}" for name in sorted({it.partition("/")[0] for it in kept}) for edit in names_in(name)}
-    with open(f"{path}.new", "w", encoding="utf-8") as it:
-        it.writelines([*head, *(f"{name} {' '.join(kept[name])}\n" for name in sorted(kept) if name in there)])
-    os.replace(f"{path}.new", path)
+    if there still are such edits. One command at a time does it."""
+    path, folder = path or TRIED, os.open(os.path.dirname(TRIED), os.O_RDONLY)
+    try:
+        fcntl.flock(folder, fcntl.LOCK_EX)
+        with open(TRIED, encoding="utf-8") as it:
+            head = [line for line in it if line.startswith("#")]
+        kept = {**tried(), **rows}
+        there = {f"{name}/{edit}" for name in sorted({it.partition("/")[0] for it in kept}) for edit in names_in(name)}
+        with open(f"{path}.new", "w", encoding="utf-8") as it:
+            it.writelines([*head, *(f"{name} {' '.join(kept[name])}\n" for name in sorted(kept) if name in there)])
+        os.replace(f"{path}.new", path)
+    finally:
+        os.close(folder)
 
 
 def names_in(crate):
