@@ -6,15 +6,15 @@ use Rattle.held_locks.specs.Kept.{LockView, AreKept}
 use Rattle.line_service.specs.Notes.{ToldLinesAreNoted}
 use Rattle.line_service.specs.Segments.{Moment, HasBegun}
 use Rattle.folder_of_locks.specs.Folders.{Place}
-use Rattle.lock_service.specs.declared.service.Terms.{Terms}
-use Rattle.lock_service.specs.Segments.{content_of}
+use Rattle.lock_journal.specs.declared.terms.Terms.{Terms}
+use Rattle.lock_journal.specs.Segments.{content_of}
 use Rattle.lock_service.specs.Serving.{IsServed}
-use Rattle.lock_service.specs.Begun.{HaveBegun}
-use Rattle.lock_service.specs.KeysBack.{IsSound}
-use Rattle.lock_service.specs.Runs.{Service, answering, by_segments, inside, IsPlain}
-use Rattle.lock_service.proofs.SoundKeys.{fresh_is_sound}
-use Rattle.lock_service.proofs.Stages.{parts_are_stages}
-use Rattle.lock_service.proofs.PutSegments.{put_segments_are_stages}
+use Rattle.lock_journal.specs.Begun.{HaveBegun}
+use Rattle.lock_journal.specs.KeysBack.{IsSound}
+use Rattle.lock_life.specs.Runs.{Service, answering, by_segments, inside, IsPlain}
+use Rattle.lock_journal.proofs.SoundKeys.{fresh_is_sound}
+use Rattle.lock_life.proofs.Stages.{parts_are_stages}
+use Rattle.lock_life.proofs.PutSegments.{put_segments_are_stages}
 use Rattle.tool_parts.specs.declared.requests.LocksWords.{LocksWords}
 use Rattle.lock_commands.specs.Locks.{folder_of, terms_of, BeginsWith, HasStarted}
 use Rattle.lock_commands.specs.Life.{IsLived}

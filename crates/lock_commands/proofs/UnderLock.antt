@@ -17,7 +17,7 @@ use Rattle.line_service.specs.Service.{Part, AreParts}
 use Rattle.tool_parts.specs.declared.requests.LocksWords.{LocksWords}
 use Rattle.tool_parts.specs.Locking.{IsLocked, StandsLocked}
 use Rattle.tool_parts.proofs.LockedFolders.{Stands, stands_locked, same_locked, put_locked, settled_locked, if_held}
-use Rattle.lock_service.specs.Runs.{Service, answering, by_segments}
+use Rattle.lock_life.specs.Runs.{Service, answering, by_segments}
 use Rattle.lock_commands.specs.Locks.{folder_of, list_of, HasStarted, IsRun, IsRunRefused, AreUnderLock, StaysLocked}
 use Rattle.tool_parts.specs.declared.faults.ToolError.{ToolError}
 use Rattle.lock_commands.proofs.ServedLocked.{ChangesNoFile}

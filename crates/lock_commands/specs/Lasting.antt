@@ -8,7 +8,7 @@ use Rattle.line_service.specs.Lasting.{EachSegmentLasts}
 use Rattle.tool_parts.specs.declared.requests.LocksWords.{LocksWords}
 use Rattle.tool_parts.specs.Locking.{IsLocked}
 use Rattle.tool_parts.specs.Worlds.{World, IsUnserved}
-use Rattle.lock_service.specs.Runs.{Service, answering, by_segments}
+use Rattle.lock_life.specs.Runs.{Service, answering, by_segments}
 use Rattle.lock_commands.specs.HoldersFile.{holders_word, AreHoldersOf}
 use Rattle.lock_commands.specs.Locks.{folder_of, list_of, HasStarted}
 

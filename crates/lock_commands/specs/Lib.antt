@@ -1,6 +1,7 @@
 pub mod Refusals
 pub mod HoldersFile
 pub mod Totals
+pub mod Serving
 pub mod Locks
 pub mod NamesStarted
 pub mod NameRuns

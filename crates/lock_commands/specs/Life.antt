@@ -6,7 +6,7 @@ use Rattle.folder_of_locks.specs.Folders.{Place, AreStarted}
 use Rattle.line_service.specs.Segments.{Moment, IsPut}
 use Rattle.line_service.specs.Service.{all_said}
 use Rattle.line_service.specs.Notes.{ToldLinesAreNoted}
-use Rattle.lock_service.specs.Runs.{Service, answering, by_segments, inside, lines_in, IsInStages, moment_after}
+use Rattle.lock_life.specs.Runs.{Service, answering, by_segments, inside, lines_in, IsInStages, moment_after}
 use Rattle.tool_parts.specs.declared.requests.LocksWords.{LocksWords}
 use Rattle.tool_parts.specs.Locking.{IsLocked}
 use Rattle.tool_parts.specs.Worlds.{World, IsUnserved}
@@ -17,7 +17,7 @@ use Rattle.lock_commands.specs.Locks.{folder_of, list_of, HasStarted}
 -- the output has a prefix of what was said, and nothing else. If no answer was lost up to the last
 -- of them, they are stages of a life of locks, which begins with the locks that start, by their
 -- names: a `Run` of
--- `specs/OneLife.antt` of `lock_service`, once it is known what was left of it; also where the run ended
+-- `specs/OneLife.antt` of `lock_life`, once it is known what was left of it; also where the run ended
 -- when the file of the next segment had been put there.
 pub record IsLived (words : LocksWords) (start : Place) (files : Option Held)
     (was is old new : Option (List ℕ)) : Type 0 where

@@ -5,34 +5,31 @@ use Rattle.std.specs.Option.{option_map}
 use Rattle.std.specs.Io.KnownBytes.{Appends}
 use Rattle.disks.specs.Held.{Held, Replaces}
 use Rattle.line_service.specs.SegmentNames.{segment_file}
-use Rattle.line_service.specs.declared.faults.LoopFault.{LoopFault}
-use Rattle.line_service.specs.declared.faults.LoopFault.TheVariants as loop
 use Rattle.folder_of_locks.specs.Holders.{Hold}
 use Rattle.held_locks.specs.Kept.{LockView}
 use Rattle.lock_protocol.specs.Names.{Names}
 use Rattle.folder_of_locks.specs.declared.faults.StartFault.{StartFault}
 use Rattle.folder_of_locks.specs.Folders.{Place, AreStarted, AreUnstarted}
 use Rattle.lock_service.specs.declared.service.LockService.{LockService}
-use Rattle.lock_service.specs.declared.service.Stage.TheVariants as stage
-use Rattle.lock_service.specs.declared.service.Terms.{Terms}
-use Rattle.lock_service.specs.Counting.{IsStart}
-use Rattle.lock_service.specs.Runs.{Service, answering, by_segments}
-use Rattle.lock_service.specs.Serving.{is_past, stage_after}
+use Rattle.lock_journal.specs.declared.stages.Stage.TheVariants as stage
+use Rattle.lock_journal.specs.declared.terms.Terms.{Terms}
+use Rattle.lock_journal.specs.Counting.{IsStart}
+use Rattle.lock_life.specs.Runs.{Service, answering, by_segments}
+use Rattle.lock_journal.specs.Stages.{is_past, stage_after}
 use Rattle.line_service.specs.declared.segmented.EndFault.{EndFault}
 use Rattle.line_service.specs.Segments.{Moment, HasBegun, IsFileUnbegun}
-use Rattle.line_service.specs.Service.{Part, ServesSegments, ServesSomeSegments, IsFaultOf}
-use Rattle.line_service.specs.Notes.{ToldLinesAreNoted}
+use Rattle.line_service.specs.Service.{Part, ServesSegments}
 use Rattle.line_replica.specs.Running.{at_place}
-use Rattle.lock_service.specs.Begun.{HaveBegun}
+use Rattle.lock_journal.specs.Begun.{HaveBegun}
 use Rattle.tool_parts.specs.declared.requests.LocksWords.{LocksWords}
 use Rattle.tool_parts.specs.declared.faults.ToolError.{ToolError}
 use Rattle.tool_parts.specs.declared.faults.ToolError.TheVariants as tool
-use Rattle.tool_parts.specs.Worlds.{IsUnserved}
+use Rattle.tool_parts.specs.Worlds.{IsUnserved, World}
 use Rattle.tool_parts.specs.Locking.{IsLocked, StandsLocked, IsLockLeft, IsUnkeptFolder}
-use Rattle.tool_parts.specs.Worlds.{World}
-use Rattle.lock_commands.specs.Refusals.{IsStartName, IsBeginName, IsLoopName, IsListIf, IsNoListFor}
+use Rattle.lock_commands.specs.Refusals.{IsStartName, IsBeginName, IsListIf, IsNoListFor}
 use Rattle.lock_commands.specs.HoldersFile.{holders_word, name_of, AreHoldersOf, HasNoHolders}
 use Rattle.lock_commands.specs.Totals.{total_line, IsUntold}
+use Rattle.lock_commands.specs.Serving.{AreNotAllServed}
 
 -- the folder, and the list of locks, by the words
 abbrev pub folder_of : LocksWords → List ℕ
@@ -132,28 +129,6 @@ IsUnbegun words start before after e =
     (by_segments.text service start.number start.behind) before after
     × ((why : EndFault) × IsBeginName (folder_of words) why e))
 
--- Some lines were answered, and then there was this fault. Whatever was delivered is noted.
-pub record IsBroken (words : LocksWords) (first : Moment Service) (after : Option Held)
-    (was is old new : Option (List ℕ)) (e : ToolError) : Type 0 where
-  pub why : LoopFault
-  pub end : Service
-  pub journal : Option (List ℕ)
-  pub served : ServesSomeSegments answering by_segments (folder_of words) first end after was is old
-      new
-  pub noted : ToldLinesAreNoted answering by_segments (folder_of words) first end was is old new
-      journal
-  pub long : IsFaultOf why was is
-  pub named : IsLoopName (folder_of words) why e
-
--- all lines were answered, and the last segment cannot be settled: that changed no file
-abbrev pub IsUnsettled : LocksWords → Moment Service → Option Held → Option (List ℕ)
-    → Option (List ℕ) → Option (List ℕ) → Option (List ℕ) → ToolError → Type 0
-IsUnsettled words first after was is old new e =
-    (last : Moment Service)
-    × ServesSegments answering by_segments (folder_of words) first last was is old new
-    × (after ≡ last.files)
-    × IsLoopName (folder_of words) loop.Journal e
-
 -- the locks that start here are not served to the end
 abbrev pub IsRunRefused : LocksWords → Place → Option Held → Option Held → Option (List ℕ)
     → Option (List ℕ) → Option (List ℕ) → Option (List ℕ) → ToolError → Type 0
@@ -161,8 +136,7 @@ IsRunRefused words start before after was is old new e =
     (IsUnserved was is old new × IsUnbegun words start before after e)
     ⊎ ((first : Moment Service)
     × HasStarted words start before first
-    × (IsBroken words first after was is old new e
-    ⊎ IsUnsettled words first after was is old new e))
+    × AreNotAllServed answering by_segments (folder_of words) first after was is old new e)
 
 -- the locks of the folder do not start, and only the lock of the folder was made
 abbrev pub IsStartRefused : LocksWords → List Hold → Option Held → Option Held → ToolError

@@ -8,8 +8,7 @@ use Rattle.line_service.specs.declared.faults.LoopFault.{LoopFault}
 use Rattle.line_service.specs.declared.faults.LoopFault.TheVariants as loop
 use Rattle.line_service.specs.declared.segmented.EndFault.{EndFault}
 use Rattle.line_service.specs.Segments.{Moment, IsBegun, IsFileUnbegun}
-use Rattle.line_service.specs.Service.{Part, ServesSegments, ServesSomeSegments, IsFaultOf}
-use Rattle.line_service.specs.Notes.{ToldLinesAreNoted}
+use Rattle.line_service.specs.Service.{Part, ServesSegments, ServesSomeSegments}
 use Rattle.folder_of_locks.specs.Holders.{Hold}
 use Rattle.folder_of_locks.specs.declared.faults.StartFault.{StartFault}
 use Rattle.folder_of_locks.specs.NameFolders.{NamePlace, AreNamesStarted, AreNamesUnstarted}
@@ -20,6 +19,7 @@ use Rattle.tool_parts.specs.Worlds.{World, IsUnserved}
 use Rattle.lock_commands.specs.Refusals.{IsStartName, IsBeginName, IsLoopName, IsPooledListIf, IsNoPooledListFor}
 use Rattle.lock_commands.specs.HoldersFile.{holders_word, name_of, AreHoldersOf, HasNoHolders}
 use Rattle.lock_commands.specs.Totals.{total_line, IsUntold}
+use Rattle.lock_commands.specs.Serving.{AreNotAllServed}
 use Rattle.lock_commands.specs.Locks.{folder_of, list_of}
 use Rattle.lock_commands.specs.NamesStarted.{NamesService, names_answering, names_by_segments, NamesBeginWith, names_begin, IsPutAgain, ServesNothing, NamesHaveStarted}
 
@@ -122,28 +122,6 @@ AreNamesUnbegun words start before after e =
     × NamesBeginWith words (is_some lines) start.names start.size service
     × HasNotBegunFrom (folder_of words) start.number start.behind lines service before after e)
 
--- Some lines were answered, and then there was this fault. Whatever was delivered is noted.
-pub record AreNamesBroken (words : LocksWords) (first : Moment NamesService)
-    (after : Option Held) (was is old new : Option (List ℕ)) (e : ToolError) : Type 0 where
-  pub why : LoopFault
-  pub end : NamesService
-  pub journal : Option (List ℕ)
-  pub served : ServesSomeSegments names_answering names_by_segments (folder_of words) first end
-      after was is old new
-  pub noted : ToldLinesAreNoted names_answering names_by_segments (folder_of words) first end was is
-      old new journal
-  pub long : IsFaultOf why was is
-  pub named : IsLoopName (folder_of words) why e
-
--- all lines were answered, and the last segment cannot be settled: that changed no file
-abbrev pub AreNamesUnsettled : LocksWords → Moment NamesService → Option Held
-    → Option (List ℕ) → Option (List ℕ) → Option (List ℕ) → Option (List ℕ) → ToolError → Type 0
-AreNamesUnsettled words first after was is old new e =
-    (last : Moment NamesService)
-    × ServesSegments names_answering names_by_segments (folder_of words) first last was is old new
-    × (after ≡ last.files)
-    × IsLoopName (folder_of words) loop.Journal e
-
 -- the names that start here are not served to the end
 abbrev pub IsNamesRunRefused : LocksWords → NamePlace → Option Held → Option Held
     → Option (List ℕ) → Option (List ℕ) → Option (List ℕ) → Option (List ℕ) → ToolError → Type 0
@@ -151,8 +129,8 @@ IsNamesRunRefused words start before after was is old new e =
     (IsUnserved was is old new × AreNamesUnbegun words start before after e)
     ⊎ ((first : Moment NamesService)
     × NamesHaveStarted words start before first
-    × (AreNamesBroken words first after was is old new e
-    ⊎ AreNamesUnsettled words first after was is old new e))
+    × AreNotAllServed names_answering names_by_segments (folder_of words) first after was is old new
+    e)
 
 -- the names of the folder do not start, and only the lock of the folder was made
 abbrev pub AreNamesStartRefused : LocksWords → List Hold → Option Held → Option Held → ToolError

@@ -8,9 +8,9 @@ use Rattle.ring_state.specs.Sizes.{Size}
 use Rattle.held_locks.specs.Kept.{lock_limit}
 use Rattle.lock_names.specs.Kept.{NamedView}
 use Rattle.folder_of_locks.specs.NameFolders.{NamePlace}
-use Rattle.lock_service.specs.declared.service.Stage.TheVariants as stage
-use Rattle.lock_service.specs.Segments.{segment_text}
-use Rattle.lock_service.specs.Serving.{stage_after}
+use Rattle.lock_journal.specs.declared.stages.Stage.TheVariants as stage
+use Rattle.lock_journal.specs.Segments.{segment_text}
+use Rattle.lock_journal.specs.Stages.{stage_after}
 use Rattle.name_service.specs.declared.service.NameService.{NameService}
 use Rattle.name_service.specs.declared.service.NameTerms.{NameTerms}
 use Rattle.name_service.specs.First.{IsNameStart}

@@ -20,6 +20,7 @@ ghost use Rattle.lock_commands.specs.NamesLasting.{IsWholeSince, NamesRunLasts, 
 use crate::holders::{holders_of, name_of};
 use crate::locks::terms_of;
 use crate::refusals::{begin_refusal, list_refusal, serving_refusal, start_refusal};
+use crate::serving::serve_all;
 use crate::totals::tell_totals;
 use disks::Disk;
 use folder_of_locks::{NameStart, NamedHold, read_folder_word, start_names};
@@ -27,7 +28,7 @@ use held_locks::LOCK_LIMIT;
 use line_replica::{Replica, Restorable};
 use line_service::{
     EndFault, OpenSegment, SegmentRules, Segmented, abandon_segment, begin_file, begin_segment,
-    close_segment, serve_segments,
+    serve_segments,
 };
 use lock_names::Names;
 use name_service::{NameService, NameTerms, named_text};
@@ -265,13 +266,9 @@ fn serve_from<'a, D: Disk, I: Read, W: Write>(
         Ok(first) => first,
         Err(fault) => return Err(fault),
     };
-    let last = match serve_segments(alloc, &mut service, disk, first, rules, input, out) {
-        Ok(last) => last,
-        Err(fault) => return Err(serving_refusal(fault, words.journal)),
-    };
-    match close_segment(disk, last) {
+    match serve_all(alloc, &mut service, disk, first, rules, input, out) {
         Ok(()) => Ok(service),
-        Err(_) => Err(ToolError::Save(words.journal)),
+        Err(fault) => Err(fault),
     }
 }
 

@@ -11,4 +11,5 @@ pub mod holds;
 pub mod lending;
 pub mod locks;
 mod refusals;
+mod serving;
 mod totals;

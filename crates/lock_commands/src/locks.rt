@@ -5,7 +5,7 @@ ghost use Rattle.std.specs.Option.{option_map};
 ghost use Rattle.saved_history.specs.Spelling.{Fits};
 ghost use Rattle.segment_files.specs.Spelling.{DigestFits};
 ghost use Rattle.held_locks.specs.Kept.{AreKept};
-ghost use Rattle.lock_service.specs.Segments.{content_of};
+ghost use Rattle.lock_journal.specs.Segments.{content_of};
 ghost use Rattle.folder_of_locks.specs.Folders.{place_of};
 ghost use Rattle.folder_of_locks.specs.Holders.{hold_of};
 ghost use Rattle.tool_parts.specs.Worlds.{world};
@@ -14,16 +14,17 @@ ghost use Rattle.lock_commands.specs.Locks.{terms_of, BeginsWith, IsRun, IsServe
 ghost use Rattle.lock_commands.specs.Lasting.{RunLasts, FolderLasts, ToldLocksLast};
 ghost use Rattle.disks.specs.Lasting.{outlives};
 ghost use Rattle.lock_commands.specs.Life.{RunLives, FolderLives, ToldLocksLive};
-ghost use Rattle.lock_service.specs.Begun.{HaveBegun};
+ghost use Rattle.lock_journal.specs.Begun.{HaveBegun};
 
 use crate::holders::{holders_of, name_of};
-use crate::refusals::{begin_refusal, list_refusal, serving_refusal, start_refusal};
+use crate::refusals::{begin_refusal, list_refusal, start_refusal};
+use crate::serving::serve_all;
 use crate::totals::tell_totals;
 use disks::Disk;
 use folder_of_locks::{NamedHold, Start, read_list_word, start_locks};
 use held_locks::Locks;
 use line_replica::{Replica, Restorable};
-use line_service::{SegmentRules, begin_segment, close_segment, serve_segments};
+use line_service::{SegmentRules, begin_segment};
 use lock_protocol::LockNames;
 use lock_service::{LockService, Terms};
 use std::alloc::Global;
@@ -107,13 +108,9 @@ fn serve_from<'a, D: Disk, I: Read, W: Write>(
         Ok(first) => first,
         Err(why) => return Err(begin_refusal(why, words.journal)),
     };
-    let last = match serve_segments(alloc, &mut service, disk, first, rules, input, out) {
-        Ok(last) => last,
-        Err(fault) => return Err(serving_refusal(fault, words.journal)),
-    };
-    match close_segment(disk, last) {
+    match serve_all(alloc, &mut service, disk, first, rules, input, out) {
         Ok(()) => Ok(service),
-        Err(_) => Err(ToolError::Save(words.journal)),
+        Err(fault) => Err(fault),
     }
 }
 

@@ -13,17 +13,20 @@ use Rattle.lock_protocol.specs.Names.{Names, lock_named}
 use Rattle.lock_protocol.proofs.Whole.{one_reading}
 use Rattle.line_service.specs.Stands.{stand}
 use Rattle.lock_service.specs.declared.service.LockService.{LockService}
-use Rattle.lock_service.specs.declared.service.Stage.{Stage}
-use Rattle.lock_service.specs.declared.service.Terms.{Terms}
-use Rattle.lock_service.specs.Asking.{one_ask, is_off}
-use Rattle.lock_service.specs.Noting.{lines_about, note_about, lines_of_left, notes_of_left}
-use Rattle.lock_service.specs.Due.{has_short}
-use Rattle.lock_service.specs.Counting.{SegmentView, IsCounted, count_about, count_of_all}
-use Rattle.lock_service.specs.Serving.{IsSaid, IsToldOf, IsToldOfLeave, IsToldOfNamed, IsTold, IsAnsweredIf, IsInputAnswered, IsLineAnswered, IsServed, is_past, stage_after}
+use Rattle.lock_journal.specs.declared.stages.Stage.{Stage}
+use Rattle.lock_journal.specs.declared.terms.Terms.{Terms}
+use Rattle.lock_journal.specs.Asking.{one_ask, is_off}
+use Rattle.lock_journal.specs.Noting.{lines_about, note_about, lines_of_left, notes_of_left}
+use Rattle.lock_journal.specs.Due.{has_short}
+use Rattle.lock_journal.specs.Counting.{SegmentView, IsCounted, count_about, count_of_all}
+use Rattle.lock_journal.specs.Answering.{IsSaid, IsToldOf, IsToldOfLeave, IsToldOfNamed, IsTold, IsAnsweredIf, IsInputAnswered, IsLineAnswered}
+use Rattle.lock_service.specs.Serving.{IsServed}
+use Rattle.lock_journal.specs.Stages.{is_past, stage_after}
 use Rattle.held_locks.specs.Kept.{answers_of}
 use Rattle.held_locks.proofs.Asking.{asked_long}
-use Rattle.lock_service.specs.Equal.{AreEqualLocks, AreEqualSegments, AreEqual, EqualLinesGiveEqualAnswers}
-use Rattle.lock_service.proofs.EqualLocks.{short_equal, note_equal, count_equal, notes_left_equal, count_left_equal, done_alike, asked_done, left_alike}
+use Rattle.lock_journal.specs.Equal.{AreEqualLocks, AreEqualSegments}
+use Rattle.lock_service.specs.Equal.{AreEqual, EqualLinesGiveEqualAnswers}
+use Rattle.lock_journal.proofs.EqualLocks.{short_equal, note_equal, count_equal, notes_left_equal, count_left_equal, done_alike, asked_done, left_alike}
 
 -- ---- what is counted
 

@@ -16,14 +16,15 @@ use Rattle.held_locks.specs.Queues.{Lock}
 use Rattle.held_locks.specs.Promises.{carries}
 use Rattle.held_locks.specs.Kept.{LockView, lock_of, locks_of, IsKeptRing, AreMade}
 use Rattle.held_locks.specs.Cuts.{IsNextOf, AreNext}
-use Rattle.lock_service.specs.declared.service.Terms.{Terms}
-use Rattle.lock_service.specs.Segments.{rings_of}
-use Rattle.lock_service.specs.Segmented.{limit_of}
+use Rattle.lock_journal.specs.declared.terms.Terms.{Terms}
+use Rattle.lock_journal.specs.Segments.{rings_of}
+use Rattle.lock_journal.specs.Stages.{limit_of}
 use Rattle.ring_service.specs.Texts.{segment_text}
-use Rattle.lock_service.specs.Equal.{AreEqualLocks, EqualSegmentsEndEqually}
-use Rattle.lock_service.proofs.Following.{some_is}
-use Rattle.lock_service.proofs.EqualRings.{book_is, made_same}
-use Rattle.lock_service.proofs.EqualLocks.{lock_equal, others_equal, not_none}
+use Rattle.lock_journal.specs.Equal.{AreEqualLocks}
+use Rattle.lock_service.specs.Equal.{EqualSegmentsEndEqually}
+use Rattle.lock_journal.proofs.Following.{some_is}
+use Rattle.lock_journal.proofs.EqualRings.{book_is, made_same}
+use Rattle.lock_journal.proofs.EqualLocks.{lock_equal, others_equal, not_none}
 
 -- ---- a ring
 

@@ -28,17 +28,18 @@ use Rattle.line_replica.proofs.Given.{own_at, own_forget, own_behind, own_of, re
 use Rattle.line_replica.proofs.Hearing.{is_tagged}
 use Rattle.lock_service.specs.declared.service.LockService.{LockService}
 use Rattle.lock_service.specs.Serving.{IsServed}
-use Rattle.lock_service.specs.Begun.{begun_text}
-use Rattle.lock_service.specs.KeysBack.{IsKept, IsRunning, IsKeepable, IsFresh, IsSound, at_last}
+use Rattle.lock_journal.specs.Begun.{begun_text}
+use Rattle.lock_journal.specs.KeysBack.{IsKept, IsRunning, IsKeepable, IsFresh, IsSound, at_last}
 use Rattle.lock_service.specs.Remarked.{begun_with_remarks, keepably, lines_of_remarks, IsBrought, RemarksBringBack}
 use Rattle.lock_service.specs.StateBack.{locks_in}
-use Rattle.lock_service.proofs.Heard.{IsOfKey, IsReadSo, read_so}
-use Rattle.lock_service.proofs.KeyLines.{key_tagged, spaced_short, first_digits}
-use Rattle.lock_service.proofs.KeysBack.{key_line_told, place_line_told, same_running, keys_come_back}
-use Rattle.lock_service.proofs.Longer.{served_lines_are_answered}
-use Rattle.lock_service.proofs.SoundKeys.{text_kept, did_is, own_kept, next_fits, grown_after, sound_stays, own_lines_are_lines}
+use Rattle.lock_journal.proofs.Heard.{IsOfKey, IsReadSo, read_so}
+use Rattle.lock_journal.proofs.KeyLines.{key_tagged, spaced_short, first_digits}
+use Rattle.lock_journal.proofs.KeysBack.{key_line_told, place_line_told, same_running, keys_come_back}
+use Rattle.lock_service.proofs.ServedLines.{served_lines_are_answered}
+use Rattle.lock_journal.proofs.SoundKeys.{text_kept, did_is, own_kept, next_fits, grown_after, sound_stays, own_lines_are_lines}
 use Rattle.lock_service.proofs.WholeTexts.{notes_of_lines}
-use Rattle.lock_service.proofs.WithoutRemarks.{lines_bring, all_end_once, parts, begun_ends, begun_no_hash, no_hash_noted}
+use Rattle.lock_service.proofs.WithoutRemarks.{lines_bring, begun_ends, begun_no_hash, no_hash_noted}
+use Rattle.lock_journal.proofs.WithoutRemarks.{all_end_once, parts}
 
 -- ---- what is heard of the line that takes a key away
 

@@ -6,10 +6,10 @@ use Rattle.lock_protocol.specs.Views.{Input}
 use Rattle.lock_protocol.specs.Views as input
 use Rattle.lock_protocol.specs.Asks as asks
 use Rattle.line_service.specs.Answering.{Answers}
-use Rattle.lock_service.specs.declared.service.Terms.{Terms}
-use Rattle.lock_service.specs.Asking.{one_ask, is_off}
-use Rattle.lock_service.specs.Counting.{SegmentView}
-use Rattle.lock_service.specs.Serving.{IsToldOfNamed, IsTold, IsAnsweredIf, IsInputAnswered, IsLineAnswered}
+use Rattle.lock_journal.specs.declared.terms.Terms.{Terms}
+use Rattle.lock_journal.specs.Asking.{one_ask, is_off}
+use Rattle.lock_journal.specs.Counting.{SegmentView}
+use Rattle.lock_journal.specs.Answering.{IsToldOfNamed, IsTold, IsAnsweredIf, IsInputAnswered, IsLineAnswered}
 
 module _ (old new : SegmentView) (said noted : List ℕ) where
   kept : new ≡ old → new.names ≡ old.names

@@ -23,12 +23,12 @@ use Rattle.lock_protocol.specs.Names.{Names, IsName, AreNames, name_spaced, name
 use Rattle.lock_protocol.proofs.NameTables.{name_there}
 use Rattle.lock_service.specs.declared.service.LockService.{LockService}
 use Rattle.lock_service.specs.Serving.{IsServed}
-use Rattle.lock_service.specs.State.{holds_from, wait_line, wait_lines, waits_from}
-use Rattle.lock_service.specs.KeysBack.{IsFresh}
+use Rattle.lock_journal.specs.State.{holds_from, wait_line, wait_lines, waits_from}
+use Rattle.lock_journal.specs.KeysBack.{IsFresh}
 use Rattle.lock_service.specs.WaitersBack.{IsOfBits, HaveState, holders_of, waiters_of, waiting_from}
 use Rattle.lock_service.specs.StateBack.{locks_in, names_in, HoldsAreFirst, StateComesBack}
-use Rattle.lock_service.proofs.KeyLines.{same_text, number_reads}
-use Rattle.lock_service.proofs.KeysBack.{keys_come_back}
+use Rattle.lock_journal.proofs.KeyLines.{same_text, number_reads}
+use Rattle.lock_journal.proofs.KeysBack.{keys_come_back}
 use Rattle.lock_service.proofs.WaitersBack.{waiters_come_back}
 use Rattle.lock_service.proofs.WaitingLines.{short}
 

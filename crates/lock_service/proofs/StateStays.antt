@@ -22,15 +22,15 @@ use Rattle.lock_protocol.specs.Views as input
 use Rattle.lock_protocol.specs.Asks as asks
 use Rattle.lock_protocol.specs.Asks.{heard}
 use Rattle.lock_protocol.specs.Inputs.{IsReadAs}
-use Rattle.lock_service.specs.declared.service.Terms.{Terms}
+use Rattle.lock_journal.specs.declared.terms.Terms.{Terms}
 use Rattle.held_locks.specs.Asked.{IsAnswerTo}
-use Rattle.lock_service.specs.Asking.{one_ask, is_off}
-use Rattle.lock_service.specs.Counting.{SegmentView}
-use Rattle.lock_service.specs.Serving.{IsToldOf, IsToldOfNamed, IsTold, IsAnsweredIf, IsInputAnswered}
+use Rattle.lock_journal.specs.Asking.{one_ask, is_off}
+use Rattle.lock_journal.specs.Counting.{SegmentView}
+use Rattle.lock_journal.specs.Answering.{IsToldOf, IsToldOfNamed, IsTold, IsAnsweredIf, IsInputAnswered}
 use Rattle.lock_service.specs.WaitersBack.{IsOfBits, HaveState, HavingStateStays}
-use Rattle.lock_service.proofs.Following.{some_is, also_there, lock_there, as_many, step_many}
-use Rattle.lock_service.proofs.KeysBack.{all_push}
-use Rattle.lock_service.proofs.LockLines.{left_many, order_small}
+use Rattle.lock_journal.proofs.Following.{some_is, also_there, lock_there, as_many, step_many}
+use Rattle.lock_journal.proofs.KeysBack.{all_push}
+use Rattle.lock_journal.proofs.LockLines.{left_many, order_small}
 use Rattle.lock_service.proofs.SameNames.{names_stay}
 
 -- ---- one lock

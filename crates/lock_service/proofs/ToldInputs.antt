@@ -4,10 +4,10 @@ use Rattle.held_locks.specs.Locks.{Ask}
 use Rattle.lock_protocol.specs.Views.{Input}
 use Rattle.lock_protocol.specs.Views as input
 use Rattle.lock_protocol.specs.Asks as asks
-use Rattle.lock_service.specs.declared.service.Terms.{Terms}
-use Rattle.lock_service.specs.Asking.{one_ask, is_off}
-use Rattle.lock_service.specs.Counting.{SegmentView}
-use Rattle.lock_service.specs.Serving.{IsTold, IsAnsweredIf, IsInputAnswered}
+use Rattle.lock_journal.specs.declared.terms.Terms.{Terms}
+use Rattle.lock_journal.specs.Asking.{one_ask, is_off}
+use Rattle.lock_journal.specs.Counting.{SegmentView}
+use Rattle.lock_journal.specs.Answering.{IsTold, IsAnsweredIf, IsInputAnswered}
 
 pub asked_input : (terms : Terms) (i : Input) (client : ℕ) (ask : asks.Ask) (off : Bool) (old : SegmentView) (said noted : List ℕ) (new : SegmentView) → i ≡ input.Asked client ask → is_off terms.faults ask ≡ off → IsAnsweredIf off terms client ask old said noted new →
     IsInputAnswered terms i old said noted new

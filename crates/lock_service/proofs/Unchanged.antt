@@ -4,8 +4,8 @@ use Rattle.held_locks.specs.declared.answers.HoldEnd.{HoldEnd}
 use Rattle.held_locks.specs.declared.answers.Left.{Left}
 use Rattle.held_locks.specs.Kept.{LockView}
 use Rattle.lock_protocol.specs.Names.{Names}
-use Rattle.lock_service.specs.Due.{has_short}
-use Rattle.lock_service.specs.Counting.{SegmentView, IsWatched, IsCounted, count_about}
+use Rattle.lock_journal.specs.Due.{has_short}
+use Rattle.lock_journal.specs.Counting.{SegmentView, IsWatched, IsCounted, count_about}
 
 parts_same : (names : Names) (locks : List LockView) (left : List Left) (m n : ℕ) (a b : Bool) → m ≡ n → a ≡ b →
     ◌≡◌ {A = SegmentView} (record { locks = locks; names = names; left = left; remaining = m; short = a }) (record { locks = locks; names = names; left = left; remaining = n; short = b })

@@ -30,15 +30,16 @@ use Rattle.lock_protocol.proofs.NameTables.{name_there}
 use Rattle.lock_protocol.specs.Answers.{answer_line}
 use Rattle.lock_protocol.proofs.Whole.{one_reading}
 use Rattle.lock_service.specs.declared.service.LockService.{LockService}
-use Rattle.lock_service.specs.declared.service.Terms.{Terms}
-use Rattle.lock_service.specs.Asking.{is_lack}
+use Rattle.lock_journal.specs.declared.terms.Terms.{Terms}
+use Rattle.lock_journal.specs.Asking.{is_lack}
 use Rattle.held_locks.specs.Asked.{events_at}
-use Rattle.lock_service.specs.Noting.{lines_about, note_about, events_from}
-use Rattle.lock_service.specs.Serving.{IsToldOf, IsToldOfNamed, IsInputAnswered, IsServed}
-use Rattle.lock_service.specs.State.{wait_line, wait_lines, waits_from}
+use Rattle.lock_journal.specs.Noting.{lines_about, note_about, events_from}
+use Rattle.lock_journal.specs.Answering.{IsToldOf, IsToldOfNamed, IsInputAnswered}
+use Rattle.lock_service.specs.Serving.{IsServed}
+use Rattle.lock_journal.specs.State.{wait_line, wait_lines, waits_from}
 use Rattle.lock_service.specs.WaitersBack.{holders_of, waiters_of, IsOfBits, HaveState, HaveTheHolds, waiting_lines, waiting_from, WaitersComeBack}
-use Rattle.lock_service.proofs.EqualLocks.{asked_done}
-use Rattle.lock_service.proofs.Following.{some_is, step_is, also_there, lock_there, as_many, step_many}
+use Rattle.lock_journal.proofs.EqualLocks.{asked_done}
+use Rattle.lock_journal.proofs.Following.{some_is, step_is, also_there, lock_there, as_many, step_many}
 use Rattle.lock_service.proofs.Rejoining.{ArePart, waits_again}
 use Rattle.lock_service.proofs.WaitingLines.{reads_wait}
 

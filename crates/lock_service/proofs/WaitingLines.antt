@@ -13,9 +13,9 @@ use Rattle.lock_protocol.specs.Views as input
 use Rattle.lock_protocol.specs.Asks.{acquire, heard, of_one}
 use Rattle.lock_protocol.specs.Inputs.{input_line, IsReadAs}
 use Rattle.lock_protocol.proofs.Fronts.{front_all}
-use Rattle.lock_service.specs.State.{wait_line}
+use Rattle.lock_journal.specs.State.{wait_line}
 use Rattle.lock_service.specs.WaitersBack.{IsOfBits}
-use Rattle.lock_service.proofs.KeyLines.{same_text, spaced_short}
+use Rattle.lock_journal.proofs.KeyLines.{same_text, spaced_short}
 
 ended_short : (n : ℕ) → n < 2 ^ 64 → length (ended n) ≤ 21
 ended_short n lt =

@@ -1,64 +1,46 @@
 -- What is left of a replica's segment without its remarks.
-use Rattle.std.proofs.Common.{◌≡◌, ℕ, Bool, true, false, cond, eqb, List, [], ◌∷◌, ◌++◌, length, inl, inr, ◌⊎◌, refl, ap, sym, subst, ◌∙◌, append_assoc, append-nil, arith}
-use Rattle.std.specs.Prelude.{codes, not, ◌||◌}
-use Rattle.std.specs.List.{filter, flat_map, list_any, AllByRecursion}
-use Rattle.std.proofs.lemmas.Bool.{ne_eqb}
-use Rattle.std.proofs.lemmas.List.Folds.{list_any-append}
-use Rattle.text_lines.specs.Spelling.{spaced, ended}
+use Rattle.std.proofs.Common.{◌≡◌, ℕ, List, [], ◌∷◌, ◌++◌, length, inl, inr, refl, ap, sym, subst, ◌∙◌, append_assoc, arith}
+use Rattle.std.specs.Prelude.{codes}
+use Rattle.std.specs.List.{AllByRecursion}
+use Rattle.text_lines.specs.Spelling.{spaced}
 use Rattle.text_lines.specs.LongNumbers.{order_at}
 use Rattle.line_service.specs.Answering.{IsLine}
 use Rattle.line_service.specs.Stands.{Stand, stand}
 use Rattle.saved_history.specs.Versions.{latest_version}
-use Rattle.saved_history.specs.Content.{Content}
-use Rattle.saved_history.specs.Spelling.{text, block_text, done_line}
-use Rattle.saved_history.specs.Spelling as saved
-use Rattle.journal.specs.declared.calls.JournalLine.{JournalLine}
-use Rattle.journal.specs.Spelling.{JournalLineFits, journal_head, journal_line}
-use Rattle.journal.specs.Recovery.{has_line_end}
-use Rattle.segment_files.specs.RemarkLaws.{IsOneLine, AreLines}
-use Rattle.segment_files.specs.Remarks.{IsEnded, lines_in, is_remark, remark_of, without_remarks}
-use Rattle.segment_files.proofs.Remarked.{HasNoHash, last_line, plain_then, remarks_then, remark_ended}
-use Rattle.segment_files.proofs.Hashless.{no_hash_append, no_hash_call, no_hash_head}
+use Rattle.saved_history.specs.Spelling.{text}
+use Rattle.segment_files.specs.RemarkLaws.{AreLines}
+use Rattle.segment_files.specs.Remarks.{without_remarks}
+use Rattle.segment_files.proofs.Remarked.{HasNoHash}
+use Rattle.segment_files.proofs.Hashless.{no_hash_head}
 use Rattle.line_replica.specs.declared.replica.Replica.{Replica}
 use Rattle.line_replica.specs.Keys.{first_line, line_to_asker}
 use Rattle.line_replica.specs.Log.{Numbers, numbers_of, given, given_of, numbers_after}
 use Rattle.line_replica.specs.Noted.{AreGiven}
 use Rattle.line_replica.specs.Replies.{IsReplied}
-use Rattle.line_replica.specs.Reading.{Heard, Tagged, Place, Digest, heard, is_to_asker, kept_text}
+use Rattle.line_replica.specs.Reading.{Tagged, Place, Digest, heard, is_to_asker, kept_text}
 use Rattle.line_replica.specs.Running.{next_of}
 use Rattle.line_replica.specs.State.{did_text, own_lines, remarks_of}
 use Rattle.line_replica.proofs.Given.{BringAll, taken, given_inside}
 use Rattle.lock_service.specs.declared.service.LockService.{LockService}
 use Rattle.lock_service.specs.Serving.{IsServed}
-use Rattle.lock_service.specs.Segments.{rings_of, content_of}
 use Rattle.held_locks.specs.Kept.{AreKept}
-use Rattle.lock_service.specs.Begun.{begun_text, HaveBegun, AreAnswered}
-use Rattle.lock_service.specs.KeysBack.{IsSound}
-use Rattle.lock_service.specs.Recovered.{ComeBack}
 use Rattle.lock_service.specs.Remarked.{begun_with_remarks, AreReplied, LocksOfReplicasComeBack}
 use Rattle.lock_service.specs.StateBack.{locks_in}
-use Rattle.lock_service.proofs.Chains.{chain_fits}
-use Rattle.lock_service.proofs.Longer.{served_lines_are_answered, noted_lines}
-use Rattle.lock_service.proofs.Recovering.{begun_few, followed_begun, kept_bounded}
-use Rattle.lock_service.proofs.Restarting.{locks_come_back}
-use Rattle.lock_service.proofs.Heard.{IsOfKey, IsReadSo, read_so}
-use Rattle.lock_service.proofs.LineParts.{line_after, spaced_ends}
-use Rattle.lock_service.proofs.SoundKeys.{text_kept, did_is, next_fits, key_is_line, word_ends, digest_is_line, own_lines_are_lines}
-use Rattle.lock_service.proofs.WholeTexts.{ends_after, number_ends, of_both, of_lines, notes_of_lines, first_of_lines}
-
--- ---- the replica's own lines are lines
-
-first_is_line : (first : List ℕ) → (first ≡ []) ⊎ IsLine first → IsLine (did_text first)
-first_is_line [] f = refl
-first_is_line (b ∷ bs) (inl e) = absurd cc
-first_is_line (b ∷ bs) (inr f) = f
-
-if_to_asker : (told : Bool) (first : List ℕ) → (first ≡ []) ⊎ IsLine first → (cond told first [] ≡ []) ⊎ IsLine (cond told first [])
-if_to_asker true first e = e
-if_to_asker false first e = inl refl
-
-read_as : (line : List ℕ) (h : Heard) → heard line ≡ h → IsReadSo line h
-read_as line h e = subst (λ (x : Heard). IsReadSo line x) e (read_so line)
+use Rattle.lock_service.proofs.WholeTexts.{of_lines, notes_of_lines}
+use Rattle.lock_journal.proofs.Chains.{chain_fits}
+use Rattle.lock_journal.proofs.Heard.{IsOfKey, IsReadSo}
+use Rattle.lock_journal.proofs.LineParts.{line_after, spaced_ends}
+use Rattle.lock_journal.proofs.Longer.{noted_lines}
+use Rattle.lock_journal.proofs.Recovering.{begun_few, followed_begun, kept_bounded}
+use Rattle.lock_journal.proofs.Restarting.{locks_come_back}
+use Rattle.lock_journal.proofs.SoundKeys.{text_kept, did_is, next_fits, key_is_line, word_ends, digest_is_line, own_lines_are_lines}
+use Rattle.lock_journal.proofs.WholeTexts.{of_both, first_of_lines}
+use Rattle.lock_journal.proofs.WithoutRemarks.{parts, head_ends, torn_none, remark_lines, one_goes, first_is_line, if_to_asker, read_as, no_hash_calls}
+use Rattle.lock_journal.specs.Begun.{begun_text, HaveBegun, AreAnswered}
+use Rattle.lock_journal.specs.KeysBack.{IsSound}
+use Rattle.lock_journal.specs.Recovered.{ComeBack}
+use Rattle.lock_journal.specs.Segments.{rings_of, content_of}
+use Rattle.lock_service.proofs.ServedLines.{served_lines_are_answered}
 
 pub lines_bring : BringAll IsServed IsLine IsLine
 lines_bring since old new was is line said is_line = record {
@@ -81,50 +63,6 @@ lines_bring since old new was is line said is_line = record {
     forget_word : IsLine (codes "forget\n")
     forget_word = ((λ e. omega (arith, e)), ((λ e. omega (arith, e)), ((λ e. omega (arith, e)), ((λ e. omega (arith, e)), ((λ e. omega (arith, e)), ((λ e. omega (arith, e)), refl))))))
 
--- a line ends once
-one_more : (b : ℕ) (line : List ℕ) → eqb b 10 ≡ false → IsOneLine line → IsOneLine (b ∷ line)
-one_more b line e l = (b ∷ l.0, ap (λ (u : List ℕ). b ∷ u) l.1, both (eqb b 10) (has_line_end l.0) e l.2)
-  where
-    both : (x y : Bool) → x ≡ false → y ≡ false → (x || y) ≡ false
-    both true y p q = absurd cc
-    both false y p q = q
-
-pub ends_once : (line : List ℕ) → IsLine line → IsOneLine line
-ends_once [] is = absurd is
-ends_once (b ∷ []) is = ([], ap (λ (x : ℕ). x ∷ []) is, refl)
-ends_once (b ∷ c ∷ bs) is = one_more b (c ∷ bs) (ne_eqb b 10 is.0) (ends_once (c ∷ bs) is.1)
-
-pub all_end_once : (lines : List (List ℕ)) → AllByRecursion IsLine lines → AllByRecursion IsOneLine lines
-all_end_once [] all = tt
-all_end_once (line ∷ lines) all = (ends_once line all.0, all_end_once lines all.1)
-
--- ---- texts without a #, in parts
-
-front_of : (a b : Bool) → (a || b) ≡ false → a ≡ false
-front_of true b e = e
-front_of false b e = refl
-
-back_of : (a b : Bool) → (a || b) ≡ false → b ≡ false
-back_of true b e = absurd cc
-back_of false b e = e
-
-pub parts : (xs ys : List ℕ) → HasNoHash (xs ++ ys) → HasNoHash xs × HasNoHash ys
-parts xs ys h =
-    let e = sym (list_any-append (λ b. eqb b 35) xs ys) ∙ h.none in
-    (record { none = front_of (list_any (λ b. eqb b 35) xs) (list_any (λ b. eqb b 35) ys) e }, record { none = back_of (list_any (λ b. eqb b 35) xs) (list_any (λ b. eqb b 35) ys) e })
-
-pub no_hash_calls : (version rings : ℕ) (rs : List JournalLine) → AllByRecursion (JournalLineFits version rings) rs → HasNoHash (flat_map journal_line rs)
-no_hash_calls version rings [] fits = record { none = refl }
-no_hash_calls version rings (r ∷ rs) fits = no_hash_append (journal_line r) (flat_map journal_line rs) (no_hash_call version rings r fits.0) (no_hash_calls version rings rs fits.1)
-
--- ---- the notes
-
--- after the notes of a line of the service inside come remarks, which go
-one_goes : (notes rest : List ℕ) (own : List (List ℕ)) → AreLines notes → HasNoHash notes → AllByRecursion IsLine own → without_remarks ((notes ++ remarks_of own) ++ rest) ≡ notes ++ without_remarks rest
-one_goes notes rest own ends none all =
-    ap without_remarks (append_assoc notes (remarks_of own) rest)
-    ∙ (plain_then notes (remarks_of own ++ rest) ends none ∙ ap (λ (u : List ℕ). notes ++ u) (remarks_then own rest (all_end_once own all)))
-
 pub remarks_go : (numbers : Numbers) (old new : Stand LockService) (lines : List (List ℕ)) (inside noted rest : List ℕ) → AreGiven IsServed IsLine numbers old lines inside noted new → HasNoHash inside → without_remarks (noted ++ rest) ≡ inside ++ without_remarks rest
 remarks_go numbers old new [] inside noted rest g none =
     ap (λ (u : List ℕ). without_remarks (u ++ rest)) g.1 ∙ ap (λ (u : List ℕ). u ++ without_remarks rest) (sym g.0)
@@ -139,11 +77,6 @@ remarks_go numbers old new (line ∷ lines) inside noted rest g none =
     ∙ (ap (λ (u : List ℕ). one.notes ++ u) more
     ∙ (sym (append_assoc one.notes g.4 (without_remarks rest)) ∙ ap (λ (u : List ℕ). u ++ without_remarks rest) (sym g.6))))))
 
--- remarks are whole lines, and so are the notes of lines, with the remarks among them
-pub remark_lines : (own : List (List ℕ)) → AllByRecursion IsLine own → AreLines (remarks_of own)
-remark_lines [] all = inl refl
-remark_lines (line ∷ own) all = of_both (remark_of line) (remarks_of own) (remark_ended line (ends_once line all.0)) (remark_lines own all.1)
-
 pub noted_ends : (numbers : Numbers) (old new : Stand LockService) (lines : List (List ℕ)) (inside noted : List ℕ) → AreGiven IsServed IsLine numbers old lines inside noted new → AreLines noted
 noted_ends numbers old new [] inside noted g = inl g.1
 noted_ends numbers old new (line ∷ lines) inside noted g =
@@ -151,24 +84,6 @@ noted_ends numbers old new (line ∷ lines) inside noted g =
     let ends : AreLines one.notes = notes_of_lines old g.0 (given_of (heard line) numbers line) one.told one.notes one.answered in
     let first : AreLines g.2 = subst (λ (u : List ℕ). AreLines u) (sym one.noted_are) (of_both one.notes (remarks_of g.1) ends (remark_lines g.1 one.each)) in
     subst (λ (u : List ℕ). AreLines u) (sym g.7) (of_both g.2 g.3 first (noted_ends (numbers_after (heard line) numbers) g.0 new lines g.4 g.3 g.8))
-
--- ---- what is torn
-
-pub torn_none : (torn : List ℕ) → has_line_end torn ≡ false → has_line_end (without_remarks torn) ≡ false
-unfolding without_remarks lines_in
-torn_none [] none = refl
-torn_none (b ∷ bs) none = ap (λ (ls : List (List ℕ)). has_line_end (flat_map (λ (line : List ℕ). line) (filter (λ (line : List ℕ). not (is_remark line)) ls))) (last_line b bs none) ∙ by (eqb b 35)
-  where
-    by : (v : Bool) → has_line_end (flat_map (λ (line : List ℕ). line) (cond (not v) ((b ∷ bs) ∷ []) [])) ≡ false
-    by true = refl
-    by false = ap has_line_end (append-nil (b ∷ bs)) ∙ none
-
--- ---- the locks come back
-
-pub head_ends : (c : Content) → IsEnded (journal_head c)
-head_ends c =
-    ends_after (codes "ringjournal 1\n") (text c)
-    (ends_after (saved.first_line c.version) _ (ends_after (flat_map block_text c.rings) (done_line c.rings_said) (ends_after (codes "done ") (ended c.rings_said) (number_ends c.rings_said))))
 
 pub begun_ends : (r : Replica LockService) → AreLines (begun_text (locks_in r))
 begun_ends r = inr (head_ends (content_of (locks_in r)))

@@ -1,28 +1,13 @@
 -- Equal locks that are given equal lines (this project's own).
-use Rattle.std.specs.Prelude.{◌≡◌, ℕ, true, List, slice_get, Option, Some}
+use Rattle.std.specs.Prelude.{◌≡◌, ℕ, true, List, Option}
 use Rattle.disks.specs.Held.{Held}
-use Rattle.endless_ring.specs.Endless.{IsSameEndless}
-use Rattle.held_locks.specs.Kept.{LockView, locks_of}
 use Rattle.line_service.specs.Answering.{Answers}
 use Rattle.line_service.specs.Stands.{by_stand, stand}
 use Rattle.lock_service.specs.declared.service.LockService.{LockService}
-use Rattle.lock_service.specs.Counting.{SegmentView}
 use Rattle.lock_service.specs.Serving.{IsServed}
-use Rattle.lock_service.specs.Segments.{segment_text}
 use Rattle.lock_service.specs.Segmented.{IsNext}
-
--- the same locks, whose rings have the same segments; each may have memory for more or fewer events
-pub record AreEqualLocks (a b : List LockView) : Type 0 where
-  pub locks : locks_of b ≡ locks_of a
-  pub rings : (i : ℕ) (v w : LockView) → slice_get a i ≡ Some v → slice_get b i ≡ Some w
-      → IsSameEndless v.ring w.ring
-
--- the same locks, with the same names, in segments that are as far from their end
-pub record AreEqualSegments (a b : SegmentView) : Type 0 where
-  pub locks : AreEqualLocks a.locks b.locks
-  pub names : b.names ≡ a.names
-  pub remaining : b.remaining ≡ a.remaining
-  pub short : b.short ≡ a.short
+use Rattle.lock_journal.specs.Equal.{AreEqualSegments}
+use Rattle.lock_journal.specs.Segments.{segment_text}
 
 -- two services in the same state, on the same terms
 pub record AreEqual (a b : LockService) : Type 0 where

@@ -1,9 +1,9 @@
 -- Lines are answered as long as the segment is not to end.
 use Rattle.std.proofs.Common.{◌≡◌, false, refl}
 use Rattle.lock_service.specs.declared.service.LockService.{LockService}
-use Rattle.lock_service.specs.declared.service.Stage.{Stage}
-use Rattle.lock_service.specs.declared.service.Stage.TheVariants as stage
-use Rattle.lock_service.specs.Segmented.{is_to_end, is_over}
+use Rattle.lock_journal.specs.declared.stages.Stage.{Stage}
+use Rattle.lock_journal.specs.declared.stages.Stage.TheVariants as stage
+use Rattle.lock_journal.specs.Stages.{is_to_end, is_over}
 
 of_stage : (s : Stage) → is_to_end s ≡ false → is_over s ≡ false
 of_stage stage.Open e = refl

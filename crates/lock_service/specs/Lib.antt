@@ -1,8 +1,3 @@
-pub mod Asking
-pub mod Noting
-pub mod Segments
-pub mod Due
-pub mod Counting
 pub mod Serving
 pub mod Starts
 pub mod Segmented
@@ -10,16 +5,7 @@ pub mod Goes
 pub mod Knows
 pub mod State
 pub mod Begun
-pub mod Told
-pub mod Recovered
 pub mod Equal
-pub mod KeysBack
 pub mod WaitersBack
 pub mod StateBack
 pub mod Remarked
-pub mod Life
-pub mod Lawful
-pub mod Around
-pub mod Started
-pub mod Runs
-pub mod OneLife

@@ -12,9 +12,9 @@ use Rattle.line_replica.specs.State.{own_lines, remarks_of}
 use Rattle.held_locks.specs.Kept.{AreKept}
 use Rattle.lock_service.specs.declared.service.LockService.{LockService}
 use Rattle.lock_service.specs.Serving.{IsServed}
-use Rattle.lock_service.specs.Begun.{begun_text, HaveBegun}
-use Rattle.lock_service.specs.KeysBack.{IsKeepable, IsFresh, IsSound, at_last}
-use Rattle.lock_service.specs.Recovered.{ComeBack}
+use Rattle.lock_journal.specs.Begun.{begun_text, HaveBegun}
+use Rattle.lock_journal.specs.KeysBack.{IsKeepable, IsFresh, IsSound, at_last}
+use Rattle.lock_journal.specs.Recovered.{ComeBack}
 use Rattle.lock_service.specs.StateBack.{locks_in}
 
 -- the text with which the journal of a replica's segment begins, after the head of its file: that

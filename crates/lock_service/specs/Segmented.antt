@@ -1,26 +1,12 @@
 -- How locks live in segments (this project's own).
-use Rattle.std.specs.Prelude.{◌≡◌, ℕ, Bool, true, false, Option, None, Some}
+use Rattle.std.specs.Prelude.{◌≡◌, false}
 use Rattle.held_locks.specs.Cuts.{AreNext}
 use Rattle.line_service.specs.Segmenting.{Segmenting}
 use Rattle.lock_service.specs.declared.service.LockService.{LockService}
-use Rattle.lock_service.specs.declared.service.Stage.{Stage}
-use Rattle.lock_service.specs.declared.service.Stage.TheVariants as stage
-use Rattle.lock_service.specs.Due.{IsUnended, HaveNoText}
-use Rattle.lock_service.specs.Segments.{segment_text, HasText}
-
--- how many lines the journal of a segment may have
-abbrev pub limit_of : Option ℕ → ℕ
-limit_of None = 0
-limit_of (Some limit) = limit
-
--- the segment is to end; and no line is answered before that
-abbrev pub is_to_end : Stage → Bool
-is_to_end stage.Open = false
-is_to_end _ = true
-
-abbrev pub is_over : Stage → Bool
-is_over stage.Due = true
-is_over _ = false
+use Rattle.lock_journal.specs.Due.{IsUnended, HaveNoText}
+use Rattle.lock_journal.specs.Segments.{segment_text, HasText}
+use Rattle.lock_journal.specs.Stages.{is_to_end, limit_of}
+use Rattle.lock_journal.specs.declared.stages.Stage.TheVariants as stage
 
 -- The next segment has begun. Nothing of the locks has changed, and its journal has had no line.
 pub record IsNext (old new : LockService) : Type 0 where

@@ -10,8 +10,9 @@ use Rattle.held_locks.specs.Kept.{LockView}
 use Rattle.lock_protocol.specs.Names.{Names}
 use Rattle.lock_service.specs.declared.service.LockService.{LockService}
 use Rattle.lock_service.specs.Serving.{IsServed}
-use Rattle.lock_service.specs.State.{holds_from, waits_from, state_lines}
-use Rattle.lock_service.specs.KeysBack.{IsFresh, IsSound, at_last}
+use Rattle.lock_journal.specs.State.{holds_from, waits_from}
+use Rattle.lock_service.specs.State.{state_lines}
+use Rattle.lock_journal.specs.KeysBack.{IsFresh, IsSound, at_last}
 use Rattle.lock_service.specs.WaitersBack.{HaveState, HaveTheHolds, HaveTheWaiters}
 
 abbrev pub locks_in : Replica LockService → List LockView

@@ -12,10 +12,11 @@ use Rattle.held_locks.specs.Kept.{LockView, locks_of, lock_limit}
 use Rattle.lock_protocol.specs.Names.{Names, AreNames, name_of}
 use Rattle.lock_protocol.specs.Answers.{answer_line}
 use Rattle.lock_service.specs.declared.service.LockService.{LockService}
-use Rattle.lock_service.specs.declared.service.Terms.{Terms}
-use Rattle.lock_service.specs.Counting.{SegmentView}
-use Rattle.lock_service.specs.Serving.{IsLineAnswered, IsServed}
-use Rattle.lock_service.specs.State.{waits_from}
+use Rattle.lock_journal.specs.declared.terms.Terms.{Terms}
+use Rattle.lock_journal.specs.Counting.{SegmentView}
+use Rattle.lock_journal.specs.Answering.{IsLineAnswered}
+use Rattle.lock_service.specs.Serving.{IsServed}
+use Rattle.lock_journal.specs.State.{waits_from}
 
 -- the holder of each lock, and the clients that wait for it, in order
 abbrev pub holders_of : List LockView → List (Option Holder)

@@ -3,15 +3,16 @@
 ghost use Rattle.std.specs.Prelude.{◌≡◌, ◌++◌, ◌⊎◌, ℕ, List, false, OnOk, OnErr};
 ghost use Rattle.lock_service.specs.Serving.{IsServed};
 
-use crate::service::{LockService, Stage, answer, are_kept};
+use crate::service::{LockService, answer, are_kept};
 use disks::Disk;
 use line_service::{AnswersLines, Pending};
+use lock_journal::Stage;
 use lock_protocol::read_input;
 use std::alloc::AllocError;
 
 impl AnswersLines for LockService {
     ghost use Rattle.std.specs.Prelude.{false};
-    ghost use Rattle.lock_service.specs.Segmented.{is_over};
+    ghost use Rattle.lock_journal.specs.Stages.{is_over};
     ghost use Rattle.lock_service.specs.Serving.{IsServed};
     ghost use Rattle.lock_service.specs.Starts.{by_start};
 

@@ -5,13 +5,14 @@ ghost use Rattle.held_locks.specs.declared.answers.Refusal.{Refusal};
 ghost use Rattle.held_locks.specs.Cuts.{AreNext};
 ghost use Rattle.held_locks.specs.Kept.{IsLeft};
 ghost use Rattle.held_locks.specs.Asked.{asked, IsAnswerTo, events_at};
-ghost use Rattle.lock_service.specs.Asking.{is_lack};
-ghost use Rattle.lock_service.specs.Due.{is_due, has_short, HaveNoSegment};
-ghost use Rattle.lock_service.specs.Counting.{IsCounted, IsStart, count_about, count_of_all};
+ghost use Rattle.lock_journal.specs.Asking.{is_lack};
+ghost use Rattle.lock_journal.specs.Due.{is_due, has_short, HaveNoSegment};
+ghost use Rattle.lock_journal.specs.Counting.{IsCounted, IsStart, count_about, count_of_all};
 
-use crate::counting::{after_end, after_events, after_left, after_start};
-use crate::due::{has_short, has_short_left, is_short_at};
 use held_locks::{Left, Locks, OneAnswer, OneAsk, Refusal};
+use lock_journal::{
+    after_end, after_events, after_left, after_start, has_short, has_short_left, is_short_at,
+};
 use lock_protocol::LockNames;
 use std::alloc::{AllocError, Global};
 use std::marker::Model;
@@ -32,7 +33,7 @@ pub(crate) struct Segment {
 
 impl Model for Segment {
     ghost use Rattle.std.specs.Prelude.{◌≤◌, length, vec_capacity};
-    ghost use Rattle.lock_service.specs.Counting.{SegmentView, IsWatched};
+    ghost use Rattle.lock_journal.specs.Counting.{SegmentView, IsWatched};
 
     ghost Value = { SegmentView };
 

@@ -2,9 +2,9 @@
 
 ghost use Rattle.std.specs.Prelude.{◌≡◌, false};
 
-use crate::service::{LockService, Stage, end_fault, is_to_end, limit_of};
-use crate::texts::segment_text;
+use crate::service::LockService;
 use line_service::{EndFault, Segmented};
+use lock_journal::{Stage, end_fault, is_to_end, limit_of, segment_text};
 use segment_files::DIGEST_DIGITS;
 use std::alloc::Global;
 

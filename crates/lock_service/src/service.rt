@@ -3,62 +3,29 @@
 ghost use Rattle.std.specs.Prelude.{◌≡◌, ◌⊎◌, ◌&&◌, List, ℕ, Some, OnOk, OnErr, IfOk};
 ghost use Rattle.text_lines.specs.Writing.{Writes};
 ghost use Rattle.journal.specs.Spelling.{journal_head};
-ghost use Rattle.held_locks.specs.declared.answers.Refusal.{Refusal};
 ghost use Rattle.held_locks.specs.Asked.{asked};
 ghost use Rattle.lock_protocol.specs.Asks.{seen};
 ghost use Rattle.lock_protocol.specs.Views.{input_of};
-ghost use Rattle.lock_service.specs.Asking.{one_ask, is_lack};
-ghost use Rattle.lock_service.specs.Segments.{content_of};
-ghost use Rattle.lock_service.specs.Counting.{IsStart};
-ghost use Rattle.lock_service.specs.Segmented.{limit_of, is_to_end};
-ghost use Rattle.lock_service.specs.Serving.{IsTold, IsToldOf, IsToldOfLeave, denial_of, IsInputAnswered, AnswersInput, IsKept, Leaves, put, is_past, stage_after};
+ghost use Rattle.lock_journal.specs.Asking.{one_ask, is_lack};
+ghost use Rattle.lock_journal.specs.Segments.{content_of};
+ghost use Rattle.lock_journal.specs.Counting.{IsStart};
+ghost use Rattle.lock_journal.specs.Stages.{limit_of, is_past, stage_after};
+ghost use Rattle.lock_journal.specs.Answering.{IsTold, IsToldOf, IsToldOfLeave, IsInputAnswered, Leaves};
+ghost use Rattle.lock_service.specs.Serving.{AnswersInput, IsKept};
 ghost use Rattle.line_replica.specs.Replies.{IsAdded};
 
-use crate::asking::{is_lack, is_off, one_ask};
-use crate::noting::{note_if, note_left_if, tell, tell_left};
 use crate::segment::Segment;
-use crate::texts::put_beginning;
+use crate::telling::{tell, tell_left};
 use held_locks::{Answer, Locks, OneAsk, Refusal};
-use line_service::{EndFault, Pending};
-use lock_protocol::{Ask, Denial, Fault, Input, LockNames, put_answer, put_denial};
+use line_service::Pending;
+use lock_journal::{
+    Stage, Terms, Untold, denial_of, is_lack, is_off, is_stopped, limit_of, note_if, note_left_if,
+    one_ask, put, put_beginning, stage_after,
+};
+use lock_protocol::{Ask, Denial, Input, LockNames, put_answer, put_denial};
 use std::alloc::{AllocError, Global};
 use std::io::Write;
 use text_lines::WriteFault;
-
-/// On which terms lines are answered.
-#[derive(Clone, Copy)]
-pub struct Terms {
-    /// Whether a line may be a fault.
-    pub faults: bool,
-    /// Whether there are notes for a journal.
-    pub noting: bool,
-    /// A segment is due once its journal has this number of lines, or before a lock's ring has no room for an ask. Without a limit
-    /// none is.
-    pub limit: Option<u64>,
-    /// Whether nobody is refused for lack of memory or room, and no line is answered in a segment that is to end. Such a line
-    /// is out of memory, and nothing has changed.
-    pub strict: bool,
-}
-
-/// Whether lines are answered in a segment.
-#[derive(Clone, Copy)]
-pub enum Stage {
-    /// They are.
-    Open,
-    /// It is to end first.
-    Due,
-    /// It is to end, and continues until it can be ended.
-    KeptOn,
-}
-
-/// Why no answer to a line is pending.
-#[derive(Clone, Copy)]
-pub enum Untold {
-    /// There is no memory for its text. It is answered.
-    Answered,
-    /// It would be a refusal for lack of room or memory, on strict terms. Nothing has changed.
-    Unanswered,
-}
 
 /// Locks that answer the lines of clients.
 #[derive(Drop)]
@@ -66,36 +33,6 @@ pub struct LockService {
     pub(crate) segment: Segment,
     pub(crate) terms: Terms,
     pub(crate) stage: Stage,
-}
-
-/// How many lines the journal of a segment may have; 0 without a limit.
-pub fn limit_of(limit: Option<u64>) -> u64
-    ensures { result ≡ limit_of limit }
-{
-    match limit {
-        Some(limit) => limit,
-        None => 0,
-    }
-}
-
-/// Why a segment that is due is not ended.
-pub fn end_fault(why: Refusal) -> EndFault
-    ensures { ((result ≡ EndFault.Full) × (why ≡ Refusal.Full)) ⊎ (result ≡ EndFault.OutOfMemory) }
-{
-    match why {
-        Refusal::Full => EndFault::Full,
-        _ => EndFault::OutOfMemory,
-    }
-}
-
-/// The answer is pending, if there was memory for it. The line is answered in any case.
-pub fn put(told: Result<(), AllocError>) -> Result<(), Untold>
-    ensures { result ≡ put told }
-{
-    match told {
-        Ok(()) => Ok(()),
-        Err(_) => Err(Untold::Answered),
-    }
 }
 
 /// Whether it is a refusal for lack of room or memory, on strict terms.
@@ -201,16 +138,6 @@ fn answer_ask(
     }
 }
 
-/// The refusal of a line that has a fault.
-pub fn denial_of(why: Fault) -> Denial
-    ensures { result ≡ denial_of why }
-{
-    match why {
-        Fault::Syntax => Denial::Syntax,
-        Fault::Number => Denial::Number,
-    }
-}
-
 /// Answers what was read of a line.
 fn answer_input(
     segment: &mut Segment,
@@ -241,33 +168,6 @@ fn is_past(terms: Terms, segment: &Segment) -> bool
     ensures { result ≡ is_past terms segment.now }
 {
     terms.limit.is_some() && segment.is_due()
-}
-
-/// Whether lines are answered after a line.
-pub fn stage_after(stage: Stage, past: bool) -> Stage
-    ensures { result ≡ stage_after stage past }
-{
-    match stage {
-        Stage::KeptOn => Stage::KeptOn,
-        Stage::Open | Stage::Due => { if past { Stage::Due } else { Stage::Open } }
-    }
-}
-
-/// Whether the segment is to end.
-pub fn is_to_end(stage: Stage) -> bool
-    ensures { result ≡ is_to_end stage }
-{
-    match stage {
-        Stage::Open => false,
-        Stage::Due | Stage::KeptOn => true,
-    }
-}
-
-/// Whether no line is answered since the segment is to end, on strict terms.
-pub fn is_stopped(strict: bool, stage: Stage) -> bool
-    ensures { result ≡ (strict && is_to_end stage) }
-{
-    strict && is_to_end(stage)
 }
 
 /// Sees whether the segment is due.

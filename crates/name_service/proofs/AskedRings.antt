@@ -22,13 +22,13 @@ use Rattle.lock_protocol.specs.Asks as lines
 use Rattle.lock_protocol.specs.Names.{Names, IsName}
 use Rattle.lock_protocol.specs.Inputs.{input_line, IsReadAs}
 use Rattle.lock_protocol.specs.Views as input
-use Rattle.lock_service.specs.Asking.{one_ask, is_off, is_lack}
-use Rattle.lock_service.specs.Counting.{IsCounted, count_about}
-use Rattle.lock_service.specs.Noting.{events_from, lines_about, note_about}
-use Rattle.lock_service.specs.Serving.{IsToldOf, IsToldOfNamed, IsTold, IsAnsweredIf}
-use Rattle.lock_service.proofs.Answering.{tellings_of, lines_are}
-use Rattle.lock_service.proofs.Lacks.{done_not}
-use Rattle.lock_service.proofs.LockLines.{all_past}
+use Rattle.lock_journal.specs.Asking.{one_ask, is_off, is_lack}
+use Rattle.lock_journal.specs.Counting.{IsCounted, count_about}
+use Rattle.lock_journal.specs.Noting.{events_from, lines_about, note_about}
+use Rattle.lock_journal.specs.Answering.{IsToldOf, IsToldOfNamed, IsTold, IsAnsweredIf}
+use Rattle.lock_journal.proofs.Answering.{tellings_of, lines_are}
+use Rattle.lock_journal.proofs.Lacks.{done_not}
+use Rattle.lock_journal.proofs.LockLines.{all_past}
 use Rattle.lock_names.specs.declared.replies.Reply.{Reply}
 use Rattle.lock_names.specs.declared.replies.Reply.TheVariants as reply
 use Rattle.lock_names.specs.declared.replies.NameAnswers.{NameAnswers}

@@ -6,11 +6,11 @@ use Rattle.segment_files.specs.RemarkLaws.{AreLines}
 use Rattle.ring_service.specs.Recovered.{IsPrefix}
 use Rattle.line_service.specs.Answering.{Answers}
 use Rattle.name_remarks.specs.Bindings.{Bindings, nothing, AreTakenIn}
-use Rattle.lock_service.specs.Begun.{begun_text}
-use Rattle.lock_service.specs.Segments.{content_of}
-use Rattle.lock_service.proofs.WholeEnds.{within}
-use Rattle.lock_service.proofs.WholeTexts.{of_both}
-use Rattle.lock_service.proofs.WithoutRemarks.{head_ends}
+use Rattle.lock_journal.specs.Begun.{begun_text}
+use Rattle.lock_journal.specs.Segments.{content_of}
+use Rattle.lock_journal.proofs.WholeEnds.{within}
+use Rattle.lock_journal.proofs.WholeTexts.{of_both}
+use Rattle.lock_journal.proofs.WithoutRemarks.{head_ends}
 use Rattle.name_service.specs.declared.service.NameTerms.{NameTerms}
 use Rattle.name_service.specs.Naming.{NamingView}
 use Rattle.name_service.specs.NamesText.{names_text}

@@ -22,8 +22,8 @@ use Rattle.lock_protocol.specs.Views.{Input}
 use Rattle.lock_protocol.specs.Views as input
 use Rattle.name_remarks.specs.Remarks.{free, remark_text}
 use Rattle.name_remarks.specs.Bindings.{Bindings}
-use Rattle.lock_service.specs.Asking.{one_ask, is_off}
-use Rattle.lock_service.specs.Noting.{note_about, note_of_left}
+use Rattle.lock_journal.specs.Asking.{one_ask, is_off}
+use Rattle.lock_journal.specs.Noting.{note_about, note_of_left}
 use Rattle.lock_names.specs.declared.replies.NameAnswers.{NameAnswers}
 use Rattle.lock_names.specs.Names.{Bound, fresh}
 use Rattle.lock_names.specs.Kept.{NamedView, named_of, reached, noted_at, IsTaken}

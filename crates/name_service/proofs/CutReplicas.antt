@@ -14,12 +14,12 @@ use Rattle.line_replica.specs.Reading.{heard}
 use Rattle.line_replica.specs.State.{own_lines, remarks_of}
 use Rattle.name_remarks.specs.Bindings.{Bindings, nothing, AreTakenIn}
 use Rattle.lock_names.specs.Kept.{NamedView}
-use Rattle.lock_service.specs.Begun.{begun_text, HaveBegun}
-use Rattle.lock_service.specs.KeysBack.{IsSound}
-use Rattle.lock_service.specs.Segments.{content_of}
-use Rattle.lock_service.proofs.WholeEnds.{within}
-use Rattle.lock_service.proofs.WholeTexts.{of_both}
-use Rattle.lock_service.proofs.WithoutRemarks.{ends_once, all_end_once, remark_lines, head_ends}
+use Rattle.lock_journal.specs.Begun.{begun_text, HaveBegun}
+use Rattle.lock_journal.specs.KeysBack.{IsSound}
+use Rattle.lock_journal.specs.Segments.{content_of}
+use Rattle.lock_journal.proofs.WholeEnds.{within}
+use Rattle.lock_journal.proofs.WholeTexts.{of_both}
+use Rattle.lock_journal.proofs.WithoutRemarks.{ends_once, all_end_once, remark_lines, head_ends}
 use Rattle.name_service.specs.declared.service.NameService.{NameService}
 use Rattle.name_service.specs.declared.service.NameTerms.{NameTerms}
 use Rattle.name_service.specs.NamesText.{names_text}

@@ -15,15 +15,15 @@ use Rattle.lock_protocol.specs.Asks as lines
 use Rattle.lock_protocol.specs.Views.{Input}
 use Rattle.lock_protocol.specs.Views as input
 use Rattle.lock_protocol.proofs.Whole.{one_reading}
-use Rattle.lock_service.specs.declared.service.Stage.{Stage}
-use Rattle.lock_service.specs.Asking.{one_ask, is_off}
-use Rattle.lock_service.specs.Due.{has_short}
-use Rattle.lock_service.specs.Counting.{count_about, count_of_all}
-use Rattle.lock_service.specs.Noting.{end_line, note_about, note_of_left}
-use Rattle.lock_service.specs.Serving.{stage_after}
-use Rattle.lock_service.specs.Equal.{AreEqualLocks}
-use Rattle.lock_service.proofs.EqualLocks.{as_many_equal, lines_equal, short_equal, note_equal, count_equal, count_left_equal, done_alike, left_alike}
-use Rattle.lock_service.proofs.Following.{as_many, step_many}
+use Rattle.lock_journal.specs.declared.stages.Stage.{Stage}
+use Rattle.lock_journal.specs.Asking.{one_ask, is_off}
+use Rattle.lock_journal.specs.Due.{has_short}
+use Rattle.lock_journal.specs.Counting.{count_about, count_of_all}
+use Rattle.lock_journal.specs.Noting.{end_line, note_about, note_of_left}
+use Rattle.lock_journal.specs.Stages.{stage_after}
+use Rattle.lock_journal.specs.Equal.{AreEqualLocks}
+use Rattle.lock_journal.proofs.EqualLocks.{as_many_equal, lines_equal, short_equal, note_equal, count_equal, count_left_equal, done_alike, left_alike}
+use Rattle.lock_journal.proofs.Following.{as_many, step_many}
 use Rattle.lock_names.specs.declared.replies.Reply.{Reply}
 use Rattle.lock_names.specs.declared.replies.Reply.TheVariants as reply
 use Rattle.lock_names.specs.declared.replies.NameAnswers.{NameAnswers}

@@ -15,7 +15,7 @@ use Rattle.lock_names.specs.declared.growing.NotGrown.TheVariants as not_grown
 use Rattle.lock_names.specs.Names.{Named}
 use Rattle.lock_names.specs.Kept.{NamedView, top_limit}
 use Rattle.lock_names.specs.Grown.{AreNextNames, CannotGrow}
-use Rattle.lock_service.specs.Due.{is_short, has_short}
+use Rattle.lock_journal.specs.Due.{is_short, has_short}
 use Rattle.name_service.specs.Growth.{pool_of, HasFreshRing, AreGrown, CannotAdd, IsPoolWanted, IsUngrown}
 use Rattle.name_service.proofs.FreshRings.{added_grants, added_events, no_room}
 

@@ -20,8 +20,8 @@ use Rattle.lock_names.specs.Names.{Named, NamedInput, Of, Said, step_named, name
 use Rattle.lock_names.specs.Promises.{AreAllowed}
 use Rattle.lock_names.specs.Kept.{NamedView, named_of, own_said, grant_said, IsTaken, IsWanting}
 use Rattle.lock_names.proofs.LeftNames.{leaves_allowed}
-use Rattle.lock_service.specs.Asking.{one_ask, is_off}
-use Rattle.lock_service.specs.Serving.{denial_of}
+use Rattle.lock_journal.specs.Asking.{one_ask, is_off}
+use Rattle.lock_journal.specs.Answering.{denial_of}
 use Rattle.name_service.specs.declared.service.NameTerms.{NameTerms}
 use Rattle.name_service.specs.Naming.{NamingView, reply_told, is_wanting}
 use Rattle.name_service.specs.Noting.{lines_of_said}

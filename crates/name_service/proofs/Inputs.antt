@@ -8,7 +8,7 @@ use Rattle.lock_protocol.specs.Views as input
 use Rattle.lock_protocol.specs.Asks as asks
 use Rattle.lock_protocol.specs.Inputs.{IsReadAs}
 use Rattle.lock_names.proofs.Found.{some_same, none_some}
-use Rattle.lock_service.specs.Asking.{one_ask, is_off}
+use Rattle.lock_journal.specs.Asking.{one_ask, is_off}
 use Rattle.name_service.specs.declared.service.NameTerms.{NameTerms}
 use Rattle.name_service.specs.Naming.{NamingView}
 use Rattle.name_service.specs.Serving.{IsNameTold, IsNamedInput, IsNameAnsweredIf, IsNameInputAnswered}

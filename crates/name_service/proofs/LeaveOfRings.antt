@@ -16,11 +16,11 @@ use Rattle.lock_protocol.specs.Answers.{answer_line}
 use Rattle.lock_protocol.specs.Names.{Names, name_of}
 use Rattle.lock_protocol.specs.Inputs.{input_line, IsReadAs}
 use Rattle.lock_protocol.specs.Views as input
-use Rattle.lock_service.specs.Counting.{count_of_all}
-use Rattle.lock_service.specs.Noting.{lines_of_left, notes_of_left}
-use Rattle.lock_service.specs.Serving.{IsToldOfLeave}
-use Rattle.lock_service.specs.Told.{Telling, text_of}
-use Rattle.lock_service.proofs.Answering.{tellings_of, lines_are}
+use Rattle.lock_journal.specs.Counting.{count_of_all}
+use Rattle.lock_journal.specs.Noting.{lines_of_left, notes_of_left}
+use Rattle.lock_journal.specs.Answering.{IsToldOfLeave}
+use Rattle.lock_journal.specs.Told.{Telling, text_of}
+use Rattle.lock_journal.proofs.Answering.{tellings_of, lines_are}
 use Rattle.lock_names.specs.Names.{Bound, Said, told_holder}
 use Rattle.lock_names.specs.Promises.{IsRightName, IsNamed}
 use Rattle.lock_names.specs.Kept.{NamedView, named_of, grant_said}

@@ -12,7 +12,7 @@ use Rattle.lock_names.specs.Kept.{NamedView, named_of, grant_said}
 use Rattle.lock_names.specs.Leaves.{bound_or, told_left, name_left, names_left, said_left, IsLeftByName}
 use Rattle.lock_names.proofs.Keeping.{fixed_after}
 use Rattle.lock_names.proofs.LeftRings.{reports_apart}
-use Rattle.lock_service.specs.Due.{is_short_at, has_short_left}
+use Rattle.lock_journal.specs.Due.{is_short_at, has_short_left}
 
 -- ---- the names of the rings that are granted
 

@@ -10,13 +10,13 @@ use Rattle.name_remarks.specs.Remarks.{bind, top, remark_text}
 use Rattle.name_remarks.specs.Bindings.{binds, text_of}
 use Rattle.lock_names.specs.Names.{Bound}
 use Rattle.lock_names.specs.Kept.{NamedView}
-use Rattle.lock_service.specs.Segments.{content_of}
-use Rattle.lock_service.specs.Begun.{begun_text, HaveBegun, AreAnswered}
-use Rattle.lock_service.specs.Recovered.{ComeBack}
-use Rattle.lock_service.proofs.CutRemarks.{without_cut}
-use Rattle.lock_service.proofs.Keeping.{nothing_told_is_lost}
-use Rattle.lock_service.proofs.Restarting.{locks_come_back}
-use Rattle.lock_service.proofs.WithoutRemarks.{head_ends, torn_none}
+use Rattle.lock_journal.specs.Segments.{content_of}
+use Rattle.lock_journal.specs.Begun.{begun_text, HaveBegun, AreAnswered}
+use Rattle.lock_journal.specs.Recovered.{ComeBack}
+use Rattle.lock_journal.proofs.CutRemarks.{without_cut}
+use Rattle.lock_journal.proofs.Keeping.{nothing_told_is_lost}
+use Rattle.lock_journal.proofs.Restarting.{locks_come_back}
+use Rattle.lock_journal.proofs.WithoutRemarks.{head_ends, torn_none}
 use Rattle.name_service.specs.declared.service.NameTerms.{NameTerms}
 use Rattle.name_service.specs.declared.service.NameService.{NameService}
 use Rattle.name_service.specs.Naming.{NamingView}

@@ -25,9 +25,8 @@ use Rattle.folder_of_locks.specs.Pools.{pool_ring}
 use Rattle.lock_names.specs.Names.{Named, NamedInput, More, free_lock, named_after, step_named}
 use Rattle.lock_names.specs.Promises.{IsAllowed, AreAllowed}
 use Rattle.lock_names.specs.Kept.{NamedView, named_of}
-use Rattle.lock_service.specs.Around.{AreToldAround, AreToldAfter}
-use Rattle.lock_service.specs.Runs.{others_of}
-use Rattle.lock_service.proofs.Parted.{numbers_all, given_then, around_then, after_then, each_other}
+use Rattle.lock_journal.specs.Replicas.{AreToldAround, AreToldAfter, others_of}
+use Rattle.lock_journal.proofs.Replicas.{numbers_all, given_then, around_then, after_then, each_other}
 use Rattle.name_service.specs.declared.service.NameService.{NameService}
 use Rattle.name_service.specs.declared.service.NameTerms.{NameTerms}
 use Rattle.name_service.specs.Serving.{IsNameLineAnswered, IsNameServed}

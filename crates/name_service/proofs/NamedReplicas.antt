@@ -6,7 +6,7 @@ use Rattle.std.specs.List.{AllByRecursion}
 use Rattle.std.proofs.lemmas.Fmt.{decimal_nonempty}
 use Rattle.disks.specs.Held.{Held}
 use Rattle.text_lines.specs.Spelling.{spaced, ended}
-use Rattle.text_lines.specs.LongNumbers.{order_at}
+use Rattle.text_lines.specs.LongNumbers.{order_at, in_32_bits}
 use Rattle.line_service.specs.Answering.{IsLine, Answers}
 use Rattle.line_service.specs.Stands.{Stand, by_stand, stand}
 use Rattle.segment_files.specs.Remarks.{IsEnded, lines_in, remark_of, without_remarks}
@@ -31,23 +31,22 @@ use Rattle.held_locks.specs.declared.answers.Refusal.{Refusal}
 use Rattle.held_locks.specs.declared.answers.Refusal.TheVariants as refusal
 use Rattle.lock_protocol.specs.declared.answers.Denial.{Denial}
 use Rattle.lock_protocol.specs.declared.answers.Denial.TheVariants as denial
-use Rattle.text_lines.specs.LongNumbers.{in_32_bits}
 use Rattle.lock_protocol.specs.Asks as lines
 use Rattle.lock_protocol.specs.Answers.{refusal_text, holder_text, answer_text, denial_line}
 use Rattle.lock_protocol.specs.Names.{name_spaced, name_ended}
 use Rattle.lock_protocol.specs.Views.{Input}
 use Rattle.lock_protocol.specs.Views as input
-use Rattle.lock_service.specs.Asking.{one_ask, is_off}
-use Rattle.lock_service.specs.KeysBack.{IsKept, IsSound}
-use Rattle.lock_service.specs.Noting.{note_about, note_of_left}
-use Rattle.lock_service.specs.Recovered.{ComeBack}
-use Rattle.lock_service.specs.Segments.{content_of}
-use Rattle.lock_service.specs.Begun.{begun_text, HaveBegun}
-use Rattle.lock_service.proofs.Heard.{IsOfKey, IsReadSo, read_so}
-use Rattle.lock_service.proofs.LineParts.{line_after, spaced_ends}
-use Rattle.lock_service.proofs.SoundKeys.{text_kept, did_is, next_fits, key_is_line, word_ends, digest_is_line, place_is_line, none_or_after}
-use Rattle.lock_service.proofs.WholeTexts.{ends_after, number_ends, of_both, of_each, first_of_lines}
-use Rattle.lock_service.proofs.WithoutRemarks.{ends_once, all_end_once, remark_lines, head_ends}
+use Rattle.lock_journal.specs.Asking.{one_ask, is_off}
+use Rattle.lock_journal.specs.KeysBack.{IsKept, IsSound}
+use Rattle.lock_journal.specs.Noting.{note_about, note_of_left}
+use Rattle.lock_journal.specs.Recovered.{ComeBack}
+use Rattle.lock_journal.specs.Segments.{content_of}
+use Rattle.lock_journal.specs.Begun.{begun_text, HaveBegun}
+use Rattle.lock_journal.proofs.Heard.{IsOfKey, IsReadSo, read_so}
+use Rattle.lock_journal.proofs.LineParts.{line_after, spaced_ends}
+use Rattle.lock_journal.proofs.SoundKeys.{text_kept, did_is, next_fits, key_is_line, word_ends, digest_is_line, place_is_line, none_or_after}
+use Rattle.lock_journal.proofs.WholeTexts.{ends_after, number_ends, of_both, of_each, first_of_lines}
+use Rattle.lock_journal.proofs.WithoutRemarks.{ends_once, all_end_once, remark_lines, head_ends}
 use Rattle.lock_names.specs.declared.replies.Reply.{Reply}
 use Rattle.lock_names.specs.declared.replies.Reply.TheVariants as reply
 use Rattle.lock_names.specs.declared.replies.NameAnswers.{NameAnswers}

@@ -14,10 +14,10 @@ use Rattle.line_replica.specs.Reading.{heard}
 use Rattle.line_replica.specs.Replies.{IsReplied}
 use Rattle.line_replica.proofs.Given.{own_of, answers_then, whole_at, whole_line}
 use Rattle.line_replica.proofs.Saying.{read}
-use Rattle.lock_service.specs.Around.{AreToldAround}
-use Rattle.lock_service.specs.Begun.{begun_text}
-use Rattle.lock_service.proofs.CutRemarks.{without_cut}
-use Rattle.lock_service.proofs.Keeping.{nothing_told_is_lost}
+use Rattle.lock_journal.specs.Replicas.{AreToldAround}
+use Rattle.lock_journal.specs.Begun.{begun_text}
+use Rattle.lock_journal.proofs.CutRemarks.{without_cut}
+use Rattle.lock_journal.proofs.Keeping.{nothing_told_is_lost}
 use Rattle.name_service.specs.declared.service.NameService.{NameService}
 use Rattle.name_service.specs.declared.service.NameTerms.{NameTerms}
 use Rattle.name_service.specs.Serving.{IsNameServed}

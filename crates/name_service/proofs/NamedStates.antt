@@ -11,8 +11,8 @@ use Rattle.lock_names.specs.Promises.{IsRightName}
 use Rattle.lock_names.specs.Kept.{NamedView, waiting, IsKeptNamed}
 use Rattle.lock_names.proofs.Found.{there_is}
 use Rattle.lock_names.proofs.Asking.{view_lock}
-use Rattle.lock_service.specs.State.{hold_lines, wait_lines}
-use Rattle.lock_service.proofs.StateLines.{drop_there}
+use Rattle.lock_journal.specs.State.{hold_lines, wait_lines}
+use Rattle.lock_journal.proofs.StateLines.{drop_there}
 use Rattle.name_service.specs.State.{hold_of_ring, waits_of_ring, name_holds, name_waits}
 
 -- ---- places

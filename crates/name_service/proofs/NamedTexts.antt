@@ -5,7 +5,7 @@ use Rattle.name_remarks.specs.Remarks.{Remark, bind, top, remark_text}
 use Rattle.name_remarks.specs.Bindings.{binds, text_of}
 use Rattle.lock_names.specs.Names.{Bound}
 use Rattle.lock_names.specs.Kept.{NamedView}
-use Rattle.lock_service.proofs.StateLines.{drop_there}
+use Rattle.lock_journal.proofs.StateLines.{drop_there}
 use Rattle.name_service.specs.NamesText.{bindings_of, pool_bindings, names_text}
 
 -- the text of one ring, and that of the others

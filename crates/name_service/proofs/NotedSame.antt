@@ -9,7 +9,7 @@ use Rattle.lock_names.specs.Bindings.{Bound, found, free}
 use Rattle.lock_names.specs.Names.{Named, fresh}
 use Rattle.lock_names.specs.Kept.{NamedView, named_of, for_hold, at_free, reached_from, reached, noted_at, IsTaken, IsAsked}
 use Rattle.lock_names.proofs.Found.{some_same, none_some, free_at}
-use Rattle.lock_service.specs.Noting.{end_line, events_from}
+use Rattle.lock_journal.specs.Noting.{end_line, events_from}
 use Rattle.name_service.specs.Naming.{events_before}
 use Rattle.name_service.specs.Noting.{new_of, note_of_new, note_of_free, note_at, note_since}
 

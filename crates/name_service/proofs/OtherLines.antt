@@ -6,8 +6,7 @@ use Rattle.line_service.specs.Answering.{Answers}
 use Rattle.line_service.specs.Stands.{Stand, AnsweringWith, by_stand, stand}
 use Rattle.line_replica.specs.declared.restorable.Restorable.{Restorable}
 use Rattle.line_replica.specs.State.{is_state, IsStateTold, IsRestorable}
-use Rattle.lock_service.specs.Around.{AreToldAfter}
-use Rattle.lock_service.specs.Runs.{others_of}
+use Rattle.lock_journal.specs.Replicas.{AreToldAfter, others_of}
 
 abbrev Inside : {S : Type 0} → Stand (Restorable S) → Stand S
 Inside s = stand s.service.inner s.files

@@ -25,8 +25,8 @@ use Rattle.held_locks.specs.declared.answers.HoldEnd.{HoldEnd}
 use Rattle.held_locks.specs.declared.answers.Left.{Left}
 use Rattle.held_locks.specs.Kept.{LockView}
 use Rattle.held_locks.specs.Asked.{events_at}
-use Rattle.lock_service.specs.Noting.{events_from, end_line, note_about, note_of_left, notes_of_left}
-use Rattle.lock_service.proofs.WholeTexts.{of_both, journal_line_ends}
+use Rattle.lock_journal.specs.Noting.{events_from, end_line, note_about, note_of_left, notes_of_left}
+use Rattle.lock_journal.proofs.WholeTexts.{of_both, journal_line_ends}
 use Rattle.lock_protocol.specs.Names.{IsName, is_name_byte, name_ended}
 use Rattle.name_remarks.specs.Remarks.{Binding, bind, free, top, remark_text}
 use Rattle.lock_names.specs.declared.replies.NameAnswers.{NameAnswers}

@@ -18,11 +18,11 @@ use Rattle.lock_names.specs.Bindings.{Bound, found, free}
 use Rattle.lock_names.specs.Names.{Named, Of, Said, NamedStep, of_ring, as_told, said_of, fresh, given, at_none, at_name, at_ring, step_named}
 use Rattle.lock_names.specs.Kept.{NamedView, named_of, for_hold, at_free, reached_from, reached, own_said, grant_said, said_in, IsRecorded, noted_at, IsTaken, IsAsked}
 use Rattle.lock_names.proofs.Found.{some_same, none_some}
-use Rattle.lock_service.specs.Asking.{is_lack}
-use Rattle.lock_service.specs.Due.{is_short_at, has_short}
-use Rattle.lock_service.specs.Counting.{IsWatched, end_count}
-use Rattle.lock_service.proofs.Lacks.{done_not}
-use Rattle.lock_service.proofs.Short.{none_at, short_after}
+use Rattle.lock_journal.specs.Asking.{is_lack}
+use Rattle.lock_journal.specs.Due.{is_short_at, has_short}
+use Rattle.lock_journal.specs.Counting.{IsWatched, end_count}
+use Rattle.lock_journal.proofs.Lacks.{done_not}
+use Rattle.lock_journal.proofs.Short.{none_at, short_after}
 use Rattle.name_service.specs.Naming.{reply_told, is_name_lack, is_short_asked, count_at, count_since, events_before}
 
 -- ---- a step, by the ring that is reached

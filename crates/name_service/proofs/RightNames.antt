@@ -12,8 +12,8 @@ use Rattle.lock_protocol.specs.Names.{IsName}
 use Rattle.lock_protocol.specs.Inputs.{IsReadAs}
 use Rattle.lock_protocol.specs.Views.{Input}
 use Rattle.lock_protocol.specs.Views as input
-use Rattle.lock_service.specs.Asking.{one_ask, is_off}
-use Rattle.lock_service.proofs.Following.{as_many, step_many}
+use Rattle.lock_journal.specs.Asking.{one_ask, is_off}
+use Rattle.lock_journal.proofs.Following.{as_many, step_many}
 use Rattle.lock_names.specs.Names.{Bound, Named, Of, NamedStep, fresh, total, at_ring, of_ring, leave_each}
 use Rattle.lock_names.specs.Promises.{IsNamed}
 use Rattle.lock_names.specs.Kept.{NamedView, named_of, reached, IsRecorded, noted_at, IsTaken}

@@ -14,9 +14,9 @@ use Rattle.lock_protocol.specs.Names.{IsName}
 use Rattle.lock_protocol.specs.Inputs.{IsReadAs}
 use Rattle.lock_protocol.specs.Views.{Input}
 use Rattle.lock_protocol.specs.Views as input
-use Rattle.lock_service.specs.Asking.{one_ask, is_off}
-use Rattle.lock_service.specs.Serving.{IsLineAnswered, denial_of}
-use Rattle.lock_service.proofs.WholeTexts.{of_both}
+use Rattle.lock_journal.specs.Asking.{one_ask, is_off}
+use Rattle.lock_journal.specs.Answering.{IsLineAnswered, denial_of}
+use Rattle.lock_journal.proofs.WholeTexts.{of_both}
 use Rattle.lock_names.specs.Names.{Bound}
 use Rattle.lock_names.specs.Kept.{NamedView, named_of, reached, IsTaken}
 use Rattle.name_service.specs.declared.service.NameTerms.{NameTerms}

@@ -14,8 +14,8 @@ use Rattle.lock_protocol.specs.Names.{name_spaced, name_ended}
 use Rattle.lock_protocol.specs.Inputs.{input_line, IsReadAs}
 use Rattle.lock_protocol.specs.Views as input
 use Rattle.lock_protocol.proofs.Fronts.{front_all}
-use Rattle.lock_service.specs.Asking.{one_ask, is_off}
-use Rattle.lock_service.proofs.KeyLines.{same_text}
+use Rattle.lock_journal.specs.Asking.{one_ask, is_off}
+use Rattle.lock_journal.proofs.KeyLines.{same_text}
 use Rattle.lock_names.specs.Names.{Bound, token_in}
 use Rattle.lock_names.specs.Kept.{own_number, with_number}
 use Rattle.lock_names.proofs.Found.{some_same, none_some}

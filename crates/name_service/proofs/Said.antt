@@ -14,7 +14,7 @@ use Rattle.lock_names.specs.declared.replies.Reply.{Reply}
 use Rattle.lock_names.specs.Names.{Bound, Said}
 use Rattle.lock_names.specs.Kept.{own_said, grant_said}
 use Rattle.lock_names.specs.Leaves.{bound_or, said_left}
-use Rattle.lock_service.specs.Noting.{note_of_left}
+use Rattle.lock_journal.specs.Noting.{note_of_left}
 use Rattle.name_service.specs.Noting.{reply_line, line_of_said, lines_of_said, note_of_free, is_freed, note_of_name_left}
 
 pub lines_append : (xs ys : List Said) → lines_of_said (xs ++ ys) ≡ lines_of_said xs ++ lines_of_said ys

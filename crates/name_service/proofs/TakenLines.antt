@@ -23,11 +23,11 @@ use Rattle.lock_protocol.specs.Views.{Input}
 use Rattle.lock_protocol.specs.Views as input
 use Rattle.name_remarks.specs.Remarks.{Binding, bind, free, remark_text}
 use Rattle.name_remarks.specs.Bindings.{Bindings, nothing}
-use Rattle.lock_service.specs.Asking.{one_ask, is_off}
-use Rattle.lock_service.specs.Begun.{begun_text}
-use Rattle.lock_service.specs.Segments.{content_of}
-use Rattle.lock_service.specs.Noting.{note_about, note_of_left}
-use Rattle.lock_service.proofs.WithoutRemarks.{head_ends}
+use Rattle.lock_journal.specs.Asking.{one_ask, is_off}
+use Rattle.lock_journal.specs.Begun.{begun_text}
+use Rattle.lock_journal.specs.Segments.{content_of}
+use Rattle.lock_journal.specs.Noting.{note_about, note_of_left}
+use Rattle.lock_journal.proofs.WithoutRemarks.{head_ends}
 use Rattle.lock_names.specs.declared.replies.NameAnswers.{NameAnswers}
 use Rattle.lock_names.specs.Names.{Bound, Named, NamedStep, of_ring, found, fresh, total, kept, stays, at_ring}
 use Rattle.lock_names.specs.Kept.{NamedView, named_of, reached, noted_at, IsTaken}

@@ -14,7 +14,7 @@ use Rattle.lock_protocol.specs.Names.{IsName}
 use Rattle.name_remarks.specs.Remarks.{Binding, Remark, bind, free, top, remark_text, Fits, BeginsAsOne}
 use Rattle.name_remarks.specs.Bindings.{Bindings, nothing, after, IsAmong, AreTakenIn, binds, beginning, text_of}
 use Rattle.name_remarks.proofs.Taken.{beginnings_record_all}
-use Rattle.lock_service.proofs.WholeTexts.{of_both}
+use Rattle.lock_journal.proofs.WholeTexts.{of_both}
 use Rattle.lock_names.specs.Names.{Bound, fresh, total, grants_at}
 use Rattle.lock_names.specs.Promises.{IsRightBound}
 use Rattle.lock_names.specs.Kept.{NamedView, named_of}

@@ -3,8 +3,8 @@ use Rattle.std.proofs.Common.{◌≡◌, ℕ, ◌-◌, Bool, true, false, ◌||�
 use Rattle.held_locks.specs.declared.answers.Left.{Left}
 use Rattle.held_locks.specs.Kept.{LockView}
 use Rattle.lock_names.specs.Kept.{NamedView}
-use Rattle.lock_service.specs.Due.{has_short}
-use Rattle.lock_service.specs.Counting.{IsWatched}
+use Rattle.lock_journal.specs.Due.{has_short}
+use Rattle.lock_journal.specs.Counting.{IsWatched}
 use Rattle.name_service.specs.Naming.{NamingView, IsNameCounted}
 
 parts_same : (old new : NamedView) (left : List Left) (m n : ℕ) (a b : Bool) → new ≡ old → n ≡ m → b ≡ a →

@@ -1,8 +1,8 @@
 -- The segment with which locks by any name start (this project's own).
 use Rattle.std.specs.Prelude.{◌≡◌, ℕ, ◌-◌, []}
 use Rattle.lock_names.specs.Kept.{NamedView}
-use Rattle.lock_service.specs.Due.{has_short}
-use Rattle.lock_service.specs.Counting.{lines_at_start}
+use Rattle.lock_journal.specs.Due.{has_short}
+use Rattle.lock_journal.specs.Counting.{lines_at_start}
 use Rattle.name_service.specs.Naming.{NamingView}
 
 -- its journal may have this number of lines, those with which it begins among them, remarks aside

@@ -10,7 +10,7 @@ use Rattle.folder_of_locks.specs.Pools.{pool_ring}
 use Rattle.lock_names.specs.Kept.{NamedView, IsKeptNamed, top_limit}
 use Rattle.lock_names.specs.Grown.{AreNextNames, IsGrown}
 use Rattle.lock_names.specs.Sizes.{AreUsedUntil, IsWanted}
-use Rattle.lock_service.specs.Due.{HaveNoSegment}
+use Rattle.lock_journal.specs.Due.{HaveNoSegment}
 use Rattle.name_service.specs.Naming.{is_wanting}
 
 -- how many rings the pool has

@@ -27,9 +27,8 @@ use Rattle.lock_protocol.specs.Answers.{answer_line, denial_line}
 use Rattle.lock_names.specs.Names.{Named, NamedInput, Of, More, Said, named_after, said_after, leave_each}
 use Rattle.lock_names.specs.Promises.{AreAllowed}
 use Rattle.lock_names.specs.Kept.{named_of}
-use Rattle.lock_service.specs.Asking.{one_ask}
-use Rattle.lock_service.specs.Around.{AreToldAround, AreToldAfter}
-use Rattle.lock_service.specs.Runs.{others_of}
+use Rattle.lock_journal.specs.Asking.{one_ask}
+use Rattle.lock_journal.specs.Replicas.{AreToldAround, AreToldAfter, others_of}
 use Rattle.name_service.specs.declared.service.NameService.{NameService}
 use Rattle.name_service.specs.declared.service.NameTerms.{NameTerms}
 use Rattle.name_service.specs.Naming.{NamingView, reply_told}

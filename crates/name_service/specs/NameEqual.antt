@@ -3,7 +3,7 @@ use Rattle.std.specs.Prelude.{◌≡◌, ℕ, true, List, Option}
 use Rattle.disks.specs.Held.{Held}
 use Rattle.line_service.specs.Answering.{Answers}
 use Rattle.line_service.specs.Stands.{by_stand, stand}
-use Rattle.lock_service.specs.Equal.{AreEqualLocks}
+use Rattle.lock_journal.specs.Equal.{AreEqualLocks}
 use Rattle.name_service.specs.declared.service.NameService.{NameService}
 use Rattle.name_service.specs.Naming.{NamingView}
 use Rattle.name_service.specs.Serving.{IsNameServed}

@@ -9,8 +9,8 @@ use Rattle.journal.specs.Recovery.{has_line_end}
 use Rattle.ring_service.specs.Recovered.{IsPrefix}
 use Rattle.held_locks.specs.Kept.{AreKept}
 use Rattle.lock_names.specs.Kept.{NamedView}
-use Rattle.lock_service.specs.Begun.{begun_text, HaveBegun}
-use Rattle.lock_service.specs.Recovered.{ComeBack, AreKeptIn}
+use Rattle.lock_journal.specs.Begun.{begun_text, HaveBegun}
+use Rattle.lock_journal.specs.Recovered.{ComeBack, AreKeptIn}
 use Rattle.name_service.specs.declared.service.NameTerms.{NameTerms}
 use Rattle.name_service.specs.declared.service.NameService.{NameService}
 use Rattle.name_service.specs.Naming.{NamingView}

@@ -11,9 +11,9 @@ use Rattle.line_replica.specs.Replies.{IsReplied}
 use Rattle.line_replica.specs.State.{own_lines, remarks_of}
 use Rattle.held_locks.specs.Kept.{AreKept}
 use Rattle.lock_names.specs.Kept.{NamedView}
-use Rattle.lock_service.specs.Begun.{HaveBegun}
-use Rattle.lock_service.specs.KeysBack.{IsSound}
-use Rattle.lock_service.specs.Recovered.{ComeBack}
+use Rattle.lock_journal.specs.Begun.{HaveBegun}
+use Rattle.lock_journal.specs.KeysBack.{IsSound}
+use Rattle.lock_journal.specs.Recovered.{ComeBack}
 use Rattle.name_service.specs.declared.service.NameService.{NameService}
 use Rattle.name_service.specs.Serving.{IsNameServed}
 use Rattle.name_service.specs.RightNames.{AreRightNames}

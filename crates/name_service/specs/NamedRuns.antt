@@ -9,7 +9,7 @@ use Rattle.line_replica.specs.declared.replica.Replica.{Replica}
 use Rattle.line_replica.specs.Log.{numbers_of, given}
 use Rattle.line_replica.specs.Replies.{IsReplied}
 use Rattle.held_locks.specs.Kept.{AreKept}
-use Rattle.lock_service.specs.Around.{AreToldAround}
+use Rattle.lock_journal.specs.Replicas.{AreToldAround}
 use Rattle.name_service.specs.declared.service.NameService.{NameService}
 use Rattle.name_service.specs.Serving.{IsNameServed}
 use Rattle.name_service.specs.NameLines.{AreNamesKeptIn}

@@ -7,7 +7,7 @@ use Rattle.ring_service.specs.Recovered.{IsPrefix}
 use Rattle.name_remarks.specs.Bindings.{nothing, AreTakenIn}
 use Rattle.lock_names.specs.Names.{Bound}
 use Rattle.lock_names.specs.Kept.{NamedView}
-use Rattle.lock_service.specs.Begun.{HaveBegun}
+use Rattle.lock_journal.specs.Begun.{HaveBegun}
 use Rattle.name_service.specs.declared.service.NameTerms.{NameTerms}
 use Rattle.name_service.specs.Naming.{NamingView}
 use Rattle.name_service.specs.NamesText.{pool_bindings}

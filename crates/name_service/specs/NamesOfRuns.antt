@@ -6,7 +6,7 @@ use Rattle.segment_files.specs.RemarkLaws.{AreLines}
 use Rattle.ring_service.specs.Recovered.{IsPrefix}
 use Rattle.line_replica.specs.declared.replica.Replica.{Replica}
 use Rattle.line_replica.specs.Log.{numbers_of, given}
-use Rattle.lock_service.specs.Begun.{begun_text}
+use Rattle.lock_journal.specs.Begun.{begun_text}
 use Rattle.name_service.specs.declared.service.NameService.{NameService}
 use Rattle.name_service.specs.NameReplicas.{named_in, begun_with_all}
 use Rattle.name_service.specs.NamedRuns.{IsNamedRun}

@@ -10,9 +10,9 @@ use Rattle.lock_names.specs.declared.replies.Reply.TheVariants as reply
 use Rattle.lock_names.specs.declared.replies.NameAnswers.{NameAnswers}
 use Rattle.lock_names.specs.Bindings.{free}
 use Rattle.lock_names.specs.Kept.{NamedView}
-use Rattle.lock_service.specs.Asking.{is_lack}
-use Rattle.lock_service.specs.Due.{is_short_at, has_short}
-use Rattle.lock_service.specs.Counting.{end_count, count_about}
+use Rattle.lock_journal.specs.Asking.{is_lack}
+use Rattle.lock_journal.specs.Due.{is_short_at, has_short}
+use Rattle.lock_journal.specs.Counting.{end_count, count_about}
 
 -- the locks with their names; what the client that left last held; how many lines more the journal
 -- may have until the segment is due; and whether a ring was short after some line

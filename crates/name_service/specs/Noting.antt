@@ -11,7 +11,7 @@ use Rattle.lock_names.specs.declared.replies.NameAnswers.{NameAnswers}
 use Rattle.lock_names.specs.Names.{Bound, Named, Said, fresh}
 use Rattle.lock_names.specs.Kept.{NamedView, named_of}
 use Rattle.name_remarks.specs.Remarks.{Binding, bind, free, remark_text}
-use Rattle.lock_service.specs.Noting.{end_line, events_from, note_about, note_of_left}
+use Rattle.lock_journal.specs.Noting.{end_line, events_from, note_about, note_of_left}
 
 -- ---- the lines of clients
 

@@ -18,10 +18,10 @@ use Rattle.lock_names.specs.declared.replies.Reply.TheVariants as reply
 use Rattle.lock_names.specs.Names.{Bound, said_of, fresh}
 use Rattle.lock_names.specs.Kept.{NamedView, named_of, own_number, reached}
 use Rattle.name_service.specs.declared.service.NameTerms.{NameTerms}
-use Rattle.lock_service.specs.Asking.{one_ask}
-use Rattle.lock_service.specs.Counting.{SegmentView}
-use Rattle.lock_service.specs.Serving.{IsLineAnswered}
-use Rattle.lock_service.specs.Told.{Telling, text_of}
+use Rattle.lock_journal.specs.Asking.{one_ask}
+use Rattle.lock_journal.specs.Counting.{SegmentView}
+use Rattle.lock_journal.specs.Answering.{IsLineAnswered}
+use Rattle.lock_journal.specs.Told.{Telling, text_of}
 use Rattle.name_service.specs.Naming.{NamingView}
 use Rattle.name_service.specs.Noting.{reply_line, line_of_said}
 use Rattle.name_service.specs.Serving.{IsNameLineAnswered}

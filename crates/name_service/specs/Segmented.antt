@@ -4,10 +4,10 @@ use Rattle.held_locks.specs.declared.answers.Refusal.TheVariants as refusal
 use Rattle.line_service.specs.Segmenting.{Segmenting}
 use Rattle.line_service.specs.declared.segmented.EndFault.{EndFault}
 use Rattle.line_service.specs.declared.segmented.EndFault.TheVariants as end
-use Rattle.lock_service.specs.declared.service.Stage.TheVariants as stage
-use Rattle.lock_service.specs.Due.{HaveNoText}
-use Rattle.lock_service.specs.Segments.{segment_text, HasText}
-use Rattle.lock_service.specs.Segmented.{limit_of, is_to_end}
+use Rattle.lock_journal.specs.declared.stages.Stage.TheVariants as stage
+use Rattle.lock_journal.specs.Due.{HaveNoText}
+use Rattle.lock_journal.specs.Segments.{segment_text, HasText}
+use Rattle.lock_journal.specs.Stages.{limit_of, is_to_end}
 use Rattle.name_service.specs.declared.service.NameService.{NameService}
 use Rattle.name_service.specs.NamesText.{names_text}
 use Rattle.name_service.specs.Growth.{AreNextGrown, HaveNoNextGrown}

@@ -15,11 +15,11 @@ use Rattle.lock_names.specs.Kept.{own_said, grant_said, IsAsked, IsKeptNamed}
 use Rattle.lock_names.specs.Leaves.{said_left, IsLeftByName}
 use Rattle.name_service.specs.declared.service.NameService.{NameService}
 use Rattle.name_service.specs.declared.service.NameTerms.{NameTerms}
-use Rattle.lock_service.specs.Asking.{one_ask, is_off}
-use Rattle.lock_service.specs.Due.{is_due}
-use Rattle.lock_service.specs.Counting.{count_of_all}
-use Rattle.lock_service.specs.Segmented.{is_to_end}
-use Rattle.lock_service.specs.Serving.{denial_of, stage_after}
+use Rattle.lock_journal.specs.Asking.{one_ask, is_off}
+use Rattle.lock_journal.specs.Due.{is_due}
+use Rattle.lock_journal.specs.Counting.{count_of_all}
+use Rattle.lock_journal.specs.Stages.{is_to_end, stage_after}
+use Rattle.lock_journal.specs.Answering.{denial_of}
 pub use Rattle.name_service.specs.Naming.{reply_told, is_name_lack}
 use Rattle.name_service.specs.Naming.{NamingView, IsNameCounted, count_at, is_wanting}
 use Rattle.name_service.specs.Noting.{lines_of_said, note_at, notes_of_names_left}

@@ -5,7 +5,7 @@ use Rattle.held_locks.specs.Kept.{LockView}
 use Rattle.lock_names.specs.Names.{Bound, told_holder}
 use Rattle.lock_names.specs.Kept.{NamedView}
 use Rattle.name_service.specs.declared.service.NameService.{NameService}
-use Rattle.lock_service.specs.State.{hold_lines, wait_lines}
+use Rattle.lock_journal.specs.State.{hold_lines, wait_lines}
 
 -- the line of the hold of a ring that has a name, with the name's token; those of its waiting clients
 abbrev pub hold_of_ring : Option Bound → LockView → List (List ℕ)

@@ -4,14 +4,14 @@ ghost use Rattle.std.specs.Prelude.{◌≡◌, ◌⊎◌, ◌≤◌, false, leng
 ghost use Rattle.held_locks.specs.declared.answers.Refusal.{Refusal};
 ghost use Rattle.held_locks.specs.Kept.{lock_limit};
 ghost use Rattle.lock_names.specs.Kept.{top_limit};
-ghost use Rattle.lock_service.specs.Due.{has_short};
+ghost use Rattle.lock_journal.specs.Due.{has_short};
 ghost use Rattle.name_service.specs.Growth.{pool_of, IsPoolWanted, HasFreshRing, AreGrown, CannotAdd, AreNextGrown, HaveNoNextGrown};
 
 use crate::segment::NameSegment;
 use folder_of_locks::fresh_ring;
 use held_locks::Refusal;
+use lock_journal::has_short;
 use lock_names::{Names, NotGrown, wanted_pool};
-use lock_service::sharing::has_short;
 use ring_state::Params;
 use std::alloc::Global;
 

@@ -6,13 +6,13 @@ ghost use Rattle.name_service.specs.Serving.{IsNameServed};
 use crate::service::{NameService, answer, are_kept};
 use disks::Disk;
 use line_service::{AnswersLines, Pending};
+use lock_journal::Stage;
 use lock_protocol::read_input;
-use lock_service::sharing::Stage;
 use std::alloc::AllocError;
 
 impl AnswersLines for NameService {
     ghost use Rattle.std.specs.Prelude.{false};
-    ghost use Rattle.lock_service.specs.Segmented.{is_over};
+    ghost use Rattle.lock_journal.specs.Stages.{is_over};
     ghost use Rattle.name_service.specs.Serving.{IsNameServed};
     ghost use Rattle.name_service.specs.Starts.{by_start};
 

@@ -3,13 +3,13 @@
 ghost use Rattle.std.specs.Prelude.{◌≡◌, ◌++◌, [], cond, slice_get, OnOk};
 ghost use Rattle.lock_names.specs.Kept.{own_said, grant_said};
 ghost use Rattle.lock_names.specs.Leaves.{bound_or, said_left};
-ghost use Rattle.lock_service.specs.Noting.{end_line, events_from};
+ghost use Rattle.lock_journal.specs.Noting.{end_line, events_from};
 ghost use Rattle.name_service.specs.Noting.{reply_line, lines_of_said, new_of, note_of_free, note_since, is_freed, notes_of_names_left};
 
 use held_locks::{Answer, HoldEnd, Holder, Left};
+use lock_journal::note;
 use lock_names::{NameAnswers, Names, Reply};
 use lock_protocol::{put_answer, put_names};
-use lock_service::sharing::note;
 use name_remarks::{NameRemark, put_name_remark};
 use std::alloc::AllocError;
 

@@ -4,15 +4,13 @@ ghost use Rattle.std.specs.Prelude.{◌≡◌, ℕ, ◌-◌, ◌||◌, [], true,
 ghost use Rattle.held_locks.specs.Asked.{asked};
 ghost use Rattle.lock_names.specs.Kept.{IsAsked};
 ghost use Rattle.lock_names.specs.Leaves.{IsLeftByName};
-ghost use Rattle.lock_service.specs.Due.{is_due, has_short_left};
-ghost use Rattle.lock_service.specs.Counting.{IsWatched, count_of_all};
+ghost use Rattle.lock_journal.specs.Due.{is_due, has_short_left};
+ghost use Rattle.lock_journal.specs.Counting.{IsWatched, count_of_all};
 ghost use Rattle.name_service.specs.Naming.{IsNameCounted, count_at, events_before, count_since, is_short_asked, is_wanting, reply_told, is_name_lack};
 
 use held_locks::{Left, OneAsk};
+use lock_journal::{after_end, after_events, after_left, events_at, has_short_left, is_short_at};
 use lock_names::{NameAnswers, Names};
-use lock_service::sharing::{
-    after_end, after_events, after_left, events_at, has_short_left, is_short_at,
-};
 use std::alloc::{AllocError, Global};
 use std::marker::Model;
 
@@ -31,7 +29,7 @@ pub(crate) struct NameSegment {
 
 impl Model for NameSegment {
     ghost use Rattle.std.specs.Prelude.{◌≤◌, length, vec_capacity};
-    ghost use Rattle.lock_service.specs.Counting.{IsWatched};
+    ghost use Rattle.lock_journal.specs.Counting.{IsWatched};
     ghost use Rattle.name_service.specs.Naming.{NamingView};
 
     ghost Value = { NamingView };

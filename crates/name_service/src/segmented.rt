@@ -6,7 +6,7 @@ use crate::growing::next_segment;
 use crate::service::NameService;
 use crate::texts::named_text;
 use line_service::{EndFault, Segmented};
-use lock_service::sharing::{Stage, end_fault, is_to_end, limit_of};
+use lock_journal::{Stage, end_fault, is_to_end, limit_of};
 use segment_files::DIGEST_DIGITS;
 use std::alloc::Global;
 

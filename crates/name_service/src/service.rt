@@ -6,8 +6,9 @@ ghost use Rattle.lock_protocol.specs.Asks.{seen, HasName};
 ghost use Rattle.lock_protocol.specs.Names.{IsName};
 ghost use Rattle.lock_protocol.specs.Views.{input_of};
 ghost use Rattle.line_replica.specs.Replies.{IsAdded};
-ghost use Rattle.lock_service.specs.Asking.{one_ask};
-ghost use Rattle.lock_service.specs.Serving.{Leaves, stage_after};
+ghost use Rattle.lock_journal.specs.Asking.{one_ask};
+ghost use Rattle.lock_journal.specs.Answering.{Leaves};
+ghost use Rattle.lock_journal.specs.Stages.{stage_after};
 ghost use Rattle.name_service.specs.Naming.{reply_told, is_name_lack};
 ghost use Rattle.name_service.specs.Serving.{IsNameToldOf, IsNameToldOfLeave, IsNameTold, IsNamedInput, IsNameInputAnswered, AnswersNameInput, is_name_past, IsNameKept};
 
@@ -15,12 +16,11 @@ use crate::noting::{note_name_if, note_names_left_if, tell_name, tell_names_left
 use crate::segment::{NameSegment, is_wanting};
 use held_locks::{Answer, OneAsk, Refusal};
 use line_service::Pending;
+use lock_journal::{
+    Stage, Terms, Untold, denial_of, is_lack, is_off, is_stopped, one_ask, put, stage_after,
+};
 use lock_names::{Names, Reply};
 use lock_protocol::{Ask, Denial, Input, put_denial};
-use lock_service::Terms;
-use lock_service::sharing::{
-    Stage, Untold, denial_of, is_lack, is_off, is_stopped, one_ask, put, stage_after,
-};
 use ring_state::Params;
 use std::alloc::AllocError;
 

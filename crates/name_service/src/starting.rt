@@ -1,16 +1,15 @@
 //! Locks by any name that start.
 
 ghost use Rattle.std.specs.Prelude.{◌≡◌, ◌||◌, IfOk};
-ghost use Rattle.lock_service.specs.declared.service.Stage.{Stage};
-ghost use Rattle.lock_service.specs.Segmented.{limit_of};
-ghost use Rattle.lock_service.specs.Serving.{stage_after};
+ghost use Rattle.lock_journal.specs.declared.stages.Stage.{Stage};
+ghost use Rattle.lock_journal.specs.Stages.{limit_of, stage_after};
 ghost use Rattle.name_service.specs.First.{IsNameStart};
 ghost use Rattle.name_service.specs.Serving.{is_name_past};
 
 use crate::segment::NameSegment;
 use crate::service::{NameService, NameTerms, is_past};
+use lock_journal::{Stage, after_start, has_short, limit_of, stage_after};
 use lock_names::Names;
-use lock_service::sharing::{Stage, after_start, has_short, limit_of, stage_after};
 use std::alloc::{AllocError, Global};
 
 /// The segment with which these names start. Its journal may have `limit` lines until it is due, those with which it begins among

@@ -12,8 +12,8 @@ ghost use Rattle.name_service.specs.State.{hold_of_ring, waits_of_ring, name_hol
 use crate::service::NameService;
 use held_locks::Holder;
 use line_replica::HasState;
+use lock_journal::{put_counted, put_hold_if};
 use lock_names::{Binding, Names};
-use lock_service::sharing::{put_counted, put_hold_if};
 use std::alloc::AllocError;
 
 /// The holder of a ring that is bound so, with the token of the name.

@@ -4,13 +4,13 @@ ghost use Rattle.std.specs.Prelude.{◌≡◌, ◌++◌, ◌∷◌, [], ◌<◌,
 ghost use Rattle.segment_files.specs.Spelling.{DigestFits};
 ghost use Rattle.lock_names.specs.Table.{bound_of};
 ghost use Rattle.name_remarks.specs.Bindings.{binds, text_of};
-ghost use Rattle.lock_service.specs.Due.{HaveNoText};
-ghost use Rattle.lock_service.specs.Segments.{segment_text, HasText};
+ghost use Rattle.lock_journal.specs.Due.{HaveNoText};
+ghost use Rattle.lock_journal.specs.Segments.{segment_text, HasText};
 ghost use Rattle.name_service.specs.NamesText.{bindings_of, names_text};
 
 use line_service::EndFault;
+use lock_journal::segment_text;
 use lock_names::{Binding, Names};
-use lock_service::sharing::segment_text;
 use name_remarks::{NameRemark, put_name_remark};
 use segment_files::DIGEST_DIGITS;
 use std::alloc::{AllocError, Global};

@@ -3,7 +3,7 @@ use Rattle.folder_of_locks.specs.Folders.{place_of}
 use Rattle.folder_of_locks.specs.Holders.{hold_of}
 use Rattle.tool_parts.proofs.LockedFolders.{locked_known}
 use Rattle.lock_commands.specs.Locks.{folder_of, list_of}
-use Rattle.lock_service.proofs.StartedBegin.{started_locks_begin}
+use Rattle.lock_life.proofs.StartedBegin.{started_locks_begin}
 use Rattle.lock_commands.proofs.StartedLocks.{started_known}
 use Rattle.lock_commands.proofs.UnderLock.{under_lock, still_locked, refused_locked}
 use Rattle.lock_commands.proofs.locks.run_in_folder.Goals as goal

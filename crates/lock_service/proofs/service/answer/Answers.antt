@@ -1,8 +1,9 @@
 use Rattle.std.proofs.Common.{◌≡◌, sym, ◌∙◌, subst, refl, inr}
 use Rattle.lock_protocol.specs.Views.{input_of}
 use Rattle.lock_service.specs.declared.service.LockService.{LockService}
-use Rattle.lock_service.specs.Serving.{AnswersInput, IsInputAnswered}
-use Rattle.lock_service.proofs.Telling.{answered_leaves}
+use Rattle.lock_service.specs.Serving.{AnswersInput}
+use Rattle.lock_journal.specs.Answering.{IsInputAnswered}
+use Rattle.lock_journal.proofs.Telling.{answered_leaves}
 use Rattle.lock_service.proofs.service.answer.Goals as goal
 
 pub returns-in-Err-Answered-clause-err : goal.returns-in-Err-Answered-clause-err

@@ -1,10 +1,10 @@
 use Rattle.std.proofs.Common.{◌≡◌, ℕ, List, Option, Result, sym, subst}
 use Rattle.held_locks.specs.Locks.{Ask}
 use Rattle.lock_protocol.specs.Asks.{seen}
-use Rattle.lock_service.specs.declared.service.Untold.{Untold}
-use Rattle.lock_service.specs.Asking.{one_ask}
-use Rattle.lock_service.specs.Serving.{IsTold, Leaves}
-use Rattle.lock_service.proofs.Telling.{put_leaves}
+use Rattle.lock_journal.specs.declared.untold.Untold.{Untold}
+use Rattle.lock_journal.specs.Asking.{one_ask}
+use Rattle.lock_journal.specs.Answering.{IsTold, Leaves}
+use Rattle.lock_journal.proofs.Telling.{put_leaves}
 use Rattle.lock_service.proofs.service.answer_ask.Goals as goal
 
 pub returns-in-Some : goal.returns-in-Some

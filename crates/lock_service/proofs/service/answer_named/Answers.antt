@@ -4,8 +4,8 @@ use Rattle.held_locks.specs.declared.answers.Answer.TheVariants as answer
 use Rattle.held_locks.specs.declared.answers.Refusal.TheVariants as refusal
 use Rattle.lock_protocol.specs.Names.{Names, lock_named}
 use Rattle.lock_protocol.specs.Answers.{answer_line}
-use Rattle.lock_service.specs.Serving.{IsToldOf, IsToldOfNamed, IsTold}
-use Rattle.lock_service.proofs.Telling.{said_leaves, leaves_weaker}
+use Rattle.lock_journal.specs.Answering.{IsToldOf, IsToldOfNamed, IsTold}
+use Rattle.lock_journal.proofs.Telling.{said_leaves, leaves_weaker}
 use Rattle.lock_service.proofs.service.answer_named.Goals as goal
 
 pub returns-in-Some : goal.returns-in-Some

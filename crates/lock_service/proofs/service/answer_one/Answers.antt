@@ -2,11 +2,11 @@ use Rattle.std.proofs.Common.{◌≡◌, ℕ, List, [], ◌++◌, cond, Result, 
 use Rattle.std.specs.Prelude.{slice_get}
 use Rattle.held_locks.specs.Kept.{LockView, answers_of}
 use Rattle.lock_protocol.specs.Names.{Names}
-use Rattle.lock_service.specs.declared.service.Untold.{Untold}
+use Rattle.lock_journal.specs.declared.untold.Untold.{Untold}
 use Rattle.held_locks.specs.Asked.{asked, events_at}
-use Rattle.lock_service.specs.Noting.{lines_about, note_about, end_line, events_from}
-use Rattle.lock_service.specs.Serving.{IsToldOf, Leaves}
-use Rattle.lock_service.proofs.Telling.{on_ok, put_leaves}
+use Rattle.lock_journal.specs.Noting.{lines_about, note_about, end_line, events_from}
+use Rattle.lock_journal.specs.Answering.{IsToldOf, Leaves}
+use Rattle.lock_journal.proofs.Telling.{on_ok, put_leaves}
 use Rattle.lock_service.proofs.service.answer_one.Goals as goal
 
 pub returns-in-Ok : goal.returns-in-Ok

@@ -2,8 +2,8 @@ use Rattle.std.proofs.Common.{◌≡◌, ℕ, List, [], ◌++◌, cond, refl, ap
 use Rattle.held_locks.specs.declared.answers.Left.{Left}
 use Rattle.held_locks.specs.Kept.{LockView}
 use Rattle.lock_protocol.specs.Names.{Names}
-use Rattle.lock_service.specs.Noting.{lines_of_left, notes_of_left}
-use Rattle.lock_service.proofs.Telling.{on_ok}
+use Rattle.lock_journal.specs.Noting.{lines_of_left, notes_of_left}
+use Rattle.lock_journal.proofs.Telling.{on_ok}
 use Rattle.lock_service.proofs.service.leave.Goals as goal
 
 pub returns-in-Ok : goal.returns-in-Ok

@@ -1,6 +1,6 @@
 use Rattle.std.proofs.Common.{◌+◌, ◌<◌, length, drop, rules, arith}
-use Rattle.lock_service.specs.State.{hold_lines, holds_from}
-use Rattle.lock_service.proofs.StateLines.{lines_more, count_more, holds_there}
+use Rattle.lock_journal.specs.State.{hold_lines, holds_from}
+use Rattle.lock_journal.proofs.StateLines.{lines_more, count_more, holds_there}
 use Rattle.lock_service.proofs.stating.put_holds.Goals as goal
 
 pub loop-lock-preserved : goal.loop-lock-preserved

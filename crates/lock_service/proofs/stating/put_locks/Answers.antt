@@ -1,6 +1,6 @@
-use Rattle.lock_service.specs.State.{holds_from, waits_from}
-use Rattle.lock_service.proofs.Telling.{on_ok}
-use Rattle.lock_service.proofs.StateLines.{lines_behind}
+use Rattle.lock_journal.specs.State.{holds_from, waits_from}
+use Rattle.lock_journal.proofs.Telling.{on_ok}
+use Rattle.lock_journal.proofs.StateLines.{lines_behind}
 use Rattle.lock_service.proofs.stating.put_locks.Goals as goal
 
 pub returns-in-Ok-clause-lines : goal.returns-in-Ok-clause-lines

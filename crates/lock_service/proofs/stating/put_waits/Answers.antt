@@ -1,7 +1,7 @@
 use Rattle.std.proofs.Common.{◌+◌, ◌<◌, length, drop, rules}
 use Rattle.held_locks.proofs.AllLeft.{there_is}
-use Rattle.lock_service.specs.State.{wait_lines, waits_from}
-use Rattle.lock_service.proofs.StateLines.{lines_more, count_more, waits_there}
+use Rattle.lock_journal.specs.State.{wait_lines, waits_from}
+use Rattle.lock_journal.proofs.StateLines.{lines_more, count_more, waits_there}
 use Rattle.lock_service.proofs.stating.put_waits.Goals as goal
 
 pub loop-lock-preserved : goal.loop-lock-preserved

@@ -1,6 +1,6 @@
 use Rattle.std.proofs.Common.{◌≡◌, ◌+◌, ◌<◌, ◌^◌, ◌++◌, length, drop}
 use Rattle.line_service.specs.Answering.{joined_lines}
-use Rattle.lock_service.specs.State.{waits_from}
+use Rattle.lock_journal.specs.State.{waits_from}
 use Rattle.lock_service.proofs.stating.put_waits.Given as goal
 
 -- the lines of the locks from this one on are still to be added

@@ -1,7 +1,7 @@
 use Rattle.std.proofs.Common.{◌≡◌, false, List, sym, ap, ◌∙◌}
 use Rattle.held_locks.specs.Kept.{LockView}
 use Rattle.lock_names.specs.Kept.{NamedView}
-use Rattle.lock_service.specs.Due.{has_short}
+use Rattle.lock_journal.specs.Due.{has_short}
 use Rattle.name_service.specs.Growth.{AreGrown}
 use Rattle.name_service.proofs.GrownPools.{grown_by, if_ok}
 use Rattle.name_service.proofs.growing.next_names.Goals as goal

@@ -1,6 +1,6 @@
 use Rattle.std.proofs.Common.{ℕ, get_or, ◌∙◌, ap}
 use Rattle.held_locks.specs.declared.answers.Left.{Left}
-use Rattle.lock_service.proofs.Telling.{piece_more}
+use Rattle.lock_journal.proofs.Telling.{piece_more}
 use Rattle.name_service.specs.Noting.{is_freed, note_of_name_left}
 use Rattle.name_service.proofs.Said.{no_left, freed_note}
 use Rattle.name_service.proofs.noting.note_names_left.Goals as goal

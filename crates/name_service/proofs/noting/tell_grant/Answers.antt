@@ -1,5 +1,5 @@
 use Rattle.std.proofs.Common.{ℕ, List, ◌++◌, ◌∙◌, ap}
-use Rattle.lock_service.proofs.Telling.{on_ok}
+use Rattle.lock_journal.proofs.Telling.{on_ok}
 use Rattle.name_service.proofs.Said.{grant_line}
 use Rattle.name_service.proofs.noting.tell_grant.Goals as goal
 

@@ -1,6 +1,6 @@
 use Rattle.std.proofs.Common.{ℕ, List, ◌++◌, ◌∙◌, ap, append_assoc}
 use Rattle.lock_names.specs.Kept.{own_said, grant_said}
-use Rattle.lock_service.proofs.Telling.{on_ok}
+use Rattle.lock_journal.proofs.Telling.{on_ok}
 use Rattle.name_service.specs.Noting.{lines_of_said}
 use Rattle.name_service.proofs.Said.{both_lines}
 use Rattle.name_service.proofs.noting.tell_name.Goals as goal

@@ -2,7 +2,7 @@ use Rattle.std.proofs.Common.{ℕ, List, ◌++◌, get_or, sym, ◌∙◌, ap}
 use Rattle.std.specs.List.{flat_map}
 use Rattle.std.proofs.lemmas.List.{take_all}
 use Rattle.held_locks.specs.declared.answers.Left.{Left}
-use Rattle.lock_service.proofs.Telling.{piece_more}
+use Rattle.lock_journal.proofs.Telling.{piece_more}
 use Rattle.name_service.proofs.Said.{no_left, grant_lines, lines_left, lines_of_left}
 use Rattle.name_service.proofs.noting.tell_names_left.Goals as goal
 

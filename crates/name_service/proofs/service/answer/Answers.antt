@@ -1,6 +1,6 @@
 use Rattle.std.proofs.Common.{◌≡◌, sym, ◌∙◌, subst, refl, inr}
 use Rattle.lock_protocol.specs.Views.{input_of}
-use Rattle.lock_service.proofs.Telling.{answered_leaves}
+use Rattle.lock_journal.proofs.Telling.{answered_leaves}
 use Rattle.name_service.specs.declared.service.NameService.{NameService}
 use Rattle.name_service.specs.Serving.{AnswersNameInput, IsNameInputAnswered}
 use Rattle.name_service.proofs.service.answer.Goals as goal

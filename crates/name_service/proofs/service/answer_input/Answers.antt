@@ -5,9 +5,9 @@ use Rattle.lock_protocol.specs.declared.answers.Denial.TheVariants as denial
 use Rattle.lock_protocol.specs.Views.{Input, input_of}
 use Rattle.lock_protocol.specs.Asks.{seen}
 use Rattle.lock_protocol.specs.Answers.{denial_line}
-use Rattle.lock_service.specs.Asking.{one_ask, is_off}
-use Rattle.lock_service.specs.Serving.{denial_of}
-use Rattle.lock_service.proofs.Telling.{on_ok, said_leaves, leaves_weaker}
+use Rattle.lock_journal.specs.Asking.{one_ask, is_off}
+use Rattle.lock_journal.specs.Answering.{denial_of}
+use Rattle.lock_journal.proofs.Telling.{on_ok, said_leaves, leaves_weaker}
 use Rattle.name_service.specs.Serving.{IsNameTold, IsNamedInput, IsNameInputAnswered}
 use Rattle.name_service.proofs.Inputs.{asked_input, told_input}
 use Rattle.name_service.proofs.service.answer_input.Goals as goal

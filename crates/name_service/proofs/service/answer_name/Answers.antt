@@ -4,9 +4,9 @@ use Rattle.held_locks.specs.Asked.{asked}
 use Rattle.line_service.specs.declared.pending.Pending.{Pending}
 use Rattle.lock_names.specs.declared.replies.Reply.{Reply}
 use Rattle.lock_names.specs.Kept.{NamedView, own_said, grant_said, IsAsked}
-use Rattle.lock_service.specs.declared.service.Untold.{Untold}
-use Rattle.lock_service.specs.Serving.{Leaves}
-use Rattle.lock_service.proofs.Telling.{on_ok, put_leaves}
+use Rattle.lock_journal.specs.declared.untold.Untold.{Untold}
+use Rattle.lock_journal.specs.Answering.{Leaves}
+use Rattle.lock_journal.proofs.Telling.{on_ok, put_leaves}
 use Rattle.name_service.specs.Naming.{reply_told, is_name_lack, is_wanting}
 use Rattle.name_service.specs.Noting.{lines_of_said, note_at, note_since}
 use Rattle.name_service.specs.Serving.{own_told, IsNameToldOf}

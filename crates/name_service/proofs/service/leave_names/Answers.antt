@@ -3,7 +3,7 @@ use Rattle.held_locks.specs.declared.answers.Left.{Left}
 use Rattle.lock_names.specs.Names.{Said}
 use Rattle.lock_names.specs.Kept.{NamedView}
 use Rattle.lock_names.specs.Leaves.{said_left}
-use Rattle.lock_service.proofs.Telling.{on_ok}
+use Rattle.lock_journal.proofs.Telling.{on_ok}
 use Rattle.name_service.specs.Noting.{lines_of_said, notes_of_names_left}
 use Rattle.name_service.proofs.LeftSame.{said_same, fixed_same}
 use Rattle.name_service.proofs.service.leave_names.Goals as goal

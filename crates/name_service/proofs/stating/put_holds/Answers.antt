@@ -1,6 +1,6 @@
 use Rattle.std.proofs.Common.{◌+◌, ◌<◌, length, drop, rules, arith}
 use Rattle.lock_names.proofs.Found.{there_is}
-use Rattle.lock_service.proofs.StateLines.{lines_more, count_more}
+use Rattle.lock_journal.proofs.StateLines.{lines_more, count_more}
 use Rattle.name_service.specs.State.{hold_of_ring, name_holds}
 use Rattle.name_service.proofs.NamedStates.{name_there, holds_there}
 use Rattle.name_service.proofs.stating.put_holds.Goals as goal

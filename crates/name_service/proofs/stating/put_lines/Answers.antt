@@ -1,5 +1,5 @@
-use Rattle.lock_service.proofs.Telling.{on_ok}
-use Rattle.lock_service.proofs.StateLines.{lines_behind}
+use Rattle.lock_journal.proofs.Telling.{on_ok}
+use Rattle.lock_journal.proofs.StateLines.{lines_behind}
 use Rattle.name_service.specs.State.{name_holds, name_waits}
 use Rattle.name_service.proofs.stating.put_lines.Goals as goal
 

@@ -1,6 +1,6 @@
 use Rattle.std.proofs.Common.{◌+◌, ◌<◌, length, drop, rules}
 use Rattle.lock_names.proofs.Found.{there_is}
-use Rattle.lock_service.proofs.StateLines.{lines_more, count_more}
+use Rattle.lock_journal.proofs.StateLines.{lines_more, count_more}
 use Rattle.name_service.specs.State.{waits_of_ring, name_waits}
 use Rattle.name_service.proofs.NamedStates.{name_there, waits_there}
 use Rattle.name_service.proofs.stating.put_waits.Goals as goal

@@ -1,6 +1,6 @@
 use Rattle.std.proofs.Common.{◌++◌, ℕ, ap, ◌∙◌}
 use Rattle.name_remarks.specs.Remarks.{top, remark_text}
-use Rattle.lock_service.proofs.Telling.{on_ok}
+use Rattle.lock_journal.proofs.Telling.{on_ok}
 use Rattle.name_service.proofs.NamedStates.{many_names}
 use Rattle.name_service.proofs.NamedTexts.{all_names}
 use Rattle.name_service.proofs.texts.put_names.Goals as goal

@@ -4,7 +4,7 @@ use Rattle.lock_service.specs.declared.service.LockService.{LockService}
 use Rattle.line_replica.specs.Replies.{IsAdded}
 use Rattle.lock_service.specs.Serving.{AnswersInput, IsServed}
 use Rattle.lock_service.proofs.Answered.{is_served, same_or_served}
-use Rattle.lock_service.proofs.Telling.{on_ok, on_err}
+use Rattle.lock_journal.proofs.Telling.{on_ok, on_err}
 use Rattle.lock_service.proofs.lines.LockServiceAnswersLines.answer.Goals as goal
 
 pub returns-clause-ok : goal.returns-clause-ok

@@ -1,11 +1,11 @@
 use Rattle.std.proofs.Common.{◌≡◌, ℕ, ◌-◌, ◌+◌, Bool, ◌||◌, length, ap, subst, sym, refl, ◌∙◌, arith}
 use Rattle.std.specs.Prelude.{slice_get, ◌≤◌, vec_capacity}
 use Rattle.held_locks.specs.Asked.{asked, events_at}
-use Rattle.lock_service.specs.Due.{has_short}
-use Rattle.lock_service.specs.Counting.{SegmentView, IsCounted, count_about, end_count}
+use Rattle.lock_journal.specs.Due.{has_short}
+use Rattle.lock_journal.specs.Counting.{SegmentView, IsCounted, count_about, end_count}
 use Rattle.held_locks.proofs.Asking.{asked_long}
-use Rattle.lock_service.proofs.Short.{short_after, watched_after}
-use Rattle.lock_service.proofs.Lacks.{lacking_same}
+use Rattle.lock_journal.proofs.Short.{short_after, watched_after}
+use Rattle.lock_journal.proofs.Lacks.{lacking_same}
 use Rattle.lock_service.proofs.Unchanged.{unchanged}
 use Rattle.lock_service.proofs.segment.Segment.ask.Goals as goal
 

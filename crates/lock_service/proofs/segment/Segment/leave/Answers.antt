@@ -1,7 +1,7 @@
 use Rattle.std.proofs.Common.{◌≡◌, ◌≤◌, length, subst, arith, vec_capacity}
-use Rattle.lock_service.specs.Counting.{SegmentView, IsCounted, count_of_all}
-use Rattle.lock_service.proofs.Short.{left_long, watched_after}
-use Rattle.lock_service.proofs.ShortLeft.{left_counted}
+use Rattle.lock_journal.specs.Counting.{SegmentView, IsCounted, count_of_all}
+use Rattle.lock_journal.proofs.Short.{left_long, watched_after}
+use Rattle.lock_journal.proofs.ShortLeft.{left_counted}
 use Rattle.lock_service.proofs.segment.Segment.leave.Goals as goal
 
 pub invariant_of-self : goal.invariant_of-self

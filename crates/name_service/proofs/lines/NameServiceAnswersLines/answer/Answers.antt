@@ -1,7 +1,7 @@
 use Rattle.std.proofs.Common.{◌≡◌, ℕ, List, ◌++◌, ◌⊎◌}
 use Rattle.lock_protocol.specs.Views.{input_of}
 use Rattle.line_replica.specs.Replies.{IsAdded}
-use Rattle.lock_service.proofs.Telling.{on_ok, on_err}
+use Rattle.lock_journal.proofs.Telling.{on_ok, on_err}
 use Rattle.name_service.specs.declared.service.NameService.{NameService}
 use Rattle.name_service.specs.Serving.{AnswersNameInput, IsNameServed}
 use Rattle.name_service.proofs.Answered.{is_served, same_or_served}

@@ -1,7 +1,7 @@
 use Rattle.std.proofs.Common.{◌≡◌, ◌≤◌, ◌-◌, ℕ, ap, subst, sym, ◌∙◌}
 use Rattle.std.specs.Prelude.{vec_capacity}
 use Rattle.held_locks.specs.Asked.{asked}
-use Rattle.lock_service.proofs.Short.{watched_after}
+use Rattle.lock_journal.proofs.Short.{watched_after}
 use Rattle.lock_names.specs.Kept.{NamedView, IsAsked}
 use Rattle.name_service.specs.Naming.{NamingView, IsNameCounted, count_at, events_before}
 use Rattle.name_service.proofs.Reached.{lack_same, none_counted, short_asked, long_asked, count_asked}

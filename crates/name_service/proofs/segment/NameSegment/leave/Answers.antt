@@ -1,10 +1,10 @@
 use Rattle.std.proofs.Common.{◌≡◌, ◌≤◌, ◌-◌, ◌||◌, Bool, List, length, ap, subst, ◌∙◌, arith}
 use Rattle.std.specs.Prelude.{vec_capacity}
 use Rattle.held_locks.specs.declared.answers.Left.{Left}
-use Rattle.lock_service.specs.Due.{has_short_left}
-use Rattle.lock_service.specs.Counting.{count_of_all}
-use Rattle.lock_service.proofs.Short.{left_long, watched_after}
-use Rattle.lock_service.proofs.ShortLeft.{short_left}
+use Rattle.lock_journal.specs.Due.{has_short_left}
+use Rattle.lock_journal.specs.Counting.{count_of_all}
+use Rattle.lock_journal.proofs.Short.{left_long, watched_after}
+use Rattle.lock_journal.proofs.ShortLeft.{short_left}
 use Rattle.name_service.specs.Naming.{NamingView, IsNameCounted}
 use Rattle.name_service.proofs.LeftSame.{short_raw}
 use Rattle.name_service.proofs.segment.NameSegment.leave.Goals as goal

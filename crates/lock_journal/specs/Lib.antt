@@ -1,0 +1,14 @@
+pub mod Asking
+pub mod Noting
+pub mod Segments
+pub mod Due
+pub mod Counting
+pub mod State
+pub mod Begun
+pub mod Told
+pub mod Recovered
+pub mod Equal
+pub mod KeysBack
+pub mod Answering
+pub mod Replicas
+pub mod Stages

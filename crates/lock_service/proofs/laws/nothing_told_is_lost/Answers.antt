@@ -1,5 +1,0 @@
-use Rattle.lock_service.proofs.Keeping.{nothing_told_is_lost}
-use Rattle.lock_service.proofs.laws.nothing_told_is_lost.Goals as goal
-
-pub returns : goal.returns
-returns c = nothing_told_is_lost

@@ -1,5 +1,0 @@
-use Rattle.lock_service.proofs.Around.{replica_runs_are_stages, other_lines_are_replied}
-use Rattle.lock_service.proofs.laws.replica_runs_are_stages.Goals as goal
-
-pub returns : goal.returns
-returns c = record { runs = replica_runs_are_stages; others = other_lines_are_replied }

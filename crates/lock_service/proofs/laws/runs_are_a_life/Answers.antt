@@ -1,5 +1,0 @@
-use Rattle.lock_service.proofs.Life.{runs_are_a_life}
-use Rattle.lock_service.proofs.laws.runs_are_a_life.Goals as goal
-
-pub returns : goal.returns
-returns c = runs_are_a_life

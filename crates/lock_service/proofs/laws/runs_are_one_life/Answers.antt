@@ -1,5 +1,0 @@
-use Rattle.lock_service.proofs.OneLife.{runs_are_one_life}
-use Rattle.lock_service.proofs.laws.runs_are_one_life.Goals as goal
-
-pub returns : goal.returns
-returns c = runs_are_one_life

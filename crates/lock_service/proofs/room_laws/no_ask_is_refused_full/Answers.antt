@@ -1,5 +1,0 @@
-use Rattle.lock_service.proofs.NeverFull.{never_full}
-use Rattle.lock_service.proofs.room_laws.no_ask_is_refused_full.Goals as goal
-
-pub returns : goal.returns
-returns c = never_full
