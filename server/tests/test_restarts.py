@@ -192,25 +192,27 @@ class Restarts(Trial):
         os.remove(gate)
         return server if is_of_engine else self.server(lease=lease)
 
-    @by_the_clock
-    def test_a_hold_that_the_server_never_heard_of(self, longer):
-        """It is nobody's until the grace is over, though one session waited for it alone; and the release that brought it is not done
-        again."""
+    def is_nobodys(self, longer, is_of_engine):
+        """A hold that the server never heard of is nobody's until the grace is over, though one session waited for it alone; and the release
+        that brought it is not done again."""
         lease = str(2 * longer)
-        for is_of_engine in (True, False):
-            with self.subTest(is_of_engine=is_of_engine):
-                server = self.behind_a_gate(lease)
-                (one, _), (two, _) = self.session(server, 1), self.session(server, 2)
-                self.assertEqual(say(one, "1 acquire a 5\n"), ["1 granted a 1"])
-                self.assertEqual(say(two, "1 acquire a 6\n"), ["1 waiting a 0"])
-                server = self.hand_over_unheard(server, one, lease, is_of_engine)
-                (one, none), (two, lines) = self.session(server, 1), self.session(server, 2, 1)
-                self.assertEqual((none, lines), ([], ["waits a"]))
-                self.assertEqual(say(one, "2 release a 1\n"), ["2 released a"])
-                self.assertEqual(granted_late(two), "granted a 3")
-                self.end(server)
-                for name in ("journal", "journal.sessions"):
-                    shutil.rmtree(os.path.join(self.folder, name))
+        server = self.behind_a_gate(lease)
+        (one, _), (two, _) = self.session(server, 1), self.session(server, 2)
+        self.assertEqual(say(one, "1 acquire a 5\n"), ["1 granted a 1"])
+        self.assertEqual(say(two, "1 acquire a 6\n"), ["1 waiting a 0"])
+        server = self.hand_over_unheard(server, one, lease, is_of_engine)
+        (one, none), (two, lines) = self.session(server, 1), self.session(server, 2, 1)
+        self.assertEqual((none, lines), ([], ["waits a"]))
+        self.assertEqual(say(one, "2 release a 1\n"), ["2 released a"])
+        self.assertEqual(granted_late(two), "granted a 3")
+
+    @by_the_clock
+    def test_a_hold_that_the_server_never_heard_of_as_the_engine_ended(self, longer):
+        self.is_nobodys(longer, True)
+
+    @by_the_clock
+    def test_a_hold_that_the_server_never_heard_of_as_it_ended(self, longer):
+        self.is_nobodys(longer, False)
 
     @by_the_clock
     def test_one_that_may_be_that_of_a_client_without_a_session(self, longer):
@@ -415,12 +417,50 @@ class Restarts(Trial):
         self.assertEqual(self.session(server, 1, 1)[1], ["holds a 1"])
 
     def test_a_folder_that_cannot_be_written(self):
-        """Then there are no sessions, and all else is as it was."""
+        """The server says so, and ends; if it is to have no sessions, all else is as it was."""
         with open(os.path.join(self.folder, "journal.sessions"), "w", encoding="ascii"):
             pass
-        server = self.server()
+        with self.assertRaisesRegex(RuntimeError, "what is kept of sessions, beside the journal: .*--no-sessions"):
+            self.server()
+        server = self.server("--no-sessions")
         self.assertEqual(say(self.raw(server), "session 1\nacquire a 1\n", 2), ["refused session", "granted a 1"])
-        server.wait_for_log("sessions-unkept")
+
+    def test_a_journal_by_the_name_of_the_folder_that_one_is_in(self):
+        """What is kept of sessions is beside the folder that `.` is."""
+        server = self.server()
+        one, _ = self.session(server, 1)
+        self.assertEqual(say(one, "1 acquire a 5\n"), ["1 granted a 1"])
+        server.process.kill()
+        server.process.wait()
+        RUNNING.remove(server)
+        before = os.getcwd()
+        self.addCleanup(os.chdir, before)
+        os.chdir(os.path.join(self.folder, "journal"))
+        server = self.server("--journal", ".")
+        os.chdir(before)
+        self.assertEqual(self.session(server, 1, 1)[1], ["holds a 1"])
+        self.assertEqual(sorted(os.listdir(self.folder)), ["journal", "journal.sessions", "lock.sock", "log", "operators.sock"])
+
+    def test_no_link_is_written(self):
+        """What a link beside the journal leads to stays as it is."""
+        other, beside = os.path.join(self.folder, "other"), os.path.join(self.folder, "journal.sessions")
+        os.mkdir(beside)
+        with open(other, "w", encoding="ascii") as file:
+            file.write("as it was")
+        for name in ("sessions", "sessions.part", "holders", "holders.part"):
+            os.symlink(other, os.path.join(beside, name))
+        server = self.server()
+        one, _ = self.session(server, 1)
+        self.assertEqual(say(one, "1 acquire a 5\n"), ["1 granted a 1"])
+        server = self.again(server, signal.SIGKILL)
+        self.assertEqual(self.session(server, 1, 1)[1], ["holds a 1"])
+        self.end(server)
+        with open(other, encoding="ascii") as file:
+            self.assertEqual(file.read(), "as it was")
+        os.remove(os.path.join(beside, "lock"))
+        os.symlink(other, os.path.join(beside, "lock"))
+        with self.assertRaisesRegex(RuntimeError, "lock: it is a link"):
+            self.server()
 
 
 if __name__ == "__main__":

@@ -9,6 +9,8 @@ complete -c wozgirt-server -l segment -x -d "How many lines a file of the journa
 complete -c wozgirt-server -l keep-segments -x -d "How many files of the journal are kept"
 complete -c wozgirt-server -l engine-patience -x -d "Within what time the engine has to answer, in seconds"
 complete -c wozgirt-server -l no-sync -d "Answers do not wait for the disk"
+complete -c wozgirt-server -l no-sessions -d "Clients have no sessions"
+complete -c wozgirt-server -l session-bytes -x -d "How much is added to the file of sessions before it is written anew"
 complete -c wozgirt-server -l faults -d "Operators may write faults"
 complete -c wozgirt-server -l socket -rF -d "For clients"
 complete -c wozgirt-server -l mode -x -d "Its mode"

@@ -174,6 +174,8 @@ impl Desk {
                 connection.lease = Some(lease);
                 if let (Mode::Alone(alone), Some(seat)) = (&mut self.mode, &connection.seat) {
                     seat.session.into_iter().for_each(|session| alone.set_lease(session, lease));
+                    connection.tag = self.questions.turns.charge(connection.tag, 1);
+                    // it may be written
                 }
                 connection.tell_in_order(format_args!("lease {}", lease.as_millis()));
             }

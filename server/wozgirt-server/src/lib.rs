@@ -13,6 +13,7 @@ mod connection;
 mod desk;
 mod doors;
 mod engine;
+mod files;
 mod journal;
 pub mod log;
 mod memory;

@@ -12,6 +12,8 @@ pub enum Name {
     Segment,
     KeepSegments,
     NoSync,
+    NoSessions,
+    SessionBytes,
     EnginePatience,
     Faults,
     Socket,
@@ -96,6 +98,13 @@ pub static SECTIONS: [Section; 5] = [
                 "how many of these files are kept; what is removed is noted in FOLDER.removed [all]",
             ),
             flag(Name::NoSync, "--no-sync", "answers do not wait for the disk"),
+            flag(Name::NoSessions, "--no-sessions", "clients have no sessions, and nothing is kept in FOLDER.sessions"),
+            valued(
+                Name::SessionBytes,
+                "--session-bytes",
+                "BYTES",
+                "how much is added to the file of sessions before it is written anew [16777216]",
+            ),
             valued(
                 Name::EnginePatience,
                 "--engine-patience",

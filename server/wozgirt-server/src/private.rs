@@ -1,5 +1,6 @@
 //! Files with keys of sessions, and folders of such files: for their owner only, whatever the umask.
 
+use crate::files::remove_if_there;
 use std::fs::{self, DirBuilder, File, OpenOptions, Permissions};
 use std::io::{self, ErrorKind, Write};
 use std::os::unix::fs::{DirBuilderExt, OpenOptionsExt, PermissionsExt};
@@ -32,16 +33,11 @@ pub fn create(path: &Path) -> io::Result<File> {
     OpenOptions::new().create_new(true).write(true).mode(FILE).open(path)
 }
 
-fn remove_if_there(path: &Path) -> io::Result<()> {
-    fs::remove_file(path).or_else(|fault| match fault.kind() {
-        ErrorKind::NotFound => Ok(()),
-        _ => Err(fault),
-    })
-}
-
 /// A file with this text.
-pub fn write(path: &Path, text: &str) -> io::Result<()> {
-    create(path)?.write_all(text.as_bytes())
+pub fn write(path: &Path, text: &[u8]) -> io::Result<File> {
+    let mut file = create(path)?;
+    file.write_all(text)?;
+    Ok(file)
 }
 
 #[cfg(test)]
@@ -64,8 +60,8 @@ mod tests {
         close_folder(&folder).unwrap();
         fs::write(&old, "0123456789").unwrap();
         fs::set_permissions(&old, Permissions::from_mode(0o666)).unwrap();
-        write(&file, "text").unwrap();
-        write(&old, "new").unwrap();
+        write(&file, b"text").unwrap();
+        write(&old, b"new").unwrap();
         assert_eq!((mode(&folder), mode(&file), mode(&old)), (0o700, 0o600, 0o600));
         assert_eq!(fs::read_to_string(&old).unwrap(), "new");
         fs::set_permissions(&old, Permissions::from_mode(0o644)).unwrap();

@@ -3,8 +3,9 @@
 //! The digest of a segment is in the head of the next one. Before a segment is removed, that is noted in a file beside the
 //! journal's folder, which the engine does not look at: so the chain can still be distinguished from another one.
 
-use std::fs::{self, OpenOptions};
-use std::io::{self, BufRead, BufReader, Write};
+use crate::files::{beside, create, refuse_link, replace};
+use std::fs;
+use std::io::{self, BufRead, BufReader};
 use std::path::{Path, PathBuf};
 use std::sync::mpsc::{channel, Receiver, Sender};
 use std::thread;
@@ -59,7 +60,7 @@ fn remove_oldest(folder: &Path, kept: usize) -> io::Result<Option<(String, Strin
         return Ok(None);
     }
     let digest = digest_behind(&folder.join(next))?;
-    note(&record(folder), &format!("{oldest} {digest}\n"))?;
+    note(&beside(folder, ".removed")?, &format!("{oldest} {digest}\n"))?;
     fs::remove_file(folder.join(oldest))?;
     Ok(Some((oldest.clone(), digest)))
 }
@@ -76,25 +77,20 @@ fn digest_behind(segment: &Path) -> io::Result<String> {
     digest.map(String::from).ok_or_else(|| io::Error::other(format!("{}: no digest in its head", segment.display())))
 }
 
-/// The file beside the folder.
-fn record(folder: &Path) -> PathBuf {
-    let mut name = folder.file_name().unwrap_or_default().to_owned();
-    name.push(".removed");
-    folder.with_file_name(name)
-}
-
-/// Puts the line at the end of the record, unless it is there already, and on the disk.
+/// Puts the line at the end of the record, unless it is there already, and on the disk. Of a record without an end, as after a loss of
+/// power, the last line goes; one that cannot be replaced stays as it is.
 fn note(record: &Path, line: &str) -> io::Result<()> {
+    refuse_link(record)?;
     let before = fs::read_to_string(record).or_else(|fault| match fault.kind() {
         io::ErrorKind::NotFound => Ok(String::new()),
         _ => Err(fault),
     })?;
-    if before.ends_with(line) {
+    let whole = &before[..before.rfind('\n').map_or(0, |end| end + 1)];
+    if whole.ends_with(line) {
         return Ok(());
     }
-    let mut file = OpenOptions::new().append(true).create(true).open(record)?;
-    file.write_all(line.as_bytes())?;
-    file.sync_all()
+    replace(record, &record.with_extension("removed.part"), create, format!("{whole}{line}").as_bytes())?;
+    Ok(())
 }
 
 #[cfg(test)]
@@ -115,8 +111,16 @@ mod tests {
         }
         fs::write(folder.join("locks"), "a 8 8\n").unwrap();
         // a line that was noted before an interrupt is not noted again
-        fs::write(top.join("journal.removed"), format!("{} {}\n", name(1), digest(1))).unwrap();
+        let (record, part) = (top.join("journal.removed"), top.join("journal.removed.part"));
+        fs::write(&record, format!("{} {}\n", name(1), digest(1))).unwrap();
         assert_eq!(remove_oldest(&folder, 2).unwrap(), Some((name(1), digest(1))));
+        // what cannot be noted is not removed, and the record stays as it is
+        fs::create_dir(&part).unwrap();
+        assert!(remove_oldest(&folder, 2).is_err() && folder.join(name(2)).exists());
+        assert_eq!(fs::read_to_string(&record).unwrap(), format!("{} {}\n", name(1), digest(1)));
+        fs::remove_dir(part).unwrap();
+        // a line that a loss of power cut off does not stay
+        fs::write(&record, format!("{} {}\n{} 00", name(1), digest(1), name(2))).unwrap();
         assert_eq!(remove_oldest(&folder, 2).unwrap(), Some((name(2), digest(2))));
         assert_eq!(remove_oldest(&folder, 2).unwrap(), None);
         let noted = format!("{} {}\n{} {}\n", name(1), digest(1), name(2), digest(2));
@@ -126,6 +130,11 @@ mod tests {
         fs::write(folder.join(name(4)), "ringsegment 1 4 1\nbehind none\n").unwrap();
         assert!(remove_oldest(&folder, 2).is_err());
         assert!(folder.join(name(3)).exists());
+        fs::write(folder.join(name(4)), format!("ringsegment 1 4 1\nbehind {}\n", digest(3))).unwrap();
+        fs::rename(&record, top.join("other")).unwrap();
+        std::os::unix::fs::symlink(top.join("other"), &record).unwrap();
+        assert!(remove_oldest(&folder, 2).is_err());
+        assert_eq!(fs::read_to_string(top.join("other")).unwrap(), noted);
         fs::remove_dir_all(top).unwrap();
     }
 }

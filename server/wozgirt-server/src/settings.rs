@@ -38,6 +38,10 @@ pub struct Settings {
     pub keep_segments: Option<usize>,
     /// Whether answers wait for the disk.
     pub is_synced: bool,
+    /// Whether sessions are kept beside the journal.
+    pub keeps_sessions: bool,
+    /// How much is added to their file before it is written anew.
+    pub session_bytes: usize,
     /// Whether operators may write faults.
     pub permits_faults: bool,
     /// How long the engine may leave a question unanswered.
@@ -166,6 +170,8 @@ struct Reading {
     segment: Option<u64>,
     keep_segments: Option<usize>,
     is_not_synced: bool,
+    has_no_sessions: bool,
+    session_bytes: Option<usize>,
     permits_faults: bool,
     engine_patience: Option<Duration>,
     sockets: [(Option<PathBuf>, Option<u32>, Option<String>); 2],
@@ -196,6 +202,8 @@ impl Reading {
             Name::Segment => self.segment = Some(value.parse().ok().filter(|&lines| lines > 0)?),
             Name::KeepSegments => self.keep_segments = Some(count(value).filter(|&count| count > 1)?),
             Name::NoSync => self.is_not_synced = true,
+            Name::NoSessions => self.has_no_sessions = true,
+            Name::SessionBytes => self.session_bytes = Some(value.parse().ok()?),
             Name::EnginePatience => self.engine_patience = Some(seconds(value).filter(|time| !time.is_zero())?),
             Name::Faults => self.permits_faults = true,
             Name::Socket => self.sockets[0].0 = Some(value.into()),
@@ -224,8 +232,13 @@ impl Reading {
 
     fn settings(self) -> Result<Settings, BadWords> {
         let cluster = self.cluster.settings()?;
-        if cluster.is_some() && self.keep_segments.is_some() {
-            return Err(BadWords::NotAlone("--keep-segments"));
+        let of_one = [
+            ("--keep-segments", self.keep_segments.is_some()),
+            ("--no-sessions", self.has_no_sessions),
+            ("--session-bytes", self.session_bytes.is_some()),
+        ];
+        if let Some((name, _)) = of_one.iter().find(|(_, is_given)| cluster.is_some() && *is_given) {
+            return Err(BadWords::NotAlone(name));
         }
         let longest_lease = self.longest_lease.unwrap_or(Duration::from_secs(30));
         let grace = self.grace.unwrap_or(longest_lease);
@@ -247,6 +260,8 @@ impl Reading {
             segment: self.segment,
             keep_segments: self.keep_segments,
             is_synced: !self.is_not_synced,
+            keeps_sessions: !self.has_no_sessions,
+            session_bytes: self.session_bytes.unwrap_or(16 << 20),
             permits_faults: self.permits_faults,
             engine_patience: self.engine_patience.unwrap_or(Duration::from_secs(60)),
             clients: named(clients.0.unwrap_or_else(|| "/run/wozgirt/lock.sock".into()), clients.1, clients.2),
@@ -360,9 +375,12 @@ mod tests {
             "--engine e --journal j --locks a,b:3 --segment 9 --no-sync --faults --engine-patience 3 --socket s --mode 660 --group g \
              --operators o --operators-mode 640 --operators-group h --tcp 127.0.0.1:1 --page [::1]:2 --rules r \
              --longest-lease 0.5 --lease-for-all --grace 2 --connections 7 --memory 64 --waiters 8 --most-holds 6 --deaf 9 \
-             --log-connections",
+             --log-connections --no-sessions --session-bytes 5",
         )
         .unwrap();
+        let few = read("--journal j").unwrap();
+        assert_eq!([settings.keeps_sessions, few.keeps_sessions], [false, true]);
+        assert_eq!([settings.session_bytes, few.session_bytes], [5, 1 << 24]);
         let words = ["locks", "--journal", "j", "--locks", "a,b:3", "--segment", "9", "--no-sync", "--faults"];
         assert_eq!(settings.engine_words(), words);
         assert_eq!(settings.clients, Named { path: "s".into(), mode: 0o660, group: Some("g".into()) });
@@ -418,6 +436,8 @@ mod tests {
             ("--journal j --connections 18446744073709551615", "--connections: bad value `18446744073709551615`"),
             ("--journal j --connections 1000001", "--connections: bad value `1000001`"),
             ("--journal j --keep-segments 1", "--keep-segments: bad value `1`"),
+            ("--journal j --session-bytes x", "--session-bytes: bad value `x`"),
+            ("--journal j --no-sessions --etcd e --name a", "--no-sessions is for a single server, without --etcd"),
             (
                 "--journal j --keep-segments 2 --etcd e --name a",
                 "--keep-segments is for a single server, without --etcd",

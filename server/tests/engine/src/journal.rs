@@ -1,8 +1,9 @@
-//! The folder with the journal: `locks`, names and sizes, and segments. An engine goes on in the last one, or, with `--strict`, begins
-//! a new one. Grants are counted over all of them, so their bases are 0. Names of the pool are in remarks.
+//! The folder with the journal: `locks`, names and sizes, and segments. An engine writes the last one anew, without remarks of keys and
+//! positions, and goes on there, or, with `--strict`, begins a new one. Grants are counted over all of them, so their bases are 0. Names of
+//! the pool are in remarks.
 
 use crate::keys::{digest, Keyed};
-use crate::locks::{Holder, Listed, Locks};
+use crate::locks::{Holder, Listed, Lock, Locks};
 use crate::pool::Pool;
 use crate::ring::{HOLD, LEFT, RELEASED};
 use std::fmt::Write as _;
@@ -56,15 +57,20 @@ pub struct Journal {
 
 impl Journal {
     /// Opens the folder, and does again what stands there, without what stands after the last end of a line.
-    pub fn open(folder: &Path, list: &str, locks: &mut Locks, most_lines: u64, is_synced: bool) -> io::Result<Journal> {
+    pub fn open(folder: &Path, locks: &mut Locks, most_lines: u64, is_synced: bool) -> io::Result<Journal> {
         claim(folder)?;
-        fs::write(folder.join("locks"), list.replace(':', " ").replace(',', "\n") + "\n")?;
-        let (mut number, mut whole, mut lines) = (0, 0, 0);
+        fs::write(folder.join("locks"), list_of(locks))?;
+        let (mut number, mut kept, mut lines) = (0, String::new(), 0);
         while let Ok(text) = fs::read_to_string(path(folder, number + 1)) {
             number += 1;
-            whole = text.rfind('\n').map_or(0, |i| i + 1);
+            let whole = &text[..text.rfind('\n').map_or(0, |i| i + 1)];
+            kept = whole
+                .lines()
+                .filter(|line| is_call(line) || is_of_names(line))
+                .map(|line| format!("{line}\n"))
+                .collect();
             locks.fill(rings_of(&text).ok_or_else(|| wrong("a segment has no number of rings".into()))?);
-            let calls = text[..whole].split_once("\ndone ").ok_or_else(|| wrong("a segment has no head".into()))?.1;
+            let calls = whole.split_once("\ndone ").ok_or_else(|| wrong("a segment has no head".into()))?.1;
             lines = 0;
             for line in calls.lines().skip(1) {
                 if let Some(remark) = line.strip_prefix("# ") {
@@ -87,8 +93,10 @@ impl Journal {
             let file = begin(&folder, 1, locks, "")?;
             return Ok(Journal { folder, number: 1, file, lines: 0, most_lines, is_synced, was_there: false });
         }
+        let part = folder.join(".wozgirt.part");
+        fs::write(&part, kept)?;
+        fs::rename(part, path(&folder, number))?;
         let file = OpenOptions::new().append(true).open(path(&folder, number))?;
-        file.set_len(whole as u64)?;
         Ok(Journal { folder, number, file, lines, most_lines, is_synced, was_there: true })
     }
 
@@ -131,9 +139,22 @@ fn is_call(line: &str) -> bool {
     !line.starts_with('#')
 }
 
+/// Whether a remark is about the names of rings.
+fn is_of_names(line: &str) -> bool {
+    ["# floor ", "# name ", "# free "].iter().any(|word| line.starts_with(word))
+}
+
 /// A segment is as long as its calls are many, without the remarks.
 fn calls_in(journal: &str) -> u64 {
     journal.lines().filter(|line| is_call(line)).count() as u64
+}
+
+/// The file `locks`: names and sizes.
+fn list_of(locks: &Locks) -> String {
+    let size =
+        |lock: &Lock| format!("{} {} {}\n", lock.name.as_ref().map_or("", |name| name), lock.ring.n(), lock.ring.k);
+    let listed: String = locks.locks[..locks.listed].iter().map(size).collect();
+    listed + &locks.pool.as_ref().map_or(String::new(), |pool| format!("* {} {}\n", pool.n, pool.k))
 }
 
 fn path(folder: &Path, number: u64) -> PathBuf {

@@ -86,8 +86,7 @@ fn open(settings: &Settings) -> io::Result<(Keyed, Journal)> {
     let listed = journal::listed(&settings.list, settings.most_names);
     let (list, pool) = listed.ok_or_else(|| io::Error::other("bad list of locks"))?;
     let mut locks = Locks::new(&list, pool, settings.permits_faults);
-    let mut journal =
-        Journal::open(&settings.folder, &settings.list, &mut locks, settings.most_lines, settings.is_synced)?;
+    let mut journal = Journal::open(&settings.folder, &mut locks, settings.most_lines, settings.is_synced)?;
     locks.begin();
     journal.write(&mut locks)?;
     if let Some(path) = &settings.holders {

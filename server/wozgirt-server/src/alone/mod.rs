@@ -21,7 +21,7 @@ pub use session::{Ask, At, Ended, Place, Session, What};
 pub use store::{Line, Store};
 
 use crate::cluster::{Key, Owner, Who};
-use std::collections::{BTreeMap, HashMap};
+use std::collections::{BTreeMap, BTreeSet, HashMap};
 use std::io;
 use std::path::PathBuf;
 use std::time::{Duration, Instant};
@@ -61,6 +61,8 @@ pub struct Alone {
     pub start: Start,
     /// Holds of sessions that are over, and the operators that wait for an answer about them.
     ended: Vec<Ended>,
+    /// Sessions whose lines are written next: one for each, however often they have changed.
+    changed: BTreeSet<Client>,
     /// All is to be written anew.
     is_stale: bool,
 }
@@ -76,6 +78,7 @@ impl Alone {
             last_order: 0,
             start: Start::Serving,
             ended: Vec::new(),
+            changed: BTreeSet::new(),
             is_stale: false,
             store: None,
         };
@@ -158,14 +161,14 @@ impl Alone {
     ) -> Result<(Client, Option<Client>), NoSession> {
         let Some(store) = &mut self.store else { return Err(NoSession::Full) };
         if let Some((number, session)) =
-            self.keys.get(&key).and_then(|number| Some((*number, self.sessions.get_mut(number)?)))
+            self.keys.get(&key).and_then(|number| Some((number, self.sessions.get_mut(number)?)))
         {
             if !session.owner.admits(who) {
                 return Err(NoSession::Others);
             }
             let before = std::mem::replace(&mut session.at, At::Here(client));
-            store.put(&Line::Session(number, key, session.lease, session.owner));
-            return Ok((number, if let At::Here(before) = before { Some(before) } else { None }));
+            self.changed.insert(*number);
+            return Ok((*number, if let At::Here(before) = before { Some(before) } else { None }));
         }
         if self.sessions.len() >= self.most {
             return Err(NoSession::Full);
@@ -185,8 +188,7 @@ impl Alone {
     pub fn set_lease(&mut self, number: Client, lease: Duration) {
         if let Some(session) = self.sessions.get_mut(&number).filter(|session| session.lease != lease) {
             session.lease = lease;
-            let line = Line::Session(number, session.key, lease, session.owner);
-            self.put(&line);
+            self.changed.insert(number);
         }
     }
 
@@ -253,6 +255,12 @@ impl Alone {
 
     /// Writes what is new, before any client gets an answer about it.
     pub fn write(&mut self) -> io::Result<()> {
+        for number in std::mem::take(&mut self.changed) {
+            if let Some(it) = self.sessions.get(&number).filter(|it| !it.is_left) {
+                let line = Line::Session(number, it.key, it.lease, it.owner);
+                self.put(&line);
+            }
+        }
         let Some(store) = &mut self.store else { return Ok(()) };
         if !store.write()? && !self.is_stale {
             return Ok(());

@@ -20,8 +20,8 @@
 //! or `given`, which other servers write, say nothing.
 
 use crate::cluster::{NoFolder, Owner};
+use crate::files::{beside, refuse_link};
 use crate::private;
-use std::ffi::OsString;
 use std::fmt;
 use std::fs::{self, File};
 use std::io::{self, BufRead, BufReader, ErrorKind, Write};
@@ -36,8 +36,6 @@ const FIRST: &str = "wozgirt sessions 2";
 /// How often the folder's lock is tried, and the pause between: the engine of a server that was killed may end a moment later.
 const TRIES: u32 = 500;
 const PAUSE: Duration = Duration::from_millis(20);
-/// A file to which more was added is written anew.
-const LONGEST: usize = 16 << 20;
 
 /// One line of the file.
 #[derive(Debug, Clone, PartialEq, Eq)]
@@ -109,6 +107,8 @@ fn sync_aside(file: File) -> Receiver<io::Result<()>> {
 pub struct Store {
     folder: PathBuf,
     journal: PathBuf,
+    /// A file to which more was added is written anew.
+    longest: usize,
     /// The engine has it too, so that the journal is not read while another engine writes it.
     _lock: File,
     file: Option<File>,
@@ -122,13 +122,13 @@ pub struct Store {
 }
 
 impl Store {
-    /// Makes what is missing, and locks it for this server.
-    pub fn open(journal: &Path) -> Result<Store, NoFolder> {
-        let mut name: OsString = journal.file_name().ok_or(io::Error::from(ErrorKind::InvalidInput))?.to_owned();
-        name.push(".sessions");
-        let folder = journal.with_file_name(name);
+    /// Makes what is missing, and locks it for this server. The file of sessions is written anew when more than this number of bytes were
+    /// added.
+    pub fn open(journal: &Path, longest: usize) -> Result<Store, NoFolder> {
+        let folder = beside(journal, ".sessions")?;
         private::make_folder(&folder)?;
         private::close_folder(&folder)?; // an earlier version left it open
+        refuse_link(&folder.join("lock"))?;
         let lock = File::create(folder.join("lock"))?;
         for tried in 1.. {
             if try_lock(&lock)? {
@@ -143,6 +143,7 @@ impl Store {
         Ok(Store {
             folder,
             journal: journal.to_owned(),
+            longest,
             _lock: lock,
             file: None,
             next: None,
@@ -169,7 +170,7 @@ impl Store {
     /// Writes the open holds for the engine. The file is whole, or the one that was there.
     pub fn write_holders(&self, text: &str) -> io::Result<()> {
         let part = self.folder.join("holders.part");
-        write_anew(&part, text.as_bytes())?;
+        private::write(&part, text.as_bytes())?;
         fs::rename(part, self.holders())
     }
 
@@ -229,7 +230,7 @@ impl Store {
         self.size += self.lines.len();
         self.lines.clear();
         self.go_over();
-        Ok(self.size > LONGEST && self.next.is_none())
+        Ok(self.size > self.longest && self.next.is_none())
     }
 
     /// The next file takes the other's place, if it is on the disk. If it will not be, that is tried again when as much was added.
@@ -300,20 +301,15 @@ impl Store {
         for line in lines {
             let _ = writeln!(text, "{line}"); // the same
         }
-        write_anew(&self.part(), &text)
+        private::write(&self.part(), &text)
     }
-}
-
-/// Writes a file of this name that was not there. What a link of this name leads to is not written.
-fn write_anew(path: &Path, text: &[u8]) -> io::Result<File> {
-    let mut file = private::create(path)?;
-    file.write_all(text)?;
-    Ok(file)
 }
 
 #[cfg(test)]
 mod tests {
     use super::*;
+
+    const LONGEST: usize = 1 << 16;
 
     fn lock(name: &str) -> Lock {
         name.parse().unwrap()
@@ -344,7 +340,7 @@ mod tests {
         let journal = std::env::temp_dir().join(format!("wozgirt-store-{}", std::process::id()));
         let _ = fs::remove_dir_all(&journal);
         fs::create_dir(&journal).unwrap();
-        let mut store = Store::open(&journal).unwrap();
+        let mut store = Store::open(&journal, LONGEST).unwrap();
         assert_eq!((store.read().unwrap(), store.remarks().unwrap()), (vec![], vec![]));
         store.put(&Line::Over(1));
         assert!(store.write().unwrap()); // there is no file yet
@@ -376,7 +372,7 @@ mod tests {
         let journal = std::env::temp_dir().join(format!("wozgirt-store-{name}-{}", std::process::id()));
         let _ = fs::remove_dir_all(&journal);
         fs::create_dir(&journal).unwrap();
-        (Store::open(&journal).unwrap(), journal)
+        (Store::open(&journal, LONGEST).unwrap(), journal)
     }
 
     #[test]

@@ -19,7 +19,7 @@ impl Place {
 
     /// A server that starts with what is there.
     fn start(&self) -> Alone {
-        Alone::new(Some(Store::open(&self.journal).unwrap()), 9).unwrap()
+        Alone::new(Some(Store::open(&self.journal, 1 << 16).unwrap()), 9).unwrap()
     }
 
     /// One that has begun these sessions, with keys that are ten times their numbers.
@@ -200,6 +200,25 @@ fn a_number_is_given_once() {
     it.prepare().unwrap();
     drop(it);
     assert_eq!(place.start().next_number(), 6);
+}
+
+/// However often a client asks for another lease, or comes to another connection.
+#[test]
+fn a_round_writes_one_line_for_a_session() {
+    let place = Place::new("lines");
+    let mut it = place.begin(2);
+    it.write().unwrap();
+    let path = place.journal.with_extension("sessions").join("sessions");
+    let before = fs::read_to_string(&path).unwrap();
+    for seconds in (1..=1000).rev() {
+        it.set_lease(1, Duration::from_secs(seconds % 2 + 7));
+        assert_eq!(it.come(10, Who::Unknown, Duration::from_secs(1), seconds).unwrap().0, 1);
+    }
+    it.write().unwrap();
+    it.set_lease(2, Duration::from_secs(1)); // that is what it was
+    it.write().unwrap();
+    let after = fs::read_to_string(&path).unwrap();
+    assert_eq!(after.strip_prefix(&before), Some("session 1 10 8000 - -\n"));
 }
 
 #[test]

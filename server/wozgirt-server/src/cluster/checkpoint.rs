@@ -3,11 +3,12 @@
 use super::apply::{Applied, Known};
 use super::entries::server;
 use super::owner::Owner;
+use crate::files::replace;
 use crate::names::Names;
 use crate::private;
 use std::fmt::Write as _;
 use std::fs::{self, File};
-use std::io::{self, Write as _};
+use std::io;
 use std::path::{Path, PathBuf};
 use std::thread;
 use std::time::Duration;
@@ -283,17 +284,14 @@ impl Folder {
 
     /// Replaces the checkpoint.
     pub fn write(&self, text: &str) -> io::Result<()> {
-        let part = self.path.join("CHECKPOINT.part");
-        let mut file = private::create(&part)?;
-        file.write_all(text.as_bytes())?;
-        file.sync_all()?;
-        fs::rename(part, self.checkpoint())?;
-        File::open(&self.path)?.sync_all()
+        replace(&self.checkpoint(), &self.path.join("CHECKPOINT.part"), private::create, text.as_bytes())?;
+        Ok(())
     }
 
     /// Writes the open holds for the engine.
     pub fn write_holders(&self, text: &str) -> io::Result<()> {
-        private::write(&self.holders(), text)
+        replace(&self.holders(), &self.path.join("holders.part"), private::create, text.as_bytes())?;
+        Ok(())
     }
 }
 

@@ -13,8 +13,9 @@
 //! comes into the log and at checkpoints.
 
 use super::entries::is_digest;
+use crate::files::{create, replace};
 use std::fmt;
-use std::fs::{self, File, OpenOptions};
+use std::fs::{self, File};
 use std::io::{self, ErrorKind, Write};
 use std::path::{Path, PathBuf};
 use std::sync::mpsc::{sync_channel, Receiver, SyncSender, TryRecvError};
@@ -247,11 +248,7 @@ impl Place {
         let part = self.path.with_extension("part");
         let settings = known.settings.as_deref().unwrap_or("-");
         let text = format!("{FIRST}\nlog {} {}\nwith {settings}\n{known}\n", known.identity, known.incarnation);
-        let mut file = OpenOptions::new().create(true).write(true).truncate(true).open(&part)?;
-        file.write_all(text.as_bytes())?;
-        file.sync_all()?;
-        fs::rename(part, &self.path)?;
-        File::open(self.path.parent().unwrap_or(Path::new(".")))?.sync_all()?;
+        let file = replace(&self.path, &part, create, text.as_bytes())?;
         (self.file, self.size, self.is_written, self.is_synced) = (Some(file), text.len() as u64, true, true);
         Ok(())
     }

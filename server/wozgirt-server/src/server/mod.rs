@@ -152,7 +152,7 @@ impl Server {
             .map_err(|fault| CannotServe::Folder(settings.journal.clone(), fault))?;
         let mode = match cluster {
             Some(cluster) => Mode::InLog(Box::new(cluster)),
-            None => Mode::Alone(open_sessions(&settings, &mut log)?),
+            None => Mode::Alone(open_sessions(&settings)?),
         };
         let kept = settings.keep_segments;
         let removals = kept.map(|kept| retention::start(settings.engine_journal(), kept)).transpose()?;

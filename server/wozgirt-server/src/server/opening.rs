@@ -7,7 +7,6 @@ use crate::board::Board;
 use crate::cluster::{NoFolder, Other, LONGEST_LIST};
 use crate::doors::CannotListen;
 use crate::engine::CannotStart;
-use crate::log::{Event, Log};
 use crate::names::{BadNames, Names};
 use crate::places::Places;
 use crate::rules::{BadRule, Rules};
@@ -133,7 +132,7 @@ impl fmt::Display for CannotServe {
             }
             CannotServe::Listen(fault) => fault.fmt(f),
             CannotServe::Engine(fault) => fault.fmt(f),
-            CannotServe::Sessions(fault) => write!(f, "what is kept of sessions, beside the journal: {fault}"),
+            CannotServe::Sessions(fault) => write!(f, "what is kept of sessions, beside the journal: {fault} (--no-sessions serves without)"),
             CannotServe::Folder(path, NoFolder::InUse) => write!(f, "{}: another server has this folder", path.display()),
             CannotServe::Folder(path, NoFolder::Alone) => write!(
                 f,
@@ -270,16 +269,13 @@ pub(super) fn read_rules(settings: &Settings, board: &Board, accounts: &Accounts
     Rules::parse(&text, board, accounts).map_err(|fault| CannotServe::Rule(path.clone(), fault))
 }
 
-/// The sessions that are kept beside the journal of a single server. If nothing can be kept there, it has none.
-pub(super) fn open_sessions(settings: &Settings, log: &mut Log) -> Result<Alone, CannotServe> {
-    let store = match Store::open(&settings.journal) {
-        Ok(store) => Some(store),
-        Err(NoFolder::System(fault)) => {
-            log.say(&Event::SessionsUnkept { fault: &fault });
-            None
-        }
-        Err(fault) => return Err(CannotServe::Folder(settings.journal.clone(), fault)),
-    };
+/// The sessions that are kept beside the journal of a single server, if it is to have some.
+pub(super) fn open_sessions(settings: &Settings) -> Result<Alone, CannotServe> {
+    let opened = settings.keeps_sessions.then(|| Store::open(&settings.journal, settings.session_bytes)).transpose();
+    let store = opened.map_err(|fault| match fault {
+        NoFolder::System(fault) => CannotServe::Sessions(fault),
+        fault => CannotServe::Folder(settings.journal.clone(), fault),
+    })?;
     Alone::new(store, SESSIONS_EACH * settings.connections).map_err(CannotServe::Sessions)
 }
 
