@@ -1,9 +1,7 @@
-//! Tests of what no row of `tests/rows` shows: readers that fail or give too much, outputs whose flush fails, services of locks, faults
+//! Tests of what no row of `tests/rows` shows: readers that fail or give too much, outputs whose flush fails, faults
 //! that no words lead to, and what files hold.
 #![tactic(auto)]
 
-#[cfg(test)]
-mod any_names;
 #[cfg(test)]
 mod faults;
 #[cfg(test)]
@@ -11,21 +9,11 @@ mod files;
 #[cfg(test)]
 mod flushing;
 #[cfg(test)]
-mod holders;
-#[cfg(test)]
 mod holds;
-#[cfg(test)]
-mod lines;
 #[cfg(test)]
 mod lists;
 #[cfg(test)]
-mod name_starts;
-#[cfg(test)]
 mod names;
-#[cfg(test)]
-mod orders;
-#[cfg(test)]
-mod pool_lists;
 #[cfg(test)]
 mod power;
 #[cfg(test)]
@@ -34,7 +22,5 @@ mod reading;
 mod remarks;
 #[cfg(test)]
 mod segments;
-#[cfg(test)]
-mod services;
 #[cfg(test)]
 mod serving;

@@ -1,17 +1,8 @@
-//! A list as `step` reads it, with the greatest number, and a history with as many events as one can have.
+//! A history with as many events as one can have.
 
 use run_commands::step::step_lines;
 use std::test::Fail;
 use tool_parts::faults::ToolError;
-use tool_parts::lists::read_list;
-
-#[test]
-fn a_list_has_its_numbers(rt: HostRuntime) {
-    let Ok(numbers) = read_list(rt.alloc(), "0,10,4294967295") else {
-        panic!(rt; "refused");
-    };
-    assert_eq!(rt; numbers.as_slice(), [0, 10, 4294967295].as_slice());
-}
 
 /// Lets machine 1 of the ring 0, 0 ask to pass so often, and answers what is printed. It is not privileged, so each line has
 /// 17 bytes.

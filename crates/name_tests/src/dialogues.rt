@@ -1,11 +1,11 @@
-//! Locks with names: what is asked of them, and what they answer.
+//! Locks with names, and what is asked of them.
 
 ghost use Rattle.ring_model.specs.Bases.{IsBase};
 ghost use Rattle.held_locks.specs.Kept.{IsKeptRing};
 
 use endless_ring::EndlessRing;
-use held_locks::{Answer, Holder, Locks, OneAsk, Refusal};
-use lock_names::{NameAnswers, Names, NotBegun, Reply};
+use held_locks::{Locks, OneAsk};
+use lock_names::{Names, NotBegun};
 use one_thread_ring::OneThreadRing;
 use ring_book::Till;
 use ring_model::Base;
@@ -66,57 +66,4 @@ pub(crate) fn acquire(label: u64) -> OneAsk {
 
 pub(crate) fn release(token: u64) -> OneAsk {
     OneAsk::Release { token }
-}
-
-pub(crate) fn answers(ring: Option<u32>, own: Reply, granted: Option<Holder>) -> NameAnswers {
-    NameAnswers {
-        ring,
-        fresh: false,
-        freed: false,
-        own: Some(own),
-        ended: None,
-        granted,
-    }
-}
-
-/// The name is bound to this ring.
-pub(crate) fn bound(ring: u32, token: u64) -> NameAnswers {
-    let mut answers = granted(ring, token);
-    answers.fresh = true;
-    answers
-}
-
-pub(crate) fn granted(ring: u32, token: u64) -> NameAnswers {
-    answers(Some(ring), Reply::Lock(Answer::Granted(token)), None)
-}
-
-pub(crate) fn refused(ring: Option<u32>, why: Refusal) -> NameAnswers {
-    answers(ring, Reply::Lock(Answer::Refused(why)), None)
-}
-
-/// A hold of this ring ends.
-pub(crate) fn released(ring: u32, next: Option<Holder>) -> NameAnswers {
-    answers(Some(ring), Reply::Lock(Answer::Released), next)
-}
-
-/// The last hold of this ring's name ends.
-pub(crate) fn freed(ring: u32) -> NameAnswers {
-    let mut answers = released(ring, None);
-    answers.freed = true;
-    answers
-}
-
-/// Whether the answers are these, and a hold ended with a survey by seat 1 if it was released.
-pub(crate) fn are(said: NameAnswers, wanted: NameAnswers) -> bool {
-    let seat = match said.ended {
-        Some(end) => Some(end.seat),
-        None => None,
-    };
-    let end = match said.own {
-        Some(Reply::Lock(Answer::Released)) => Some(1),
-        _ => None,
-    };
-    let mut rest = said;
-    rest.ended = None;
-    seat == end && rest == wanted
 }

@@ -5,15 +5,17 @@
 #[cfg(test)]
 mod dialogues;
 #[cfg(test)]
+mod holders;
+#[cfg(test)]
 mod judged_folders;
 #[cfg(test)]
 mod judged_names;
 #[cfg(test)]
-mod memory;
-#[cfg(test)]
-mod name_histories;
+mod lines;
 #[cfg(test)]
 mod name_lines;
+#[cfg(test)]
+mod name_starts;
 #[cfg(test)]
 mod named_locks;
 #[cfg(test)]
@@ -22,3 +24,5 @@ mod named_segments;
 mod remarks_of_names;
 #[cfg(test)]
 mod restored_names;
+#[cfg(test)]
+mod services;

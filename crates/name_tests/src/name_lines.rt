@@ -2,7 +2,6 @@
 
 ghost use Rattle.held_locks.specs.Kept.{IsKeptRing};
 
-use crate::memory::no_files;
 use endless_ring::EndlessRing;
 use held_locks::Locks;
 use line_service::{AnswersLines, EndFault, Pending, Segmented};
@@ -15,6 +14,7 @@ use ring_model::Base;
 use ring_state::Params;
 use std::alloc::Global;
 use std::process::Abort;
+use test_files::no_files;
 
 /// A settled ring of ten seats.
 fn opened(rt: &impl Abort, alloc: Global) -> EndlessRing
@@ -72,88 +72,6 @@ fn answers(rt: &impl Abort, alloc: Global, service: &mut NameService, rows: &[(&
         assert!(rt; pending.answers.as_slice() == said.as_bytes());
         assert!(rt; pending.notes.as_slice() == noted.as_bytes());
     }
-}
-
-// Ring 0 is that of `a`. A name is bound by its grant, handed on with its ring, and its ring is free after its last hold.
-#[test]
-fn names_are_told_and_noted(rt: HostRuntime) {
-    let alloc = rt.alloc();
-    let mut service = some_names(&rt, alloc, 2, false);
-    let rows = [
-        ("1 try a 5\n", "1 granted a 1\n", "0 p 0 0 5 g 1 5\n"),
-        (
-            "2 acquire x/1 6\n",
-            "2 granted x/1 2\n",
-            "# name 1 0 1 x/1\n1 p 0 0 6 g 1 6\n",
-        ),
-        ("3 acquire x/1 7\n", "3 waiting x/1 0\n", ""),
-        (
-            "4 try y 8\n",
-            "4 granted y 3\n",
-            "# name 2 0 2 y\n2 p 0 0 8 g 1 8\n",
-        ),
-        ("5 acquire z 9\n", "5 refused names z\n", ""),
-        ("5 release z 1\n", "5 refused holder z\n", ""),
-        ("5 cancel z\n", "5 refused waiter z\n", ""),
-        ("5 stats z\n", "5 stats z 0 0 0 0 0\n", ""),
-        ("6 stats x/1\n", "6 stats x/1 3 1 1 2 2\n", ""),
-        ("2 release x/1 1\n", "2 refused holder x/1\n", ""),
-        (
-            "2 release x/1 2\n",
-            "2 released x/1\n3 granted x/1 3\n",
-            "1 s 1 1 1 1 1 0\n1 p 0 1 7 g 2 13\n",
-        ),
-        (
-            "3 release x/1 3\n",
-            "3 released x/1\n",
-            "1 s 1 2 1 2 2 0\n# free 1\n",
-        ),
-        (
-            "5 acquire z 9\n",
-            "5 granted z 5\n",
-            "# name 1 2 4 z\n1 p 0 2 9 g 3 22\n",
-        ),
-        ("1 release a 1\n", "1 released a\n", "0 s 1 1 1 1 1 0\n"),
-        ("1 corrupt a 0 1\n", "1 refused off\n", ""),
-        ("1 acquire b! 1\n", "1 refused syntax\n", ""),
-        ("so\n", "", ""),
-    ];
-    answers(&rt, alloc, &mut service, &rows);
-    assert!(&rt; service.names().top() == 5);
-    assert!(&rt; service.names().free().is_none());
-}
-
-// Client 8 leaves three names: the first two are handed on, and the ring of the last one is free.
-#[test]
-fn a_client_leaves_names(rt: HostRuntime) {
-    let alloc = rt.alloc();
-    let mut service = some_names(&rt, alloc, 2, false);
-    let rows = [
-        ("8 acquire a 1\n", "8 granted a 1\n", "0 p 0 0 1 g 1 1\n"),
-        (
-            "8 acquire x 2\n",
-            "8 granted x 2\n",
-            "# name 1 0 1 x\n1 p 0 0 2 g 1 2\n",
-        ),
-        (
-            "8 acquire y 3\n",
-            "8 granted y 3\n",
-            "# name 2 0 2 y\n2 p 0 0 3 g 1 3\n",
-        ),
-        ("7 acquire x 4\n", "7 waiting x 0\n", ""),
-        ("9 acquire a 5\n", "9 waiting a 0\n", ""),
-        (
-            "8 leave\n",
-            "9 granted a 2\n7 granted x 3\n",
-            "0 s 2 1 1 1 1 0\n0 p 0 1 5 g 2 6\n1 s 2 1 1 1 1 0\n1 p 0 1 4 g 2 6\n2 s 2 1 1 1 1 0\n# free 2\n",
-        ),
-        (
-            "6 try y 6\n",
-            "6 granted y 6\n",
-            "# name 2 1 5 y\n2 p 0 1 6 g 2 9\n",
-        ),
-    ];
-    answers(&rt, alloc, &mut service, &rows);
 }
 
 // The pool may get a ring: a segment in which none is free is due. As long as it is kept on, a new name is refused for lack of room.

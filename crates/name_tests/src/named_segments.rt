@@ -2,7 +2,6 @@
 
 ghost use Rattle.held_locks.specs.Kept.{IsKeptRing};
 
-use crate::memory::no_files;
 use endless_ring::EndlessRing;
 use folder_of_locks::fresh_ring;
 use held_locks::{Locks, OneAsk};
@@ -18,6 +17,7 @@ use ring_state::Params;
 use segment_files::digest;
 use std::alloc::Global;
 use std::process::Abort;
+use test_files::no_files;
 
 /// The pool's size: rings of two machines.
 fn pool_size(rt: &impl Abort) -> Params {
@@ -181,18 +181,6 @@ fn the_pool_grows(rt: HostRuntime) {
         b"# name 2 0 2 order/2\n2 p 0 0 1 g 1 1\n1 s 1 1 1 1 0 0\n1 p 0 1 6 g 1 6\n1 s 1 2 1 0 1 0\n# free 1\n";
     serves(&rt, alloc, &mut next, lines, Ending::End, said, noted);
     has_state(&rt, alloc, &next, b"hold deploy 1 5\nhold order/2 3 8\n", 2);
-}
-
-// A service whose file is that of an earlier run ends this segment first.
-#[test]
-fn ends_first(rt: HostRuntime) {
-    let alloc = rt.alloc();
-    let service = begun(&rt, alloc, true);
-    assert!(&rt; service.is_due() && service.is_over());
-    let Ok(next) = service.next(alloc) else {
-        panic!(&rt; "there is a next segment");
-    };
-    assert!(&rt; !next.is_due() && next.names().count() == 4);
 }
 
 // After as many grants as are counted no ring can be added.

@@ -1,6 +1,6 @@
 //! Remarks about names: their lines, and what lines record of three rings.
 
-use name_remarks::{Misspelled, NameRemark, NotTaken, Recorded, put_name_remark, read_name_remark};
+use name_remarks::{NameRemark, NotTaken, Recorded, put_name_remark, read_name_remark};
 use std::alloc::Global;
 use std::process::Abort;
 
@@ -64,68 +64,6 @@ fn remarks_are_written_and_read(rt: HostRuntime) {
         assert!(&rt; put_name_remark(&mut text, remark).is_ok());
         assert!(&rt; text.as_slice() == line.as_bytes());
         assert!(&rt; is_read_as(line, remark));
-    }
-}
-
-#[test]
-fn misspelled_remarks_are_refused(rt: HostRuntime) {
-    let rows = [
-        "# name 17 41 8812 order/4711",
-        "# name 17 41 8812 order/4711\n\n",
-        "# name 17 41 8812 order 4711\n",
-        "# name 17 41 8812 \n",
-        "# name 17 41 order/4711\n",
-        "# name 17  41 8812 order/4711\n",
-        "# name 017 41 8812 order/4711\n",
-        "# name 17 +41 8812 order/4711\n",
-        "# name 4294967296 41 8812 order/4711\n",
-        "# name 17 41 18446744073709551616 order/4711\n",
-        "# free \n",
-        "# free 017\n",
-        "# free 17 \n",
-        "# free 4294967296\n",
-        "# floor 9 9\n",
-        "# floor 18446744073709551616\n",
-    ];
-    for line in rows {
-        assert!(&rt; read_name_remark(line.as_bytes()).err() == Some(Misspelled));
-    }
-}
-
-#[test]
-fn other_lines_say_nothing_of_names(rt: HostRuntime) {
-    let rows = [
-        "",
-        "\n",
-        "17 p 0 3 77 g 42 99\n",
-        "# 7 3 did 7 granted order/4711 8813\n",
-        "# at 5 0\n",
-        "# names 17 41 8812 order/4711\n",
-        "#name 17 41 8812 order/4711\n",
-        "name 17 41 8812 order/4711\n",
-        "# name\n",
-    ];
-    for line in rows {
-        assert!(&rt; matches!(read_name_remark(line.as_bytes()), Ok(None)));
-    }
-}
-
-/// Whether a binding to a name of this length is read.
-fn is_name_read(rt: &impl Abort, alloc: Global, length: usize) -> bool {
-    let mut line = Vec::new(alloc);
-    assert!(rt; line.extend_from_slice(b"# name 1 2 3 ").is_ok());
-    for _ in 0..length {
-        assert!(rt; line.push(b'n').is_ok());
-    }
-    assert!(rt; line.push(b'\n').is_ok());
-    matches!(read_name_remark(&line), Ok(Some(_)))
-}
-
-#[test]
-fn names_have_at_most_128_bytes(rt: HostRuntime) {
-    let rows = [(1, true), (128, true), (129, false)];
-    for (length, is_read) in rows {
-        assert!(&rt; is_name_read(&rt, rt.alloc(), length) == is_read);
     }
 }
 

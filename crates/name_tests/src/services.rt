@@ -2,9 +2,8 @@
 
 ghost use Rattle.held_locks.specs.Kept.{IsKeptRing};
 
-use crate::files::memory::no_files;
 use endless_ring::EndlessRing;
-use held_locks::{Answer, Locks, OneAsk, Refusal, Stats};
+use held_locks::Locks;
 use line_service::{AnswersLines, EndFault, Ending, Pending, Segmented, Unread, serve_part};
 use lock_protocol::LockNames;
 use lock_service::{LockService, Terms};
@@ -14,6 +13,7 @@ use ring_model::Base;
 use segment_files::digest;
 use std::alloc::Global;
 use std::process::Abort;
+use test_files::no_files;
 
 /// A settled ring of ten seats.
 fn opened(rt: &impl Abort, alloc: Global) -> EndlessRing
@@ -199,39 +199,4 @@ fn begins(rt: HostRuntime) {
     let text = text_of(&rt, alloc, &service, 1);
     assert!(rt; text.len() == FIRST.len() + BEGINNING.len());
     assert!(rt; text.starts_with(FIRST.as_bytes()) && text.ends_with(BEGINNING.as_bytes()));
-}
-
-// What one lock answers to each kind of ask: a fault is repaired by one pass.
-#[test]
-fn answers_each_ask(rt: HostRuntime) {
-    let alloc = rt.alloc();
-    let mut locks = Locks::none(alloc);
-    assert!(rt; locks.add(alloc, opened(&rt, alloc)).is_ok());
-    let fault = OneAsk::Corrupt {
-        machine: 1,
-        value: 2,
-    };
-    let stats = Stats {
-        machines: 3,
-        waiters: 0,
-        passes: 2,
-        holder: None,
-    };
-    let asks = [
-        (1, 0, OneAsk::Acquire { label: 7 }, Answer::Granted(1)),
-        (2, 0, OneAsk::Acquire { label: 8 }, Answer::Waiting(0)),
-        (2, 0, OneAsk::Cancel, Answer::Cancelled),
-        (2, 0, OneAsk::Try { label: 8 }, Answer::Busy),
-        (1, 0, OneAsk::Release { token: 1 }, Answer::Released),
-        (2, 0, fault, Answer::Corrupted(0)),
-        (2, 0, OneAsk::Stats, Answer::Stats(stats)),
-        (2, 1, OneAsk::Stats, Answer::Refused(Refusal::Lock)),
-    ];
-    let mut events = 0;
-    for (client, lock, ask, answer) in asks {
-        let done = locks.ask(client, lock, ask);
-        assert!(rt; done.answers.own == Some(answer));
-        assert!(rt; lock > 0 || done.before == events);
-        events = done.after;
-    }
 }

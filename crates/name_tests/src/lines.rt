@@ -1,7 +1,7 @@
-//! The names of locks, and answers that no row of `tests/rows` causes, with their lines.
+//! Answers that no row of `tests/rows` causes, with their lines.
 
 use held_locks::{Answer, Holder, Refusal, Stats};
-use lock_protocol::{LockNames, MOST_NAME, NameFault, is_name, put_answer};
+use lock_protocol::put_answer;
 use std::alloc::Global;
 use std::process::Abort;
 
@@ -68,51 +68,4 @@ fn writes_refusals(rt: HostRuntime) {
         Answer::Refused(Refusal::Memory),
         b"12 refused memory 3\n",
     );
-}
-
-// Each byte that a name has, the bytes beside them, and lengths.
-#[test]
-fn knows_names(rt: HostRuntime) {
-    let all = b"abcdefghijklmnopqrstuvwxyzABCDEFGHIJKLMNOPQRSTUVWXYZ0123456789._-/";
-    assert!(rt; is_name(all) && is_name(b"7") && is_name(LONG) && LONG.len() == MOST_NAME);
-    assert!(rt; !is_name(b"") && !is_name(long_line(&rt, rt.alloc(), b"x", b"").as_slice()));
-    for other in [
-        b"@", b"[", b"`", b"{", b":", b",", b"*", b" ", b"\n", b"\0", b"\xff",
-    ] {
-        assert!(rt; !is_name(other));
-    }
-}
-
-/// The names of a list of three locks.
-fn three(rt: &impl Abort, alloc: Global) -> LockNames {
-    let mut names = LockNames::none(alloc);
-    for name in [b"deploy".as_slice(), b"1".as_slice(), LONG] {
-        names = match names.with(alloc, name) {
-            Ok(more) => more,
-            Err(_) => panic!(rt; "it is a name, and there is memory"),
-        };
-    }
-    names
-}
-
-// A lock is found by its name, and a name by the number of its lock.
-#[test]
-fn finds_locks_by_names(rt: HostRuntime) {
-    let names = three(&rt, rt.alloc());
-    assert!(rt; names.count() == 3);
-    assert!(rt; names.find(b"deploy") == Some(0) && names.find(b"1") == Some(1));
-    assert!(rt; names.find(LONG) == Some(2));
-    assert!(rt; names.find(b"0").is_none() && names.find(b"").is_none());
-    assert!(rt; names.name(0) == b"deploy".as_slice() && names.name(2) == LONG);
-    assert!(rt; names.name(3).is_empty());
-}
-
-// One name is that of one lock, and no other byte is in one.
-#[test]
-fn refuses_names(rt: HostRuntime) {
-    let alloc = rt.alloc();
-    let twice = three(&rt, alloc).with(alloc, b"1");
-    assert!(rt; matches!(twice, Err(NameFault::Twice)));
-    let other = three(&rt, alloc).with(alloc, b"a b");
-    assert!(rt; matches!(other, Err(NameFault::NoName)));
 }
