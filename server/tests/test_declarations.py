@@ -12,13 +12,15 @@ from harness import TOP
 
 CALLS = os.path.join(TOP, "server", "system", "src", "calls.rs")
 COMPILER = shutil.which("cc")
-HEADERS = ("fcntl", "poll", "pthread", "signal", "stddef", "stdint", "sys/epoll", "sys/file", "sys/resource", "sys/signalfd",
-           "sys/socket", "sys/stat", "sys/un", "unistd")
+HEADERS = ("errno", "fcntl", "grp", "poll", "pthread", "pwd", "signal", "stddef", "stdint", "sys/epoll", "sys/file", "sys/resource", "sys/signalfd",
+           "sys/socket", "sys/stat", "sys/statvfs", "sys/un", "unistd")
 PREFACE = """\
 #ifdef __GLIBC__
+typedef unsigned long BlockCount;
 typedef unsigned long LimitCount;
 typedef __rlimit_resource_t Resource;
 #else
+typedef uint64_t BlockCount;
 typedef uint64_t LimitCount;
 typedef int Resource;
 #endif
@@ -33,18 +35,23 @@ typedef int Resource;
 """
 #: the types of Rust, as C has them
 TYPES = {"c_char": "char", "c_long": "long", "c_ulong": "unsigned long", "c_void": "void", "i16": "short", "i32": "int",
-         "u16": "unsigned short", "u32": "unsigned", "u64": "uint64_t", "LimitCount": "LimitCount"}
+         "u16": "unsigned short", "u32": "unsigned", "u64": "uint64_t", "usize": "size_t", "LimitCount": "LimitCount",
+         "BlockCount": "BlockCount"}
 #: functions whose types in C say more: a handler, an address of any family, a list of names
 SPECIAL = {"signal": "void (*(*ours_signal)(int, void (*)(int)))(int)",
            "connect": "int (*ours_connect)(int, const struct sockaddr *, socklen_t)",
            "getrlimit": "int (*ours_getrlimit)(Resource, struct rlimit *)",
            "setrlimit": "int (*ours_setrlimit)(Resource, const struct rlimit *)"}
+#: a member that is room for all others of the system's struct
+ROOM_FOR_MORE = "rest"
 #: wrong declarations
 CHANGES = {"SOCK_STREAM: i32 = 1;": "SOCK_STREAM: i32 = 2;", "SIG_ERR: usize = usize::MAX": "SIG_ERR: usize = 1",
            "pub uid: u32,": "pub uid: u16,", "pid: i32,\n    pub uid: u32,": "uid: u32,\n    pub pid: i32,",
            "[c_char; 108],": "[c_char; 100],", "[c_ulong; 1024 /": "[c_ulong; 512 /", "    pub data: u64,\n": "",
            "fn kill(process: i32, signal: i32)": "fn kill(process: i32)", "command: i32, ...)": "command: i32)",
-           "fn flock(file: i32, operation: i32)": "fn flock(file: i32, operation: c_long)"}
+           "fn flock(file: i32, operation: i32)": "fn flock(file: i32, operation: c_long)",
+           "    f_frsize: c_ulong,\n": "", "rest: [c_ulong; 32]": "rest: [c_ulong; 2]",
+           "    pw_uid: u32,\n": "", "gr_mem: *mut *mut c_char": "gr_mem: u32", "fn getpwuid_r(user: u32": "fn getpwuid_r(user: u64"}
 
 
 def read():
@@ -68,7 +75,7 @@ def functions(text):
 
 
 def type_in_c(it, systems):
-    pointer = re.fullmatch(r"\*(mut|const) (\w+)", it)
+    pointer = re.fullmatch(r"\*(mut|const) (.+)", it)
     if pointer:
         return f"{'const ' if pointer[1] == 'const' else ''}{type_in_c(pointer[2], systems)} *"
     return it if it == "..." else systems.get(it) or TYPES[it]
@@ -77,7 +84,7 @@ def type_in_c(it, systems):
 def member_in_c(name, it):
     array = re.fullmatch(r"\[(\w+); (.*)\]", it)
     if not array:
-        return f"{TYPES[it]} {name};"
+        return f"{type_in_c(it, {})} {name};"
     return f"{TYPES[array[1]]} {name}[{array[2].replace('c_ulong::BITS as usize', '(8 * sizeof(long))')}];"
 
 
@@ -91,9 +98,10 @@ def number_in_c(name, kind, value):
 def struct_in_c(theirs, ours, members):
     packed = " PACKED_ON_X86_64" if theirs == "struct epoll_event" else ""
     yield f"struct {ours} {{ {' '.join(member_in_c(*it) for it in members)} }}{packed};"
-    yield f'_Static_assert(sizeof(struct {ours}) == sizeof({theirs}), "{theirs}");'
+    relation = ">=" if ROOM_FOR_MORE in dict(members) else "=="
+    yield f'_Static_assert(sizeof(struct {ours}) {relation} sizeof({theirs}), "{theirs}");'
     if theirs.startswith("struct "):  # of others the members have no names
-        for name, _ in members:
+        for name in dict(members).keys() - {ROOM_FOR_MORE}:
             yield f"MEMBER(struct {ours}, {theirs}, {name}, {'data.u64' if name == 'data' else name});"
 
 

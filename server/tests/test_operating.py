@@ -3,6 +3,7 @@ of the test there, `scp` copies from another one, and what only root may do is l
 
 import glob
 import grp
+import json
 import os
 import pwd
 import re
@@ -97,12 +98,34 @@ class Blocks(unittest.TestCase):
         self.assertNotEqual(done.returncode, 0)
         self.assertIn("invalid CA certificate", done.stderr)
 
-    def test_alerts_are_of_metrics_that_there_are(self):
+    def monitoring(self, name):
+        with open(os.path.join(TOP, "server", "monitoring", name), encoding="utf-8") as file:
+            return file.read()
+
+    def test_alerts_and_dashboard_are_of_metrics_that_there_are(self):
         with open(os.path.join(TOP, "server", "wozgirt-server", "src", "pages", "metrics.rs"), encoding="utf-8") as file:
             metrics = file.read()
-        named = set(re.findall(r"wozgirt_\w+", block("## What to watch", "- alert:")))
-        self.assertGreater(len(named), 5)
-        self.assertEqual([it for it in sorted(named) if f'"{it}"' not in metrics], [])
+        json.loads(self.monitoring("wozgirt-dashboard.json"))
+        for text, least in ((self.monitoring("wozgirt.rules.yml"), 8), (self.monitoring("wozgirt-dashboard.json"), 12)):
+            named = {re.sub("_bucket$", "", it) for it in re.findall(r"\b(?:wozgirt|process)_\w+", text)}
+            self.assertGreater(len(named), least)
+            self.assertEqual([it for it in sorted(named) if f'"{it}"' not in metrics], [])
+
+    def test_there_are_alerts_of_a_server_that_is_down_and_of_the_disk(self):
+        rules = self.monitoring("wozgirt.rules.yml")
+        for expression in ('up{job="wozgirt"} == 0', "wozgirt_engine_up == 0", "wozgirt_journal_free_bytes"):
+            self.assertIn(expression, rules)
+
+    @unittest.skipUnless(shutil.which("promtool"), "promtool is not installed")
+    def test_promtool_takes_the_alerts_and_the_configuration(self):
+        configuration, command = block("## What to watch", "scrape_configs:").split("$ ")
+        command, told = command.split("\n", 1)
+        write(f"{self.folder}/wozgirt.rules.yml", self.monitoring("wozgirt.rules.yml"))
+        write(f"{self.folder}/prometheus.yml", configuration)
+        done = subprocess.run(command.split(), cwd=self.folder, capture_output=True, text=True, check=False)
+        self.assertEqual((done.returncode, done.stdout.split()), (0, told.split()), done.stderr)
+        done = subprocess.run(["promtool", "check", "config", "prometheus.yml"], cwd=self.folder, capture_output=True, text=True, check=False)
+        self.assertEqual(done.returncode, 0, done.stdout + done.stderr)
 
     @needs_programs
     def test_settings_have_options_that_there_are(self):

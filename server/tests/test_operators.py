@@ -126,10 +126,10 @@ class Rules(unittest.TestCase):
                 server.process.send_signal(signal.SIGHUP)
                 wait_until(lambda: "rules read again\n" in server.text_of_log())
                 self.assertEqual(say(sock, "try b 1\ntry a 1\nstatus\n", 4)[:3], ["granted b 1", "refused permission a", "status 1"])
-                write("lock b: nobody-has-this-name\n")
+                write("lock b nobody-has-this-name\n")
                 server.process.send_signal(signal.SIGHUP)
                 wait_until(lambda: "rules-bad rules not read again, the old ones hold: " in server.text_of_log())
-                self.assertIn("line 1: there is no user nobody-has-this-name", server.text_of_log())
+                self.assertIn("line 1: `lock NAME: USER %GROUP ..` is wanted", server.text_of_log())
                 self.assertEqual(say(sock, "release b 1\ntry b 1\n", 2), ["released b", "granted b 2"])
                 for times, of_all in enumerate((user, 65533), 2):  # a pattern, and one that is longer than that
                     write(f"lock *: {of_all}\nlock b*: 65533\n")

@@ -3,14 +3,17 @@
 import html.parser
 import http.client
 import math
+import os
 import re
+import signal
 import socket
+import subprocess
 import time
 import unittest
 
-from harness import PATIENCE, Server, needs_loopback, needs_programs, read_lines, say, wait_until
+from harness import PATIENCE, SERVER, Server, needs_loopback, needs_programs, read_lines, say, wait_until
 
-METRIC = re.compile(r'^([a-z_]+)(?:\{([a-z]+)="([^"\\\n]*)"\})? (-?[0-9.]+(?:e[+-]?[0-9]+)?)$')
+METRIC = re.compile(r'^([a-z_]+)(?:\{([a-z]+)="([^"\\\n]*)"(?:,[a-z]+="[^"\\\n]*")*\})? (-?[0-9.]+(?:e[+-]?[0-9]+)?)$')
 # what the values of a histogram are called, behind its name
 RANGES = re.compile(r"_(bucket|sum|count)$")
 
@@ -121,6 +124,39 @@ class Pages(unittest.TestCase):
             two.close()
             wait_until(lambda: self.metrics()["wozgirt_held", "deploy"] == 0)
             self.assertEqual(self.metrics()["wozgirt_engine_starts_total", None], 1)
+
+    @with_page
+    def test_health(self, server):
+        """A status says whether the engine answers, also to who asks for no more than the head."""
+        self.assertEqual([(it.status, it.getheader("Content-Type"), body) for it, body in [self.ask("GET", "/healthz")]],
+                         [(200, "text/plain; charset=utf-8", "the engine answers\n")])
+        for target in ("/", "/metrics", "/healthz"):
+            answer, body = self.ask("HEAD", target)
+            self.assertEqual((answer.status, body), (200, ""))
+        engine = server.engine_number()
+        os.kill(engine, signal.SIGSTOP)
+        wait_until(lambda: self.ask("GET", "/healthz")[0].status == 503)
+        self.assertEqual(self.ask("GET", "/healthz")[1], "the engine does not answer\n")
+        self.assertEqual([(it.status, body) for it, body in [self.ask("HEAD", "/healthz")]], [(503, "")])
+        os.kill(engine, signal.SIGCONT)
+        wait_until(lambda: self.ask("GET", "/healthz")[0].status == 200)
+
+    @with_page
+    def test_which_server_it_is_and_what_it_takes(self, server):
+        version = subprocess.run([SERVER, "--version"], capture_output=True, text=True, check=True).stdout.split()[1]
+        self.assertEqual(self.metrics()["wozgirt_build_info", version], 1)
+        values = self.metrics()
+        with open(f"/proc/{server.process.pid}/limits", encoding="ascii") as file:
+            most = int(re.search(r"Max open files +(\d+)", file.read())[1])
+        self.assertEqual(values["process_max_fds", None], most)
+        open_files = len(os.listdir(f"/proc/{server.process.pid}/fd"))
+        self.assertLess(abs(values["process_open_fds", None] - open_files), 5)
+        self.assertGreater(values["process_virtual_memory_bytes", None], values["process_resident_memory_bytes", None])
+        self.assertGreater(values["process_resident_memory_bytes", None], 1 << 20)
+        self.assertLess(abs(values["process_start_time_seconds", None] + values["wozgirt_uptime_seconds", None] - time.time()), 60)
+        self.assertGreaterEqual(values["process_cpu_seconds_total", None], 0)
+        disk = os.statvfs(server.journal)
+        self.assertLess(abs(values["wozgirt_journal_free_bytes", None] / (disk.f_bavail * disk.f_frsize) - 1), 0.5)
 
     def check_waits(self, one, two, values):
         """Who waits for 0.02 s is counted there, and who does not wait, below; where that is granted late, another one is."""

@@ -4,7 +4,7 @@
 //! Every number, struct and function that is declared here is the system's own: `server/tests/test_declarations.py` compares them
 //! with its headers. They are those of the processors below; some others have other numbers.
 
-use std::ffi::{c_char, c_long, c_ulong, c_void};
+use std::ffi::{c_char, c_long, c_ulong, c_void, CStr, CString};
 use std::io;
 use std::mem::{size_of, size_of_val, MaybeUninit};
 use std::os::fd::{AsRawFd, BorrowedFd, FromRawFd, OwnedFd};
@@ -61,6 +61,7 @@ pub const O_NONBLOCK: i32 = 0o4_000;
 const LOCK_EX: i32 = 2;
 const LOCK_NB: i32 = 4;
 const RLIMIT_NOFILE: i32 = 7;
+const ERANGE: i32 = 34;
 
 const AF_UNIX: u16 = 1;
 const SOCK_STREAM: i32 = 1;
@@ -118,12 +119,51 @@ struct UnixName {
     sun_path: [c_char; 108],
 }
 
+/// `struct passwd`.
+#[repr(C)]
+struct User {
+    pw_name: *mut c_char,
+    pw_passwd: *mut c_char,
+    pw_uid: u32,
+    pw_gid: u32,
+    pw_gecos: *mut c_char,
+    pw_dir: *mut c_char,
+    pw_shell: *mut c_char,
+}
+
+/// `struct group`.
+#[repr(C)]
+struct Group {
+    gr_name: *mut c_char,
+    gr_passwd: *mut c_char,
+    gr_gid: u32,
+    gr_mem: *mut *mut c_char,
+}
+
 /// `rlim_t`.
 #[cfg(not(target_env = "musl"))]
 pub type LimitCount = c_ulong;
 /// `rlim_t`.
 #[cfg(target_env = "musl")]
 pub type LimitCount = u64;
+
+/// `fsblkcnt_t`.
+#[cfg(not(target_env = "musl"))]
+type BlockCount = c_ulong;
+/// `fsblkcnt_t`.
+#[cfg(target_env = "musl")]
+type BlockCount = u64;
+
+/// `struct statvfs`: its beginning, and room for the rest, which no two libraries have alike.
+#[repr(C)]
+struct Disk {
+    f_bsize: c_ulong,
+    f_frsize: c_ulong,
+    f_blocks: BlockCount,
+    f_bfree: BlockCount,
+    f_bavail: BlockCount,
+    rest: [c_ulong; 32],
+}
 
 /// `struct rlimit`: the limit that holds, and how far the process may raise it.
 #[repr(C)]
@@ -150,6 +190,10 @@ extern "C" {
     fn umask(without: u32) -> u32;
     fn getrlimit(of: i32, limit: *mut Limit) -> i32;
     fn setrlimit(of: i32, limit: *const Limit) -> i32;
+    fn getpwnam_r(name: *const c_char, it: *mut User, text: *mut c_char, size: usize, found: *mut *mut User) -> i32;
+    fn getpwuid_r(user: u32, it: *mut User, text: *mut c_char, size: usize, found: *mut *mut User) -> i32;
+    fn getgrnam_r(name: *const c_char, it: *mut Group, text: *mut c_char, size: usize, found: *mut *mut Group) -> i32;
+    fn statvfs(path: *const c_char, disk: *mut Disk) -> i32;
     fn getsockopt(socket: i32, level: i32, name: i32, value: *mut c_void, length: *mut u32) -> i32;
     fn socket(family: i32, kind: i32, protocol: i32) -> i32;
     fn connect(socket: i32, address: *const UnixName, length: u32) -> i32;
@@ -310,6 +354,61 @@ pub fn limit_of_files() -> io::Result<Limit> {
 pub fn set_limit_of_files(limit: &Limit) -> io::Result<()> {
     // SAFETY: the limit is valid, and the call only reads it.
     checked(unsafe { setrlimit(RLIMIT_NOFILE, limit) }).map(drop)
+}
+
+/// What the call finds, with more room for its texts until that is enough. `call` gets an entry, room, its size, and where the found
+/// entry is put; `read` may follow the entry's pointers.
+fn found<T, R>(
+    call: impl Fn(*mut T, *mut c_char, usize, *mut *mut T) -> i32,
+    read: impl Fn(&T) -> R,
+) -> io::Result<Option<R>> {
+    const ROOM: usize = 1 << 10;
+    const MOST_ROOM: usize = 1 << 24; // a group may have many members
+    let mut room: Vec<c_char> = vec![0; ROOM];
+    loop {
+        let (mut entry, mut found) = (MaybeUninit::uninit(), ptr::null_mut());
+        match call(entry.as_mut_ptr(), room.as_mut_ptr(), room.len(), &mut found) {
+            0 if found.is_null() => return Ok(None),
+            // SAFETY: the call found an entry, wrote it to `entry`, and its texts to `room`, which is there until it is read.
+            0 => return Ok(Some(read(unsafe { entry.assume_init_ref() }))),
+            ERANGE if room.len() < MOST_ROOM => room.resize(2 * room.len(), 0),
+            number => return Err(io::Error::from_raw_os_error(number)),
+        }
+    }
+}
+
+/// The number of the user with this name, if there is one.
+pub fn user_number(name: &CStr) -> io::Result<Option<u32>> {
+    // SAFETY: the name ends with a zero, and `found` passes an entry, and room of that size, that can be written.
+    let call = |it, text, size, found| unsafe { getpwnam_r(name.as_ptr(), it, text, size, found) };
+    found(call, |user| user.pw_uid)
+}
+
+/// The name of the user with this number, if there is one.
+pub fn user_name(number: u32) -> io::Result<Option<CString>> {
+    // SAFETY: `found` passes an entry, and room of that size, that can be written.
+    let call = |it, text, size, found| unsafe { getpwuid_r(number, it, text, size, found) };
+    // SAFETY: the name of an entry that was found ends with a zero.
+    found(call, |user| unsafe { CStr::from_ptr(user.pw_name) }.to_owned())
+}
+
+/// The number of the group with this name, if there is one.
+pub fn group_number(name: &CStr) -> io::Result<Option<u32>> {
+    // SAFETY: the name ends with a zero, and `found` passes an entry, and room of that size, that can be written.
+    let call = |it, text, size, found| unsafe { getgrnam_r(name.as_ptr(), it, text, size, found) };
+    found(call, |group| group.gr_gid)
+}
+
+/// How many bytes a user may still add to the disk on which this is: blocks, and the size of one.
+pub fn free_bytes(path: &CStr) -> io::Result<u64> {
+    let mut disk = MaybeUninit::<Disk>::zeroed();
+    // SAFETY: the path ends with a zero, there is room for what the call writes, and any bytes are a `Disk`.
+    let disk = unsafe {
+        checked(statvfs(path.as_ptr(), disk.as_mut_ptr()))?;
+        disk.assume_init()
+    };
+    #[allow(clippy::useless_conversion)] // the counts are shorter on some processors
+    Ok(u64::from(disk.f_bavail).saturating_mul(u64::from(disk.f_frsize)))
 }
 
 /// The process that made the other end of a socket.

@@ -12,6 +12,8 @@
 //! | `kill` | the end of a command, asked for ([`send_signal`]) |
 //! | `getrlimit`, `setrlimit` | how many files may be open ([`permit_files`]) |
 //! | `flock` | a folder that only one server has ([`try_lock`]) |
+//! | `getpwnam_r`, `getpwuid_r`, `getgrnam_r` | names of users and groups ([`user_number`], [`user_name`], [`group_number`]) |
+//! | `statvfs` | how much room the journal's disk has ([`free_bytes`]) |
 //! | `umask` | files that nobody but their owner can write ([`create_for_owner`]) |
 //! | `fcntl` | a file that a command inherits ([`inherit`]), a pipe that is not waited for ([`never_wait`]) |
 //!
@@ -19,9 +21,11 @@
 
 #![deny(unsafe_code)]
 
+mod accounts;
 #[allow(unsafe_code)]
 mod calls;
 mod creating;
+mod disks;
 mod limits;
 mod peers;
 mod polling;
@@ -29,7 +33,9 @@ mod processes;
 mod signals;
 mod sockets;
 
+pub use accounts::{group_number, user_name, user_number};
 pub use creating::create_for_owner;
+pub use disks::free_bytes;
 pub use limits::permit_files;
 pub use peers::{peer_of, Peer};
 pub use polling::{Event, Interest, Poller};

@@ -83,7 +83,7 @@ pub struct UnixDoor {
 
 impl UnixDoor {
     /// Listens there. The socket has its name only when it has its mode and group. One that nobody listens to is replaced.
-    pub fn open(named: &Named, accounts: &Accounts) -> Result<UnixDoor, CannotListen> {
+    pub fn open(named: &Named, accounts: &mut Accounts) -> Result<UnixDoor, CannotListen> {
         let cannot = |why| CannotListen { place: named.path.display().to_string(), why };
         patiently(|| is_free(&named.path)).map_err(cannot)?;
         let group = match &named.group {
@@ -176,10 +176,10 @@ mod tests {
     fn a_socket_has_its_mode_and_goes() {
         let folder = folder("mode");
         let named = Named { path: folder.join("s"), mode: 0o660, group: Some("0".into()) };
-        let accounts = Accounts::default();
-        let door = UnixDoor::open(&named, &accounts).unwrap();
+        let mut accounts = Accounts::default();
+        let door = UnixDoor::open(&named, &mut accounts).unwrap();
         assert_eq!(fs::metadata(&named.path).unwrap().permissions().mode() & 0o777, 0o660);
-        let again = UnixDoor::open(&named, &accounts).err().unwrap().to_string();
+        let again = UnixDoor::open(&named, &mut accounts).err().unwrap().to_string();
         assert!(again.ends_with("another process listens there"), "{again}");
         drop(door);
         assert!(!named.path.exists());
@@ -190,9 +190,9 @@ mod tests {
     fn a_name_that_another_has_now_stays() {
         let folder = folder("another");
         let named = Named { path: folder.join("s"), mode: 0o600, group: None };
-        let first = UnixDoor::open(&named, &Accounts::default()).unwrap();
+        let first = UnixDoor::open(&named, &mut Accounts::default()).unwrap();
         fs::remove_file(&named.path).unwrap();
-        let second = UnixDoor::open(&named, &Accounts::default()).unwrap();
+        let second = UnixDoor::open(&named, &mut Accounts::default()).unwrap();
         drop(first);
         assert!(UnixStream::connect(&named.path).is_ok());
         drop(second);
@@ -206,7 +206,7 @@ mod tests {
         let named = Named { path: folder.join("s"), mode: 0o600, group: None };
         let mut old = Some(UnixListener::bind(&named.path).unwrap());
         let begun = Instant::now();
-        assert!(UnixDoor::open(&named, &Accounts::default()).is_err());
+        assert!(UnixDoor::open(&named, &mut Accounts::default()).is_err());
         assert!(begun.elapsed() >= (TRIES - 1) * PAUSE);
         let mut tries = 0;
         let found = patiently(|| {
@@ -217,7 +217,7 @@ mod tests {
             is_free(&named.path)
         });
         assert_eq!((found.is_ok(), tries), (true, 3));
-        assert!(UnixDoor::open(&named, &Accounts::default()).is_ok());
+        assert!(UnixDoor::open(&named, &mut Accounts::default()).is_ok());
         fs::remove_dir_all(folder).unwrap();
     }
 
@@ -226,14 +226,14 @@ mod tests {
         let folder = folder("file");
         let named = Named { path: folder.join("s"), mode: 0o600, group: None };
         fs::write(&named.path, "mine").unwrap();
-        let fault = UnixDoor::open(&named, &Accounts::default()).err().unwrap().to_string();
+        let fault = UnixDoor::open(&named, &mut Accounts::default()).err().unwrap().to_string();
         assert!(fault.ends_with("a file has this name, and is not a socket"), "{fault}");
         assert_eq!(fs::read_to_string(&named.path).unwrap(), "mine");
         fs::remove_file(&named.path).unwrap();
         drop(UnixListener::bind(&named.path).unwrap()); // nobody listens any more
-        assert!(UnixDoor::open(&named, &Accounts::default()).is_ok());
+        assert!(UnixDoor::open(&named, &mut Accounts::default()).is_ok());
         let named = Named { group: Some("nobody-has-this".into()), ..named };
-        let fault = UnixDoor::open(&named, &Accounts::default()).err().unwrap().to_string();
+        let fault = UnixDoor::open(&named, &mut Accounts::default()).err().unwrap().to_string();
         assert!(fault.ends_with("there is no group nobody-has-this"), "{fault}");
         fs::remove_dir_all(folder).unwrap();
     }

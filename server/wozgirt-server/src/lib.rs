@@ -13,6 +13,8 @@ mod connection;
 mod desk;
 mod doors;
 mod engine;
+mod engine_version;
+mod figures;
 mod files;
 mod journal;
 pub mod log;

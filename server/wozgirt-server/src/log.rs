@@ -1,5 +1,6 @@
 //! The log: one line on standard error for each event that an operator wants to know of.
 
+use crate::engine_version::EngineVersion;
 use std::fmt;
 use std::io::Write;
 use std::sync::atomic::{AtomicUsize, Ordering};
@@ -14,6 +15,9 @@ const ROOM: usize = 4096;
 const MOST_BYTES: usize = 1 << 20;
 /// But at its end it gives the log this time to be written.
 const LAST_LINES: Duration = Duration::from_secs(1);
+
+/// This program.
+const SERVER: &str = concat!("wozgirt-server ", env!("CARGO_PKG_VERSION"));
 
 /// Why a connection ended.
 #[derive(Debug, Clone, Copy, PartialEq, Eq, Hash, PartialOrd, Ord)]
@@ -75,7 +79,13 @@ impl End {
 /// Something that happened.
 #[allow(missing_docs)] // the texts below say what they are
 pub enum Event<'a> {
-    Started { version: &'a str, locks: usize, has_others: bool },
+    Started {
+        locks: usize,
+        has_others: bool,
+        journal: &'a dyn fmt::Display,
+        socket: &'a dyn fmt::Display,
+        engine: &'a EngineVersion,
+    },
     Listening { what: &'a str, place: &'a dyn fmt::Display },
     EngineStarted { process: u32, grace: Duration },
     EngineReady { held: usize },
@@ -91,6 +101,7 @@ pub enum Event<'a> {
     SegmentsStay { fault: &'a std::io::Error },
     RulesRead,
     RulesBad { fault: &'a dyn fmt::Display },
+    RulesUnknown { who: &'a dyn fmt::Display },
     Came { client: Client, who: &'a str },
     Went { client: Client, who: &'a str, end: End, held: &'a str },
     TooMany { who: &'a str },
@@ -137,6 +148,7 @@ impl Event<'_> {
             Event::SegmentsStay { .. } => "segments-stay",
             Event::RulesRead => "rules-read",
             Event::RulesBad { .. } => "rules-bad",
+            Event::RulesUnknown { .. } => "rules-unknown",
             Event::Came { .. } => "client-came",
             Event::Went { .. } => "client-went",
             Event::TooMany { .. } => "client-refused",
@@ -168,9 +180,14 @@ impl Event<'_> {
 impl fmt::Display for Event<'_> {
     fn fmt(&self, f: &mut fmt::Formatter<'_>) -> fmt::Result {
         match self {
-            Event::Started { version, locks, has_others } => {
-                let others = if *has_others { ", and those of any other name" } else { "" };
-                write!(f, "wozgirt-server {version}, {locks} locks{others}")
+            Event::Started { locks, has_others, journal, socket, engine } => {
+                match (locks, has_others) {
+                    (0, _) => write!(f, "{SERVER}, locks of any name"),
+                    (_, true) => write!(f, "{SERVER}, {locks} locks, and those of any other name"),
+                    (_, false) => write!(f, "{SERVER}, {locks} locks"),
+                }?;
+                let proved = if engine.is_proved { "proved" } else { "of which NOTHING WAS PROVED" };
+                write!(f, "; journal {journal}, socket {socket}; engine {}, {proved}", engine.name)
             }
             Event::Listening { what, place } => write!(f, "{what} at {place}"),
             Event::EngineStarted { process, grace } => {
@@ -196,6 +213,7 @@ impl fmt::Display for Event<'_> {
             Event::SegmentsStay { fault } => write!(f, "old segments cannot be removed: {fault}"),
             Event::RulesRead => f.write_str("rules read again"),
             Event::RulesBad { fault } => write!(f, "rules not read again, the old ones hold: {fault}"),
+            Event::RulesUnknown { who } => write!(f, "rules, {who}: this lets nobody in"),
             Event::Came { client, who } => write!(f, "client {client} came: {who}"),
             Event::Went { client, who, end, held } => {
                 write!(f, "client {client} went ({}): {who}", end.word())?;

@@ -2,8 +2,8 @@
 //!
 //! A WORD is a user, `%GROUP`, or `*` for all; users and groups also by number. A NAME that ends in `*` is a pattern, of all locks
 //! whose names begin so. A lock has the line of its whole name; if there is none, that of the longest pattern, of which `*` is
-//! the last; without any line it is for all. A user who connects over TCP has no name, so only `*` lets it in. Empty lines, and
-//! what follows `#`, say nothing.
+//! the last; without any line it is for all. A user who connects over TCP has no name, so only `*` lets it in. A user or group that
+//! the system does not know lets nobody in. Empty lines, and what follows `#`, say nothing.
 
 use crate::accounts::Accounts;
 use crate::board::Board;
@@ -30,6 +30,25 @@ pub struct Rules {
     rules: ByName<Rule>,
     patterns: Patterns,
     others: Rule,
+    /// Users and groups that there are not.
+    unknown: Vec<Unknown>,
+}
+
+/// A user or a group that the system does not know, in this line, from 1.
+#[derive(Debug, Clone, PartialEq, Eq)]
+pub struct Unknown {
+    line: usize,
+    /// As it is in the rules, so a group begins with `%`.
+    word: String,
+}
+
+impl fmt::Display for Unknown {
+    fn fmt(&self, f: &mut fmt::Formatter<'_>) -> fmt::Result {
+        match self.word.strip_prefix('%') {
+            Some(group) => write!(f, "line {}: there is no group {group}", self.line),
+            None => write!(f, "line {}: there is no user {}", self.line, self.word),
+        }
+    }
 }
 
 /// Rules of patterns.
@@ -56,8 +75,6 @@ enum WhyBad {
     Beginning(String),
     Lock(String),
     Twice(String),
-    User(String),
-    Group(String),
 }
 
 impl fmt::Display for BadRule {
@@ -71,8 +88,6 @@ impl fmt::Display for BadRule {
             WhyBad::Beginning(text) => write!(f, "no name of a lock begins with `{text}`"),
             WhyBad::Lock(name) => write!(f, "there is no lock {name}"),
             WhyBad::Twice(name) => write!(f, "lock {name} has a rule already"),
-            WhyBad::User(name) => write!(f, "there is no user {name}"),
-            WhyBad::Group(name) => write!(f, "there is no group {name}"),
         }
     }
 }
@@ -83,22 +98,20 @@ impl Default for Rules {
     /// Every lock is for all who may connect.
     fn default() -> Rules {
         let others = Rule { is_for_all: true, ..Rule::default() };
-        Rules { rules: ByName::default(), patterns: Patterns::default(), others }
+        Rules { rules: ByName::default(), patterns: Patterns::default(), others, unknown: Vec::new() }
     }
 }
 
 impl Rules {
     /// The rules in the text of a file, for the locks of this board.
-    pub fn parse(text: &str, board: &Board, accounts: &Accounts) -> Result<Rules, BadRule> {
+    pub fn parse(text: &str, board: &Board, accounts: &mut Accounts) -> Result<Rules, BadRule> {
         let mut rules = Rules::default();
         let mut has_others = false;
-        for (i, line) in text.lines().enumerate() {
-            let line = line.split('#').next().unwrap_or("").trim();
-            if line.is_empty() {
-                continue;
-            }
+        for (i, line) in lines(text) {
             let bad = |why| BadRule { line: i + 1, why };
-            let (name, rule) = read_rule(line, accounts).map_err(bad)?;
+            let (name, words) = parts(line).ok_or_else(|| bad(WhyBad::Syntax))?;
+            let (rule, unknown) = read_rule(words, accounts);
+            rules.unknown.extend(unknown.into_iter().map(|word| Unknown { line: i + 1, word }));
             let was_there = match beginning(name).map_err(bad)? {
                 Some("") => {
                     rules.others = rule;
@@ -126,6 +139,11 @@ impl Rules {
             rule.into_iter().for_each(|rule| rule.locks += 1);
         }
         self
+    }
+
+    /// The users and groups in them that the system did not know.
+    pub fn unknown(&self) -> &[Unknown] {
+        &self.unknown
     }
 
     /// Whether this client may use the lock. A client over TCP is not known.
@@ -186,20 +204,41 @@ fn beginning(name: &str) -> Result<Option<&str>, WhyBad> {
     Ok(Some(beginning))
 }
 
-fn read_rule<'a>(line: &'a str, accounts: &Accounts) -> Result<(&'a str, Rule), WhyBad> {
-    let rest = line.strip_prefix("lock ").ok_or(WhyBad::Syntax)?;
-    let (name, words) = rest.split_once(':').ok_or(WhyBad::Syntax)?;
-    let mut rule = Rule::default();
+/// The lines that say something, each with its place from 0.
+fn lines(text: &str) -> impl Iterator<Item = (usize, &str)> {
+    let lines = text.lines().map(|line| line.split('#').next().unwrap_or("").trim());
+    lines.enumerate().filter(|(_, line)| !line.is_empty())
+}
+
+/// The name of the lock in a line, and the words after it.
+fn parts(line: &str) -> Option<(&str, &str)> {
+    let (name, words) = line.strip_prefix("lock ")?.split_once(':')?;
+    Some((name.trim(), words))
+}
+
+/// The users and groups in a text, a group with `%`.
+pub fn names_in(text: &str) -> impl Iterator<Item = &str> {
+    lines(text).filter_map(|(_, line)| parts(line)).flat_map(|(_, words)| words.split_whitespace()).filter(|word| *word != "*")
+}
+
+/// Whom these words let in, and those who are not known.
+fn read_rule(words: &str, accounts: &mut Accounts) -> (Rule, Vec<String>) {
+    let (mut rule, mut unknown) = (Rule::default(), Vec::new());
     for word in words.split_whitespace() {
-        if word == "*" {
-            rule.is_for_all = true;
-        } else if let Some(group) = word.strip_prefix('%') {
-            rule.groups.push(accounts.group(group).ok_or_else(|| WhyBad::Group(group.into()))?);
-        } else {
-            rule.users.push(accounts.user(word).ok_or_else(|| WhyBad::User(word.into()))?);
+        let (numbers, number) = match word.strip_prefix('%') {
+            _ if word == "*" => {
+                rule.is_for_all = true;
+                continue;
+            }
+            Some(group) => (&mut rule.groups, accounts.group(group)),
+            None => (&mut rule.users, accounts.user(word)),
+        };
+        match number {
+            Some(number) => numbers.push(number),
+            None => unknown.push(word.into()),
         }
     }
-    Ok((name.trim(), rule))
+    (rule, unknown)
 }
 
 #[cfg(test)]
@@ -208,8 +247,8 @@ mod tests {
     use crate::names::Names;
 
     fn parse(text: &str) -> Result<Rules, BadRule> {
-        let accounts = Accounts::parse("alice:x:1000:1000::/:\n", "ops:x:50:\n");
-        Rules::parse(text, &board("deploy,gpu,db,db/1,db/2,dbx"), &accounts)
+        let mut accounts = Accounts::with(&[("alice", 1000)], &[("ops", 50)]);
+        Rules::parse(text, &board("deploy,gpu,db,db/1,db/2,dbx"), &mut accounts)
     }
 
     fn board(list: &str) -> Board {
@@ -276,7 +315,7 @@ mod tests {
     fn rules_of_names_that_are_not_in_the_list() {
         let board = board("deploy,*");
         let text = "lock order/4711: 1\nlock order/*: 2\nlock deploy: 1 2";
-        let rules = Rules::parse(text, &board, &Accounts::default()).unwrap();
+        let rules = Rules::parse(text, &board, &mut Accounts::default()).unwrap();
         let [one, two] = [1, 2].map(|user| peer(user, &[]));
         for (name, first, second) in [("order/4711", true, false), ("order/4712", false, true), ("x", true, true)] {
             assert_eq!(
@@ -286,8 +325,22 @@ mod tests {
             );
         }
         assert_eq!((rules.count(1, one.as_ref()), rules.count(1, None)), (1, 0));
-        let bad = Rules::parse("lock a b: *", &board, &Accounts::default());
+        let bad = Rules::parse("lock a b: *", &board, &mut Accounts::default());
         assert_eq!(bad.unwrap_err().to_string(), "line 1: there is no lock a b");
+    }
+
+    #[test]
+    fn who_is_not_known_is_nobody() {
+        let rules = parse("lock gpu: no-such-user\n\nlock db: no-such-user alice %no-such-group").unwrap();
+        let [alice, other] = [1000, 4_294_967_295].map(|user| peer(user, &[user]));
+        for (name, first, second) in [("gpu", false, false), ("db", true, false), ("deploy", true, true)] {
+            let permits = (rules.permits(name, alice.as_ref()), rules.permits(name, other.as_ref()));
+            assert_eq!(permits, (first, second), "{name}");
+        }
+        let told: Vec<_> = rules.unknown().iter().map(Unknown::to_string).collect();
+        let user = |line| format!("line {line}: there is no user no-such-user");
+        assert_eq!(told, [user(1), user(3), "line 3: there is no group no-such-group".into()]);
+        assert!(parse("lock gpu: alice %ops 7 %8 *").unwrap().unknown().is_empty());
     }
 
     #[test]
@@ -303,8 +356,6 @@ mod tests {
             ("lock *b: *", "line 1: in *b a `*` is not at the end, where it means any rest of a name"),
             ("lock d**: *", "line 1: in d** a `*` is not at the end, where it means any rest of a name"),
             ("lock db/ *: *", "line 1: no name of a lock begins with `db/ `"),
-            ("lock gpu: bob", "line 1: there is no user bob"),
-            ("lock gpu: %dev", "line 1: there is no group dev"),
         ];
         for (text, why) in texts {
             assert_eq!(parse(text).unwrap_err().to_string(), why);

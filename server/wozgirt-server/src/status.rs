@@ -181,7 +181,7 @@ mod tests {
         let (mut board, start) = (board("deploy,gpu,db"), Instant::now());
         board.granted("deploy", 7, 12, Some(77), start);
         board.waits("deploy", 8, 1, start + Duration::from_millis(10));
-        let rules = Rules::parse("lock db:", &board, &Accounts::default()).unwrap();
+        let rules = Rules::parse("lock db:", &board, &mut Accounts::default()).unwrap();
         let view = Locks { board: &board, peer: None, now: start + Duration::from_millis(25) };
         let text = "status 2\nlock deploy held 7 77 12 25 1 15 1 0\nlock gpu free - - - - 0 0 0 0\n";
         assert_eq!(told(&view, Some(rules), 1000), (text.into(), 1));
@@ -213,7 +213,7 @@ mod tests {
             "lock x/2 free - - - - 0 0 1 0",
         ];
         assert_eq!(told(&view, None, 1000).0.lines().collect::<Vec<_>>(), lines);
-        let rules = Rules::parse("lock x/*:\nlock x/2: *", &board, &Accounts::default()).unwrap();
+        let rules = Rules::parse("lock x/*:\nlock x/2: *", &board, &mut Accounts::default()).unwrap();
         let lines = [&["status 3"], &lines[1..2], &lines[3..]].concat();
         assert_eq!(told(&view, Some(rules), 1000).0.lines().collect::<Vec<_>>(), lines);
     }

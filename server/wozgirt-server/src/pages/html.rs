@@ -157,6 +157,8 @@ fn time(time: Duration) -> String {
 mod tests {
     use super::*;
     use crate::board::Board;
+    use crate::engine_version::EngineVersion;
+    use crate::figures::Figures;
     use crate::journal::JournalSize;
     use crate::names::Names;
     use crate::pages::http::Wanted;
@@ -193,10 +195,13 @@ mod tests {
         let mut sums = Sums::default();
         sums.refused("circle");
         let mut telling = Telling::new(wanted);
+        let mut figures = Figures::default();
+        (figures.seconds, figures.open_files) = (1.5, 9);
         let view = View {
             board,
             sums: &sums,
             connected: 2,
+            engine_version: &EngineVersion { name: "ring_tool 0.1.0".into(), is_proved: false },
             engine_starts: 1,
             is_engine_ready: true,
             engine_silence: Duration::from_millis(500),
@@ -211,6 +216,7 @@ mod tests {
                 contradictions: 1,
             }),
             journal: &JournalSize { bytes: 99, segments: 1, last: "0000000001.ring".into() },
+            figures: &figures,
             started,
             now: started + Duration::from_secs(3),
         };
@@ -253,6 +259,9 @@ mod tests {
     fn the_metrics_have_a_value_for_each_lock() {
         let text = shown(Wanted::Metrics, 1 << 20);
         for line in [
+            "wozgirt_build_info{version=\"0.1.0\",engine=\"ring_tool 0.1.0\",proved=\"no\"} 1",
+            "process_cpu_seconds_total 1.5",
+            "process_open_fds 9",
             "wozgirt_engine_up 1",
             "wozgirt_engine_oldest_question_seconds 0.5",
             "wozgirt_engine_lines_waiting 7",

@@ -12,6 +12,8 @@ pub enum Wanted {
     Page,
     /// The metrics.
     Metrics,
+    /// Whether the engine answers.
+    Health,
 }
 
 /// Why it is not answered.
@@ -82,6 +84,7 @@ fn read_head(head: &str) -> Request {
     let wanted = match target.split('?').next() {
         Some("/") => Wanted::Page,
         Some("/metrics") => Wanted::Metrics,
+        Some("/healthz") => Wanted::Health,
         _ => return Err(Refused::NotFound),
     };
     Ok(Asked { wanted, has_body, takes_parts: version != "HTTP/1.0" })
@@ -107,6 +110,7 @@ pub fn head(asked: Asked) -> String {
     let kind = match asked.wanted {
         Wanted::Page => "text/html",
         Wanted::Metrics => "text/plain; version=0.0.4",
+        Wanted::Health => "text/plain",
     };
     let parts = if asked.takes_parts { "Transfer-Encoding: chunked\r\n" } else { "" };
     format!("HTTP/1.1 200 OK\r\nContent-Type: {kind}; charset=utf-8\r\n{parts}{HEADERS}\r\n")
@@ -125,9 +129,23 @@ pub fn part(asked: Asked, text: &str, is_last: bool) -> String {
 /// The answer to what is refused.
 pub fn refusal(refused: Refused) -> String {
     let status = refused.status();
-    let length = status.len() + 1;
+    short(status, status, true)
+}
+
+/// The answer about the server's health.
+pub fn health(is_well: bool, has_body: bool) -> String {
+    match is_well {
+        true => short("200 OK", "the engine answers", has_body),
+        false => short("503 Service Unavailable", "the engine does not answer", has_body),
+    }
+}
+
+/// An answer of one line.
+fn short(status: &str, line: &str, has_body: bool) -> String {
+    let length = line.len() + 1;
+    let body = if has_body { format!("{line}\n") } else { String::new() };
     format!(
-        "HTTP/1.1 {status}\r\nContent-Type: text/plain; charset=utf-8\r\nContent-Length: {length}\r\n{HEADERS}\r\n{status}\n"
+        "HTTP/1.1 {status}\r\nContent-Type: text/plain; charset=utf-8\r\nContent-Length: {length}\r\n{HEADERS}\r\n{body}"
     )
 }
 
@@ -179,5 +197,13 @@ mod tests {
         let Some(Ok(old)) = asked("GET / HTTP/1.0\n\n") else { panic!() };
         assert_eq!((part(old, "x", true), head(old).contains("chunked")), ("x".into(), false));
         assert!(refusal(Refused::NotFound).ends_with("\r\n\r\n404 Not Found\n"));
+    }
+
+    #[test]
+    fn health_is_a_status() {
+        assert_eq!(asked("HEAD /healthz HTTP/1.1\n\n"), right(Wanted::Health, false, true));
+        let (well, ill) = (health(true, true), health(false, false));
+        assert!(well.starts_with("HTTP/1.1 200 OK\r\n") && well.ends_with("\r\n\r\nthe engine answers\n"), "{well}");
+        assert!(ill.starts_with("HTTP/1.1 503 ") && ill.contains("Content-Length: 27\r\n") && ill.ends_with("\r\n\r\n"), "{ill}");
     }
 }

@@ -2,6 +2,8 @@
 
 use super::{InLog, View};
 use crate::board::{Any, Sight, Waits, WAITS};
+use crate::engine_version::EngineVersion;
+use crate::figures::Figures;
 use crate::log::End;
 use std::fmt::{Display, Write};
 use std::time::{Duration, Instant};
@@ -34,9 +36,36 @@ impl<'a> Family<'a> {
 
 /// What is not of one lock.
 pub fn head(text: &mut String, view: &View<'_>) {
+    build(text, view.engine_version);
     server(text, view);
+    process(text, view.figures);
     waits(text, view.board.all_waits());
     view.in_log.iter().for_each(|it| log(text, it));
+}
+
+/// Which server and engine these are. The engine's name has no byte that would need an escape.
+fn build(text: &mut String, engine: &EngineVersion) {
+    let name = "wozgirt_build_info";
+    let proved = if engine.is_proved { "yes" } else { "no" };
+    let family = Family::new(text, name, "gauge", "1, with the server's version, the engine's, and whether it says that it was proved.");
+    let version = env!("CARGO_PKG_VERSION");
+    let _ = writeln!(family.text, "{name}{{version=\"{version}\",engine=\"{}\",proved=\"{proved}\"}} 1", engine.name);
+}
+
+/// The disk; and what Prometheus's own libraries show of a process, by the same names.
+fn process(text: &mut String, it: &Figures) {
+    let values: [(&str, &str, &str, &dyn Display); 7] = [
+        ("wozgirt_journal_free_bytes", "gauge", "Room that the journal's disk has.", &it.free),
+        ("process_cpu_seconds_total", "counter", "Processor time of the server, in seconds.", &it.seconds),
+        ("process_resident_memory_bytes", "gauge", "Memory of the server.", &it.resident),
+        ("process_virtual_memory_bytes", "gauge", "Address space of the server.", &it.virtual_size),
+        ("process_open_fds", "gauge", "Open files of the server.", &it.open_files),
+        ("process_max_fds", "gauge", "How many files it may have open.", &it.most_files),
+        ("process_start_time_seconds", "gauge", "When the server started, since 1970.", &it.started),
+    ];
+    for (name, kind, help, value) in values {
+        Family::new(text, name, kind, help).value(value);
+    }
 }
 
 fn waits(text: &mut String, waits: &Waits) {
@@ -52,7 +81,7 @@ fn waits(text: &mut String, waits: &Waits) {
 
 fn server(text: &mut String, view: &View<'_>) {
     let uptime = view.now.saturating_duration_since(view.started).as_secs_f64();
-    let is_up = u8::from(view.is_engine_ready && !view.is_engine_silent);
+    let is_up = u8::from(view.is_well());
     let silence = view.engine_silence.as_secs_f64();
     let values: [(&str, &str, &str, &dyn Display); 11] = [
         ("wozgirt_uptime_seconds", "gauge", "Seconds since the server started.", &uptime),

@@ -10,6 +10,8 @@ use telling::Telling;
 pub use visitor::{Next, Visitor};
 
 use crate::board::Board;
+use crate::engine_version::EngineVersion;
+use crate::figures::Figures;
 use crate::journal::JournalSize;
 use crate::sums::Sums;
 use std::time::{Duration, Instant};
@@ -38,6 +40,8 @@ pub struct View<'a> {
     pub sums: &'a Sums,
     /// How many are connected.
     pub connected: usize,
+    /// Which engine it is.
+    pub engine_version: &'a EngineVersion,
     /// How often the engine was started.
     pub engine_starts: u64,
     /// Whether it answers.
@@ -52,8 +56,17 @@ pub struct View<'a> {
     pub in_log: Option<InLog>,
     /// Its journal.
     pub journal: &'a JournalSize,
+    /// What the system says of the process.
+    pub figures: &'a Figures,
     /// When the server started.
     pub started: Instant,
     /// The time.
     pub now: Instant,
+}
+
+impl View<'_> {
+    /// Whether the engine answers in time.
+    pub fn is_well(&self) -> bool {
+        self.is_engine_ready && !self.is_engine_silent
+    }
 }

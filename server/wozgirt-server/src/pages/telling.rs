@@ -34,6 +34,7 @@ impl Telling {
         let (head, families, tail): (fn(&mut String, &View<'_>), _, _) = match self.wanted {
             Wanted::Page => (html::head, 1, html::TAIL),
             Wanted::Metrics => (metrics::head, metrics::OF_LOCKS.len(), ""),
+            Wanted::Health => return true, // one line, which was sent
         };
         if !std::mem::replace(&mut self.has_begun, true) {
             self.last = view.board.last();
@@ -55,6 +56,7 @@ impl Telling {
             let is_there = match self.wanted {
                 Wanted::Page => self.row(text, view),
                 Wanted::Metrics => self.value(text, view),
+                Wanted::Health => false,
             };
             if !is_there {
                 (self.family, self.next) = (self.family + 1, Place::FIRST);

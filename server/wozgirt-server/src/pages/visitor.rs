@@ -1,6 +1,6 @@
 //! One visitor of the page.
 
-use super::http::{head, part, refusal, request, Asked};
+use super::http::{head, health, part, refusal, request, Asked, Wanted};
 use super::{Telling, View};
 use crate::outbox::Outbox;
 use crate::stream::Stream;
@@ -65,7 +65,7 @@ impl Visitor {
     }
 
     fn try_to_go_on(&mut self, view: &View<'_>, until: Instant) -> io::Result<Next> {
-        if !self.has_asked && !self.hear()? {
+        if !self.has_asked && !self.hear(view)? {
             return Ok(Next::Wait(Interest::READS));
         }
         loop {
@@ -82,7 +82,7 @@ impl Visitor {
     }
 
     /// Whether it has said what it wants.
-    fn hear(&mut self) -> io::Result<bool> {
+    fn hear(&mut self, view: &View<'_>) -> io::Result<bool> {
         let mut bytes = [0; READ];
         match self.stream.read(&mut bytes) {
             Ok(0) => return Err(ErrorKind::UnexpectedEof.into()),
@@ -94,6 +94,7 @@ impl Visitor {
         self.has_asked = true;
         self.input = Vec::new();
         let text = match request {
+            Ok(Asked { wanted: Wanted::Health, has_body, .. }) => health(view.is_well(), has_body),
             Ok(asked) => {
                 self.telling = asked.has_body.then(|| (asked, Telling::new(asked.wanted)));
                 head(asked)

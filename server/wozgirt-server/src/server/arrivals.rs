@@ -27,13 +27,13 @@ pub(super) struct Doors {
 
 impl Doors {
     pub(super) fn open(settings: &Settings, poller: &Poller, log: &mut Log) -> Result<Doors, CannotServe> {
-        let accounts = Accounts::of_the_system();
-        let clients = UnixDoor::open(&settings.clients, &accounts)?;
+        let mut accounts = Accounts::default();
+        let clients = UnixDoor::open(&settings.clients, &mut accounts)?;
         poller.add(&clients.listener, CLIENTS, Interest::READS)?;
         log.say(&Event::Listening { what: "clients", place: &settings.clients.path.display() });
         let mut doors = Doors { clients: Some(clients), ..Doors::default() };
         if let Some(named) = &settings.operators {
-            let door = UnixDoor::open(named, &accounts)?;
+            let door = UnixDoor::open(named, &mut accounts)?;
             poller.add(&door.listener, OPERATORS, Interest::READS)?;
             log.say(&Event::Listening { what: "operators", place: &named.path.display() });
             doors.operators = Some(door);
@@ -89,7 +89,7 @@ impl Server {
             };
             let peer = if door == Door::Network { None } else { peer_of(&stream).ok() };
             let who = match (&peer, from) {
-                (Some(peer), _) => format!("{}, process {}", self.accounts.user_name(peer.user), peer.process),
+                (Some(peer), _) => format!("{}, process {}", self.user_names.name(peer.user), peer.process),
                 (None, Some(from)) => from.to_string(),
                 (None, None) => "nobody knows who".into(),
             };
@@ -185,7 +185,9 @@ impl Server {
 
     pub(super) fn visit(&mut self, key: u64) {
         let Some(mut visitor) = self.visitors.remove(&key) else { return };
-        self.journal.look(&self.desk.settings.engine_journal(), self.desk.now);
+        let journal = self.desk.settings.engine_journal();
+        self.journal.look(&journal, self.desk.now);
+        self.figures.look(&journal, self.desk.now);
         let until = Instant::now() + SHORTEST_TURN;
         if let Next::Wait(interest) = visitor.go_on(&self.view(), until) {
             if self.poller.change(visitor.stream(), key, interest).is_ok() {
@@ -199,6 +201,7 @@ impl Server {
             board: &self.desk.board,
             sums: &self.desk.sums,
             connected: self.connections.len(),
+            engine_version: &self.engine_version,
             engine_starts: self.desk.engine.starts,
             is_engine_ready: self.is_engine_ready(),
             engine_silence: self.desk.engine_silence(),
@@ -206,6 +209,7 @@ impl Server {
             waiting_lines: self.desk.waiting_lines(),
             in_log: self.desk.mode.view(),
             journal: self.journal.size(),
+            figures: &self.figures,
             started: self.started,
             now: self.desk.now,
         }

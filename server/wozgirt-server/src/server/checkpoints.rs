@@ -69,7 +69,7 @@ impl Server {
         desk.board.take(&Names::parse(list).map_err(CannotServe::Names)?);
         let count = list.split(',').count();
         if is_longer {
-            match read_rules(&desk.settings, &desk.board, &self.accounts) {
+            match read_rules(&desk.settings, &desk.board, &mut self.accounts) {
                 Ok(rules) => desk.rules = Rc::new(rules),
                 Err(fault) => desk.log.say(&Event::RulesBad { fault: &fault }),
             }

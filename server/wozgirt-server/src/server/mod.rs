@@ -11,13 +11,15 @@ mod talks;
 
 pub use opening::CannotServe;
 
-use crate::accounts::Accounts;
+use crate::accounts::{Accounts, UserNames};
 use crate::awake::{Awake, For};
 use crate::board::Board;
 use crate::cluster::Cluster;
 use crate::connection::{Connection, SHARE};
 use crate::desk::Desk;
 use crate::engine::{Engine, ROOM};
+use crate::engine_version::EngineVersion;
+use crate::figures::Figures;
 use crate::journal::Journal;
 use crate::log::{End, Event, Log};
 use crate::memory::most_unread;
@@ -32,6 +34,7 @@ use crate::sums::Sums;
 use arrivals::Doors;
 use opening::{check_files, check_list, make_journal, open_sessions, read_names, read_rules};
 use std::collections::{HashMap, VecDeque};
+use std::fs;
 use std::io;
 use std::rc::Rc;
 use std::sync::mpsc::Receiver;
@@ -73,6 +76,8 @@ const LEAST_PAUSE: Duration = Duration::from_millis(5);
 const LONGEST_PAUSE: Duration = Duration::from_millis(250);
 /// How long a door is shut when the system has no place for a connection.
 const SHUT: Duration = Duration::from_millis(50);
+/// How often is looked whether the system has answered about names.
+const LOOK_FOR_ACCOUNTS: Duration = Duration::from_millis(10);
 
 /// Whether somebody comes in there, but to the page.
 fn is_door(key: u64) -> bool {
@@ -87,12 +92,17 @@ pub struct Server {
     signals: Signals,
     doors: Doors,
     accounts: Accounts,
+    user_names: UserNames,
+    /// What the system will have answered about the names in the rules, which are then read again.
+    accounts_aside: Option<Receiver<Accounts>>,
     connections: HashMap<Client, Connection>,
     places: Places,
     /// How much a connection may leave unread.
     most_unread: usize,
     visitors: HashMap<u64, Visitor>,
     journal: Journal,
+    figures: Figures,
+    engine_version: EngineVersion,
     notify: Notify,
     /// What becomes of old segments, if not all are kept.
     removals: Option<Receiver<Removal>>,
@@ -133,17 +143,24 @@ impl Server {
         let now = Instant::now();
         let signals = Signals::new(&[Signal::Terminate, Signal::Interrupt, Signal::HangUp])?;
         let mut log = Log::start()?;
-        let accounts = Accounts::of_the_system();
+        let (mut accounts, user_names) = (Accounts::default(), UserNames::start()?);
         let names = Rc::new(read_names(&settings)?);
         make_journal(&settings)?;
         check_list(&settings, &names)?;
         let board = Board::new(&names);
-        let rules = Rc::new(read_rules(&settings, &board, &accounts)?);
+        let rules = Rc::new(read_rules(&settings, &board, &mut accounts)?);
         check_files(&settings)?;
         let most_unread = most_unread(&settings).map_err(CannotServe::Memory)?;
         let places = Places::new(settings.connections);
-        let (version, locks) = (env!("CARGO_PKG_VERSION"), board.locks().len());
-        log.say(&Event::Started { version, locks, has_others: board.any().is_some() });
+        let engine_version = EngineVersion::of(&settings.engine);
+        let (journal, socket) = (settings.journal.display(), settings.clients.path.display());
+        log.say(&Event::Started {
+            locks: board.locks().len(),
+            has_others: board.any().is_some(),
+            journal: &journal,
+            socket: &socket,
+            engine: &engine_version,
+        });
         let poller = Poller::new()?;
         poller.add(&signals, SIGNALS, Interest::READS)?;
         let doors = Doors::open(&settings, &poller, &mut log)?;
@@ -157,6 +174,7 @@ impl Server {
         let kept = settings.keep_segments;
         let removals = kept.map(|kept| retention::start(settings.engine_journal(), kept)).transpose()?;
         let (questions, sums, is_full) = (Questions::new(now), Sums::default(), false);
+        rules.unknown().iter().for_each(|who| log.say(&Event::RulesUnknown { who }));
         let desk = Desk { settings, rules, engine, questions, is_full, board, sums, log, mode, now };
         Ok(Server {
             desk,
@@ -165,11 +183,15 @@ impl Server {
             signals,
             doors,
             accounts,
+            user_names,
+            accounts_aside: None,
             connections: HashMap::new(),
             places,
             most_unread,
             visitors: HashMap::new(),
             journal: Journal::new(now),
+            figures: Figures::new(),
+            engine_version,
             notify: Notify::from_environment(now),
             removals,
             last_visitor: 0,
@@ -351,6 +373,10 @@ impl Server {
                 Err(fault) => self.desk.log.say(&Event::SegmentsStay { fault }),
             }
         }
+        self.take_rules();
+        if self.accounts_aside.is_some() {
+            next = next.min(now + LOOK_FOR_ACCOUNTS);
+        }
         self.sweep_cluster();
         if self.is_engine_ready() {
             self.desk.end_absent_sessions();
@@ -377,20 +403,31 @@ impl Server {
         }
     }
 
-    /// Rules hold for what is asked from now on, and for who waits. If they are wrong, the old ones stay in force.
+    /// The rules are read again as soon as the system has answered about the names in them.
     fn read_rules_again(&mut self) {
-        let accounts = Accounts::of_the_system();
-        if self.desk.settings.rules.is_some() {
-            match read_rules(&self.desk.settings, &self.desk.board, &accounts) {
-                Ok(rules) => {
-                    self.desk.rules = Rc::new(rules);
-                    self.desk.log.say(&Event::RulesRead);
-                    self.connections.values_mut().for_each(|connection| self.desk.withdraw(connection));
-                }
-                Err(fault) => self.desk.log.say(&Event::RulesBad { fault: &fault }),
-            }
+        self.user_names.forget();
+        let Some(path) = &self.desk.settings.rules else { return };
+        let text = fs::read_to_string(path).unwrap_or_default(); // if it cannot be read, that is said then
+        match Accounts::of_rules_aside(text) {
+            Ok(accounts) => self.accounts_aside = Some(accounts),
+            Err(fault) => self.desk.log.say(&Event::RulesBad { fault: &fault }),
         }
-        self.accounts = accounts;
+        self.next_sweep = self.desk.now;
+    }
+
+    /// Rules hold for what is asked from now on, and for who waits. If they are wrong, the old ones stay in force.
+    fn take_rules(&mut self) {
+        let Some(Ok(accounts)) = self.accounts_aside.as_ref().map(Receiver::try_recv) else { return };
+        (self.accounts, self.accounts_aside) = (accounts, None);
+        match read_rules(&self.desk.settings, &self.desk.board, &mut self.accounts) {
+            Ok(rules) => {
+                rules.unknown().iter().for_each(|who| self.desk.log.say(&Event::RulesUnknown { who }));
+                self.desk.rules = Rc::new(rules);
+                self.desk.log.say(&Event::RulesRead);
+                self.connections.values_mut().for_each(|connection| self.desk.withdraw(connection));
+            }
+            Err(fault) => self.desk.log.say(&Event::RulesBad { fault: &fault }),
+        }
     }
 
     /// From now on no client is let in and nothing is read; what was asked is answered.

@@ -263,7 +263,7 @@ pub(super) fn check_list(settings: &Settings, new: &Names) -> Result<(), CannotS
     Err(CannotServe::OtherList(Box::new(lists)))
 }
 
-pub(super) fn read_rules(settings: &Settings, board: &Board, accounts: &Accounts) -> Result<Rules, CannotServe> {
+pub(super) fn read_rules(settings: &Settings, board: &Board, accounts: &mut Accounts) -> Result<Rules, CannotServe> {
     let Some(path) = &settings.rules else { return Ok(Rules::default()) };
     let text = fs::read_to_string(path).map_err(|fault| CannotServe::Rules(path.clone(), fault))?;
     Rules::parse(&text, board, accounts).map_err(|fault| CannotServe::Rule(path.clone(), fault))
