@@ -3,6 +3,10 @@
 //! Each option has an `id`, a variant of an enum of the program. So what the program does with its options is a `match` over that
 //! enum, and the compiler says if the table has an option that is not read, or one is read that the table does not have.
 
+mod own;
+
+pub use own::OwnFolder;
+
 use std::ffi::{OsStr, OsString};
 use std::os::unix::ffi::{OsStrExt, OsStringExt};
 

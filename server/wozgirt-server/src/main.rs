@@ -9,6 +9,7 @@ use std::time::Duration;
 use wozgirt_server::settings::{help, parse, Words};
 use wozgirt_server::Server;
 use wozgirt_system::{create_for_owner, Signal};
+use wozgirt_words::OwnFolder;
 
 /// Wrong words, as `sysexits.h` has it.
 const USAGE_STATUS: u8 = 64;
@@ -17,7 +18,7 @@ const USAGE_STATUS: u8 = 64;
 const LONGEST_COMPLAINT: Duration = Duration::from_secs(1);
 
 fn main() -> ExitCode {
-    let settings = match parse(std::env::args_os().skip(1)) {
+    let settings = match parse(std::env::args_os().skip(1), OwnFolder::of(|name| std::env::var_os(name))) {
         Ok(Words::Run(settings)) => *settings,
         Ok(Words::Help) => return print(&help()),
         Ok(Words::Version) => return print(concat!("wozgirt-server ", env!("CARGO_PKG_VERSION"), "\n")),

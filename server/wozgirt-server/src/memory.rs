@@ -36,7 +36,7 @@ mod tests {
     use crate::settings::{parse, Words};
 
     fn most(words: &str) -> Result<usize, usize> {
-        match parse(format!("--journal j {words}").split(' ').filter(|word| !word.is_empty()).map(String::from)) {
+        match parse(format!("--journal j {words}").split(' ').filter(|word| !word.is_empty()).map(String::from), None) {
             Ok(Words::Run(settings)) => most_unread(&settings),
             other => panic!("{other:?}"),
         }

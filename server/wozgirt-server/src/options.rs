@@ -77,12 +77,12 @@ pub static SECTIONS: [Section; 5] = [
         title: "The engine, which is run as `PROGRAM locks --journal FOLDER [--locks ..] ..`:",
         options: &[
             valued(Name::Engine, "--engine", "PROGRAM", "the program of the engine [ring_tool]"),
-            valued(Name::Journal, "--journal", "FOLDER", "where the engine keeps its journal"),
+            valued(Name::Journal, "--journal", "FOLDER", "where the engine keeps its journal [wozgirt/journal\nin XDG_STATE_HOME or ~/.local/state, with the sockets beside it]"),
             valued(
                 Name::Locks,
                 "--locks",
                 "NAME[:N[:K]],..[,*]",
-                "the locks; without it those of FOLDER; with `*` at the end also those of any other name",
+                "the locks; without it those of FOLDER, or any; with `*` at the end also those of any other name",
             ),
             valued(
                 Name::MostNames,
@@ -117,7 +117,7 @@ pub static SECTIONS: [Section; 5] = [
     Section {
         title: "Sockets:",
         options: &[
-            valued(Name::Socket, "--socket", "PATH", "for clients [/run/wozgirt/lock.sock]"),
+            valued(Name::Socket, "--socket", "PATH", "for clients [/run/wozgirt/lock.sock, or beside the journal]"),
             valued(Name::Mode, "--mode", "OCTAL", "its mode [600]"),
             valued(Name::Group, "--group", "NAME", "its group"),
             valued(Name::Operators, "--operators", "PATH", "for operators; without it there is none"),

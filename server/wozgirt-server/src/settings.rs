@@ -8,7 +8,7 @@ use std::fmt;
 use std::net::SocketAddr;
 use std::path::PathBuf;
 use std::time::Duration;
-use wozgirt_words::{next_word, BadWord, Word};
+use wozgirt_words::{next_word, BadWord, OwnFolder, Word};
 
 /// How a socket is made that has a name.
 #[derive(Debug, Clone, PartialEq, Eq)]
@@ -28,6 +28,8 @@ pub struct Settings {
     pub engine: String,
     /// The folder of its journal.
     pub journal: PathBuf,
+    /// Whether that is in the user's own folder, since no word says where it is.
+    pub is_own: bool,
     /// The list of locks, if it is given.
     pub locks: Option<String>,
     /// How many locks may be held of names that are not in the list, if it is given.
@@ -142,7 +144,12 @@ impl From<BadWord> for BadWords {
 }
 
 /// Reads the words after the program's name.
-pub fn parse(words: impl IntoIterator<Item = impl Into<OsString>>) -> Result<Words, BadWords> {
+///
+/// `own`: where a single server is whose words do not say it.
+pub fn parse(
+    words: impl IntoIterator<Item = impl Into<OsString>>,
+    own: Option<OwnFolder>,
+) -> Result<Words, BadWords> {
     let mut reading = Reading::default();
     let mut words = words.into_iter().map(Into::into);
     while let Some(word) = next_word(&mut words, options()) {
@@ -157,7 +164,7 @@ pub fn parse(words: impl IntoIterator<Item = impl Into<OsString>>) -> Result<Wor
             }
         }
     }
-    reading.settings().map(|settings| Words::Run(Box::new(settings)))
+    reading.settings(own).map(|settings| Words::Run(Box::new(settings)))
 }
 
 /// What was read so far.
@@ -230,8 +237,9 @@ impl Reading {
         Some(())
     }
 
-    fn settings(self) -> Result<Settings, BadWords> {
+    fn settings(self, own: Option<OwnFolder>) -> Result<Settings, BadWords> {
         let cluster = self.cluster.settings()?;
+        let own = own.filter(|_| self.journal.is_none() && cluster.is_none());
         let of_one = [
             ("--keep-segments", self.keep_segments.is_some()),
             ("--no-sessions", self.has_no_sessions),
@@ -251,10 +259,14 @@ impl Reading {
             }
         }
         let [clients, operators] = self.sockets;
+        let socket = own.as_ref().map_or_else(|| "/run/wozgirt/lock.sock".into(), OwnFolder::socket);
+        let operators_path = operators.0.or_else(|| own.as_ref().map(OwnFolder::operators));
+        let journal = self.journal.or_else(|| own.as_ref().map(OwnFolder::journal));
         let named = |path, mode: Option<u32>, group| Named { path, mode: mode.unwrap_or(0o600), group };
         Ok(Settings {
             engine: self.engine.unwrap_or_else(|| "ring_tool".into()),
-            journal: self.journal.ok_or(BadWords::Missing("--journal"))?,
+            journal: journal.ok_or(BadWords::Missing("--journal"))?,
+            is_own: own.is_some(),
             locks: self.locks,
             most_names: self.most_names,
             segment: self.segment,
@@ -264,8 +276,8 @@ impl Reading {
             session_bytes: self.session_bytes.unwrap_or(16 << 20),
             permits_faults: self.permits_faults,
             engine_patience: self.engine_patience.unwrap_or(Duration::from_secs(60)),
-            clients: named(clients.0.unwrap_or_else(|| "/run/wozgirt/lock.sock".into()), clients.1, clients.2),
-            operators: operators.0.map(|path| named(path, operators.1, operators.2)),
+            clients: named(clients.0.unwrap_or(socket), clients.1, clients.2),
+            operators: operators_path.map(|path| named(path, operators.1, operators.2)),
             tcp: self.tcp,
             page: self.page,
             rules: self.rules,
@@ -343,7 +355,7 @@ mod tests {
     use std::os::unix::ffi::OsStringExt;
 
     fn read(words: &str) -> Result<Settings, BadWords> {
-        match parse(words.split_whitespace().map(String::from))? {
+        match parse(words.split_whitespace().map(String::from), None)? {
             Words::Run(settings) => Ok(*settings),
             other => panic!("{other:?}"),
         }
@@ -364,7 +376,7 @@ mod tests {
     fn words_that_are_no_text() {
         let word = OsString::from_vec(b"\xff".to_vec());
         for words in [vec!["--journal".into(), word.clone()], vec![word.clone()]] {
-            assert_eq!(parse(words), Err(BadWords::NoText(word.clone())));
+            assert_eq!(parse(words, None), Err(BadWords::NoText(word.clone())));
         }
         assert_eq!(BadWords::NoText(word).to_string(), "\"\\xFF\" is not text in UTF-8");
     }
@@ -392,6 +404,22 @@ mod tests {
         assert_eq!((settings.most_holds, read("--journal j").unwrap().most_holds), (6, 1024));
         assert_eq!((settings.memory, settings.engine_patience.as_secs()), (Some(64), 3));
         assert!(settings.is_lease_for_all && settings.logs_connections);
+    }
+
+    #[test]
+    fn a_server_of_ones_own() {
+        let own = OwnFolder::of(|_| Some("/state".into()));
+        let read = |words: &str| match parse(words.split_whitespace(), own.clone()) {
+            Ok(Words::Run(settings)) => (settings.is_own, settings.journal, settings.clients.path, settings.operators),
+            other => panic!("{other:?}"),
+        };
+        let folder = PathBuf::from("/state/wozgirt");
+        let operators = Some(Named { path: folder.join("operators.sock"), mode: 0o600, group: None });
+        assert_eq!(read(""), (true, folder.join("journal"), folder.join("lock.sock"), operators.clone()));
+        assert_eq!(read("--socket s"), (true, folder.join("journal"), "s".into(), operators));
+        assert_eq!(read("--journal j"), (false, "j".into(), "/run/wozgirt/lock.sock".into(), None));
+        let of_several = parse(["--etcd", "e", "--name", "a"], own.clone());
+        assert_eq!(of_several, Err(BadWords::Missing("--journal")));
     }
 
     #[test]
@@ -458,7 +486,7 @@ mod tests {
         }
         assert!(matches!(read("--journal j --tcp 0.0.0.0:1"), Err(BadWords::Anywhere(_))));
         assert!(read("--journal j --tcp 0.0.0.0:1 --listen-anywhere").is_ok());
-        assert_eq!(parse(["--help"]), Ok(Words::Help));
-        assert_eq!(parse(["--version"]), Ok(Words::Version));
+        assert_eq!(parse(["--help"], None), Ok(Words::Help));
+        assert_eq!(parse(["--version"], None), Ok(Words::Version));
     }
 }

@@ -24,8 +24,10 @@ use parsing::{parse, Usual};
 use std::env::{args_os, var_os};
 use std::fmt;
 use std::io;
+use std::path::PathBuf;
 use std::process::ExitCode;
 use words::Words;
+use wozgirt_words::OwnFolder;
 
 const SOCKET: &str = "/run/wozgirt/lock.sock";
 const OPERATORS: &str = "/run/wozgirt/operators.sock";
@@ -72,10 +74,21 @@ impl From<io::Error> for CannotDo {
     }
 }
 
+/// Where servers are if no word says it: where the environment says it, at a server that this user has started, or at the system's.
+fn usual() -> Usual {
+    let own = OwnFolder::of(|name| var_os(name)).filter(OwnFolder::is_used);
+    let place = |name, of_own: fn(&OwnFolder) -> PathBuf, of_system: &str| {
+        let of_own = own.as_ref().map(of_own);
+        var_os(name).or(of_own.map(PathBuf::into_os_string)).unwrap_or_else(|| of_system.into())
+    };
+    Usual {
+        socket: place("WOZGIRT_SOCKET", OwnFolder::socket, SOCKET),
+        operators: place("WOZGIRT_OPERATORS", OwnFolder::operators, OPERATORS),
+    }
+}
+
 fn main() -> ExitCode {
-    let place = |name, usual: &str| var_os(name).unwrap_or_else(|| usual.into());
-    let usual = Usual { socket: place("WOZGIRT_SOCKET", SOCKET), operators: place("WOZGIRT_OPERATORS", OPERATORS) };
-    let status = match parse(args_os().skip(1), usual) {
+    let status = match parse(args_os().skip(1), usual()) {
         Ok(Words::Lock(places, hold)) => match lock::run(&places, &hold) {
             Ok(Ending::Command(ended)) => lock::status(ended),
             Ok(Ending::Conflict) => hold.conflict_status,

@@ -80,6 +80,7 @@ pub enum Name {
     CommandOnly,
     Group,
     Every,
+    Json,
 }
 
 static OF_A_LOCK: [Name; 11] = [
@@ -115,16 +116,16 @@ pub static COMMANDS: [CommandWord; 6] = [
     CommandWord {
         verb: Verb::Status,
         name: "status",
-        operands: "",
-        help: "prints each lock: its holder, since when, how many clients wait",
-        options: &[Name::Socket, Name::ServerWait],
+        operands: " [PREFIX] [--json]",
+        help: "prints each lock, or each whose name begins so: its holder, since when, how many clients wait",
+        options: &[Name::Socket, Name::ServerWait, Name::Json],
     },
     CommandWord {
         verb: Verb::Watch,
         name: "watch",
-        operands: " [--every SECONDS]",
+        operands: " [PREFIX] [--every SECONDS] [--json]",
         help: "prints that again and again",
-        options: &[Name::Socket, Name::ServerWait, Name::Every],
+        options: &[Name::Socket, Name::ServerWait, Name::Every, Name::Json],
     },
     CommandWord {
         verb: Verb::Bench,
@@ -173,13 +174,14 @@ pub static ORDERS: [OrderWord; 6] = [
 ];
 
 /// All options.
-pub static OPTIONS: [OptionWord<Name>; 13] = [
+pub static OPTIONS: [OptionWord<Name>; 14] = [
     OptionWord::valued(
         Name::Socket,
         "--socket",
         "PLACE[,PLACE ..]",
-        "a path, or tcp:HOST:PORT [WOZGIRT_SOCKET, or /run/wozgirt/lock.sock]; of several\n\
-         servers over one log the nearest first: if one is lost, the next has the same hold",
+        "a path, or tcp:HOST:PORT [WOZGIRT_SOCKET, or that of a server of your own,\n\
+         or /run/wozgirt/lock.sock]; of several servers over one log the nearest first: if\n\
+         one is lost, the next has the same hold",
     ),
     OptionWord::valued(
         Name::ServerWait,
@@ -191,7 +193,8 @@ pub static OPTIONS: [OptionWord<Name>; 13] = [
         Name::Operators,
         "--operators",
         "PATH",
-        "the socket of operators [WOZGIRT_OPERATORS, or /run/wozgirt/operators.sock]",
+        "the socket of operators [WOZGIRT_OPERATORS, or that of a server of\n\
+         your own, or /run/wozgirt/operators.sock]",
     ),
     OptionWord::valued(
         Name::Wait,
@@ -233,6 +236,7 @@ pub static OPTIONS: [OptionWord<Name>; 13] = [
     ),
     OptionWord::flag(Name::Group, "--group", "COMMAND gets a process group of its own, and signals go to all in it"),
     OptionWord::valued(Name::Every, "--every", "SECONDS", "how often `watch` prints [1]"),
+    OptionWord::flag(Name::Json, "--json", "`status` and `watch` print JSON: an array, with times in milliseconds, on one line"),
 ];
 
 const STATUSES: &str = "\

@@ -32,6 +32,7 @@ struct Reading {
     is_of_command_only: bool,
     is_group: bool,
     every: Duration,
+    is_json: bool,
     others: Vec<OsString>,
     command: Vec<OsString>,
 }
@@ -90,6 +91,7 @@ impl Reading {
             is_of_command_only: false,
             is_group: false,
             every: Duration::from_secs(1),
+            is_json: false,
             others: Vec::new(),
             command: Vec::new(),
         }
@@ -101,6 +103,7 @@ impl Reading {
             Name::Socket => self.socket = value.into(),
             Name::Operators => self.operators = value.into(),
             Name::ServerWait => self.server_wait = seconds(value)?,
+            Name::Json => self.is_json = true,
             Name::Every => self.every = seconds(value).filter(|time| !time.is_zero())?,
             Name::Wait => self.wait = Some(seconds(value)?),
             Name::NoWait => self.is_impatient = true,
@@ -120,11 +123,8 @@ impl Reading {
         let words = match verb {
             Verb::Bench => self.bench(&mut others)?,
             Verb::Admin => Words::Admin(self.operators.into(), order(&mut others)?),
-            Verb::Status => Words::Status(Look { places: self.places()?, server_wait: self.server_wait, every: None }),
-            Verb::Watch => {
-                let every = Some(self.every);
-                Words::Status(Look { places: self.places()?, server_wait: self.server_wait, every })
-            }
+            Verb::Status => Words::Status(self.look(None, others.next())?),
+            Verb::Watch => Words::Status(self.look(Some(self.every), others.next())?),
             Verb::Lock | Verb::Try => Words::Lock(self.places()?, self.hold(others.next())?),
         };
         others.next().map_or(Ok(words), |word| Err(BadWords::Unknown(text(word))))
@@ -132,6 +132,11 @@ impl Reading {
 
     fn places(&self) -> Result<Vec<Place>, BadWords> {
         places(&self.socket).ok_or_else(|| BadWords::Value("--socket".into(), text(self.socket.clone())))
+    }
+
+    fn look(&self, every: Option<Duration>, prefix: Option<OsString>) -> Result<Look, BadWords> {
+        let prefix = prefix.map_or_else(String::new, text);
+        Ok(Look { places: self.places()?, server_wait: self.server_wait, every, prefix, is_json: self.is_json })
     }
 
     fn bench(&self, others: &mut impl Iterator<Item = OsString>) -> Result<Words, BadWords> {
@@ -237,7 +242,8 @@ mod tests {
 
     fn look(places: &[&str], every: Option<Duration>) -> Words {
         let places = places.iter().map(|place| crate::places::places(place.as_ref()).unwrap().remove(0)).collect();
-        Words::Status(Look { places, server_wait: Duration::from_secs(5), every })
+        let (prefix, is_json) = (String::new(), false);
+        Words::Status(Look { places, server_wait: Duration::from_secs(5), every, prefix, is_json })
     }
 
     fn hold(words: &str) -> Hold {

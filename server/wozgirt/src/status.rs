@@ -1,4 +1,4 @@
-//! `wozgirt status` and `wozgirt watch`: a table of the locks.
+//! `wozgirt status` and `wozgirt watch`: a table of the locks, or JSON.
 
 use crate::client::{soon, Client, Fault};
 use crate::connecting::while_starting;
@@ -10,6 +10,9 @@ use std::io::{self, IsTerminal};
 use std::time::{Duration, Instant};
 
 const HEAD: [&str; 9] = ["LOCK", "STATE", "CLIENT", "LABEL", "TOKEN", "FOR", "WAITING", "HAND-OVERS", "LONGEST WAIT"];
+/// What JSON calls the numbers of a lock.
+const NUMBERS: [&str; 8] =
+    ["client", "label", "token", "held_ms", "waiting", "oldest_wait_ms", "grants", "longest_wait_ms"];
 /// To the first line, and nothing below it.
 const CLEAR: &str = "\x1b[H\x1b[J";
 
@@ -25,10 +28,8 @@ pub fn run(look: &Look) -> Result<(), CannotDo> {
     let (mut client, mut lines) = while_starting(there, || first(look))?;
     let clear = if look.every.is_some() && io::stdout().is_terminal() { CLEAR } else { "" };
     loop {
-        let there = lines.iter().filter(|line| line.split(' ').nth(1) != Some(GONE));
-        let rows = there.map(|line| row(line)).collect::<Option<Vec<_>>>();
-        let rows = rows.ok_or_else(|| Fault::Unexpected("a lock that cannot be read".into()))?;
-        print(&format!("{clear}{}", table(&HEAD, &rows)))?;
+        let text = shown(&lines, look).ok_or_else(|| Fault::Unexpected("a lock that cannot be read".into()))?;
+        print(&format!("{clear}{text}"))?;
         let Some(time) = look.every else { return Ok(()) };
         std::thread::sleep(time);
         match client.list("status", soon(None)) {
@@ -56,15 +57,37 @@ fn first(look: &Look) -> Result<(Client, Vec<String>), Fault> {
     Err(fault)
 }
 
-/// The cells of `lock NAME STATE CLIENT LABEL TOKEN AGE WAITING OLDEST GRANTS LONGEST`.
-fn row(line: &str) -> Option<Vec<String>> {
-    let words: Vec<&str> = line.split(' ').collect();
-    let ["lock", name, state, client, label, token, age, waiting, _oldest, grants, longest] = words[..] else {
-        return None;
-    };
+/// The lines as they are printed; nothing if one cannot be read.
+fn shown(lines: &[String], look: &Look) -> Option<String> {
+    let locks = lines.iter().map(|line| words(line)).collect::<Option<Vec<_>>>()?;
+    let locks = locks.iter().filter(|[name, ..]| *name != GONE && name.starts_with(&look.prefix));
+    if look.is_json {
+        let objects = locks.map(object).collect::<Option<Vec<_>>>()?;
+        return Some(format!("[{}]\n", objects.join(",")));
+    }
+    Some(table(&HEAD, &locks.map(row).collect::<Option<Vec<_>>>()?))
+}
+
+/// `NAME STATE CLIENT LABEL TOKEN AGE WAITING OLDEST GRANTS LONGEST`, after `lock`.
+fn words(line: &str) -> Option<[&str; 10]> {
+    line.strip_prefix("lock ")?.split(' ').collect::<Vec<_>>().try_into().ok()
+}
+
+/// The cells of a lock.
+fn row(&[name, state, client, label, token, age, waiting, _oldest, grants, longest]: &[&str; 10]) -> Option<Vec<String>> {
     let age = if age == "-" { "-".into() } else { time(age)? };
     let cells = [name, state, client, label, token, &age, waiting, grants, &time(longest)?];
     Some(cells.iter().map(|cell| cell.to_string()).collect())
+}
+
+/// A lock for a program: what is not known is null. (A name has no byte that JSON writes otherwise.)
+fn object(&[name, state, numbers @ ..]: &[&str; 10]) -> Option<String> {
+    let mut text = format!("{{\"lock\":\"{name}\",\"state\":\"{state}\"");
+    for (key, number) in NUMBERS.iter().zip(numbers) {
+        let number = if number == "-" { "null" } else { number.parse::<u64>().ok().map(|_| number)? };
+        text += &format!(",\"{key}\":{number}");
+    }
+    Some(text + "}")
 }
 
 fn time(milliseconds: &str) -> Option<String> {
@@ -81,17 +104,40 @@ fn time(milliseconds: &str) -> Option<String> {
 mod tests {
     use super::*;
 
+    const LINES: [&str; 3] = [
+        "lock deploy held 7 77 12 25 1 15 1 0",
+        "lock gpu free - - - - 0 0 0 90061000",
+        "lock * free - - - - 0 0 0 0", // it was gone
+    ];
+
+    fn shown(prefix: &str, is_json: bool, lines: &[&str]) -> Option<String> {
+        let (places, server_wait) = (Vec::new(), Duration::ZERO);
+        let look = Look { places, server_wait, every: None, prefix: prefix.into(), is_json };
+        super::shown(&lines.iter().map(|line| line.to_string()).collect::<Vec<_>>(), &look)
+    }
+
     #[test]
     fn a_table() {
-        let rows = ["lock deploy held 7 77 12 25 1 15 1 0", "lock gpu free - - - - 0 0 0 90061000"];
-        let rows: Vec<_> = rows.iter().map(|line| row(line).unwrap()).collect();
         let text = "\
 LOCK    STATE  CLIENT  LABEL  TOKEN  FOR    WAITING  HAND-OVERS  LONGEST WAIT
 deploy  held   7       77     12     25 ms  1        1           0 ms
 gpu     free   -       -      -      -      0        0           25 h 1 min
 ";
-        assert_eq!(table(&HEAD, &rows), text);
-        assert_eq!(row("lock deploy"), None);
-        assert_eq!(row("lock deploy held 7 77 12 x 1 15 1 0"), None);
+        assert_eq!(shown("", false, &LINES).as_deref(), Some(text));
+        let of_gpu = shown("g", false, &LINES).unwrap();
+        assert!(of_gpu.starts_with("LOCK  STATE") && of_gpu.contains("\ngpu   free") && of_gpu.lines().count() == 2);
+        for line in ["lock deploy", "lock deploy held 7 77 12 x 1 15 1 0", "look deploy held 7 77 12 25 1 15 1 0"] {
+            assert_eq!(shown("", false, &[line]), None);
+        }
+    }
+
+    #[test]
+    fn json() {
+        let deploy = r#"{"lock":"deploy","state":"held","client":7,"label":77,"token":12,"held_ms":25,"waiting":1,"oldest_wait_ms":15,"grants":1,"longest_wait_ms":0}"#;
+        let gpu = r#"{"lock":"gpu","state":"free","client":null,"label":null,"token":null,"held_ms":null,"waiting":0,"oldest_wait_ms":0,"grants":0,"longest_wait_ms":90061000}"#;
+        assert_eq!(shown("", true, &LINES), Some(format!("[{deploy},{gpu}]\n")));
+        assert_eq!(shown("gpu", true, &LINES), Some(format!("[{gpu}]\n")));
+        assert_eq!((shown("x", true, &LINES), shown("", true, &[])), (Some("[]\n".into()), Some("[]\n".into())));
+        assert_eq!(shown("", true, &["lock deploy held 7 77 12 25 x 15 1 0"]), None);
     }
 }

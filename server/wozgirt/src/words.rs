@@ -79,6 +79,10 @@ pub struct Look {
     pub server_wait: Duration,
     /// After what time they are looked at again.
     pub every: Option<Duration>,
+    /// What the names of those begin with that are shown.
+    pub prefix: String,
+    /// Whether that is for a program.
+    pub is_json: bool,
 }
 
 /// What an operator asks for.

@@ -83,7 +83,7 @@ mod tests {
     fn desk(locks: usize, now: Instant) -> Desk {
         let names = (1..=locks).map(|lock| format!("a{lock}")).collect::<Vec<_>>().join(",");
         let listed = Names::parse(&names).unwrap();
-        let Ok(Words::Run(settings)) = parse(["--journal", "j", "--locks", &names, "--socket", "s"]) else { panic!() };
+        let Ok(Words::Run(settings)) = parse(["--journal", "j", "--locks", &names, "--socket", "s"], None) else { panic!() };
         Desk {
             rules: Default::default(),
             engine: Engine::new("none".into(), Vec::new(), ROOM, now),

@@ -139,12 +139,12 @@ pub struct Server {
 
 impl Server {
     /// Reads names and rules, checks limits, and listens. No thread may have been started before.
-    pub fn open(settings: Settings) -> Result<Server, CannotServe> {
+    pub fn open(mut settings: Settings) -> Result<Server, CannotServe> {
         let now = Instant::now();
         let signals = Signals::new(&[Signal::Terminate, Signal::Interrupt, Signal::HangUp])?;
         let mut log = Log::start()?;
         let (mut accounts, user_names) = (Accounts::default(), UserNames::start()?);
-        let names = Rc::new(read_names(&settings)?);
+        let names = Rc::new(read_names(&mut settings)?);
         make_journal(&settings)?;
         check_list(&settings, &names)?;
         let board = Board::new(&names);

@@ -223,30 +223,38 @@ impl From<CannotListen> for CannotServe {
     }
 }
 
-pub(super) fn read_names(settings: &Settings) -> Result<Names, CannotServe> {
-    let list = match &settings.locks {
-        Some(list) => list.clone(),
-        None => {
-            let path = settings.engine_journal().join("locks");
-            fs::read_to_string(&path).map_err(|fault| CannotServe::Locks(path, fault))?
+/// The locks that are named, or those of the journal. A new one of the user's own folder has locks of any name.
+pub(super) fn read_names(settings: &mut Settings) -> Result<Names, CannotServe> {
+    let path = settings.engine_journal().join("locks");
+    let list = match (&settings.locks, fs::read_to_string(&path)) {
+        (Some(list), _) => list.clone(),
+        (None, Ok(list)) => list,
+        (None, Err(fault)) if settings.is_own && fault.kind() == ErrorKind::NotFound => {
+            settings.locks.insert("*".into()).clone()
         }
+        (None, Err(fault)) => return Err(CannotServe::Locks(path, fault)),
     };
     Names::parse(&list).map_err(CannotServe::Names)
 }
 
-/// Makes the folder of a single server's journal, if it is missing, so that a loss of power leaves it there.
+/// Makes the folder of a single server's journal, if it is missing, and those above it if they are the user's own.
 pub(super) fn make_journal(settings: &Settings) -> Result<(), CannotServe> {
     if settings.cluster.is_some() {
         return Ok(()); // the checkpoint's folder is made with it
     }
-    let path = &settings.journal;
-    let cannot = |fault| CannotServe::Journal(path.clone(), fault);
+    let missing = settings.journal.ancestors().skip(1).take_while(|folder| settings.is_own && !folder.exists());
+    let folders = missing.collect::<Vec<_>>().into_iter().rev().chain([&*settings.journal]);
+    folders.map(make_folder).collect::<io::Result<()>>().map_err(|fault| CannotServe::Journal(settings.journal.clone(), fault))
+}
+
+/// Makes a folder so that a loss of power leaves it there.
+fn make_folder(path: &Path) -> io::Result<()> {
     match DirBuilder::new().mode(0o700).create(path) {
         Err(fault) if fault.kind() == ErrorKind::AlreadyExists => Ok(()),
-        Err(fault) => Err(cannot(fault)),
+        Err(fault) => Err(fault),
         Ok(()) => {
             let parent = path.parent().filter(|parent| !parent.as_os_str().is_empty()).unwrap_or(Path::new("."));
-            File::open(parent).and_then(|parent| parent.sync_all()).map_err(cannot)
+            File::open(parent)?.sync_all()
         }
     }
 }
