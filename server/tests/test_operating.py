@@ -21,11 +21,20 @@ from page import Page  # noqa: E402
 
 JOURNAL = "/var/lib/wozgirt/journal"
 #: what the commands of the system are in a test
-STUBS = {"systemctl": "", "chown": "", "scp": 'for it in "${@:1:$#-1}"; do cp ${it/h2:/$OTHER} "${!#}"; done'}
+STUBS = {"systemctl": "", "chown": "", "install": 'for last; do :; done; mkdir -m 700 "$last"', "scp": 'for it in "${@:1:$#-1}"; do cp ${it/h2:/$OTHER} "${!#}"; done'}
+
+
+#: those that are played here: each by its section and words of it
+PLAYED = [("## The journal", "xargs"), ("### Replace a host", "scp"), ("### etcd was lost or restored", "install"), ("### Certificates", "openssl"),
+          ("## Four questions", "journalctl"), ("## Four questions", "curl"), ("## What to watch", "scrape_configs:"),
+          ("### etcd and the server", "WOZGIRT_OPTIONS="), ("### etcd and the server", "ETCD_NAME="), ("## Who may connect", "lock deploy:")]
+#: those that another test plays, though no mark says so
+ELSEWHERE = {"./build\n": "the first page's test", "i=0\n": "server/tests/cluster/page.py", "from wozgirt import Lock": "test_documents.InPython"}
 
 
 def block(section, words):
     """The block of a section that has these words."""
+    assert (section, words) in PLAYED, words
     found = [it for it in Page(TOP, "docs/OPERATING.md").blocks if it.section == section and words in it.text()]
     assert len(found) == 1, (section, words)
     return found[0].text()
@@ -97,6 +106,52 @@ class Blocks(unittest.TestCase):
                               capture_output=True, text=True, check=False)
         self.assertNotEqual(done.returncode, 0)
         self.assertIn("invalid CA certificate", done.stderr)
+
+    def test_every_block_is_played(self):
+        """By a script that it names, pasted by test_documents, as a program in Python, or here."""
+        for it in Page(TOP, "docs/OPERATING.md").blocks:
+            text, kind, path = it.text(), *(it.mark or "").partition(": ")[::2]
+            here = any(it.section == section and words in text for section, words in PLAYED)
+            is_pasted = text.startswith("$ ") and not it.mark
+            self.assertTrue(here or is_pasted or kind == "played" or any(text.startswith(start) for start in ELSEWHERE), text)
+            self.assertTrue(not it.mark or os.path.exists(os.path.join(TOP, path)), it.mark)
+
+    def test_a_new_log_is_begun(self):
+        write(f"{self.folder}{JOURNAL}/PLACE", "of before")
+        self.paste(block("### etcd was lost or restored", "install"))
+        self.assertEqual((self.names(JOURNAL), self.names(JOURNAL + ".before")), ([], ["PLACE"]))
+        self.assertEqual(os.stat(self.folder + JOURNAL).st_mode & 0o777, 0o700)
+
+    @unittest.skipUnless(shutil.which("etcd"), "etcd is not installed")
+    def test_etcd_takes_its_settings(self):
+        known = subprocess.run(["etcd", "--help"], capture_output=True, text=True, check=False)
+        known = set(re.findall(r"--[a-z-]+", known.stdout + known.stderr))
+        named = [name for name, _, _ in (line.partition("=") for line in block("### etcd and the server", "ETCD_NAME=").splitlines())]
+        self.assertGreater(len(named), 10)
+        options = ["--" + name.removeprefix("ETCD_").lower().replace("_", "-") for name in named]
+        self.assertEqual([it for it in options if it not in known], [])
+
+    @needs_programs
+    def test_why_it_does_not_start(self):
+        """journalctl, which there is not here, prints the last line that the server has printed."""
+        command, told = block("## Four questions", "journalctl").removeprefix("# ").split("\n", 1)
+        self.assertEqual(command, "journalctl -t wozgirt-server -n 1 -o cat")
+        old, new = re.search(r"names (\S+), but this journal has (\S+) ", told).group(2, 1)
+        with Server(locks=old) as server:
+            server.stop()
+            words = [new if word == old else word for word in server.words]
+            said = subprocess.run(words, capture_output=True, text=True, timeout=PATIENCE, check=False)
+            self.assertEqual((said.returncode, said.stderr.replace(server.journal, JOURNAL)), (78, told.rstrip("\n") + "\n"))
+
+    @needs_programs
+    @unittest.skipUnless(shutil.which("curl"), "curl is not installed")
+    def test_whether_it_is_healthy(self):
+        command, told = block("## Four questions", "curl").removeprefix("$ ").split("\n", 1)
+        with Server("--page", "127.0.0.1:0") as server:
+            here = command.replace("127.0.0.1:9175", f"127.0.0.1:{server.port('page')}")
+            done = subprocess.run(here.split(), capture_output=True, text=True, timeout=PATIENCE, check=False)
+            self.assertEqual((done.returncode, done.stdout, done.stderr), (0, told, ""))
+            self.assertNotEqual(here, command)
 
     def monitoring(self, name):
         with open(os.path.join(TOP, "server", "monitoring", name), encoding="utf-8") as file:

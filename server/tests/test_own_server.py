@@ -5,10 +5,15 @@ import os
 import shutil
 import stat
 import subprocess
+import sys
 import tempfile
 import unittest
 
-from harness import BIN, COMMAND, ENGINE, FOLDER, PATIENCE, SERVER, needs_programs, wait_until
+from harness import BIN, COMMAND, ENGINE, FOLDER, PATIENCE, SERVER, TOP, needs_programs, wait_until
+
+sys.path.insert(0, os.path.join(TOP, "tools"))
+
+from page import Page  # noqa: E402
 
 
 @needs_programs
@@ -76,6 +81,19 @@ class OwnServer(unittest.TestCase):
         self.assertEqual((it.returncode, it.stderr), (69, f"wozgirt: {self.own}/lock.sock: No such file or directory (os error 2)\n"))
         shutil.rmtree(self.own)
         self.assertIn("wozgirt: /run/wozgirt/lock.sock: ", self.run_command("try", "--server-wait", "0", "a", "--", "true").stderr)
+
+    def test_as_the_page_shows_it(self):
+        block, = [it for it in Page(TOP, "docs/OPERATING.md").blocks if it.section == "### A server of your own"]
+        (start, none), (take, told) = block.sessions()[1]
+        self.assertEqual((start, none), ("wozgirt-server 2>own.log &", ""))
+        server = self.start()
+        it = subprocess.run(["bash", "--norc", "-c", take], env=self.env, capture_output=True, text=True, timeout=PATIENCE, check=False)
+        self.assertEqual((it.returncode, it.stderr), (0, ""))
+        fixed = ("lock", "state", "token", "waiting", "grants")
+        (page,), (own,) = json.loads(told), json.loads(it.stdout)
+        self.assertEqual(list(page), list(own))
+        self.assertEqual([page[name] for name in fixed], [own[name] for name in fixed])
+        self.end(server)
 
     def test_no_folder_is_known(self):
         del self.env["HOME"]

@@ -27,6 +27,7 @@ complete -c wozgirt -n $lock -l kill-after -x -d "The seconds between TERM and K
 complete -c wozgirt -n $lock -s o -l close -d "COMMAND does not inherit the connection"
 complete -c wozgirt -n $lock -l command-only -d "The lock is free when COMMAND has ended"
 complete -c wozgirt -n $lock -l group -d "COMMAND gets a process group of its own"
+complete -c wozgirt -n "__fish_seen_subcommand_from status watch" -l json -d "JSON, for programs"
 complete -c wozgirt -n "__fish_seen_subcommand_from watch" -l every -x -d "How often, in seconds"
 complete -c wozgirt -n $admin -l operators -rF -d "The socket of operators"
 complete -c wozgirt -n $admin -a clients -d "The connected clients"

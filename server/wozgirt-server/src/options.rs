@@ -211,7 +211,7 @@ pub static SECTIONS: [Section; 5] = [
 ];
 
 const HEAD: &str = "\
-wozgirt-server --journal FOLDER [--locks NAME[:N[:K]],..[,*]] [OPTION ..]
+wozgirt-server [--journal FOLDER] [--locks NAME[:N[:K]],..[,*]] [OPTION ..]
 
 Gives the locks of one engine to clients on sockets. It decides nothing about locks: the engine does.
 ";
