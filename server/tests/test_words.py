@@ -143,7 +143,7 @@ class Completions(unittest.TestCase):
         self.assertEqual(set().union(*own.values()) | {"--help", "--version"}, options_of(text))
         looks = {"--socket", "--server-wait"}
         self.assertEqual((own["try"], own["status"], own["bench"], own["watch"], own["admin"]),
-                         (own["lock"], looks, {"--socket"}, looks | {"--every"}, {"--operators"}))
+                         (own["lock"], looks | {"--json"}, {"--socket"}, looks | {"--every", "--json"}, {"--operators"}))
         orders = re.findall(r"^    (\w+)(?: [A-Z]+)*  +\w", text.split("\nwozgirt admin ")[1].split("\n\n")[0], re.MULTILINE)
         self.assertEqual(offers("wozgirt", "admin", "") - {"--operators"}, set(orders))
         page = read(PAGES, "wozgirt.1").split(".Sh OPERATORS")[1].split(".Sh ")[0]
@@ -174,10 +174,10 @@ class Completions(unittest.TestCase):
 
 
 def is_taken(command, option):
-    """Whether `wozgirt COMMAND` takes this option: what it says then is that something else is missing."""
-    it = subprocess.run([COMMAND, command, option], capture_output=True, text=True, timeout=60, check=False)
+    """Whether `wozgirt COMMAND` takes this option: what it says then is that something else is wrong."""
+    it = subprocess.run([COMMAND, command, option, "a", "--none"], capture_output=True, text=True, timeout=60, check=False)
     assert it.returncode == 64, it
-    return "has no place here" not in it.stderr
+    return f"`{option}` has no place here" not in it.stderr
 
 
 def options_only(words):

@@ -241,9 +241,13 @@ mod tests {
     }
 
     fn look(places: &[&str], every: Option<Duration>) -> Words {
+        Words::Status(a_look(places, every))
+    }
+
+    fn a_look(places: &[&str], every: Option<Duration>) -> Look {
         let places = places.iter().map(|place| crate::places::places(place.as_ref()).unwrap().remove(0)).collect();
         let (prefix, is_json) = (String::new(), false);
-        Words::Status(Look { places, server_wait: Duration::from_secs(5), every, prefix, is_json })
+        Look { places, server_wait: Duration::from_secs(5), every, prefix, is_json }
     }
 
     fn hold(words: &str) -> Hold {
@@ -328,6 +332,8 @@ mod tests {
     fn the_others() {
         assert_eq!(read("status"), Ok(look(&["/s"], None)));
         assert_eq!(read("status --socket /a,tcp:h:1"), Ok(look(&["/a", "tcp:h:1"], None)));
+        let of_some = Look { prefix: "order/".into(), is_json: true, ..a_look(&["/s"], None) };
+        assert_eq!(read("status order/ --json"), Ok(Words::Status(of_some)));
         assert_eq!(read("watch --every 2 --socket=tcp:h:1"), Ok(look(&["tcp:h:1"], Some(Duration::from_secs(2)))));
         let load = Load { clients: 8, locks: 2, time: Duration::from_secs(1) };
         assert_eq!(read("bench 8 2 1"), Ok(Words::Bench(Place::Path("/s".into()), load)));
@@ -358,7 +364,7 @@ mod tests {
             ("bench --server-wait 1", "`--server-wait` has no place here"),
             ("lock --every 1 deploy -- true", "`--every` has no place here"),
             ("status -n", "`-n` has no place here"),
-            ("status all", "`all` has no place here"),
+            ("status all more", "`more` has no place here"),
             ("bench 0", "bench: bad value `0`"),
             ("bench 1 1 1 1", "`1` has no place here"),
             ("bench --socket /a,/b", "bench measures one server: name it with --socket PLACE"),
