@@ -4,19 +4,14 @@ use Rattle.std.specs.List.{flat_map, list_any, IsDistinct}
 use Rattle.std.specs.Str.{bytes_eq}
 use Rattle.ring_state.specs.Sizes.{Size, IsSize}
 use Rattle.ring_state.specs.declared.sizes.ParamsError.{ParamsError}
-use Rattle.ring_state.specs.declared.sizes.ParamsError.TheVariants as params
 use Rattle.ring_model.specs.Limits.{machine_limit, value_limit}
 use Rattle.held_locks.specs.Kept.{lock_limit}
 use Rattle.lock_protocol.specs.Names.{IsName, Names}
 use Rattle.folder_of_locks.specs.declared.locks.ListedLock.{ListedLock}
 use Rattle.folder_of_locks.specs.declared.locks.ListError.{ListError}
+use Rattle.ring_state.specs.declared.sizes.ParamsError.TheVariants as params
 use Rattle.folder_of_locks.specs.declared.locks.ListError.TheVariants as refused
-
--- a lock of a list: its name, how many machines its ring has, and how many values each can hold
-pub record Listed : Type 0 where
-  pub name : List ℕ
-  pub n : ℕ
-  pub k : ℕ
+pub use Rattle.fresh_rings.specs.Fresh.{Listed}
 
 -- the content of the program's own type
 abbrev pub listed : ListedLock → Listed

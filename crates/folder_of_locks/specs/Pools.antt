@@ -5,9 +5,11 @@ use Rattle.std.specs.List.{AllByRecursion}
 use Rattle.ring_state.specs.Sizes.{Size, IsSize}
 use Rattle.lock_protocol.specs.Names.{IsName}
 use Rattle.folder_of_locks.specs.declared.locks.ListError.{ListError}
-use Rattle.folder_of_locks.specs.declared.locks.ListError.TheVariants as refused
 use Rattle.folder_of_locks.specs.declared.pools.FolderList.{FolderList}
-use Rattle.folder_of_locks.specs.Lists.{Listed, listed, IsSizeSaid, AreTexts, AreLocks, IsSizeFault, IsLocksFault, file_text}
+use Rattle.folder_of_locks.specs.Lists.{listed, IsSizeSaid, AreTexts, AreLocks, IsSizeFault, IsLocksFault, file_text}
+use Rattle.fresh_rings.specs.Fresh.{Listed}
+use Rattle.folder_of_locks.specs.declared.locks.ListError.TheVariants as refused
+pub use Rattle.fresh_rings.specs.Fresh.{pool_ring}
 
 -- the fixed locks of a list, and the size of the rings of its pool, if it has one
 pub record Pooled : Type 0 where
@@ -61,10 +63,6 @@ abbrev pub IsPooledFile : List ℕ → Pooled → Type 0
 IsPooledFile bytes l = ArePooledTexts 10 32 bytes l.locks l.pool × ArePooled l.locks l.pool
 
 -- ---- refusals
-
--- a ring of the pool, as a lock without a name
-abbrev pub pool_ring : Size → Listed
-pool_ring s = record { name = []; n = s.n; k = s.k }
 
 -- the size of the pool, which comes at this place, is not allowed
 abbrev pub IsPoolFault : ℕ → Size → ListError → Type 0

@@ -1,20 +1,19 @@
 -- Where the rings of locks are when these start (this project's own).
-use Rattle.std.specs.Prelude.{◌≡◌, ℕ, ◌<◌, ◌≤◌, List, [], length, map, replicate, slice_get, Option, Some, None, ◌⊎◌}
+use Rattle.std.specs.Prelude.{◌≡◌, ℕ, ◌<◌, ◌≤◌, List, [], length, map, slice_get, Option, Some, None, ◌⊎◌}
 use Rattle.ring_model.specs.Ring.{ring_with}
 use Rattle.saved_history.specs.declared.saved.SavedRing.{SavedRing}
 use Rattle.ring_check.specs.Table.{event_of}
 use Rattle.ring_model.specs.declared.bases.Base.{Base}
-use Rattle.ring_model.specs.Bases.{no_base}
 use Rattle.one_thread_ring.specs.Texts.{surveys_told}
-use Rattle.one_thread_ring.specs.Rings.{AreFresh}
 use Rattle.endless_ring.specs.Endless.{EndlessView}
 use Rattle.held_locks.specs.Grants.{most_passes, repairs}
 use Rattle.held_locks.specs.Locks.{Call}
 use Rattle.held_locks.specs.Opened.{open_in, holder_after, HaveNoRoom}
-use Rattle.held_locks.specs.Kept.{LockView, IsKeptRing, AreMade, state_of, seat_count}
-use Rattle.folder_of_locks.specs.Lists.{Listed}
+use Rattle.held_locks.specs.Kept.{LockView, IsKeptRing, AreMade, state_of}
 use Rattle.folder_of_locks.specs.declared.faults.StartFault.{StartFault}
+use Rattle.fresh_rings.specs.Fresh.{Listed}
 use Rattle.folder_of_locks.specs.declared.faults.StartFault.TheVariants as fault
+pub use Rattle.fresh_rings.specs.Fresh.{IsFreshRing}
 
 -- the ring is where that of a segment ended, after this base: with its start, its history and its
 -- surveys
@@ -23,13 +22,6 @@ pub record IsResumed (b : Base) (saved : SavedRing) (e : EndlessView) : Type 0 w
   pub start : e.ring.book.start ≡ ring_with saved.k saved.start.items
   pub history : e.ring.book.history ≡ map event_of saved.events.items
   pub surveys : surveys_told e.ring.clients ≡ saved.surveys.items
-
--- the ring of a lock that has no history: all its machines have the value 0, so it is settled
-pub record IsFreshRing (l : Listed) (e : EndlessView) : Type 0 where
-  pub base : e.base ≡ no_base
-  pub start : e.ring.book.start ≡ ring_with l.k (replicate l.n 0)
-  pub history : e.ring.book.history ≡ []
-  pub clients : AreFresh seat_count e.ring.clients
 
 -- The lock starts with this ring, which is kept, repaired. Nobody waits for it; a hold that is open in the ring's
 -- history is client 0's.

@@ -5,22 +5,17 @@ ghost use Rattle.ring_model.specs.Bases.{IsBase};
 ghost use Rattle.held_locks.specs.Kept.{IsKeptRing};
 ghost use Rattle.held_locks.specs.Opened.{IsAdded, HaveNoRoom};
 ghost use Rattle.folder_of_locks.specs.Lists.{listed};
-ghost use Rattle.folder_of_locks.specs.Pools.{pool_ring};
 ghost use Rattle.folder_of_locks.specs.Rings.{IsResumed, IsFreshRing, IsRingOf, AreBegun, IsRingFault, AreRingsRefused};
 
 use crate::faults::StartFault;
 use crate::locks::ListedLock;
 use endless_ring::EndlessRing;
+use fresh_rings::{SEATS, settled_ring};
 use held_locks::{Locks, Refusal};
-use one_thread_ring::{OneThreadRing, from_saved};
-use ring_book::Till;
+use one_thread_ring::from_saved;
 use ring_model::Base;
-use ring_state::Params;
 use saved_history::SavedRing;
-use std::alloc::{AllocError, Global};
-
-/// How many seats the ring of a lock has.
-const SEATS: u32 = 10;
+use std::alloc::Global;
 
 /// The ring of a segment, where that ended.
 fn resumed(alloc: Global, base: Base, saved: &SavedRing) -> Result<EndlessRing, StartFault>
@@ -42,33 +37,10 @@ fn fresh(alloc: Global, lock: &ListedLock<'_>) -> Result<EndlessRing, StartFault
     ensures kept { IfOk result (λ ring. IsKeptRing ring) }
     ensures err { IfErr result (λ e. e ≡ StartFault.OutOfMemory) }
 {
-    let Ok(start) = vec![in alloc; 0u32; lock.n as usize] else {
-        return Err(StartFault::OutOfMemory);
-    };
-    match OneThreadRing::open(alloc, lock.n, lock.k, &start, SEATS, Till::new()) {
-        Ok(ring) => Ok(EndlessRing::after(Base::none(), ring)),
+    match settled_ring(alloc, lock.n, lock.k) {
+        Ok(ring) => Ok(ring),
         // the sizes of a list are allowed
         Err(_) => Err(StartFault::OutOfMemory),
-    }
-}
-
-/// A settled ring of a pool, without events.
-///
-/// # Errors
-///
-/// Only if memory is short.
-pub fn fresh_ring(alloc: Global, size: Params) -> Result<EndlessRing, AllocError>
-    ensures ok { IfOk result (λ ring. IsFreshRing (pool_ring size) ring) }
-    ensures kept { IfOk result (λ ring. IsKeptRing ring) }
-{
-    let lock = ListedLock {
-        name: "",
-        n: size.n(),
-        k: size.k(),
-    };
-    match fresh(alloc, &lock) {
-        Ok(ring) => Ok(ring),
-        Err(_) => Err(AllocError),
     }
 }
 

@@ -15,8 +15,7 @@ use Rattle.held_locks.specs.Locks.{Call}
 use Rattle.held_locks.specs.Kept.{LockView, IsKeptRing, state_of, lock_limit}
 use Rattle.held_locks.specs.Opened.{IsAdded, HaveNoRoom}
 use Rattle.held_locks.proofs.Calls.{repairs_none, made_is}
-use Rattle.folder_of_locks.specs.Lists.{Listed}
-use Rattle.folder_of_locks.specs.Rings.{IsFreshRing}
+use Rattle.fresh_rings.specs.Fresh.{Listed, IsFreshRing}
 
 settled_zeros : (n : ℕ) → 1 ≤ n → is_settled (replicate n 0) ≡ true
 settled_zeros n l =

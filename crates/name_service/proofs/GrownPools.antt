@@ -9,8 +9,7 @@ use Rattle.endless_ring.specs.Endless.{EndlessView}
 use Rattle.held_locks.specs.declared.answers.Waiter.{Waiter}
 use Rattle.held_locks.specs.Kept.{LockView, lock_of, state_of, lock_limit, IsKeptRing}
 use Rattle.held_locks.specs.Opened.{open_in, holder_after}
-use Rattle.folder_of_locks.specs.Rings.{IsFreshRing}
-use Rattle.folder_of_locks.specs.Pools.{pool_ring}
+use Rattle.fresh_rings.specs.Fresh.{IsFreshRing, pool_ring}
 use Rattle.lock_names.specs.declared.growing.NotGrown.TheVariants as not_grown
 use Rattle.lock_names.specs.Names.{Named}
 use Rattle.lock_names.specs.Kept.{NamedView, top_limit}

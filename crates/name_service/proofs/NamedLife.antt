@@ -21,7 +21,7 @@ use Rattle.line_replica.proofs.Saying.{read}
 use Rattle.ring_model.specs.History.{State}
 use Rattle.ring_state.specs.Sizes.{Size}
 use Rattle.held_locks.specs.Kept.{lock_of, state_of}
-use Rattle.folder_of_locks.specs.Pools.{pool_ring}
+use Rattle.fresh_rings.specs.Fresh.{pool_ring}
 use Rattle.lock_names.specs.Names.{Named, NamedInput, More, free_lock, named_after, step_named}
 use Rattle.lock_names.specs.Promises.{IsAllowed, AreAllowed}
 use Rattle.lock_names.specs.Kept.{NamedView, named_of}

@@ -5,8 +5,7 @@ use Rattle.endless_ring.specs.Endless.{EndlessView}
 use Rattle.held_locks.specs.declared.answers.Refusal.{Refusal}
 use Rattle.held_locks.specs.declared.answers.Refusal.TheVariants as refusal
 use Rattle.held_locks.specs.Kept.{lock_limit, IsKeptRing}
-use Rattle.folder_of_locks.specs.Rings.{IsFreshRing}
-use Rattle.folder_of_locks.specs.Pools.{pool_ring}
+use Rattle.fresh_rings.specs.Fresh.{IsFreshRing, pool_ring}
 use Rattle.lock_names.specs.Kept.{NamedView, IsKeptNamed, top_limit}
 use Rattle.lock_names.specs.Grown.{AreNextNames, IsGrown}
 use Rattle.lock_names.specs.Sizes.{AreUsedUntil, IsWanted}

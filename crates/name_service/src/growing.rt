@@ -8,7 +8,7 @@ ghost use Rattle.lock_journal.specs.Due.{has_short};
 ghost use Rattle.name_service.specs.Growth.{pool_of, IsPoolWanted, HasFreshRing, AreGrown, CannotAdd, AreNextGrown, HaveNoNextGrown};
 
 use crate::segment::NameSegment;
-use folder_of_locks::fresh_ring;
+use fresh_rings::fresh_ring;
 use held_locks::Refusal;
 use lock_journal::has_short;
 use lock_names::{Names, NotGrown, wanted_pool};
