@@ -5,7 +5,7 @@
 use crate::keys::{digest, Keyed};
 use crate::locks::{Holder, Listed, Lock, Locks};
 use crate::pool::Pool;
-use crate::ring::{HOLD, LEFT, RELEASED};
+use crate::ring::{CARRIED, HOLD, LEFT, RELEASED};
 use std::fmt::Write as _;
 use std::fs::{self, File, OpenOptions};
 use std::io::{self, Write};
@@ -51,8 +51,9 @@ pub struct Journal {
     lines: u64,
     most_lines: u64,
     is_synced: bool,
-    /// Whether there was a segment.
+    /// Whether there was a segment; and whether nothing has come to it since it was begun.
     pub was_there: bool,
+    pub is_fresh: bool,
 }
 
 impl Journal {
@@ -60,7 +61,7 @@ impl Journal {
     pub fn open(folder: &Path, locks: &mut Locks, most_lines: u64, is_synced: bool) -> io::Result<Journal> {
         claim(folder)?;
         fs::write(folder.join("locks"), list_of(locks))?;
-        let (mut number, mut kept, mut lines) = (0, String::new(), 0);
+        let (mut number, mut kept, mut lines, mut is_fresh) = (0, String::new(), 0, true);
         while let Ok(text) = fs::read_to_string(path(folder, number + 1)) {
             number += 1;
             let whole = &text[..text.rfind('\n').map_or(0, |i| i + 1)];
@@ -72,6 +73,7 @@ impl Journal {
             locks.fill(rings_of(&text).ok_or_else(|| wrong("a segment has no number of rings".into()))?);
             let calls = whole.split_once("\ndone ").ok_or_else(|| wrong("a segment has no head".into()))?.1;
             lines = 0;
+            is_fresh = calls.lines().skip(1).all(is_of_head);
             for line in calls.lines().skip(1) {
                 if let Some(remark) = line.strip_prefix("# ") {
                     hear_name(locks, remark);
@@ -91,13 +93,22 @@ impl Journal {
         let folder = folder.to_owned();
         if number == 0 {
             let file = begin(&folder, 1, locks, "")?;
-            return Ok(Journal { folder, number: 1, file, lines: 0, most_lines, is_synced, was_there: false });
+            return Ok(Journal {
+                folder,
+                number: 1,
+                file,
+                lines: 0,
+                most_lines,
+                is_synced,
+                was_there: false,
+                is_fresh,
+            });
         }
         let part = folder.join(".wozgirt.part");
         fs::write(&part, kept)?;
         fs::rename(part, path(&folder, number))?;
         let file = OpenOptions::new().append(true).open(path(&folder, number))?;
-        Ok(Journal { folder, number, file, lines, most_lines, is_synced, was_there: true })
+        Ok(Journal { folder, number, file, lines, most_lines, is_synced, was_there: true, is_fresh })
     }
 
     /// Begins the next segment.
@@ -107,7 +118,7 @@ impl Journal {
             keyed.locks.grow();
         }
         self.file = begin(&self.folder, self.number, &keyed.locks, &keyed.remarks())?;
-        self.lines = 0;
+        self.lines = calls_in(&carried(&keyed.locks));
         Ok(())
     }
 
@@ -144,6 +155,11 @@ fn is_of_names(line: &str) -> bool {
     ["# floor ", "# name ", "# free "].iter().any(|word| line.starts_with(word))
 }
 
+/// Whether a segment that was just begun may have the line: names that are bound, and holds that are open.
+fn is_of_head(line: &str) -> bool {
+    line.starts_with("# floor ") || line.starts_with("# name ") || is_call(line) && line.split(' ').nth(2) == Some("3")
+}
+
 /// A segment is as long as its calls are many, without the remarks.
 fn calls_in(journal: &str) -> u64 {
     journal.lines().filter(|line| is_call(line)).count() as u64
@@ -174,9 +190,18 @@ fn begin(folder: &Path, number: u64, locks: &Locks, remarks: &str) -> io::Result
     let _ = writeln!(head, "done {count}");
     head.push_str(&locks.names());
     head.push_str(remarks);
+    if number > 1 {
+        head.push_str(&carried(locks));
+    }
     let mut file = File::create(path(folder, number))?;
     file.write_all(head.as_bytes())?;
     Ok(file)
+}
+
+/// The calls with which a segment says which holds are open.
+fn carried(locks: &Locks) -> String {
+    let held = locks.locks.iter().filter(|lock| lock.holder.is_some());
+    held.map(|lock| format!("{} p {CARRIED} {} {} n\n", lock.ring.number, lock.ring.idle(), lock.ring.passes)).collect()
 }
 
 /// How many rings a segment has, by its first line.
@@ -208,6 +233,7 @@ fn replay(locks: &mut Locks, line: &str) -> Option<()> {
     let lock = locks.locks.get_mut(usize::try_from(number(0)?).ok()?)?;
     let seat = number(2)?;
     match *words.get(1)? {
+        "p" if seat == CARRIED => Some(()),
         "p" => {
             if number(3)? != lock.ring.first as u64 {
                 return None;

@@ -93,7 +93,7 @@ fn open(settings: &Settings) -> io::Result<(Keyed, Journal)> {
         give_holds(&mut locks, &std::fs::read_to_string(path)?)?;
     }
     let mut keyed = Keyed::new(locks);
-    if settings.is_strict && journal.was_there {
+    if (settings.is_strict || keyed.locks.pool.is_some() && !journal.is_fresh) && journal.was_there {
         journal.turn(&mut keyed)?;
     }
     Ok((keyed, journal))

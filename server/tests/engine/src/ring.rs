@@ -2,10 +2,12 @@
 
 use std::fmt::Write as _;
 
-/// The seats that the journal names: a hold, its end by a release or by a leave, a fault, a repair.
+/// The seats that the journal names: a hold, its end by a release or by a leave, one that is carried on, a fault, a repair.
 pub const HOLD: u64 = 0;
 pub const RELEASED: u64 = 1;
 pub const LEFT: u64 = 2;
+/// That of a hold which is open when a segment begins.
+pub const CARRIED: u64 = 3;
 const FAULT: u64 = 8;
 const REPAIR: u64 = 9;
 
@@ -40,6 +42,11 @@ impl Ring {
     fn is_privileged(&self, i: usize) -> bool {
         let left = self.values[if i == 0 { self.n() - 1 } else { i - 1 }];
         (left == self.values[i]) == (i == 0)
+    }
+
+    /// The least machine that is not privileged.
+    pub fn idle(&self) -> usize {
+        (0..self.n()).find(|&i| !self.is_privileged(i)).unwrap_or(0)
     }
 
     fn look(&mut self) {

@@ -1,0 +1,290 @@
+"""Clients of the model: each sends one line at a time, and says what it was told."""
+
+import socket
+import time
+
+from model import Wrong
+
+#: how long a line may wait for its answer where nothing is disturbed
+PATIENCE = 30
+
+
+class Line:
+    """A connection, and the lines that came over it."""
+
+    def __init__(self, path):
+        self.sock = socket.socket(socket.AF_UNIX)
+        self.sock.settimeout(PATIENCE)
+        self.rest = b""
+        try:
+            self.sock.connect(path)
+        except OSError:
+            self.sock.close()
+            raise
+        self.is_over = False
+
+    def say(self, line):
+        """What a connection that is lost does not take is not said."""
+        try:
+            self.sock.sendall(f"{line}\n".encode())
+        except OSError:
+            pass  # its end is read
+
+    def lines(self):
+        """What has come, without waiting."""
+        self.sock.setblocking(False)
+        try:
+            while True:
+                more = self.sock.recv(65536)
+                if not more:
+                    self.is_over = True
+                    break
+                self.rest += more
+        except BlockingIOError:
+            pass
+        except OSError:
+            self.is_over = True
+        self.sock.settimeout(PATIENCE)
+        *whole, self.rest = self.rest.split(b"\n")
+        return [line.decode() for line in whole]
+
+    def close(self):
+        self.sock.close()
+
+
+class Client:
+    """What all have: a lock that it waits for, and the line that has no answer."""
+
+    def __init__(self, name, model, path, lease):
+        self.name, self.model, self.path, self.lease = name, model, path, lease
+        self.line, self.waits, self.asked = None, None, None
+        #: when it looked for what has come
+        self.seen = 0.0
+
+    def label_of(self, lock):
+        """The label of what asked for the lock."""
+        return self.waits[1] if self.waits and self.waits[0] == lock else None
+
+    def tell(self, lock, token, label):
+        if label is None:
+            raise Wrong(f"{self.name} is told {lock} {token}, which it has not asked for")
+        self.model.tell(self.name, lock, token, label, time.monotonic())
+        if self.waits and self.waits[0] == lock:
+            self.waits = None
+
+    def granted_late(self, words):
+        """The lock for which it waited. If it was leaving, it may be another's before it hears of it."""
+        if self.asked == ["leave"] and self.label_of(words[1]) is not None:
+            self.model.note(self.name, words[1], int(words[2]), self.label_of(words[1]))
+        else:
+            self.tell(words[1], int(words[2]), self.label_of(words[1]))
+
+    def heard(self, words):
+        """The answer to what was asked."""
+        asked, self.asked = self.asked, None
+        if asked is None:
+            raise Wrong(f"{self.name} is told {words}, and asked nothing")
+        self.answered(asked, words)
+
+    def answered(self, asked, words):
+        """The effect of an answer."""
+        verb, lock = asked[0], asked[1] if len(asked) > 1 else None
+        if words[0] == "granted" and verb in ("acquire", "try"):
+            self.tell(lock, int(words[2]), int(asked[2]))
+        elif words[0] == "waiting" and verb == "acquire":
+            self.waits = lock, int(asked[2])
+        elif words[0] == "released" and verb == "release":
+            self.model.give_up(self.name, lock)
+        elif words[0] == "cancelled" and verb == "cancel":
+            self.waits = None
+        elif words[0] == "left" and verb == "leave":
+            for held in self.model.claimed(self.name):
+                self.model.give_up(self.name, held)
+            self.waits = None
+        elif words[0] == "busy" and verb == "try":
+            self.model.busy.add(int(asked[2]))
+        elif words[:2] not in (["refused", "circle"], ["refused", "waiter"]):
+            raise Wrong(f"{self.name} asked {asked}, and is told {words}")
+
+    def wish(self, draw, locks):
+        """What it asks next."""
+        held = self.model.claimed(self.name)
+        if held and draw.random() < 0.45:
+            lock = draw.choice(sorted(held))
+            return ["release", lock, str(held[lock])]
+        if self.waits:
+            return ["cancel", self.waits[0]] if draw.random() < 0.2 else None
+        free = [lock for lock in locks if lock not in held]
+        if len(held) > 3 or not free:
+            return None
+        return [draw.choice(("acquire", "acquire", "try")), draw.choice(free), str(next(self.model.labels))]
+
+    def pump(self):
+        """Takes what has come, unless it has not looked for so long that it has to take its holds for lost: then it comes again. False if its
+        connection is over."""
+        now = time.monotonic()
+        seen, self.seen = self.seen, now
+        if now - seen > self.lease / 2:
+            self.model.away.setdefault(self.name, seen)
+            self.close()
+            return True
+        for line in self.line.lines():
+            self.take(line.split(" "))
+        return not self.line.is_over
+
+    def is_ready(self):
+        """Whether it may ask."""
+        return self.asked is None
+
+
+class Plain(Client):
+    """A client without a session: what it holds when its connection ends is nobody's for the grace."""
+
+    def take(self, words):
+        if words[0] == "granted" and self.waits:
+            self.granted_late(words)  # it asks for nothing else meanwhile
+        else:
+            self.heard(words)
+
+    def say(self, words):
+        self.asked = words
+        self.model.give(self.name, words)
+        self.line.say(" ".join(words))
+
+    def lose(self, until):
+        """The server or the engine is lost: it was told no end of its holds, so these last until then. If it gave one up, or the connection,
+        that may be done."""
+        given = self.asked[1] if self.asked and self.asked[0] == "release" else None
+        for lock in self.model.claimed(self.name):
+            if lock == given:
+                self.model.give_up(self.name, lock)
+            else:
+                self.model.guard(self.name, lock, until)
+        self.line.close()
+        self.line, self.asked, self.waits = None, None, None
+
+    def close(self):
+        """Closes its connection: what it held is free."""
+        for lock in self.model.claimed(self.name):
+            self.model.give_up(self.name, lock)
+        self.line.close()
+        self.line, self.asked, self.waits = None, None, None
+
+    def come(self):
+        self.line = Line(self.path)
+        self.model.away.pop(self.name, None)
+
+
+class Session(Client):
+    """A client with a session."""
+
+    def __init__(self, name, model, path, lease, key, is_attached):
+        super().__init__(name, model, path, lease)
+        self.key, self.is_attached, self.number = key, is_attached, 0
+        #: the last input that was answered, with its number and its answer; the same if it was asked for once more; when it was told anything
+        self.last, self.again, self.heard_at = None, None, 0.0
+        #: what it was told when it came back, as long as that is not all
+        self.opening = None
+
+    def take(self, words):
+        self.heard_at = time.monotonic()
+        if self.opening is not None:
+            self.open(words)
+        elif words[0] == "granted":
+            self.granted_late(words)
+        elif self.again:
+            again, self.again = self.again, None
+            if [str(again[0]), *again[2]] != words:
+                raise Wrong(f"{self.name} asked once more: {again}; it is told {words}")
+        elif words[0] != str(self.number):
+            raise Wrong(f"{self.name} is told {words}, and its last input is {self.number}")
+        else:
+            self.last = self.number, self.asked, words[1:]
+            self.heard(words[1:])
+
+    def say(self, words):
+        self.number += 1
+        self.asked, self.last = words, None
+        self.model.give(self.name, words)
+        self.line.say(" ".join([str(self.number), *words]))
+
+    def lose(self, _until):
+        self.close()
+
+    def close(self):
+        """Its connection is over; it comes back."""
+        self.line.close()
+        self.line = self.again = self.opening = None
+        self.model.away.setdefault(self.name, time.monotonic())
+
+    def is_ready(self):
+        return self.asked is None and self.opening is None
+
+    def vanish(self):
+        """It never comes back, and another one comes: what it held is another's after its lease; if it is attached, at once, where the
+        server sees that."""
+        until = time.monotonic() + (0 if self.is_attached and self.line else self.lease)
+        asked = self.asked or [""]
+        for lock in self.model.claimed(self.name):
+            if asked[0] == "leave" or asked[:2] == ["release", lock]:
+                self.model.give_up(self.name, lock)
+            else:
+                self.model.guard(self.name, lock, until)
+        if self.line:
+            self.line.close()
+        self.line = self.asked = self.waits = self.last = self.again = self.opening = None
+        self.key += 1000
+        self.number, self.name = 0, f"session {self.key}"
+
+    def come(self):
+        """Comes back. What it is told then is compared when all of it is there."""
+        self.line = Line(self.path)
+        self.opening = []
+        self.line.say(f"session {self.key}" + (" attached" if self.is_attached else ""))
+
+    def open(self, words):
+        """One line of what it has."""
+        self.opening.append(words)
+        if len(self.opening) <= int(self.opening[0][2]):
+            return
+        told, self.opening = self.opening[1:], None
+        begun = self.model.away.pop(self.name, None)
+        is_late = begun is not None and time.monotonic() - begun > self.lease / 2
+        self.model.counts["returns"] += 1
+        self.model.counts["late"] += is_late
+        self.compare({it[1]: int(it[2]) for it in told if it[0] == "holds"}, [it[1] for it in told if it[0] == "waits"], is_late)
+        self.ask_again()
+
+    def compare(self, holds, waits, is_late):
+        claimed, asked = self.model.claimed(self.name), self.asked or [""]
+        given = {asked[1]} if asked[0] == "release" else set(claimed) if asked[0] == "leave" else set()
+        for lock, token in claimed.items():
+            if holds.get(lock) == token:
+                continue
+            if lock not in given and not is_late:
+                raise Wrong(f"{self.name} was told {lock} {token}, was back in time, and is told {holds} and {waits}; {asked} is open")
+            self.model.give_up(self.name, lock)
+            self.model.counts["lost"] += 1
+        was, self.waits = self.waits, None
+        for lock, token in holds.items():
+            if lock in claimed:
+                continue
+            label = was[1] if was and was[0] == lock else int(asked[2]) if asked[0] in ("acquire", "try") and asked[1] == lock else None
+            self.tell(lock, token, label)
+        for lock in waits:
+            label = was[1] if was and was[0] == lock else int(asked[2]) if asked[0] == "acquire" and asked[1] == lock else None
+            if label is None:
+                raise Wrong(f"{self.name} waits for {lock}, which it has not asked for")
+            self.waits = lock, label
+        is_open = asked[0] in ("cancel", "leave") or is_late or was and was[0] in holds
+        if was and not self.waits and not is_open:
+            raise Wrong(f"{self.name} waited for {was[0]}, was back in time, and is told {holds} and {waits}; {asked} is open")
+
+    def ask_again(self):
+        """Sends again what has no answer; or what had one, and gets it again."""
+        if self.asked:
+            self.line.say(" ".join([str(self.number), *self.asked]))
+        elif self.last:
+            self.again = self.last
+            self.model.counts["again"] += 1
+            self.line.say(" ".join([str(self.number), *self.last[1]]))
