@@ -51,7 +51,7 @@ def without_bodies(text):
 def without_proofs(text):
     """Of a file of lemmas what other crates read: no body that they cannot unfold, and nothing private that they cannot either."""
     kept, shut, is_left_out, blocks = [], {}, False, [0]
-    for line in text.split("\n"):
+    for line in filter(str.strip, text.split("\n")):
         indent = len(line) - len(line.lstrip(" "))
         if blocks[-1] is None:
             blocks[-1] = indent

@@ -102,7 +102,7 @@ class Tree(unittest.TestCase):
         room = tempfile.TemporaryDirectory()
         self.addCleanup(room.cleanup)
         self.top = room.name
-        for path, text in (("low/src/lib.rt", LOW), ("low/proofs/Lib.antt", "    pub mod Sums\n    mod Own\n"), ("low/proofs/Sums.antt", LEMMAS),
+        for path, text in (("low/src/lib.rt", LOW), ("low/proofs/Lib.antt", "    pub mod Sums\n    pub mod Nothing\n    mod Own\n"), ("low/proofs/Nothing.antt", "-- nothing yet\n"), ("low/proofs/Sums.antt", LEMMAS),
                            ("low/proofs/Own.antt", LEMMAS), ("high/src/lib.rt", HIGH), ("high.edits", EDITS)):
             os.makedirs(os.path.dirname(f"{self.top}/{path}"), exist_ok=True)
             self.write(path, textwrap.dedent(text))
