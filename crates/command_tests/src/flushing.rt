@@ -1,21 +1,19 @@
 //! Outputs whose flush fails: what was written stays, no more is read, and nothing more is reported.
 
-use crate::files::memory::{bytes_of, make_folder, no_files, put};
-use crate::reading::Giver;
+use crate::commands::{lend, serve, serve_words};
 use disks::MemoryDisk;
 use folder_commands::recover;
-use lock_commands::locks;
 use ring_check::Kind;
-use serve_commands::serve;
 use std::alloc::Global;
 use std::io::{self, ErrorKind, Write};
 use std::process::Abort;
 use std::test::Fail;
+use test_files::{Giver, bytes_of, make_folder, no_files, put};
 use text_commands::check_all::check_all_bytes;
 use text_commands::picture;
 use tool_parts::endings::finish;
 use tool_parts::faults::ToolError;
-use tool_parts::requests::{LocksWords, PictureWords, RecoverWords, ServeWords};
+use tool_parts::requests::{PictureWords, RecoverWords, ServeWords};
 
 /// A writer into memory, which can be flushed so often, and then no more.
 #[derive(Drop)]
@@ -81,23 +79,10 @@ fn expect_stuck(
     };
     let mut out = stuck_after(alloc, flushes);
     let mut err = Vec::new(alloc);
-    let ended = serve::run(alloc, disk, words, &mut input, &mut out, &mut err);
+    let ended = serve(alloc, disk, words, &mut input, &mut out, &mut err);
     assert!(rt; matches!(ended, Err(ToolError::Write)));
     assert!(rt; out.text.as_slice() == written.as_bytes() && err.is_empty());
     assert!(rt; input.given == read);
-}
-
-/// What is asked for: rings from a history or with a journal.
-fn words<'a>(history: Option<&'a str>, journal: Option<&'a str>) -> ServeWords<'a> {
-    ServeWords {
-        history,
-        journal,
-        segment: 100,
-        synced: false,
-        faults: false,
-        saves: None,
-        strict: false,
-    }
 }
 
 #[test]
@@ -105,7 +90,7 @@ fn serve_ends_where_its_output_is_stuck(rt: HostRuntime) -> Result<(), Fail> {
     for (flushes, read, written) in SERVED {
         let mut disk = no_files(rt.alloc());
         put(&mut disk, "s", SAVED.as_bytes())?;
-        let plain = words(Some("s"), None);
+        let plain = serve_words(Some("s"), None, false);
         expect_stuck(&rt, &mut disk, &plain, flushes, read, written);
     }
     Ok(())
@@ -117,33 +102,12 @@ fn serve_leaves_its_journal_where_its_output_is_stuck(rt: HostRuntime) -> Result
     for (flushes, read, written) in SERVED {
         let mut disk = no_files(rt.alloc());
         put(&mut disk, "j", BEGUN.as_bytes())?;
-        let noted = words(None, Some("j"));
+        let noted = serve_words(None, Some("j"), false);
         expect_stuck(&rt, &mut disk, &noted, flushes, read, written);
         let held = bytes_of(rt.alloc(), &disk, "j")?;
         assert!(rt; held.as_slice() == BEGUN.as_bytes());
     }
     Ok(())
-}
-
-/// Lends a lock of the folder `j` by these lines, and answers how it ends.
-fn lend(
-    alloc: Global,
-    disk: &mut MemoryDisk,
-    input: &mut Giver<'_>,
-    out: &mut Stuck,
-    err: &mut Vec<u8>,
-) -> Result<(), ToolError<'static>> {
-    let words = LocksWords {
-        journal: "j",
-        locks: Some("deploy:3"),
-        most_names: 1024,
-        holders: None,
-        segment: 100,
-        synced: false,
-        faults: false,
-        strict: false,
-    };
-    locks::run(alloc, disk, &words, input, out, err)
 }
 
 #[test]
@@ -161,7 +125,7 @@ fn locks_end_where_their_output_is_stuck(rt: HostRuntime) -> Result<(), Fail> {
         };
         let mut out = stuck_after(alloc, flushes);
         let mut err = Vec::new(alloc);
-        let ended = lend(alloc, &mut disk, &mut input, &mut out, &mut err);
+        let ended = lend(alloc, &mut disk, "j", false, &mut input, &mut out, &mut err);
         assert!(rt; matches!(ended, Err(ToolError::Write)));
         assert!(rt; out.text.as_slice() == written.as_bytes() && err.is_empty());
         assert!(rt; input.given == read);

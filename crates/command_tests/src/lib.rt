@@ -1,26 +1,14 @@
-//! Tests of what no row of `tests/rows` shows: readers that fail or give too much, outputs whose flush fails, faults
-//! that no words lead to, and what files hold.
+//! Tests of the commands `serve`, `locks`, `recover` and `picture` that no row of `tests/rows` shows: outputs whose flush fails, how a
+//! journal is used, what is left where syncs fail, and two servers of one folder.
 #![tactic(auto)]
 
 #[cfg(test)]
-mod faults;
-#[cfg(test)]
-mod files;
+mod commands;
 #[cfg(test)]
 mod flushing;
 #[cfg(test)]
-mod holds;
-#[cfg(test)]
-mod lists;
-#[cfg(test)]
-mod names;
+mod one_server;
 #[cfg(test)]
 mod power;
-#[cfg(test)]
-mod reading;
-#[cfg(test)]
-mod remarks;
-#[cfg(test)]
-mod segments;
 #[cfg(test)]
 mod serving;

@@ -1,15 +1,12 @@
 //! Commands on a system whose syncs fail from some moment on: what was delivered by then is in what a loss of power leaves; without
 //! syncs, in what an end of the process leaves.
 
-use crate::files::memory::{bytes_of, make_folder, no_files, put};
-use crate::reading::Giver;
+use crate::commands::{lend, serve, serve_words};
 use disks::{Disk, KeepingCalls, LosingCalls, SystemDisk};
-use lock_commands::locks;
-use serve_commands::serve;
 use std::alloc::Global;
 use std::io;
 use std::test::Fail;
-use tool_parts::requests::{LocksWords, ServeWords};
+use test_files::{Giver, bytes_of, make_folder, no_files, put};
 
 /// A journal as it begins.
 const BEGUN: &str = "ringjournal 1\nringfarm 2\nring 0 3 3\nstart 0 0 0\nend 0\ndone 1\n";
@@ -60,41 +57,23 @@ fn calls_of(alloc: Global, syncs: u32) -> io::Result<LosingCalls> {
 
 /// `serve` of the calls with the journal: what was delivered, and whether it ended well.
 fn serve_on<D: Disk>(alloc: Global, disk: &mut D, synced: bool) -> (Vec<u8>, bool) {
-    let words = ServeWords {
-        history: None,
-        journal: Some("j"),
-        segment: 100,
-        synced,
-        faults: false,
-        saves: None,
-        strict: false,
-    };
+    let words = serve_words(None, Some("j"), synced);
     let mut input = Giver {
         at_most: 13,
         ..Giver::new(CALLS)
     };
     let mut out = Vec::new(alloc);
     let mut err = Vec::new(alloc);
-    let ended = serve::run(alloc, disk, &words, &mut input, &mut out, &mut err).is_ok();
+    let ended = serve(alloc, disk, &words, &mut input, &mut out, &mut err).is_ok();
     (out, ended)
 }
 
 /// `locks` of one call in the folder: what was delivered, and whether it ended well.
 fn lend_on<D: Disk>(alloc: Global, disk: &mut D, synced: bool) -> (Vec<u8>, bool) {
-    let words = LocksWords {
-        journal: "f",
-        locks: Some("deploy:3"),
-        most_names: 1024,
-        holders: None,
-        segment: 100,
-        synced,
-        faults: false,
-        strict: false,
-    };
     let mut input: &[u8] = b"1 acquire deploy 77\n";
     let mut out = Vec::new(alloc);
     let mut err = Vec::new(alloc);
-    let ended = locks::run(alloc, disk, &words, &mut input, &mut out, &mut err).is_ok();
+    let ended = lend(alloc, disk, "f", synced, &mut input, &mut out, &mut err).is_ok();
     (out, ended)
 }
 

@@ -1,13 +1,13 @@
 //! How `serve` uses its journal: when it is locked, opened, synced and left.
 
-use crate::files::memory::{bytes_of, no_files, put};
+use crate::commands::{serve, serve_words};
 use disks::{Disk, FolderEntry, Grow, MemoryDisk};
-use serve_commands::serve::run;
 use std::alloc::Global;
 use std::cell::Cell;
 use std::io::{self, Cursor, ErrorKind, Read};
 use std::process::Abort;
 use std::test::Fail;
+use test_files::{bytes_of, no_files, put};
 use tool_parts::faults::ToolError;
 use tool_parts::requests::ServeWords;
 
@@ -169,17 +169,9 @@ fn files_with<'a>(
     })
 }
 
-/// What is asked for, with a journal and no history.
+/// The words for this journal and no history.
 fn words(journal: &str, synced: bool) -> ServeWords<'_> {
-    ServeWords {
-        history: None,
-        journal: Some(journal),
-        segment: 1_000_000,
-        synced,
-        faults: false,
-        saves: None,
-        strict: false,
-    }
+    serve_words(None, Some(journal), synced)
 }
 
 /// Gives these bytes, and then fails.
@@ -210,7 +202,7 @@ fn expect_served(
     let mut input = lines;
     let mut out = Vec::new(alloc);
     let mut err = Vec::new(alloc);
-    let ended = run(alloc, disk, words, &mut input, &mut out, &mut err);
+    let ended = serve(alloc, disk, words, &mut input, &mut out, &mut err);
     assert!(rt; ended.is_ok());
     assert!(rt; out.as_slice() == answers);
     assert!(rt; err.as_slice() == totals);
@@ -271,7 +263,7 @@ fn a_journal_of_another_process_is_in_use(rt: HostRuntime) -> Result<(), Fail> {
         let mut input: &[u8] = b"pass 0 0 0 5\n";
         let mut out = Vec::new(alloc);
         let mut err = Vec::new(alloc);
-        match run(
+        match serve(
             alloc,
             &mut disk,
             &words(name, true),
@@ -298,7 +290,7 @@ fn a_fault_leaves_the_journal(rt: HostRuntime) -> Result<(), Fail> {
     };
     let mut out = Vec::new(alloc);
     let mut err = Vec::new(alloc);
-    match run(
+    match serve(
         alloc,
         &mut disk,
         &words("j", true),
@@ -327,7 +319,7 @@ fn a_journal_that_cannot_be_closed_is_let_go(rt: HostRuntime) -> Result<(), Fail
     let mut input: &[u8] = b"pass 0 0 0 5\n";
     let mut out = Vec::new(alloc);
     let mut err = Vec::new(alloc);
-    match run(
+    match serve(
         alloc,
         &mut disk,
         &words("j", true),

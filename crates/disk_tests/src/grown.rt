@@ -1,12 +1,12 @@
 //! Files that are written at their end.
 
-use crate::files::memory::{bytes_of, no_files, put};
-use crate::files::playing::{Play, expect_bytes, expect_count, folder_of, play_in, within};
+use crate::playing::{Play, expect_bytes, expect_count, play_in};
 use disks::{Disk, Grow, SystemDisk};
 use std::io::{self, ErrorKind};
 use std::process::Abort;
 use std::rt::Files;
 use std::test::Fail;
+use test_files::{bytes_of, folder_of, no_files, put, within};
 
 /// A file of this name cannot be grown, for this reason.
 fn expect_refused<D: Disk>(rt: &impl Abort, disk: &mut D, name: &str, kind: ErrorKind) {

@@ -1,16 +1,14 @@
 //! What could rob a file of the system: somebody who writes it, links that lead nowhere, parts and long names.
 
-use crate::files::grown::{add, close};
-use crate::files::memory::put;
-use crate::files::playing::{
-    Play, expect, expect_bytes, expect_count, folder_of, link_in, play_in, put_in, within, write_in,
-};
+use crate::grown::{add, close};
+use crate::playing::{Play, expect, expect_bytes, expect_count, play_in, put_in};
 use disks::Disk;
 use std::fs;
 use std::io::{self, ErrorKind, Write};
 use std::process::Abort;
 use std::rt::Files;
 use std::test::Fail;
+use test_files::{folder_of, link_in, put, within, write_in};
 
 /// A file that the other grows is replaced once it is closed.
 struct KeepFromReplacing;

@@ -1,12 +1,11 @@
-//! What tests of the system's files begin and end with: a folder of their own, and what is in it.
+//! What tests of the system's files do in a folder of their own, and what is then in it.
 
-use crate::files::memory::{bytes_of, put};
 use disks::{Disk, SystemDisk};
 use std::fs::{self, File};
 use std::io;
-use std::os::unix::fs::symlink;
-use std::process::{self, Abort};
+use std::process::Abort;
 use std::rt::Files;
+use test_files::{bytes_of, has_text, put, removed, within};
 
 /// What a test does in a folder, with two disks of the system.
 pub trait Play {
@@ -33,21 +32,6 @@ pub fn play_in<R: Abort + AllocGlobal + Files<File = File> + Clone, P: Play>(
     )
 }
 
-/// A new folder of this process. Each test gives its own another name.
-pub fn folder_of(rt: &HostRuntime, name: &str) -> io::Result<String> {
-    let folder = std::env::temp_dir(rt)?;
-    let folder = folder.as_path().to_string_lossy();
-    let number = process::id(rt.process());
-    let own = format!(in rt.alloc(); "{folder}/disks-{number}-{name}")?;
-    fs::create_dir(rt, own.as_str())?;
-    Ok(own)
-}
-
-/// The name of a file in a folder.
-pub fn within<R: AllocGlobal>(rt: &R, folder: &str, name: &str) -> io::Result<String> {
-    Ok(format!(in rt.alloc(); "{folder}/{name}")?)
-}
-
 /// Compares what the file of this name holds, by the system's own call.
 pub fn expect_bytes<R: Abort + AllocGlobal + Files>(
     rt: &R,
@@ -65,29 +49,8 @@ pub fn expect_count<R: Abort + AllocGlobal + Files + Clone>(
     folder: &str,
     want: usize,
 ) -> io::Result<()> {
-    let count = fs::read_dir(rt, folder)?.count();
-    assert_eq!(rt; count, want);
-    fs::remove_dir_all(rt, folder)
-}
-
-/// Makes a file in a folder by the system's own call.
-pub fn write_in<R: AllocGlobal + Files>(
-    rt: &R,
-    folder: &str,
-    name: &str,
-    text: &str,
-) -> io::Result<()> {
-    fs::write(rt, within(rt, folder, name)?.as_str(), text)
-}
-
-/// Makes a link in a folder that leads to this name.
-pub fn link_in<R: AllocGlobal + Files>(
-    rt: &R,
-    folder: &str,
-    name: &str,
-    to: &str,
-) -> io::Result<()> {
-    symlink(rt, to, within(rt, folder, name)?.as_str())
+    assert_eq!(rt; removed(rt, folder)?, want);
+    Ok(())
 }
 
 /// Compares what a file of a folder holds; `None` is a file that is not there.
@@ -97,14 +60,8 @@ pub fn expect<R: Abort + AllocGlobal + Files>(
     name: &str,
     text: Option<&str>,
 ) -> io::Result<()> {
-    let name = within(rt, folder, name)?;
-    match text {
-        Some(text) => expect_bytes(rt, &name, text.as_bytes()),
-        None => {
-            assert!(rt; !fs::exists(rt, name.as_str())?, "at {name}");
-            Ok(())
-        }
-    }
+    assert!(rt; has_text(rt, folder, name, text)?, "at {name}");
+    Ok(())
 }
 
 /// Puts bytes into a file of a folder, and compares them with what the disk then reads.

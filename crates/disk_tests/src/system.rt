@@ -1,9 +1,7 @@
 //! The system's files.
 
-use crate::files::memory::{is_of_a_folder, put};
-use crate::files::playing::{
-    Play, expect, expect_count, folder_of, link_in, play_in, put_in, within, write_in,
-};
+use crate::memory::is_of_a_folder;
+use crate::playing::{Play, expect, expect_count, play_in, put_in};
 use disks::{Disk, FolderEntry, SystemDisk};
 use std::fs::{self, File};
 use std::io::{self, ErrorKind, Write};
@@ -11,6 +9,7 @@ use std::os::unix::fs::{MetadataExt, PermissionsExt};
 use std::process::Abort;
 use std::rt::Files;
 use std::test::Fail;
+use test_files::{folder_of, link_in, put, within, write_in};
 
 /// The content of files, by their names in a folder.
 type Held<'a> = &'a [(&'a str, Option<&'a str>)];

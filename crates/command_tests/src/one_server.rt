@@ -1,36 +1,12 @@
 //! Two servers of one folder at once.
 
-use crate::files::playing::{expect, expect_count, folder_of};
+use crate::commands::lend;
 use crate::power::LENT;
-use disks::{Disk, SystemDisk};
-use lock_commands::locks;
-use std::alloc::Global;
+use disks::SystemDisk;
 use std::io::{self, Read};
 use std::test::Fail;
+use test_files::{folder_of, has_text, removed};
 use tool_parts::faults::ToolError;
-use tool_parts::requests::LocksWords;
-
-/// Serves the locks of a folder for these lines.
-fn lend<'a, D: Disk, I: Read>(
-    alloc: Global,
-    disk: &mut D,
-    folder: &'a str,
-    input: &mut I,
-    out: &mut Vec<u8>,
-) -> Result<(), ToolError<'a>> {
-    let words = LocksWords {
-        journal: folder,
-        locks: Some("deploy:3"),
-        most_names: 1024,
-        holders: None,
-        segment: 100,
-        synced: false,
-        faults: false,
-        strict: false,
-    };
-    let mut err = Vec::new(alloc);
-    locks::run(alloc, disk, &words, input, out, &mut err)
-}
 
 /// Whether one more server of a folder is refused: it reads no line, and answers nothing.
 fn is_refused(rt: &HostRuntime, folder: &str) -> bool {
@@ -38,7 +14,10 @@ fn is_refused(rt: &HostRuntime, folder: &str) -> bool {
     let mut disk = SystemDisk::new(rt);
     let mut input: &[u8] = b"2 acquire deploy 78\n";
     let mut out = Vec::new(alloc);
-    match lend(alloc, &mut disk, folder, &mut input, &mut out) {
+    let mut err = Vec::new(alloc);
+    match lend(
+        alloc, &mut disk, folder, false, &mut input, &mut out, &mut err,
+    ) {
         Err(ToolError::InUse(name)) => name == folder && input.len() == 20 && out.is_empty(),
         _ => false,
     }
@@ -75,20 +54,44 @@ fn a_folder_has_one_server_at_a_time(rt: HostRuntime) -> Result<(), Fail> {
         refused: 0,
     };
     let mut out = Vec::new(alloc);
-    assert!(rt; lend(alloc, &mut disk, folder.as_str(), &mut input, &mut out).is_ok());
+    let mut err = Vec::new(alloc);
+    assert!(rt;
+        lend(
+            alloc,
+            &mut disk,
+            folder.as_str(),
+            false,
+            &mut input,
+            &mut out,
+            &mut err
+        )
+        .is_ok()
+    );
     assert!(rt; out.as_slice() == b"1 granted deploy 1\n".as_slice());
     // One began before the line was read, and one before the end was.
     assert!(rt; input.refused == 2);
-    expect(&rt, &folder, "0000000001.ring", Some(LENT))?;
+    assert!(rt; has_text(&rt, &folder, "0000000001.ring", Some(LENT))?);
     // The folder is locked as long as the first one's disk is there.
     assert!(rt; is_refused(&rt, folder.as_str()));
     drop(disk);
     let mut disk = SystemDisk::new(&rt);
     let mut input: &[u8] = b"1 acquire deploy 79\n";
     let mut out = Vec::new(alloc);
-    assert!(rt; lend(alloc, &mut disk, folder.as_str(), &mut input, &mut out).is_ok());
+    let mut err = Vec::new(alloc);
+    assert!(rt;
+        lend(
+            alloc,
+            &mut disk,
+            folder.as_str(),
+            false,
+            &mut input,
+            &mut out,
+            &mut err
+        )
+        .is_ok()
+    );
     assert!(rt; out.as_slice() == b"1 waiting deploy 0\n".as_slice());
     // The list of locks, the lock of the folder, and the segment, in which the second one began where the first one ended.
-    expect_count(&rt, &folder, 3)?;
+    assert!(rt; removed(&rt, &folder)? == 3);
     Ok(())
 }

@@ -1,8 +1,8 @@
 //! Which segments a folder has, by its name: no command asks so.
 
-use crate::files::memory::{make_folder, no_files, put};
 use line_service::{FolderError, SegmentNumbers, numbers_in};
 use std::test::Fail;
+use test_files::{make_folder, no_files, put};
 
 #[test]
 fn a_folder_has_the_segments_from_the_first_to_the_last(rt: HostRuntime) -> Result<(), Fail> {

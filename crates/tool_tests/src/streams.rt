@@ -1,8 +1,8 @@
 //! Files that are to be made, and are those of a standard descriptor.
 
-use crate::files::memory::no_files;
 use disks::{Disk, FolderEntry, MemoryDisk};
 use std::io::{self, Cursor, ErrorKind};
+use test_files::no_files;
 use tool_parts::faults::ToolError;
 use tool_parts::reading::keep_apart;
 

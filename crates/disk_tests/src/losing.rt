@@ -1,12 +1,12 @@
 //! Files in memory of which a loss of power takes all that it may.
 
-use crate::files::grown::{add, close};
-use crate::files::memory::{bytes_of, no_files, put};
+use crate::grown::{add, close};
 use disks::{Disk, Grow, LosingCalls, LosingDisk, MemoryDisk, SystemDisk};
 use std::alloc::Global;
 use std::io;
 use std::process::Abort;
 use std::test::Fail;
+use test_files::{bytes_of, no_files, put};
 
 /// Files in memory, of which these are on the disk.
 fn losing(alloc: Global, files: &[(&str, &str)]) -> io::Result<LosingDisk> {

@@ -1,12 +1,12 @@
 //! `join` into a file that has another name in the folder.
 
-use crate::files::playing::{expect, expect_count, folder_of, link_in, within, write_in};
 use crate::segments::FIRST;
 use disks::SystemDisk;
 use folder_commands::join;
 use std::fs::{self, File};
 use std::rt::Files;
 use std::test::Fail;
+use test_files::{folder_of, has_text, link_in, removed, within, write_in};
 use tool_parts::faults::ToolError;
 use tool_parts::requests::JoinWords;
 
@@ -40,8 +40,7 @@ fn no_file_of_the_folder_is_written_by_another_name(rt: HostRuntime) -> Result<(
     link_in(&rt, &elsewhere, "new", &within(&rt, &folder, "other.txt")?)?;
     let new = within(&rt, &elsewhere, "new")?;
     assert_eq!(rt; lies_in(&rt, &folder, &new), Some(true));
-    expect(&rt, &folder, "0000000001.ring", Some(FIRST))?;
-    expect_count(&rt, &folder, 1)?;
-    expect_count(&rt, &elsewhere, 3)?;
+    assert!(rt; has_text(&rt, &folder, "0000000001.ring", Some(FIRST))?);
+    assert!(rt; removed(&rt, &folder)? == 1 && removed(&rt, &elsewhere)? == 3);
     Ok(())
 }

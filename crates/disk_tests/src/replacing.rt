@@ -1,12 +1,12 @@
 //! A file that is replaced by one that is written as a whole.
 
-use crate::files::memory::{bytes_of, no_files, put};
-use crate::files::playing::{Play, expect_bytes, expect_count, folder_of, play_in, within};
+use crate::playing::{Play, expect_bytes, expect_count, play_in};
 use disks::{Contents, ContentsFault, Disk, ReplaceFault, SystemDisk, replace};
 use std::io::{self, Write};
 use std::process::Abort;
 use std::rt::Files;
 use std::test::Fail;
+use test_files::{bytes_of, folder_of, no_files, put, within};
 
 /// Two lines, or the fault that comes after the first.
 #[derive(Drop, Clone, Copy)]
