@@ -15,6 +15,7 @@ sys.path.insert(0, os.path.join(TOP, "tools"))
 import edit_checks  # noqa: E402
 import edit_sums  # noqa: E402
 import edits  # noqa: E402
+import kit  # noqa: E402
 
 LOW = """\
     /// Adds.
@@ -81,11 +82,11 @@ EDITS = """\
     old: twice(a) + a as u64
     new: twice(a)
 
-    edit: adds_nothing
+    edit: calls_another
     promise: a number is added twice
     file: src/lib.rt
-    old: low::add(a, a)
-    new: 0
+    old: low::add
+    new: low::least
 
     edit: another_twice
     promise: twice says what it answers
@@ -159,7 +160,7 @@ class Reading(Tree):
 
     def test_edits_of_different_functions_are_joined(self):
         groups = [[it.name for it in group] for group in edits.groups_of(self.edits(), 24)]
-        self.assertEqual(groups, [["adds_once", "adds_twice"], ["adds_nothing"], ["another_twice"]])
+        self.assertEqual(groups, [["adds_once", "adds_twice"], ["calls_another"], ["another_twice"]])
         self.assertEqual([len(it) for it in edits.groups_of(self.edits(), 1)], [1, 1, 1, 1])
 
     def test_a_method_is_of_its_type(self):
@@ -200,7 +201,7 @@ class Sums(Tree):
         edit_sums.note_tried({"high/adds_once": (edit_sums.sum_of(self.rtlib, self.edits()[0], known), "clause", "returns")})
         with open(path, encoding="utf-8") as file:
             self.assertEqual([it.split()[0] for it in file], ["#", "high/adds_once"])
-        self.assertEqual([it.name for it in edit_sums.untried(self.rtlib, [self.high])["high"]], ["adds_twice", "adds_nothing", "another_twice"])
+        self.assertEqual([it.name for it in edit_sums.untried(self.rtlib, [self.high])["high"]], ["adds_twice", "calls_another", "another_twice"])
 
 
 class Verdicts(unittest.TestCase):
@@ -229,6 +230,37 @@ class Verdicts(unittest.TestCase):
             self.assertFalse(edit_checks.told("high/it", (kind, "goal"))[0], kind)
         for kind in edit_checks.TELLS:
             self.assertTrue(edit_checks.told("high/it", (kind, "goal"))[0], kind)
+
+
+class Gate(Tree):
+    """What `rt ci` counts of edits that are tried beside its proofs, with a prover that gives these verdicts."""
+
+    def outcomes(self, verdicts, is_sound=True, is_proved=True):
+        trial = types.SimpleNamespace(tried=lambda group: {it: verdicts[it.name] for it in group if it.name in verdicts}, ended=lambda: is_sound)
+        self.addCleanup(setattr, edit_checks, "begun", edit_checks.begun)
+        edit_checks.begun = lambda rt, crate, jobs: trial if is_proved else None
+        rt = types.SimpleNamespace(REFUSED="refused", MISSED="missed", OVER=1, need=lambda crate: 1, edits_of=lambda crate: ([], []),
+                                   add_edits=lambda *given, **named: (lambda given: [], lambda: {}))
+        self.high.count = lambda pattern: 1
+        kit.with_edits(rt, {"high": self.edits()})
+        tasks, given, (good, _) = {}, {}, rt.edits_of(self.high)
+        results, _ = rt.add_edits(tasks, self.high, good, [], [], lambda given, new=0: True, None)
+        for key, (waits, _, _, call) in tasks.items():
+            self.assertTrue(all(it in given for it in waits), key)
+            given[key] = call(given, 1)
+        return [kind for kind, _ in results(given)]
+
+    def test_only_a_clause_an_invariant_or_a_law_counts(self):
+        telling = dict(zip(("adds_once", "adds_twice", "calls_another"), ((it, "goal") for it in edit_checks.TELLS)))
+        for kind in (*edit_checks.LITTLE, edit_checks.NOT_REFUSED, edit_checks.NOT_READ, edit_checks.NO_VERDICT):
+            self.assertEqual(self.outcomes({**telling, "another_twice": (kind, "goal")}), ["refused", "refused", "refused", "missed"], kind)
+
+    def test_an_edit_that_was_not_tried_fails(self):
+        self.assertEqual(self.outcomes({"adds_once": ("clause", "returns")}), ["refused", "missed", "missed", "missed"])
+        verdicts = {it.name: ("clause", "returns") for it in self.edits()}
+        self.assertEqual(self.outcomes(verdicts), ["refused"] * 4)
+        self.assertEqual(self.outcomes(verdicts, is_sound=False), ["missed"] * 4)
+        self.assertEqual(self.outcomes(verdicts, is_proved=False), ["missed"] * 4)
 
 
 class Files(unittest.TestCase):
