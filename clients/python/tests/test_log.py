@@ -18,7 +18,10 @@ sys.path.insert(0, os.path.dirname(os.path.dirname(os.path.abspath(__file__))))
 sys.path.insert(0, os.path.join(os.path.dirname(os.path.abspath(__file__)), "..", "..", "..", "server", "tests"))
 
 from etcd_members import ETCD, ETCDCTL, Members  # noqa: E402
-from harness import FOLDER, PATIENCE, by_the_clock, needs_loopback, wait_until  # noqa: E402
+from harness import FOLDER, PATIENCE, TOP, by_the_clock, needs_loopback, wait_until  # noqa: E402
+sys.path.insert(0, os.path.join(TOP, "tools"))
+
+from page import Page  # noqa: E402
 from wozgirt.etcd import coded  # noqa: E402
 from wozgirt.log import Shortener  # noqa: E402
 from wozgirt.places import Lost, Place  # noqa: E402
@@ -144,6 +147,67 @@ class Etcd(unittest.TestCase):
         if not more.get("tls"):
             members.wait_for_leader()
         return members
+
+    def members_with_users(self):
+        """Only a user who may read and write the keys of the log is let in; the words that name it, and the file with its password."""
+        members, password = self.members(), os.path.join(self.folder, "password")
+        with open(password, "w", encoding="ascii") as file:
+            file.write("a secret\n")
+        block, = [it for it in Page(TOP, "docs/OPERATING.md").blocks if it.text().startswith("etcdctl user add ")]
+        for line in block.text().replace("wozgirt/", "locks/").splitlines():
+            members.etcdctl(*[word.replace("PASSWORD", "a secret") for word in line.split()[1:]])
+        return members, ["--etcd-user", "wozgirt", "--etcd-password-file", password], password
+
+    def test_a_user_of_etcd(self):
+        """Who is none, or has another password, puts nothing there."""
+        members, user, password = self.members_with_users()
+        with Log(members.urls(), "a", *user) as log:
+            log.say("follow 0 0")
+            log.append("one")
+            wait_until(lambda: log.texts() == ["one"])
+            members.kill()  # it knows no token of before then
+            members.start()
+            log.append("two")
+            wait_until(lambda: log.texts() == ["one", "two"])
+            self.assertEqual(log.last_alive(), "alive a:1")
+            nobody = self.refused(members, "user name is empty")
+            with open(password, "w", encoding="ascii") as file:
+                file.write("another secret\n")
+            other = self.refused(members, "the user wozgirt is refused: ", *user)
+            self.assertEqual((log.texts(), nobody.lines, other.lines), (["one", "two"], [], []))
+            self.assertFalse(any("secret" in line for it in (log, nobody, other) for line in it.errors))
+
+    def refused(self, members, why, *words):
+        """One that says this to the operator, and goes on trying."""
+        log = Log(members.urls(), "b", *words)
+        self.addCleanup(log.__exit__)
+        try:
+            wait_until(lambda: any(why in line for line in log.errors))
+        except AssertionError as fault:
+            raise AssertionError(f"{log.errors} {log.lines}") from fault
+        self.assertIsNone(log.process.poll())
+        return log
+
+    def test_a_log_is_shortened_by_a_user(self):
+        members, user, _ = self.members_with_users()
+        with Log(members.urls(), "a", *user) as log:
+            log.say("follow 0 0")
+            log.append(*map(str, range(20)))
+            wait_until(lambda: len(log.entries()) == 20)
+            position, revision, _ = log.entries()[15]
+            log.say(f"checkpoint {position} {revision}")
+            wait_until(lambda: any("compacted" in line for line in self.earlier(members, revision - 5)))
+
+    def earlier(self, members, revision):
+        """What etcd says of an earlier revision, asked by root."""
+        it = subprocess.run([ETCDCTL, "--endpoints", members.urls(), "--user", "root:ANOTHER-a secret", "get", "locks/log", f"--rev={revision}"],
+                            capture_output=True, text=True, timeout=PATIENCE, check=False, env={**os.environ, "ETCDCTL_API": "3"})
+        return it.stderr.splitlines()
+
+    def test_a_user_without_a_password(self):
+        for words in (["--etcd-user", "wozgirt"], ["--etcd-password-file", "password"]):
+            with Log("127.0.0.1:1", "a", *words, known=None) as log:
+                self.assertEqual((log.status(), log.errors), (2, ["wozgirt-log: --etcd-user and --etcd-password-file go together"]))
 
     def test_entries_come_in_order(self):
         members = self.members()

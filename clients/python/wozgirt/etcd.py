@@ -6,6 +6,7 @@ import base64
 import json
 import socket
 import ssl
+import threading
 from typing import Any, Dict, Iterator, List, Optional, Tuple, Union
 from urllib.parse import urlsplit
 
@@ -15,8 +16,9 @@ Answer = Dict[str, Any]
 #: Where a member is: whether by TLS, its host, and its port.
 Place = Tuple[bool, str, int]
 
-#: How long a member may be silent, in seconds.
+#: How long a member may be silent, in seconds; and how many times longer where it makes a token, for which it has to do much.
 PATIENCE = 2.0
+TIMES_FOR_A_TOKEN = 5
 
 
 class NoAnswer(OSError):
@@ -80,12 +82,41 @@ def context(cacert: Optional[str], cert: Optional[str], key: Optional[str]) -> s
     return made
 
 
+class Stale(Denied):
+    """It does not know this token: it was started again, or its users have changed."""
+
+    def __init__(self, why: str, token: Optional[str]):
+        super().__init__(why)
+        self.token = token
+
+
+#: What etcd says then.
+STALE = ("invalid auth token", "revision of auth store is old")
+
+
+class User:
+    """A user of etcd, the file with its password, and the token that etcd gave for these, which all connections show: to make one takes
+    etcd long. The file is read for each token."""
+
+    def __init__(self, name: str, file: str):
+        self.name, self._file = name, file
+        self.token: Optional[str] = None
+        self.changing = threading.Lock()
+        self.password()
+
+    def password(self) -> str:
+        """What the file has, without the end of its line."""
+        with open(self._file, encoding="utf-8") as file:
+            return file.read().rstrip("\n")
+
+
 class Member:
     """A connection that is kept, to one member at a time of those at `places`, and to the next one when that fails. It is for
     one thread."""
 
-    def __init__(self, places: List[Place], tls: Optional[ssl.SSLContext] = None, patience: float = PATIENCE):
-        self._places, self._tls, self._patience, self._at = places, tls, patience, 0
+    def __init__(self, places: List[Place], tls: Optional[ssl.SSLContext] = None, patience: float = PATIENCE,
+                 user: Optional[User] = None):
+        self._places, self._tls, self._patience, self._user, self._at = places, tls, patience, user, 0
         self._line: Optional[Line] = None
         self._count = 0
 
@@ -134,15 +165,46 @@ class Member:
         finally:
             self._drop()
 
-    def _send(self, path: str, bodies: List[Answer]) -> Line:
+    def _connected(self) -> Line:
         if self._line is None:
             safe, host, port = self._places[self._at]
             self._line = Line(host, port, self._tls if safe else None, self._patience)
             self._count += 1
-        if self._line.post(f"/v3/{path}", "".join(map(json.dumps, bodies)).encode()) != 200:
-            why = reason(self._body(self._line).decode("utf-8", "replace"))
-            raise (NoRoom if "database space exceeded" in why else Denied)(f"{self.name}: {why}")
+            if self._user is not None:
+                self._line.authorize(self._token(self._line, self._user))
         return self._line
+
+    def _token(self, line: Line, user: User) -> str:
+        with user.changing:
+            if user.token is None:
+                line.wait(TIMES_FOR_A_TOKEN * self._patience)
+                body = {"name": user.name, "password": user.password()}
+                status = line.post("/v3/auth/authenticate", json.dumps(body).encode())
+                text = line.body().decode("utf-8", "replace")
+                line.wait(self._patience)
+                if status != 200:
+                    self._drop()
+                    raise Denied(f"{self.name}: the user {user.name} is refused: {reason(text)}")
+                user.token = str(json.loads(text)["token"])
+            return user.token
+
+    def _send(self, path: str, bodies: List[Answer]) -> Line:
+        try:
+            return self._post(path, bodies)
+        except Stale as stale:  # nothing was done: it is asked again with a new token
+            self._drop()
+            if self._user is not None and self._user.token == stale.token:
+                self._user.token = None
+            return self._post(path, bodies)
+
+    def _post(self, path: str, bodies: List[Answer]) -> Line:
+        line = self._connected()
+        if line.post(f"/v3/{path}", "".join(map(json.dumps, bodies)).encode()) != 200:
+            why = reason(self._body(line).decode("utf-8", "replace"))
+            if self._user is not None and any(it in why for it in STALE):
+                raise Stale(f"{self.name}: {why}", self._user.token)
+            raise (NoRoom if "database space exceeded" in why else Denied)(f"{self.name}: {why}")
+        return line
 
     def _body(self, line: Line) -> bytes:
         body = line.body()

@@ -30,7 +30,7 @@ import traceback
 from typing import Any, Callable, Dict, List, NoReturn, Optional, Sequence, Set, Tuple, TypeVar
 
 from .crowd import Crowd
-from .etcd import Answer, Denied, Member, NoAnswer, NoRoom, Silent, below, coded, context, decoded, place, revision_of
+from .etcd import Answer, Denied, Member, NoAnswer, NoRoom, Silent, User, below, coded, context, decoded, place, revision_of
 from .places import Lost, Place, Taken, alone, claim, compare, identified, is_identity, reaches
 
 T = TypeVar("T")
@@ -57,6 +57,9 @@ class Program:
         self._places = [place(url) for url in words.endpoints.split(",")]
         is_safe = any(safe for safe, _, _ in self._places)
         self._tls = context(words.cacert, words.cert, words.key) if is_safe else None
+        if (words.etcd_user is None) != (words.etcd_password_file is None):
+            raise ValueError("--etcd-user and --etcd-password-file go together")
+        self._user = User(words.etcd_user, words.etcd_password_file) if words.etcd_user else None
         self._telling = threading.Lock()
         self._noted: Dict[str, float] = {}
         self.appends: "queue.SimpleQueue[bytes]" = queue.SimpleQueue()
@@ -72,7 +75,7 @@ class Program:
 
     def member(self) -> Member:
         """A new connection."""
-        return Member(self._places, self._tls)
+        return Member(self._places, self._tls, user=self._user)
 
     def tell(self, *lines: str) -> None:
         """Lines for the server, at once."""
@@ -460,7 +463,9 @@ def parsed(words: Optional[Sequence[str]]) -> argparse.Namespace:
             "--away": {"type": seconds, "default": 60, "metavar": "SECONDS", "help": "how often it reports hosts that are away (60)"},
             "--cacert": {"metavar": "FILE", "help": "the certificate that signed those of the members"},
             "--cert": {"metavar": "FILE", "help": "the certificate that is shown to members"},
-            "--key": {"metavar": "FILE", "help": "its key"}}.items():
+            "--key": {"metavar": "FILE", "help": "its key"},
+            "--etcd-user": {"metavar": "NAME", "help": "a user of etcd, where it asks for one"},
+            "--etcd-password-file": {"metavar": "FILE", "help": "the file with its password"}}.items():
         parser.add_argument(word, **more)
     return parser.parse_args(words)
 

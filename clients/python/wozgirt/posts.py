@@ -46,6 +46,14 @@ class Line:
         self._fields = {name.lower(): value.strip() for name, _, value in parted}
         return int(status[1])
 
+    def wait(self, patience: float) -> None:
+        """How long the other end may be silent from now on."""
+        self._socket.settimeout(patience)
+
+    def authorize(self, token: str) -> None:
+        """Has all posts from now on show this token."""
+        self._headers += f"Authorization: {token}\r\n".encode("ascii")
+
     @property
     def is_over(self) -> bool:
         """Whether the other end closes the connection after this answer."""

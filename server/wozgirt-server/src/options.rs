@@ -48,6 +48,8 @@ pub enum EtcdName {
     Authority,
     Certificate,
     Key,
+    User,
+    PasswordFile,
     HostLease,
     Checkpoint,
     Program,
@@ -146,6 +148,8 @@ pub static SECTIONS: [Section; 5] = [
             over_etcd(EtcdName::Authority, "--cacert", "FILE", "the certificate that signed those of etcd"),
             over_etcd(EtcdName::Certificate, "--cert", "FILE", "this server's own certificate"),
             over_etcd(EtcdName::Key, "--key", "FILE", "its key"),
+            over_etcd(EtcdName::User, "--etcd-user", "NAME", "a user of etcd, where it asks for one"),
+            over_etcd(EtcdName::PasswordFile, "--etcd-password-file", "FILE", "the file with its password"),
             over_etcd(
                 EtcdName::HostLease,
                 "--host-lease",

@@ -438,11 +438,11 @@ mod tests {
         let words = "--endpoints http://a,http://b --prefix wozgirt --name x --lease 10";
         assert_eq!(cluster.words().join(" "), words);
         let settings = read(
-            "--journal j --etcd e --name x.1 --prefix p/q --cacert c --cert d --key f --host-lease 1.5 --checkpoint 9 \
+            "--journal j --etcd e --name x.1 --prefix p/q --cacert c --cert d --key f --etcd-user u --etcd-password-file v --host-lease 1.5 --checkpoint 9 \
              --log-program g",
         );
         let cluster = settings.unwrap().cluster.unwrap();
-        let words = "--endpoints e --prefix p/q --name x.1 --lease 2 --cacert c --cert d --key f";
+        let words = "--endpoints e --prefix p/q --name x.1 --lease 2 --cacert c --cert d --key f --etcd-user u --etcd-password-file v";
         assert_eq!(cluster.words().join(" "), words);
         assert_eq!((cluster.checkpoint, &*cluster.program), (9, "g"));
     }

@@ -14,7 +14,7 @@ pub struct OverEtcd {
     pub name: String,
     /// What all keys begin with.
     pub prefix: String,
-    /// Files for TLS, each with its word.
+    /// What this server shows to etcd: files for TLS, a user and the file with its password, each with its word.
     pub files: Vec<(&'static str, String)>,
     /// The lease of this server.
     pub host_lease: Duration,
@@ -46,6 +46,8 @@ impl ReadingOverEtcd {
             EtcdName::Authority => self.files.push(("--cacert", value.into())),
             EtcdName::Certificate => self.files.push(("--cert", value.into())),
             EtcdName::Key => self.files.push(("--key", value.into())),
+            EtcdName::User => self.files.push(("--etcd-user", value.into())),
+            EtcdName::PasswordFile => self.files.push(("--etcd-password-file", value.into())),
             EtcdName::HostLease => self.host_lease = Some(seconds(value).filter(|time| time.as_secs() > 0)?),
             EtcdName::Checkpoint => self.checkpoint = Some(value.parse().ok().filter(|&lines| lines > 0)?),
             EtcdName::Program => self.log_program = Some(value.into()),
