@@ -24,7 +24,10 @@ mod tests {
 
     #[test]
     fn names_and_numbers() {
-        assert_eq!((user_number("root"), group_number("root"), user_name(0).as_deref()), (Some(0), Some(0), Some("root")));
+        assert_eq!(
+            (user_number("root"), group_number("root"), user_name(0).as_deref()),
+            (Some(0), Some(0), Some("root"))
+        );
         for name in ["", "nobody has this name", "ro\0ot", ":", &"n".repeat(4000)] {
             assert_eq!((user_number(name), group_number(name)), (None, None), "{name:?}");
         }

@@ -120,7 +120,10 @@ mod tests {
     fn names_of_rules() {
         let text = String::from("lock a: root %root # no more\nlock b: *");
         let accounts = Accounts::of_rules_aside(text).unwrap().recv().unwrap();
-        assert_eq!((accounts.users, accounts.groups), ([("root".into(), Some(0))].into(), [("root".into(), Some(0))].into()));
+        assert_eq!(
+            (accounts.users, accounts.groups),
+            ([("root".into(), Some(0))].into(), [("root".into(), Some(0))].into())
+        );
     }
 
     #[test]

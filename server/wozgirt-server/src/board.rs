@@ -2,14 +2,38 @@
 //! how many clients may wait.
 
 mod any;
+#[cfg(test)]
+mod tests;
 
 pub use any::Any;
 
 use crate::log::Utc;
 use crate::names::{ByName, Names};
+use crate::shares::{Guest, Share};
 use std::collections::{HashMap, VecDeque};
 use std::time::{Duration, Instant};
-use wozgirt_engine::{Client, Label, Lock, Stats, Token, NOBODY};
+use wozgirt_engine::{Client, Input, Label, Lock, Stats, Token, NOBODY};
+
+/// A client, and on whose account what it has is.
+#[derive(Debug, Clone, Copy, PartialEq, Eq)]
+pub struct Party {
+    /// The client.
+    pub client: Client,
+    /// On whose account.
+    pub guest: Guest,
+}
+
+impl From<Client> for Party {
+    fn from(client: Client) -> Party {
+        Party { client, guest: Guest::UNKNOWN }
+    }
+}
+
+impl From<(Client, Guest)> for Party {
+    fn from((client, guest): (Client, Guest)) -> Party {
+        Party { client, guest }
+    }
+}
 
 /// The holder of a lock.
 #[derive(Debug, Clone, Copy, PartialEq, Eq)]
@@ -33,6 +57,8 @@ pub struct Waiter {
     pub label: Label,
     /// Since when.
     pub since: Instant,
+    /// On whose account it waits.
+    pub guest: Guest,
 }
 
 /// A fault that an operator wrote. The engine repairs it before it answers.
@@ -71,8 +97,11 @@ pub struct Sight {
     pub faults: u64,
     /// The last of them.
     pub last_fault: Option<Fault>,
-    /// How many acquires the engine has not answered yet.
+    /// How many acquires the engine has not answered yet; and, of a name that is not in the list, tries.
     asked: usize,
+    tried: usize,
+    /// On whose account the name is: the holder's, or that of the client that asked for it first.
+    payer: Guest,
     /// Whether it is of the list; the number of one of another name.
     is_listed: bool,
     number: u64,
@@ -92,6 +121,8 @@ impl Sight {
             faults: 0,
             last_fault: None,
             asked: 0,
+            tried: 0,
+            payer: Guest::UNKNOWN,
             is_listed: true,
             number: 0,
         }
@@ -104,7 +135,7 @@ impl Sight {
 
     /// Whether a client has something of it, or asks for it.
     pub fn is_used(&self) -> bool {
-        self.holder.is_some() || !self.line.is_empty() || self.asked > 0
+        self.holder.is_some() || !self.line.is_empty() || self.asked + self.tried > 0
     }
 
     /// Whether one more client might be too many in the queue. The first that asks for a free lock does not wait.
@@ -117,12 +148,14 @@ impl Sight {
     fn forget(&mut self) {
         self.holder = None;
         self.line.clear();
-        self.asked = 0;
+        (self.asked, self.tried) = (0, 0);
     }
 
     /// The client holds it: how long that had waited.
-    fn grant(&mut self, client: Client, token: Token, label: Option<Label>, now: Instant) -> Duration {
+    fn grant(&mut self, party: Party, token: Token, label: Option<Label>, now: Instant) -> Duration {
+        let Party { client, guest } = party;
         let waiter = self.take_waiter(client);
+        self.payer = waiter.map_or(guest, |waiter| waiter.guest);
         let waited = waiter.map_or(Duration::ZERO, |waiter| now.saturating_duration_since(waiter.since));
         self.hold(Holder { client, token, label: label.or(waiter.map(|it| it.label)), since: now });
         self.grants += 1;
@@ -135,6 +168,15 @@ impl Sight {
     fn hold(&mut self, holder: Holder) {
         self.passes = if self.is_listed { self.passes.max(holder.token) } else { self.passes + 1 };
         self.holder = Some(holder);
+    }
+
+    /// How many acquires, or tries, the engine has not answered.
+    fn asked_of(&mut self, is_acquire: bool) -> &mut usize {
+        if is_acquire {
+            &mut self.asked
+        } else {
+            &mut self.tried
+        }
     }
 
     fn take_waiter(&mut self, client: Client) -> Option<Waiter> {
@@ -280,19 +322,50 @@ impl Board {
         self.lock(lock).is_some_and(|sight| sight.is_full(most))
     }
 
-    /// An acquire goes to the engine.
-    pub fn asked(&mut self, lock: &Lock) {
-        self.change(lock, true, |sight| sight.asked += 1);
+    /// An input goes to the engine.
+    pub fn asked(&mut self, input: &Input, guest: Guest) {
+        let (lock, is_acquire) = match input {
+            Input::Acquire { lock, .. } => (lock, true),
+            Input::Try { lock, .. } if !self.is_listed(lock) => (lock, false),
+            _ => return,
+        };
+        self.change(lock, true, |sight| {
+            if !sight.is_used() {
+                sight.payer = guest;
+            }
+            *sight.asked_of(is_acquire) += 1;
+        });
     }
 
-    /// An acquire was answered, or its client is gone.
-    pub fn asked_no_longer(&mut self, lock: &str) {
-        self.change(lock, false, |sight| sight.asked = sight.asked.saturating_sub(1));
+    /// An input was answered, or its client is gone.
+    pub fn asked_no_longer(&mut self, input: &Input) {
+        let (lock, is_acquire) = match input {
+            Input::Acquire { lock, .. } => (lock, true),
+            Input::Try { lock, .. } if !self.is_listed(lock) => (lock, false),
+            _ => return,
+        };
+        self.change(lock, false, |sight| {
+            let count = sight.asked_of(is_acquire);
+            *count = count.saturating_sub(1);
+        });
+    }
+
+    /// Whether this guest may have something of the lock: it is in the list, or in use, or of the names that may be in use there is one
+    /// left for this guest.
+    pub fn has_name_for(&self, lock: &str, guest: Guest, share: Share) -> bool {
+        let Some(any) = self.any.as_ref().filter(|_| !self.is_listed(lock)) else { return true };
+        any.lock(lock).is_some_and(Sight::is_used) || share.permits(any.payers(), guest)
     }
 
     /// The client is at the end of the queue.
-    pub fn waits(&mut self, lock: &str, client: Client, label: Label, now: Instant) {
-        self.change(lock, true, |sight| sight.line.push_back(Waiter { client, label, since: now }));
+    pub fn waits(&mut self, lock: &str, party: impl Into<Party>, label: Label, now: Instant) {
+        let Party { client, guest } = party.into();
+        self.change(lock, true, |sight| {
+            if !sight.is_used() {
+                sight.payer = guest;
+            }
+            sight.line.push_back(Waiter { client, label, since: now, guest });
+        });
     }
 
     /// The client waits no longer.
@@ -301,14 +374,17 @@ impl Board {
     }
 
     /// The client holds the lock. The label of one that waited is known.
-    pub fn granted(&mut self, lock: &str, client: Client, token: Token, label: Option<Label>, now: Instant) {
-        let waited = self.change(lock, true, |sight| sight.grant(client, token, label, now));
+    pub fn granted(&mut self, lock: &str, party: impl Into<Party>, token: Token, label: Option<Label>, now: Instant) {
+        let party = party.into();
+        let waited = self.change(lock, true, |sight| sight.grant(party, token, label, now));
         waited.into_iter().for_each(|waited| self.waits.count(waited));
     }
 
     /// The client holds the lock since before this server started.
-    pub fn holds(&mut self, lock: &str, client: Client, token: Token, now: Instant) {
+    pub fn holds(&mut self, lock: &str, party: impl Into<Party>, token: Token, now: Instant) {
+        let Party { client, guest } = party.into();
         self.change(lock, true, |sight| {
+            sight.payer = guest;
             sight.holder = Some(Holder { client, token, label: None, since: now });
         });
     }
@@ -380,68 +456,5 @@ impl TakeIfHeldBy for Option<Holder> {
             *self = None;
         }
         is_held
-    }
-}
-
-#[cfg(test)]
-mod tests {
-    use super::*;
-
-    fn board() -> Board {
-        Board::new(&Names::parse("a,b").unwrap())
-    }
-
-    #[test]
-    fn a_hand_over() {
-        let (mut board, start) = (board(), Instant::now());
-        board.granted("a", 1, 1, Some(77), start);
-        board.asked(&"a".parse().unwrap());
-        assert!(board.locks()[0].is_full(1) && !board.locks()[0].is_full(2));
-        assert!(!board.locks()[1].is_full(0));
-        board.asked_no_longer("a");
-        board.waits("a", 2, 78, start);
-        board.waits("a", 3, 79, start);
-        board.released("a", 2); // does not hold it
-        assert_eq!(board.locks()[0].holder.unwrap().client, 1);
-        board.released("a", 1);
-        assert_eq!(board.locks()[0].holder, None);
-        board.granted("a", 2, 2, None, start + Duration::from_millis(5));
-        let sight = &board.locks()[0];
-        let holder = Holder { client: 2, token: 2, label: Some(78), since: start + Duration::from_millis(5) };
-        assert_eq!(sight.holder, Some(holder));
-        assert_eq!((sight.grants, sight.longest_wait, sight.line.len()), (2, Duration::from_millis(5), 1));
-        assert!(board.left("a", 2) && !board.left("a", 2) && !board.left("c", 2));
-        assert_eq!(
-            (board.all_waits().counts[0], board.all_waits().counts[2], board.all_waits().sum.as_millis()),
-            (1, 1, 5)
-        );
-        board.waits_no_longer("a", 3);
-        assert_eq!((board.locks()[0].holder, board.locks()[0].line.len()), (None, 0));
-    }
-
-    #[test]
-    fn a_restart() {
-        let (mut board, now) = (board(), Instant::now());
-        board.granted("a", 5, 9, Some(1), now);
-        board.waits("a", 6, 1, now);
-        board.forget();
-        let stats = Stats { lock: "a", machines: 8, waiters: 0, passes: 9, holder: NOBODY, token: 9 };
-        assert!(board.begin(&stats, now));
-        assert_eq!(board.locks()[0].holder.unwrap().client, NOBODY);
-        assert!(board.left("a", NOBODY));
-        assert!(!board.begin(&Stats { token: 0, ..stats }, now));
-        assert!(!board.begin(&Stats { holder: 7, ..stats }, now));
-    }
-
-    #[test]
-    fn another_list() {
-        let mut board = board();
-        board.granted("b", 5, 9, Some(1), Instant::now());
-        for list in [&["a", "b", "c"][..], &["b"], &["x", "b"]] {
-            board.take(&Names::parse(&list.join(",")).unwrap());
-            assert_eq!(board.locks().iter().map(|sight| &*sight.lock).collect::<Vec<_>>(), list);
-            assert!(list.iter().all(|name| board.lock(name).unwrap().lock == *name));
-            assert_eq!((board.lock("b").unwrap().grants, board.lock("d").is_none()), (1, true));
-        }
     }
 }

@@ -3,8 +3,8 @@
 use crate::cluster::Who;
 use crate::log::End;
 use crate::outbox::Outbox;
-use crate::places::Guest;
 use crate::requests::LONGEST_LINE;
+use crate::shares::Guest;
 use crate::status::Listing;
 use crate::stream::Stream;
 use std::collections::VecDeque;
@@ -19,6 +19,8 @@ pub const SHARE: usize = 4 << 10;
 pub const MOST_PENDING: usize = 128;
 /// How many shares are read of a connection that is to be closed.
 const MOST_DRAINED: usize = 16;
+/// How long a session that holds nothing and waits for nothing is kept after an answer, for a client that comes back and asks again.
+const LONGEST_ANSWER: Duration = Duration::from_secs(10);
 
 /// The door through which a connection came.
 #[derive(Debug, Clone, Copy, PartialEq, Eq)]
@@ -70,6 +72,25 @@ pub struct Seat {
     pub session: Option<Client>,
     /// Whether the session is over when its client closes the connection.
     pub is_attached: bool,
+    /// When the client was answered last.
+    answered: Instant,
+}
+
+impl Seat {
+    /// The seat of a client that gives its key now.
+    pub fn keyed(key: u64, session: Option<Client>, is_attached: bool, now: Instant) -> Seat {
+        Seat { key, is_keyed: true, last: 0, has_left: false, session, is_attached, answered: now }
+    }
+
+    /// That of one for which the server has drawn a key.
+    pub fn drawn(key: u64, now: Instant) -> Seat {
+        Seat { key, is_keyed: false, last: 0, has_left: true, session: None, is_attached: false, answered: now }
+    }
+
+    /// Until when a session that has nothing but an answer is of use to its client, which may not have heard that.
+    pub fn is_wanted_until(&self) -> Instant {
+        self.answered + LONGEST_ANSWER
+    }
 }
 
 /// A client that has come in at a door.
@@ -184,6 +205,11 @@ impl Connection {
             has_listing: false,
             late: Vec::new(),
         }
+    }
+
+    /// Its client is answered.
+    pub fn note_answered(&mut self, now: Instant) {
+        self.seat.iter_mut().for_each(|seat| seat.answered = now);
     }
 
     /// The user or address at the other end, as far as sessions are concerned.

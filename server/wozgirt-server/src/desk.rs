@@ -1,9 +1,11 @@
 //! Between the connections and the engine: lines of a connection become inputs, and answers become lines.
 
 mod holding;
+mod parts;
 mod waiting;
 mod withdrawing;
 
+pub(crate) use parts::Parts;
 pub(crate) use withdrawing::NotPermitted;
 
 use crate::board::Board;
@@ -65,6 +67,8 @@ pub struct Desk {
     pub board: Board,
     /// What is counted.
     pub sums: Sums,
+    /// What was said of those that have their part.
+    pub parts: Parts,
     /// The log.
     pub log: Log,
     /// A single server, or one of several.
@@ -263,22 +267,26 @@ impl Desk {
         if is_for_it && self.mode.has_enough(connection, name, self.settings.most_holds) {
             return Err("many");
         }
-        match verb {
+        if is_for_it && !self.has_name_for(connection, name) {
+            return Err("names");
+        }
+        let input = match verb {
             Verb::Acquire(label) => {
                 if self.board.is_full(name, self.settings.waiters) && !self.mode.has(connection, name) {
                     return Err("waiters");
                 }
-                self.board.asked(&lock);
-                Ok(Input::Acquire { lock, label })
+                Input::Acquire { lock, label }
             }
-            Verb::Try(label) => Ok(Input::Try { lock, label }),
-            Verb::Release(token) => Ok(Input::Release { lock, token }),
-            Verb::Cancel => Ok(Input::Cancel { lock }),
-            Verb::Stats => Ok(Input::Stats { lock }),
-            Verb::Corrupt { .. } if !self.settings.permits_faults => Err("off"),
-            Verb::Corrupt { machine, value } => Ok(Input::Corrupt { lock, machine, value }),
-            Verb::End(token) => Ok(Input::Release { lock, token }),
-        }
+            Verb::Try(label) => Input::Try { lock, label },
+            Verb::Release(token) => Input::Release { lock, token },
+            Verb::Cancel => Input::Cancel { lock },
+            Verb::Stats => Input::Stats { lock },
+            Verb::Corrupt { .. } if !self.settings.permits_faults => return Err("off"),
+            Verb::Corrupt { machine, value } => Input::Corrupt { lock, machine, value },
+            Verb::End(token) => Input::Release { lock, token },
+        };
+        self.board.asked(&input, connection.guest);
+        Ok(input)
     }
 
     /// An operator ends a hold. What servers share a log of is ended with its session.
@@ -360,19 +368,18 @@ impl Desk {
     /// What the answer to an input changes on the board and at the connection.
     fn note(&mut self, connection: &mut Connection, input: &Input, answer: &Answer<'_>) -> Result<(), Unasked> {
         let client = connection.client;
-        if let Input::Acquire { lock, .. } = input {
-            self.board.asked_no_longer(lock);
-        }
+        self.board.asked_no_longer(input);
+        let party = (client, connection.guest);
         match (input, answer) {
             (Input::Acquire { lock, label } | Input::Try { lock, label }, Answer::Granted { lock: l, token })
                 if lock == l =>
             {
                 connection.holds.push(lock.clone());
-                self.board.granted(lock, client, *token, Some(*label), self.now);
+                self.board.granted(lock, party, *token, Some(*label), self.now);
             }
             (Input::Acquire { lock, label }, Answer::Waiting { lock: l, .. }) if lock == l => {
                 connection.waits_for = Some(lock.clone());
-                self.board.waits(lock, client, *label, self.now);
+                self.board.waits(lock, party, *label, self.now);
             }
             (Input::Release { lock, .. }, Answer::Released { lock: l }) if lock == l => {
                 connection.holds.retain(|held| held != lock);
@@ -407,17 +414,17 @@ impl Desk {
 
     /// The connection is gone: the engine hears it, and the log.
     pub fn part(&mut self, connection: &mut Connection, end: End) {
+        let mut is_asking = false;
         for pending in std::mem::take(&mut connection.pending) {
-            if let Pending::Asked(Input::Acquire { lock, .. }) | Pending::Numbered(_, Input::Acquire { lock, .. }) =
-                pending
-            {
-                self.board.asked_no_longer(&lock);
+            if let Pending::Asked(input) | Pending::Numbered(_, input) = pending {
+                self.board.asked_no_longer(&input);
+                is_asking = true;
             }
         }
         self.step_out(connection);
         let held = match self.mode {
             Mode::Alone(_) => self.end_plain(connection, end),
-            Mode::InLog(_) => self.end_seat(connection, end),
+            Mode::InLog(_) => self.end_seat(connection, end, is_asking),
         };
         self.questions.askers -= usize::from(connection.asked > 0);
         self.sums.ended(end);

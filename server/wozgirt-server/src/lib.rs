@@ -34,6 +34,7 @@ mod retention;
 pub mod rules;
 mod server;
 pub mod settings;
+mod shares;
 mod status;
 mod stream;
 mod sums;

@@ -76,6 +76,28 @@ impl End {
     }
 }
 
+/// What each user and address has a part of.
+#[derive(Debug, Clone, Copy, PartialEq, Eq, Hash, PartialOrd, Ord)]
+pub enum Of {
+    /// Sessions, those of clients that are away included.
+    Sessions,
+    /// Locks in use that are not in the list.
+    Names,
+}
+
+impl Of {
+    /// Each of them.
+    pub const ALL: [Of; 2] = [Of::Sessions, Of::Names];
+
+    /// One word for it.
+    pub fn word(self) -> &'static str {
+        match self {
+            Of::Sessions => "sessions",
+            Of::Names => "names",
+        }
+    }
+}
+
 /// Something that happened.
 #[allow(missing_docs)] // the texts below say what they are
 pub enum Event<'a> {
@@ -86,46 +108,156 @@ pub enum Event<'a> {
         socket: &'a dyn fmt::Display,
         engine: &'a EngineVersion,
     },
-    Listening { what: &'a str, place: &'a dyn fmt::Display },
-    EngineStarted { process: u32, grace: Duration },
-    EngineReady { held: usize },
-    EngineEnded { status: String },
-    EngineSaid { line: &'a str },
-    EngineUnreadable { line: String, fault: Option<NotALine> },
-    EngineSilent { time: Duration },
-    EngineAnswers { time: Duration },
-    EngineHangs { time: Duration },
+    Listening {
+        what: &'a str,
+        place: &'a dyn fmt::Display,
+    },
+    EngineStarted {
+        process: u32,
+        grace: Duration,
+    },
+    EngineReady {
+        held: usize,
+    },
+    EngineEnded {
+        status: String,
+    },
+    EngineSaid {
+        line: &'a str,
+    },
+    EngineUnreadable {
+        line: String,
+        fault: Option<NotALine>,
+    },
+    EngineSilent {
+        time: Duration,
+    },
+    EngineAnswers {
+        time: Duration,
+    },
+    EngineHangs {
+        time: Duration,
+    },
     GraceOver,
-    HoldEnded { by: &'a str, lock: &'a str, token: Token, client: Client },
-    SegmentRemoved { name: &'a str, digest: &'a str },
-    SegmentsStay { fault: &'a std::io::Error },
+    HoldEnded {
+        by: &'a str,
+        lock: &'a str,
+        token: Token,
+        client: Client,
+    },
+    SegmentRemoved {
+        name: &'a str,
+        digest: &'a str,
+    },
+    SegmentsStay {
+        fault: &'a std::io::Error,
+    },
     RulesRead,
-    RulesBad { fault: &'a dyn fmt::Display },
-    RulesUnknown { who: &'a dyn fmt::Display },
-    Came { client: Client, who: &'a str },
-    Went { client: Client, who: &'a str, end: End, held: &'a str },
-    TooMany { who: &'a str },
-    Fault { client: Client, who: &'a str, lock: &'a str, machine: u64, value: u64, old: u64 },
-    Visitor { address: &'a str, why: &'static str },
-    Stopping { why: &'a str },
-    CannotAccept { fault: &'a std::io::Error },
+    RulesBad {
+        fault: &'a dyn fmt::Display,
+    },
+    RulesUnknown {
+        who: &'a dyn fmt::Display,
+    },
+    Came {
+        client: Client,
+        who: &'a str,
+    },
+    Went {
+        client: Client,
+        who: &'a str,
+        end: End,
+        held: &'a str,
+    },
+    TooMany {
+        who: &'a str,
+    },
+    PartFull {
+        who: &'a str,
+        of: Of,
+        has: usize,
+        all: usize,
+    },
+    Fault {
+        client: Client,
+        who: &'a str,
+        lock: &'a str,
+        machine: u64,
+        value: u64,
+        old: u64,
+    },
+    Visitor {
+        address: &'a str,
+        why: &'static str,
+    },
+    Stopping {
+        why: &'a str,
+    },
+    CannotAccept {
+        fault: &'a std::io::Error,
+    },
     Stopped,
-    LogStarted { process: u32 },
-    LogEnded { status: String },
-    LogSaid { line: &'a str },
-    LogUnreadable { line: &'a str },
-    LogLeft { why: &'a str },
+    LogStarted {
+        process: u32,
+    },
+    LogEnded {
+        status: String,
+    },
+    LogSaid {
+        line: &'a str,
+    },
+    LogUnreadable {
+        line: &'a str,
+    },
+    LogLeft {
+        why: &'a str,
+    },
     LogFull,
-    LogJoined { identity: &'a str, server: &'a dyn fmt::Display, position: u64 },
-    ServerOver { server: &'a dyn fmt::Display, position: u64 },
-    MoreLocks { count: usize, own: usize, list: &'a str },
-    SessionRefused { who: &'a str },
-    SessionOver { session: Client, held: &'a str },
-    SessionsKept { sessions: usize, held: usize },
-    SessionsUnkept { fault: &'a std::io::Error },
-    Contradiction { name: &'a str, position: u64 },
-    HostAway { name: &'a str, seconds: u64 },
-    Checkpoint { position: u64, segment: u64 },
+    LogJoined {
+        identity: &'a str,
+        server: &'a dyn fmt::Display,
+        position: u64,
+    },
+    ServerOver {
+        server: &'a dyn fmt::Display,
+        position: u64,
+    },
+    MoreLocks {
+        count: usize,
+        own: usize,
+        list: &'a str,
+    },
+    SessionRefused {
+        who: &'a str,
+    },
+    SessionOver {
+        session: Client,
+        held: &'a str,
+    },
+    SessionEnded {
+        by: &'a str,
+        session: Client,
+        held: &'a str,
+    },
+    SessionsKept {
+        sessions: usize,
+        held: usize,
+    },
+    SessionsUnkept {
+        fault: &'a std::io::Error,
+    },
+    Contradiction {
+        name: &'a str,
+        position: u64,
+    },
+    HostAway {
+        name: &'a str,
+        seconds: u64,
+    },
+    Checkpoint {
+        position: u64,
+        segment: u64,
+    },
 }
 
 impl Event<'_> {
@@ -152,6 +284,7 @@ impl Event<'_> {
             Event::Came { .. } => "client-came",
             Event::Went { .. } => "client-went",
             Event::TooMany { .. } => "client-refused",
+            Event::PartFull { .. } => "part-full",
             Event::Fault { .. } => "fault",
             Event::Visitor { .. } => "visitor-refused",
             Event::Stopping { .. } => "stopping",
@@ -168,6 +301,7 @@ impl Event<'_> {
             Event::MoreLocks { .. } => "more-locks",
             Event::SessionRefused { .. } => "session-refused",
             Event::SessionOver { .. } => "session-over",
+            Event::SessionEnded { .. } => "session-ended",
             Event::SessionsKept { .. } => "sessions-kept",
             Event::SessionsUnkept { .. } => "sessions-unkept",
             Event::Contradiction { .. } => "contradiction",
@@ -224,6 +358,9 @@ impl fmt::Display for Event<'_> {
                 }
             }
             Event::TooMany { who } => write!(f, "refused, too many connections: {who}"),
+            Event::PartFull { who, of, has, all } => {
+                write!(f, "refused, one more of {}: {who}; {has} of {all} are this user's, or address's", of.word())
+            }
             Event::Fault { client, who, lock, machine, value, old } => {
                 write!(f, "fault by client {client} ({who}): lock {lock}, machine {machine}, {value} over {old}")
             }
@@ -252,6 +389,9 @@ impl fmt::Display for Event<'_> {
             }
             Event::SessionsUnkept { fault } => {
                 write!(f, "sessions cannot be kept beside the journal, and do not outlive this server: {fault}")
+            }
+            Event::SessionEnded { by, session, held } => {
+                write!(f, "session {session}, whose client is away, ended by an operator ({by}); it held {held}")
             }
             Event::SessionOver { session, held } => write!(f, "session {session} did not come back; it held {held}"),
             Event::Contradiction { name, position } => {

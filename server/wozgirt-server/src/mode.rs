@@ -5,11 +5,26 @@ use crate::cluster::Cluster;
 use crate::connection::Connection;
 use crate::pages::InLog;
 use crate::questions::Questions;
-use std::time::Instant;
+use crate::shares::{Counts, Guest};
+use std::time::{Duration, Instant};
 use wozgirt_engine::{Client, Lock};
 
 /// With this many lines that wait to be put into the log, no more are taken.
 const MOST_FOR_LOG: usize = 10_000;
+
+/// A session whose client is away.
+pub struct Away {
+    /// Its number.
+    pub number: Client,
+    /// How much longer its client may be away.
+    pub left: Duration,
+    /// The locks that it holds.
+    pub holds: Vec<Lock>,
+    /// The lock that it waits for.
+    pub waits: Option<Lock>,
+    /// On whose account it is.
+    pub guest: Guest,
+}
 
 /// How a server is run.
 pub enum Mode {
@@ -33,6 +48,40 @@ impl Mode {
         match self {
             Mode::Alone(_) => None,
             Mode::InLog(cluster) => Some(cluster),
+        }
+    }
+
+    /// How many sessions there are, and on whose account: in the log, those of all servers.
+    pub fn sessions(&self) -> Option<&Counts> {
+        match self {
+            Mode::Alone(alone) => Some(alone.counts()),
+            Mode::InLog(cluster) => Some(cluster.mirror.parties()),
+        }
+    }
+
+    /// The sessions of this server whose clients are away, in the order of their numbers.
+    pub fn away(&self, now: Instant) -> Vec<Away> {
+        match self {
+            Mode::Alone(alone) => {
+                let away = alone.away().map(|(number, it)| Away {
+                    number,
+                    left: it.left(now),
+                    holds: it.held(),
+                    waits: it.waits.as_ref().map(|place| place.lock.clone()),
+                    guest: it.guest,
+                });
+                away.collect()
+            }
+            Mode::InLog(cluster) => {
+                let away = cluster.owns.away().filter_map(|(key, until)| {
+                    let (number, standing) = (cluster.owns.session(key)?, cluster.standing(key));
+                    let (left, guest) = (until.saturating_duration_since(now), cluster.mirror.party(number).guest);
+                    Some(Away { number, left, holds: standing.held(), waits: standing.waits, guest })
+                });
+                let mut away: Vec<Away> = away.collect();
+                away.sort_unstable_by_key(|it| it.number);
+                away
+            }
         }
     }
 

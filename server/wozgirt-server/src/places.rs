@@ -2,8 +2,7 @@
 
 use crate::connection::Door;
 use crate::settings::Settings;
-use std::collections::HashMap;
-use std::net::{IpAddr, Ipv4Addr, Ipv6Addr};
+use crate::shares::{Counts, Guest, Share};
 
 /// How many operators there may be at once.
 const OPERATORS: usize = 32;
@@ -11,50 +10,19 @@ const OPERATORS: usize = 32;
 const MOST_EXTRA: usize = 64;
 const MOST_FEW: usize = 8;
 
-/// On whose account a connection is.
-#[derive(Debug, Clone, Copy, PartialEq, Eq, Hash)]
-pub enum Guest {
-    /// A user of this machine, or nobody knows who.
-    User(Option<u32>),
-    /// An address; those of the loopback are one, and so are the IPv6 addresses of one network.
-    Address(IpAddr),
-}
-
-impl Guest {
-    /// Whoever comes from this address.
-    pub fn at(address: IpAddr) -> Guest {
-        let mapped = if let IpAddr::V6(it) = address { it.to_ipv4_mapped().map(IpAddr::V4) } else { None };
-        Guest::Address(match mapped.unwrap_or(address) {
-            IpAddr::V4(it) if it.is_loopback() => Ipv4Addr::LOCALHOST.into(),
-            IpAddr::V6(it) => {
-                let [a, b, c, d, ..] = it.segments();
-                Ipv6Addr::new(a, b, c, d, 0, 0, 0, 0).into()
-            }
-            it => it,
-        })
-    }
-}
-
-/// The places at one door.
-#[derive(Debug, Default)]
-struct AtDoor {
-    taken: usize,
-    by: HashMap<Guest, usize>,
-}
-
 /// All places.
 #[derive(Debug)]
 pub struct Places {
     most: usize,
-    clients: AtDoor,
-    network: AtDoor,
-    operators: AtDoor,
+    clients: Counts,
+    network: Counts,
+    operators: Counts,
 }
 
 impl Places {
     /// This many for clients at each door, all of them free.
     pub fn new(most: usize) -> Places {
-        Places { most, clients: AtDoor::default(), network: AtDoor::default(), operators: AtDoor::default() }
+        Places { most, clients: Counts::default(), network: Counts::default(), operators: Counts::default() }
     }
 
     /// How many connections there may be in all.
@@ -63,7 +31,7 @@ impl Places {
         OPERATORS + doors * (settings.connections + extra(settings.connections))
     }
 
-    fn at(&mut self, door: Door) -> &mut AtDoor {
+    fn at(&mut self, door: Door) -> &mut Counts {
         match door {
             Door::Clients => &mut self.clients,
             Door::Network => &mut self.network,
@@ -73,30 +41,23 @@ impl Places {
 
     /// Takes a place, if there is one for this guest.
     pub fn take(&mut self, door: Door, guest: Guest) -> bool {
-        let (most, extra, few) = match door {
-            Door::Operators => (OPERATORS, 0, 0),
-            Door::Clients | Door::Network => (self.most, extra(self.most), (self.most / 8).clamp(1, MOST_FEW)),
+        let share = match door {
+            Door::Operators => Share::new(OPERATORS, 0, 0),
+            Door::Clients | Door::Network => {
+                Share::new(self.most, extra(self.most), (self.most / 8).clamp(1, MOST_FEW))
+            }
         };
         let at = self.at(door);
-        let has_few = at.by.get(&guest).copied().unwrap_or(0) < few;
-        let is_let_in = at.taken < most || has_few && at.taken < most + extra;
+        let is_let_in = share.permits(at, guest);
         if is_let_in {
-            at.taken += 1;
-            *at.by.entry(guest).or_default() += 1;
+            at.add(guest);
         }
         is_let_in
     }
 
     /// Gives back a place that was taken.
     pub fn give_back(&mut self, door: Door, guest: Guest) {
-        let at = self.at(door);
-        at.taken -= 1;
-        if let Some(count) = at.by.get_mut(&guest) {
-            *count -= 1;
-            if *count == 0 {
-                at.by.remove(&guest);
-            }
-        }
+        self.at(door).remove(guest);
     }
 }
 
@@ -140,16 +101,6 @@ mod tests {
             assert_eq!(taken(&mut places, Door::Clients, user(7), 9), 3);
             (0..3).for_each(|_| places.give_back(Door::Clients, user(7)));
         }
-        assert!(places.clients.by.is_empty());
-    }
-
-    #[test]
-    fn addresses_of_one_host_are_one() {
-        let guest = |address: &str| Guest::at(address.parse().unwrap());
-        assert_eq!(guest("127.0.0.1"), guest("127.200.3.4"));
-        assert_eq!(guest("::ffff:127.0.0.1"), guest("127.0.0.1"));
-        assert_eq!(guest("2001:db8::1"), guest("2001:db8::2:1"));
-        assert_ne!(guest("2001:db8::1"), guest("2001:db8:0:1::1"));
-        assert_ne!(guest("10.0.0.1"), guest("10.0.0.2"));
+        assert_eq!(places.clients.all(), 0);
     }
 }

@@ -218,7 +218,10 @@ fn parts(line: &str) -> Option<(&str, &str)> {
 
 /// The users and groups in a text, a group with `%`.
 pub fn names_in(text: &str) -> impl Iterator<Item = &str> {
-    lines(text).filter_map(|(_, line)| parts(line)).flat_map(|(_, words)| words.split_whitespace()).filter(|word| *word != "*")
+    lines(text)
+        .filter_map(|(_, line)| parts(line))
+        .flat_map(|(_, words)| words.split_whitespace())
+        .filter(|word| *word != "*")
 }
 
 /// Whom these words let in, and those who are not known.

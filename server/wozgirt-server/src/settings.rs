@@ -146,10 +146,7 @@ impl From<BadWord> for BadWords {
 /// Reads the words after the program's name.
 ///
 /// `own`: where a single server is whose words do not say it.
-pub fn parse(
-    words: impl IntoIterator<Item = impl Into<OsString>>,
-    own: Option<OwnFolder>,
-) -> Result<Words, BadWords> {
+pub fn parse(words: impl IntoIterator<Item = impl Into<OsString>>, own: Option<OwnFolder>) -> Result<Words, BadWords> {
     let mut reading = Reading::default();
     let mut words = words.into_iter().map(Into::into);
     while let Some(word) = next_word(&mut words, options()) {
@@ -312,7 +309,22 @@ pub fn seconds(value: &str) -> Option<Duration> {
     (0.0..=31_536_000.0).contains(&seconds).then(|| Duration::from_secs_f64(seconds))
 }
 
+/// How many sessions there may be for each connection: those of clients that are away are some.
+const SESSIONS_EACH: usize = 8;
+/// How many locks may be held that are not in the list, if nothing is said.
+const MOST_NAMES: u32 = 65_536;
+
 impl Settings {
+    /// How many sessions there may be.
+    pub fn most_sessions(&self) -> usize {
+        SESSIONS_EACH * self.connections
+    }
+
+    /// How many locks may be held that are not in the list.
+    pub fn most_names(&self) -> usize {
+        self.most_names.unwrap_or(MOST_NAMES) as usize
+    }
+
     /// The folder of the engine's journal.
     pub fn engine_journal(&self) -> PathBuf {
         match self.cluster {

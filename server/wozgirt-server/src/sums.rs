@@ -1,6 +1,6 @@
 //! What is counted since the server started.
 
-use crate::log::End;
+use crate::log::{End, Of};
 use std::collections::BTreeMap;
 
 /// How many reasons of refusals are counted by themselves, at most.
@@ -16,6 +16,7 @@ pub struct Sums {
     /// Inputs that went to the engine.
     pub inputs: u64,
     refusals: BTreeMap<Box<str>, u64>,
+    parts: BTreeMap<Of, u64>,
     ends: BTreeMap<End, u64>,
 }
 
@@ -27,6 +28,16 @@ impl Sums {
         } else if self.refusals.len() < MOST_REASONS {
             self.refusals.insert(why.into(), 1);
         }
+    }
+
+    /// One more of this was refused to somebody, since it has its part, or all have theirs.
+    pub fn refused_part(&mut self, of: Of) {
+        *self.parts.entry(of).or_default() += 1;
+    }
+
+    /// How often that was so.
+    pub fn parts(&self, of: Of) -> u64 {
+        self.parts.get(&of).copied().unwrap_or(0)
     }
 
     /// A connection ended.

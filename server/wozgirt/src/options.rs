@@ -236,7 +236,11 @@ pub static OPTIONS: [OptionWord<Name>; 14] = [
     ),
     OptionWord::flag(Name::Group, "--group", "COMMAND gets a process group of its own, and signals go to all in it"),
     OptionWord::valued(Name::Every, "--every", "SECONDS", "how often `watch` prints [1]"),
-    OptionWord::flag(Name::Json, "--json", "`status` and `watch` print JSON: an array, with times in milliseconds, on one line"),
+    OptionWord::flag(
+        Name::Json,
+        "--json",
+        "`status` and `watch` print JSON: an array, with times in milliseconds, on one line",
+    ),
 ];
 
 const STATUSES: &str = "\

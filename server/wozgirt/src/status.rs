@@ -74,7 +74,9 @@ fn words(line: &str) -> Option<[&str; 10]> {
 }
 
 /// The cells of a lock.
-fn row(&[name, state, client, label, token, age, waiting, _oldest, grants, longest]: &[&str; 10]) -> Option<Vec<String>> {
+fn row(
+    &[name, state, client, label, token, age, waiting, _oldest, grants, longest]: &[&str; 10],
+) -> Option<Vec<String>> {
     let age = if age == "-" { "-".into() } else { time(age)? };
     let cells = [name, state, client, label, token, &age, waiting, grants, &time(longest)?];
     Some(cells.iter().map(|cell| cell.to_string()).collect())

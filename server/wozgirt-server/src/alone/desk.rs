@@ -1,12 +1,14 @@
 //! Between the connections and the engine: what the client of a session says, and what it is answered.
 
 use super::{Alone, Ask, At, NoSession, What};
-use crate::cluster::Key;
+use crate::board::Party;
+use crate::cluster::{Key, Line};
 use crate::connection::{Connection, Pending, Seat};
 use crate::desk::{Desk, Then, Unasked};
-use crate::log::{End, Event};
+use crate::log::{End, Event, Of};
 use crate::mode::Mode;
 use crate::requests::BadRequest;
+use crate::shares::Guest;
 use crate::turns::FIRST_TAG;
 use std::fmt::Write as _;
 use wozgirt_engine::{Answer, Client, Input, Label, Lock, NotALine, Token};
@@ -35,8 +37,7 @@ impl Desk {
         if !is_attached {
             connection.lease = Some(lease);
         }
-        let seat = Seat { key, is_keyed: true, last: 0, has_left: false, session: Some(session), is_attached };
-        connection.seat = Some(seat);
+        connection.seat = Some(Seat::keyed(key, Some(session), is_attached, self.now));
         connection.pending.push_back(Pending::Opening);
         self.tell_opened(connection);
         before.map_or(Then::Wait, Then::Moved)
@@ -44,8 +45,10 @@ impl Desk {
 
     fn refuse_session(&mut self, connection: &mut Connection, why: NoSession) -> Then {
         self.sums.refused("session");
-        if why == NoSession::Others {
-            self.log.say(&Event::SessionRefused { who: &connection.who });
+        match why {
+            NoSession::Others => self.log.say(&Event::SessionRefused { who: &connection.who }),
+            NoSession::Full => self.note_part(connection, Of::Sessions),
+            NoSession::Unkept => {}
         }
         connection.tell_in_order("refused session");
         Then::Wait
@@ -85,17 +88,24 @@ impl Desk {
         if let Some(session) = seat.session {
             return Some((session, None));
         }
-        let (session, before) = self.alone()?.come(seat.key, who, lease, client).ok()?;
-        seat.session = Some(session);
-        Some((session, before))
+        match self.alone()?.come(seat.key, who, lease, client) {
+            Ok((session, before)) => {
+                seat.session = Some(session);
+                Some((session, before))
+            }
+            Err(why) => {
+                if why == NoSession::Full {
+                    self.note_part(connection, Of::Sessions);
+                }
+                None
+            }
+        }
     }
 
     /// An input of a session goes to the engine, with its number.
     pub(crate) fn ask_for_session(&mut self, connection: &mut Connection, number: u64, input: Input) -> Then {
         let Some((session, before)) = self.session_of(connection) else {
-            if let Input::Acquire { lock, .. } = &input {
-                self.board.asked_no_longer(lock);
-            }
+            self.board.asked_no_longer(&input);
             self.sums.refused("session");
             connection.tell_in_order(format_args!("{number} refused session"));
             return Then::Wait;
@@ -175,8 +185,29 @@ impl Desk {
             return self.end_session(number, connection.tag);
         }
         let until = now + connection.lease.unwrap_or(longest);
+        let until = if session.is_idle() { until.min(seat.is_wanted_until()) } else { until };
+        if until <= now && !is_engine_gone {
+            return self.end_session(number, connection.tag);
+        }
         session.at = At::Away(Some(until).filter(|_| !is_engine_gone));
         session.held().join(",")
+    }
+
+    /// An operator ends the session with this number, whose client is away. Returns what it held, if there is one.
+    pub(crate) fn end_away(&mut self, number: Client) -> Option<String> {
+        match &mut self.mode {
+            Mode::Alone(alone) => {
+                alone.session(number).filter(|it| matches!(it.at, At::Away(Some(_))) && !it.is_left)?;
+                Some(self.end_session(number, FIRST_TAG))
+            }
+            Mode::InLog(cluster) => {
+                let (key, _) = cluster.owns.away().find(|(key, _)| cluster.owns.session(*key) == Some(number))?;
+                let held = cluster.standing(key).held().join(",");
+                cluster.owns.end_away(key);
+                cluster.put(Line::Gone(key));
+                Some(held)
+            }
+        }
     }
 
     /// Sessions whose clients have not come back are over.
@@ -212,10 +243,11 @@ impl Desk {
         label: Label,
         answer: &Answer<'_>,
     ) -> Result<(), Unasked> {
+        let party = self.party(session);
         match answer {
-            Answer::Waiting { lock: l, .. } if lock == *l => self.board.waits(l, session, label, self.now),
+            Answer::Waiting { lock: l, .. } if lock == *l => self.board.waits(l, party, label, self.now),
             Answer::Granted { lock: l, token } if lock == *l => {
-                self.board.waits(l, session, label, self.now);
+                self.board.waits(l, party, label, self.now);
                 self.granted_late(session, lock, *token);
             }
             Answer::Refused { .. } => {
@@ -245,15 +277,22 @@ impl Desk {
         Ok(())
     }
 
+    /// A session, and on whose account it is.
+    fn party(&mut self, session: Client) -> Party {
+        let guest = self.alone().and_then(|alone| alone.session(session)).map(|it| it.guest);
+        Party { client: session, guest: guest.unwrap_or(Guest::UNKNOWN) }
+    }
+
     fn note_on_board(&mut self, session: Client, input: &Input, answer: &Answer<'_>) -> Result<(), Unasked> {
+        let party = self.party(session);
         match (input, answer) {
             (Input::Acquire { lock, label } | Input::Try { lock, label }, Answer::Granted { lock: l, token })
                 if lock == l =>
             {
-                self.board.granted(lock, session, *token, Some(*label), self.now);
+                self.board.granted(lock, party, *token, Some(*label), self.now);
             }
             (Input::Acquire { lock, label }, Answer::Waiting { lock: l, .. }) if lock == l => {
-                self.board.waits(lock, session, *label, self.now);
+                self.board.waits(lock, party, *label, self.now);
             }
             (Input::Release { lock, .. }, Answer::Released { lock: l }) if lock == l => {
                 self.board.released(lock, session);
@@ -276,9 +315,10 @@ impl Desk {
     pub(crate) fn tell_done(&mut self, connection: &mut Connection, number: u64, answer: &Answer<'_>) {
         let its = |it: &Pending| matches!(it, Pending::Numbered(its, _) if *its == number);
         let Some(at) = connection.pending.iter().position(its) else { return };
-        if let Some(Pending::Numbered(_, Input::Acquire { lock, .. })) = connection.pending.remove(at) {
-            self.board.asked_no_longer(&lock);
+        if let Some(Pending::Numbered(_, input)) = connection.pending.remove(at) {
+            self.board.asked_no_longer(&input);
         }
+        connection.note_answered(self.now);
         self.note_answered(connection);
         if let Answer::Refused { why, .. } = answer {
             self.sums.refused(why.word());

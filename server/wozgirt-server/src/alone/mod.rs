@@ -21,6 +21,7 @@ pub use session::{Ask, At, Ended, Place, Session, What};
 pub use store::{Line, Store};
 
 use crate::cluster::{Key, Owner, Who};
+use crate::shares::{Counts, Share};
 use std::collections::{BTreeMap, BTreeSet, HashMap};
 use std::io;
 use std::path::PathBuf;
@@ -43,8 +44,10 @@ pub enum Start {
 pub enum NoSession {
     /// It is another client's.
     Others,
-    /// There are too many, or none can be kept.
+    /// There are too many, or this user, or address, has its part of them.
     Full,
+    /// None can be kept.
+    Unkept,
 }
 
 /// The sessions of a single server.
@@ -52,8 +55,9 @@ pub struct Alone {
     store: Option<Store>,
     sessions: BTreeMap<Client, Session>,
     keys: HashMap<Key, Client>,
-    /// How many there may be.
-    most: usize,
+    /// How many there may be, and on whose account those are that there are.
+    share: Share,
+    counts: Counts,
     /// The last number that a client or a session was given.
     pub last: Client,
     last_order: u64,
@@ -68,12 +72,13 @@ pub struct Alone {
 }
 
 impl Alone {
-    /// With the sessions of this store; without one there are none.
+    /// With the sessions of this store; without one there are none. There are at most this many, and an eighth more for those that have few.
     pub fn new(store: Option<Store>, most: usize) -> io::Result<Alone> {
         let mut alone = Alone {
             sessions: BTreeMap::new(),
             keys: HashMap::new(),
-            most,
+            share: Share::beyond(most),
+            counts: Counts::default(),
             last: 0,
             last_order: 0,
             start: Start::Serving,
@@ -95,10 +100,11 @@ impl Alone {
             Line::Last(number) => self.last = self.last.max(number),
             Line::Session(number, key, lease, owner) => {
                 self.last = self.last.max(number);
-                let known = self.sessions.entry(number);
-                let session = known.or_insert_with(|| Session::new(key, owner, lease, At::Away(None)));
-                (session.lease, session.owner) = (lease, owner);
-                self.keys.insert(key, number);
+                if let Some(session) = self.sessions.get_mut(&number) {
+                    (session.lease, session.owner) = (lease, owner);
+                } else {
+                    self.insert(number, Session::new(key, owner, lease, At::Away(None)));
+                }
             }
             Line::Has(StateLine::Hold { lock, token, client }) => {
                 self.change(client, |session| session.hold(lock, token));
@@ -127,8 +133,15 @@ impl Alone {
         self.change(number, |session| session.wait(Place { lock, label, order }));
     }
 
+    fn insert(&mut self, number: Client, session: Session) {
+        self.counts.add(session.guest);
+        self.keys.insert(session.key, number);
+        self.sessions.insert(number, session);
+    }
+
     fn remove(&mut self, number: Client) -> Option<Session> {
         let session = self.sessions.remove(&number)?;
+        self.counts.remove(session.guest);
         if self.keys.get(&session.key) == Some(&number) {
             self.keys.remove(&session.key);
         }
@@ -159,7 +172,7 @@ impl Alone {
         lease: Duration,
         client: Client,
     ) -> Result<(Client, Option<Client>), NoSession> {
-        let Some(store) = &mut self.store else { return Err(NoSession::Full) };
+        let Some(store) = &mut self.store else { return Err(NoSession::Unkept) };
         if let Some((number, session)) =
             self.keys.get(&key).and_then(|number| Some((number, self.sessions.get_mut(number)?)))
         {
@@ -170,7 +183,7 @@ impl Alone {
             self.changed.insert(*number);
             return Ok((*number, if let At::Here(before) = before { Some(before) } else { None }));
         }
-        if self.sessions.len() >= self.most {
+        if !self.share.permits(&self.counts, who.into()) {
             return Err(NoSession::Full);
         }
         let mut owner = Owner::default();
@@ -179,8 +192,7 @@ impl Alone {
         self.last += 1;
         let number = self.last;
         store.put(&Line::Session(number, key, lease, owner));
-        self.sessions.insert(number, Session::new(key, owner, lease, At::Here(client)));
-        self.keys.insert(key, number);
+        self.insert(number, Session::new(key, owner, lease, At::Here(client)));
         Ok((number, None))
     }
 
@@ -291,7 +303,8 @@ impl Alone {
         let Some(store) = &self.store else { return Ok(()) };
         let remarks = if self.sessions.is_empty() { Vec::new() } else { store.remarks()? };
         let has_news = self.hear_remarks(remarks);
-        self.sessions.retain(|_, session| !session.is_left);
+        let left: Vec<Client> = self.sessions.iter().filter(|(_, it)| it.is_left).map(|(number, _)| *number).collect();
+        left.into_iter().for_each(|number| _ = self.remove(number));
         for session in self.sessions.values_mut() {
             session.forget_asked();
             session.at = At::Away(None);
@@ -368,9 +381,15 @@ impl Alone {
         self.sessions.iter().flat_map(|(number, it)| it.holds.iter().map(|(lock, token)| (*number, lock, *token)))
     }
 
-    /// How many sessions there are.
-    pub fn count(&self) -> usize {
-        self.sessions.len()
+    /// How many sessions there are, and on whose account.
+    pub fn counts(&self) -> &Counts {
+        &self.counts
+    }
+
+    /// Those whose clients are away, in the order of their numbers.
+    pub fn away(&self) -> impl Iterator<Item = (Client, &Session)> + '_ {
+        let away = self.sessions.iter().filter(|(_, it)| matches!(it.at, At::Away(_)) && !it.is_left);
+        away.map(|(number, session)| (*number, session))
     }
 
     /// Clients can come back from now on.

@@ -3,6 +3,7 @@
 use super::holds::Holds;
 use super::Line;
 use crate::cluster::{Key, Owner};
+use crate::shares::Guest;
 use std::collections::VecDeque;
 use std::time::{Duration, Instant};
 use wozgirt_engine::{Answer, Answered, Client, Input, Label, Lock, StateLine, Token};
@@ -80,6 +81,8 @@ pub struct Session {
     pub key: Key,
     /// Whose it is.
     pub owner: Owner,
+    /// On whose account it is.
+    pub guest: Guest,
     /// How long its client may be away.
     pub lease: Duration,
     /// Where that is.
@@ -106,6 +109,7 @@ impl Session {
         Session {
             key,
             owner,
+            guest: owner.guest(),
             lease,
             at,
             last_asked: None,
@@ -121,6 +125,19 @@ impl Session {
     /// Whether nothing has to be kept of it.
     pub fn is_blank(&self) -> bool {
         self.last_asked.is_none() && self.holds.is_empty() && self.waits.is_none()
+    }
+
+    /// How much longer its client may be away.
+    pub fn left(&self, now: Instant) -> Duration {
+        match self.at {
+            At::Away(Some(until)) => until.saturating_duration_since(now),
+            At::Away(None) | At::Here(_) => self.lease,
+        }
+    }
+
+    /// Whether it has nothing but the answer to what it asked last.
+    pub fn is_idle(&self) -> bool {
+        self.holds.is_empty() && self.waits.is_none() && self.unlabelled.is_none() && self.asked.is_empty()
     }
 
     /// Whether it holds the lock.

@@ -2,6 +2,7 @@
 //! that were ever used.
 
 use super::Sight;
+use crate::shares::{Counts, Guest};
 use std::collections::{BTreeMap, BTreeSet, HashMap};
 use std::time::{Duration, Instant};
 use wozgirt_engine::Lock;
@@ -29,6 +30,7 @@ pub struct Sums {
 /// What of a lock is counted.
 struct Glance {
     is_used: bool,
+    payer: Option<Guest>,
     held_since: Option<Instant>,
     waits_since: Option<Instant>,
     sums: Sums,
@@ -38,6 +40,7 @@ impl Glance {
     fn of(sight: &Sight) -> Glance {
         Glance {
             is_used: sight.is_used(),
+            payer: sight.is_used().then_some(sight.payer),
             held_since: sight.holder.map(|holder| holder.since),
             waits_since: sight.line.front().map(|waiter| waiter.since),
             sums: Sums {
@@ -65,6 +68,8 @@ pub struct Any {
     holds: BTreeSet<(Instant, Lock)>,
     fronts: BTreeSet<(Instant, Lock)>,
     sums: Sums,
+    /// On whose account those in use are.
+    payers: Counts,
 }
 
 impl Any {
@@ -79,6 +84,7 @@ impl Any {
             holds: BTreeSet::new(),
             fronts: BTreeSet::new(),
             sums: Sums::default(),
+            payers: Counts::default(),
         }
     }
 
@@ -90,6 +96,11 @@ impl Any {
     /// How many are in use.
     pub fn used(&self) -> usize {
         self.used.len()
+    }
+
+    /// On whose account those in use are.
+    pub fn payers(&self) -> &Counts {
+        &self.payers
     }
 
     /// How many are known.
@@ -152,6 +163,10 @@ impl Any {
         move_time(&mut self.holds, &lock, before.held_since, after.held_since);
         move_time(&mut self.fronts, &lock, before.waits_since, after.waits_since);
         self.count_change(&before.sums, &after.sums);
+        if before.payer != after.payer {
+            before.payer.into_iter().for_each(|guest| self.payers.remove(guest));
+            after.payer.into_iter().for_each(|guest| self.payers.add(guest));
+        }
         self.forget_old();
         Some(result)
     }
@@ -178,6 +193,7 @@ impl Any {
     pub fn forget(&mut self) {
         self.holds.clear();
         self.fronts.clear();
+        self.payers = Counts::default();
         (self.sums.held, self.sums.waiting) = (0, 0);
         for lock in std::mem::take(&mut self.used).into_values() {
             match self.sights.get_mut(&lock) {
@@ -226,8 +242,9 @@ mod tests {
     fn a_name_is_in_use_while_it_is_held_or_waited_for() {
         let (mut board, start) = (board("b,*:3"), Instant::now());
         assert!(board.name("x/1").is_some() && board.name("x 1").is_none() && board.lock("x/1").is_none());
-        board.asked(&"x/1".parse().unwrap());
-        board.asked_no_longer("x/1");
+        let acquire = "acquire x/1 1".parse().unwrap();
+        board.asked(&acquire, crate::shares::Guest::UNKNOWN);
+        board.asked_no_longer(&acquire);
         assert_eq!((found(&board), board.any().unwrap().count()), (vec!["b".to_string()], 0));
         board.granted("x/1", 1, 812, Some(7), start);
         board.waits("x/1", 2, 8, start + Duration::from_secs(1));

@@ -1,11 +1,12 @@
 //! Between the connections and the log: what a client says becomes a line of the next entry.
 
-use super::{Key, Line, Session};
+use super::{Key, Line, Session, Standing};
 use crate::connection::{Connection, Pending, Seat};
 use crate::desk::{Desk, Then};
-use crate::log::{End, Event};
+use crate::log::{End, Event, Of};
 use crate::mode::Mode;
 use crate::requests::BadRequest;
+use crate::shares::Share;
 use wozgirt_engine::{Answer, Input, NotALine, Token};
 
 impl Desk {
@@ -25,8 +26,12 @@ impl Desk {
             connection.tell_in_order(format_args!("refused {}", BadRequest::Rest(NotALine::Syntax)));
             return Then::Wait;
         }
-        connection.seat =
-            Some(Seat { key, is_keyed: true, last: 0, has_left: false, session: None, is_attached: false });
+        if !cluster.applied.sessions.contains_key(&key) && !self.may_begin(connection) {
+            connection.tell_in_order("refused session");
+            return Then::Wait;
+        }
+        let Some(cluster) = self.mode.in_log_mut() else { return Then::Wait };
+        connection.seat = Some(Seat::keyed(key, None, false, self.now));
         connection.pending.push_back(Pending::Opening);
         let who = connection.identity();
         cluster.put(Line::Here(key, who));
@@ -40,12 +45,12 @@ impl Desk {
     /// The key of a client that says something for the log. It is drawn if the client gave none. A session that is new, or has
     /// left, begins before that.
     fn key(&mut self, connection: &mut Connection) -> Option<Key> {
+        let now = self.now;
         let cluster = self.mode.in_log_mut()?;
         let who = connection.identity();
         if connection.seat.is_none() {
             let key = cluster.draw().ok()?;
-            connection.seat =
-                Some(Seat { key, is_keyed: false, last: 0, has_left: true, session: None, is_attached: false });
+            connection.seat = Some(Seat::drawn(key, now));
             cluster.owns.come(key, who, connection.client);
         }
         let seat = connection.seat.as_mut()?;
@@ -61,12 +66,31 @@ impl Desk {
         if let Input::Stats { lock } = &input {
             return self.tell_stats(connection, lock);
         }
+        let begins = connection.seat.as_ref().map_or(true, |seat| seat.has_left);
+        if begins && !self.may_begin(connection) {
+            self.board.asked_no_longer(&input);
+            return match number {
+                None => connection.tell_in_order("refused session"),
+                Some(number) => connection.tell_in_order(format_args!("{number} refused session")),
+            };
+        }
         let Some(key) = self.key(connection) else { return };
         let number = number.unwrap_or_else(|| connection.next_number());
         if let Some(cluster) = self.mode.in_log_mut() {
             cluster.put(Line::Do(key, number, input.clone()));
         }
         connection.pending.push_back(Pending::Numbered(number, input));
+    }
+
+    /// Whether one more session of this user or address may be in the log: as many may be there as of a single server.
+    fn may_begin(&mut self, connection: &Connection) -> bool {
+        let share = Share::beyond(self.settings.most_sessions());
+        let may = self.mode.in_log().map_or(true, |it| share.permits(it.mirror.parties(), connection.guest));
+        if !may {
+            self.sums.refused("session");
+            self.note_part(connection, Of::Sessions);
+        }
+        may
     }
 
     /// A leave ends the session. What the client says next is another one, or the same from the beginning.
@@ -107,9 +131,10 @@ impl Desk {
         if !matches!(connection.pending.front(), Some(Pending::Numbered(first, _)) if *first == number) {
             return;
         }
-        if let Some(Pending::Numbered(_, Input::Acquire { lock, .. })) = connection.pending.pop_front() {
-            self.board.asked_no_longer(&lock);
+        if let Some(Pending::Numbered(_, input)) = connection.pending.pop_front() {
+            self.board.asked_no_longer(&input);
         }
+        connection.note_answered(self.now);
         if let Answer::Refused { why, .. } = answer {
             self.sums.refused(why.word());
         }
@@ -166,19 +191,22 @@ impl Desk {
     }
 
     /// The connection is gone. A client with a key may come back, here or at another server. Returns what it held.
-    pub(crate) fn end_seat(&mut self, connection: &mut Connection, end: End) -> String {
+    pub(crate) fn end_seat(&mut self, connection: &mut Connection, end: End, is_asking: bool) -> String {
         let (Some(cluster), Some(seat)) = (self.mode.in_log_mut(), connection.seat.take()) else {
             return String::new();
         };
-        let held = cluster.standing(seat.key).held();
+        let standing = cluster.standing(seat.key);
+        let held = standing.held();
+        let is_idle = standing == Standing::default() && !is_asking;
         let is_over = !seat.is_keyed && !matches!(end, End::Engine | End::Stop | End::Log | End::Moved);
         if is_over || matches!(end, End::Lease | End::Kicked) || seat.has_left {
             if cluster.owns.go(seat.key, connection.client) && !seat.has_left {
                 cluster.put(Line::Gone(seat.key));
             }
         } else {
-            let lease = connection.lease.unwrap_or(self.settings.longest_lease);
-            cluster.owns.await_client(seat.key, connection.client, self.now + lease);
+            let until = self.now + connection.lease.unwrap_or(self.settings.longest_lease);
+            let until = if is_idle { until.min(seat.is_wanted_until()) } else { until };
+            cluster.owns.await_client(seat.key, connection.client, until);
         }
         held.join(",")
     }

@@ -5,7 +5,8 @@
 
 use super::apply::Given;
 use super::entries::{is_digest, Key, Session};
-use crate::board::Board;
+use crate::board::{Board, Party};
+use crate::shares::{Counts, Guest};
 use std::collections::{BTreeMap, HashMap, VecDeque};
 use std::time::Instant;
 use wozgirt_engine::{decimal, Answer, Answered, Input, Lock, Token, NOBODY};
@@ -83,6 +84,9 @@ pub struct Mirror {
     /// The grants that come before anything else.
     next: BTreeMap<Lock, Session>,
     standing: HashMap<Session, Standing>,
+    /// On whose account each session is, and how many each has.
+    guests: HashMap<Session, Guest>,
+    counts: Counts,
 }
 
 impl Mirror {
@@ -94,6 +98,23 @@ impl Mirror {
     /// The engine was asked for the digest at this position.
     pub fn give_at(&mut self, position: u64) {
         self.items.push_back(Item::At(position));
+    }
+
+    /// The session is in the log, on this one's account.
+    pub fn begins(&mut self, session: Session, guest: Guest) {
+        if self.guests.insert(session, guest).is_none() {
+            self.counts.add(guest);
+        }
+    }
+
+    /// How many sessions there are, and on whose account.
+    pub fn parties(&self) -> &Counts {
+        &self.counts
+    }
+
+    /// The session, and on whose account it is.
+    pub fn party(&self, session: Session) -> Party {
+        Party { client: session, guest: self.guests.get(&session).copied().unwrap_or(Guest::UNKNOWN) }
     }
 
     /// What a session has.
@@ -183,6 +204,9 @@ impl Mirror {
     }
 
     fn leave(&mut self, session: Session, board: &mut Board) -> Standing {
+        if let Some(guest) = self.guests.remove(&session) {
+            self.counts.remove(guest);
+        }
         let standing = self.standing.remove(&session).unwrap_or_default();
         if let Some(lock) = &standing.waits {
             board.waits_no_longer(lock, session);
@@ -214,7 +238,7 @@ impl Mirror {
         let standing = self.standing.entry(client).or_default();
         standing.waits = None;
         standing.holds.push((next, token));
-        board.granted(lock, client, token, None, now);
+        board.granted(lock, self.party(client), token, None, now);
         Ok(Effect::Granted { session: client, lock, token })
     }
 
@@ -253,17 +277,18 @@ impl Mirror {
         board: &mut Board,
         now: Instant,
     ) -> Result<(), NotAsked> {
+        let party = self.party(session);
         let standing = self.standing.entry(session).or_default();
         match (input, answer) {
             (Input::Acquire { lock, label } | Input::Try { lock, label }, Answer::Granted { lock: l, token })
                 if lock == l =>
             {
                 standing.holds.push((lock.clone(), *token));
-                board.granted(lock, session, *token, Some(*label), now);
+                board.granted(lock, party, *token, Some(*label), now);
             }
             (Input::Acquire { lock, label }, Answer::Waiting { lock: l, .. }) if lock == l => {
                 standing.waits = Some(lock.clone());
-                board.waits(lock, session, *label, now);
+                board.waits(lock, party, *label, now);
             }
             (Input::Release { lock, .. }, Answer::Released { lock: l }) if lock == l => {
                 standing.holds.retain(|(held, _)| held != lock);

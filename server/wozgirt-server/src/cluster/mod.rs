@@ -321,6 +321,10 @@ impl Cluster {
     /// The engine is given this. Answers that only clients of the writer get are not for those of other servers, of which one may be
     /// on its way to this one.
     pub fn give(&mut self, given: Given, is_own: bool) {
+        if let Given::Here(key, session) = given {
+            let owner = self.applied.sessions.get(&key).map(|known| known.owner);
+            self.mirror.begins(session, owner.unwrap_or_default().guest());
+        }
         match given {
             Given::Here(..) | Given::Closed(_) | Given::Gone(_) if !is_own => return,
             Given::Here(key, session) | Given::Do { key, session, .. } if is_own => self.owns.name(key, session),

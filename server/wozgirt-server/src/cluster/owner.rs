@@ -3,6 +3,7 @@
 //! On a Unix socket a client is a user, and over TCP an address. A session is the user's who came first on a socket, and the address's that
 //! came first over TCP: its client may go from the socket of its own host to the other servers.
 
+use crate::shares::Guest;
 use std::fmt;
 use std::net::IpAddr;
 use std::str::FromStr;
@@ -70,6 +71,14 @@ impl Owner {
             Who::Address(address) => *self.address.get_or_insert(address) == address,
             Who::Unknown => *self == Owner::default(),
         }
+    }
+}
+
+impl Owner {
+    /// On whose account the session is: the user's, if it is both.
+    pub fn guest(&self) -> Guest {
+        let user = self.user.map(|user| Guest::User(Some(user)));
+        user.or(self.address.map(Guest::at)).unwrap_or(Guest::UNKNOWN)
     }
 }
 

@@ -117,6 +117,23 @@ impl Owns {
         self.all.remove(&key)
     }
 
+    /// The clients that are away: their keys, and until when each may come back.
+    pub fn away(&self) -> impl Iterator<Item = (Key, Instant)> + '_ {
+        self.all.iter().filter_map(|(key, own)| match own {
+            Own::Away(until) => Some((*key, *until)),
+            Own::Here(_) => None,
+        })
+    }
+
+    /// The client that is away does not come back any more: whether it was away.
+    pub fn end_away(&mut self, key: Key) -> bool {
+        let is_away = matches!(self.all.get(&key), Some(Own::Away(_)));
+        if is_away {
+            self.remove(key);
+        }
+        is_away
+    }
+
     /// Takes the clients that have not come back in time.
     pub fn take_late(&mut self, now: Instant) -> Vec<Key> {
         let is_late = |own: &Own| matches!(own, Own::Away(until) if *until <= now);
@@ -142,6 +159,7 @@ mod tests {
         assert!(owns.admits(7, Who::User(0)) && !owns.admits(7, Who::User(1)));
         owns.await_client(7, 1, start + second);
         assert_eq!((owns.client(7), owns.take_late(start)), (None, vec![]));
+        assert_eq!(owns.away().collect::<Vec<_>>(), [(7, start + second)]);
         assert_eq!(owns.come(7, Who::User(0), 2), None);
         assert_eq!(owns.come(7, Who::User(0), 3), Some(2));
         owns.await_client(7, 2, start + second); // it is at the other one by now
@@ -153,7 +171,10 @@ mod tests {
         assert_eq!((owns.take_late(start + second), owns.take_late(start + second * 2)), (vec![8], vec![]));
         owns.come(9, Who::User(0), 4);
         owns.await_gone(9, start);
+        assert!(!owns.end_away(9));
         assert_eq!((owns.moved(9), owns.moved(9)), (Some(4), None));
+        owns.await_gone(9, start);
+        assert!(owns.end_away(9) && !owns.end_away(9));
     }
 
     #[test]

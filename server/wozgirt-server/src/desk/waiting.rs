@@ -71,9 +71,9 @@ mod tests {
     use crate::log::Log;
     use crate::mode::Mode;
     use crate::names::Names;
-    use crate::places::Guest;
     use crate::questions::Questions;
     use crate::settings::{parse, Words};
+    use crate::shares::Guest;
     use crate::stream::Stream;
     use std::io::Write;
     use std::os::unix::net::UnixStream;
@@ -83,7 +83,9 @@ mod tests {
     fn desk(locks: usize, now: Instant) -> Desk {
         let names = (1..=locks).map(|lock| format!("a{lock}")).collect::<Vec<_>>().join(",");
         let listed = Names::parse(&names).unwrap();
-        let Ok(Words::Run(settings)) = parse(["--journal", "j", "--locks", &names, "--socket", "s"], None) else { panic!() };
+        let Ok(Words::Run(settings)) = parse(["--journal", "j", "--locks", &names, "--socket", "s"], None) else {
+            panic!()
+        };
         Desk {
             rules: Default::default(),
             engine: Engine::new("none".into(), Vec::new(), ROOM, now),
@@ -91,6 +93,7 @@ mod tests {
             is_full: false,
             board: Board::new(&listed),
             sums: Default::default(),
+            parts: Default::default(),
             log: Log::start().unwrap(),
             mode: Mode::Alone(Alone::new(None, 9).unwrap()),
             now,

@@ -201,6 +201,7 @@ mod tests {
             board,
             sums: &sums,
             connected: 2,
+            sessions: 3,
             engine_version: &EngineVersion { name: "ring_tool 0.1.0".into(), is_proved: false },
             engine_starts: 1,
             is_engine_ready: true,

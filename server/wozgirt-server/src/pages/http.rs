@@ -204,6 +204,9 @@ mod tests {
         assert_eq!(asked("HEAD /healthz HTTP/1.1\n\n"), right(Wanted::Health, false, true));
         let (well, ill) = (health(true, true), health(false, false));
         assert!(well.starts_with("HTTP/1.1 200 OK\r\n") && well.ends_with("\r\n\r\nthe engine answers\n"), "{well}");
-        assert!(ill.starts_with("HTTP/1.1 503 ") && ill.contains("Content-Length: 27\r\n") && ill.ends_with("\r\n\r\n"), "{ill}");
+        assert!(
+            ill.starts_with("HTTP/1.1 503 ") && ill.contains("Content-Length: 27\r\n") && ill.ends_with("\r\n\r\n"),
+            "{ill}"
+        );
     }
 }

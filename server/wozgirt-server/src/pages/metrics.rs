@@ -4,7 +4,7 @@ use super::{InLog, View};
 use crate::board::{Any, Sight, Waits, WAITS};
 use crate::engine_version::EngineVersion;
 use crate::figures::Figures;
-use crate::log::End;
+use crate::log::{End, Of};
 use std::fmt::{Display, Write};
 use std::time::{Duration, Instant};
 
@@ -47,7 +47,12 @@ pub fn head(text: &mut String, view: &View<'_>) {
 fn build(text: &mut String, engine: &EngineVersion) {
     let name = "wozgirt_build_info";
     let proved = if engine.is_proved { "yes" } else { "no" };
-    let family = Family::new(text, name, "gauge", "1, with the server's version, the engine's, and whether it says that it was proved.");
+    let family = Family::new(
+        text,
+        name,
+        "gauge",
+        "1, with the server's version, the engine's, and whether it says that it was proved.",
+    );
     let version = env!("CARGO_PKG_VERSION");
     let _ = writeln!(family.text, "{name}{{version=\"{version}\",engine=\"{}\",proved=\"{proved}\"}} 1", engine.name);
 }
@@ -83,7 +88,7 @@ fn server(text: &mut String, view: &View<'_>) {
     let uptime = view.now.saturating_duration_since(view.started).as_secs_f64();
     let is_up = u8::from(view.is_well());
     let silence = view.engine_silence.as_secs_f64();
-    let values: [(&str, &str, &str, &dyn Display); 11] = [
+    let values: [(&str, &str, &str, &dyn Display); 12] = [
         ("wozgirt_uptime_seconds", "gauge", "Seconds since the server started.", &uptime),
         ("wozgirt_engine_up", "gauge", "1 if the engine answers.", &is_up),
         (
@@ -95,6 +100,7 @@ fn server(text: &mut String, view: &View<'_>) {
         ("wozgirt_engine_lines_waiting", "gauge", "Lines that the engine may not have done.", &view.waiting_lines),
         ("wozgirt_engine_starts_total", "counter", "How often the engine was started.", &view.engine_starts),
         ("wozgirt_connections", "gauge", "Open connections.", &view.connected),
+        ("wozgirt_sessions", "gauge", "Sessions, those of clients that are away included.", &view.sessions),
         ("wozgirt_connections_total", "counter", "Connections that were let in.", &view.sums.connections),
         ("wozgirt_connections_refused_total", "counter", "Connections over the limit.", &view.sums.turned_away),
         ("wozgirt_inputs_total", "counter", "Inputs that went to the engine.", &view.sums.inputs),
@@ -107,6 +113,15 @@ fn server(text: &mut String, view: &View<'_>) {
     let mut refusals = Family::new(text, "wozgirt_refusals_total", "counter", "Refusals by their reason.");
     for (why, count) in view.sums.refusals() {
         refusals.labelled("reason", why, count);
+    }
+    let mut parts = Family::new(
+        text,
+        "wozgirt_part_refusals_total",
+        "counter",
+        "Refusals of one more, since a user or address has its part of this, or all have theirs.",
+    );
+    for of in Of::ALL {
+        parts.labelled("of", of.word(), view.sums.parts(of));
     }
     let mut ends =
         Family::new(text, "wozgirt_connections_ended_total", "counter", "Ends of connections by their reason.");

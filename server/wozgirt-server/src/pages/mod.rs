@@ -40,6 +40,8 @@ pub struct View<'a> {
     pub sums: &'a Sums,
     /// How many are connected.
     pub connected: usize,
+    /// How many sessions there are.
+    pub sessions: usize,
     /// Which engine it is.
     pub engine_version: &'a EngineVersion,
     /// How often the engine was started.

@@ -7,8 +7,8 @@ use crate::connection::{Connection, Door, Visit};
 use crate::doors::{open_tcp, UnixDoor};
 use crate::log::{Event, Log};
 use crate::pages::{Next, View, Visitor};
-use crate::places::Guest;
 use crate::settings::Settings;
+use crate::shares::Guest;
 use crate::stream::Stream;
 use crate::CannotServe;
 use std::io;
@@ -201,6 +201,7 @@ impl Server {
             board: &self.desk.board,
             sums: &self.desk.sums,
             connected: self.connections.len(),
+            sessions: self.desk.mode.sessions().map_or(0, |counts| counts.all()),
             engine_version: &self.engine_version,
             engine_starts: self.desk.engine.starts,
             is_engine_ready: self.is_engine_ready(),

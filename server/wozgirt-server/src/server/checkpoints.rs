@@ -116,15 +116,18 @@ impl Server {
 
 /// The holders and the waiting clients of a state.
 fn put_state(cluster: &mut Cluster, board: &mut Board, state: &[StateLine], now: Instant) {
+    for known in cluster.applied.sessions.values() {
+        cluster.mirror.begins(known.session, known.owner.guest());
+    }
     for line in state {
         match line {
             StateLine::Hold { lock, token, client } => {
                 cluster.mirror.put_hold(*client, lock.clone(), *token);
-                board.holds(lock, *client, *token, now);
+                board.holds(lock, cluster.mirror.party(*client), *token, now);
             }
             StateLine::Wait { client, lock, label } => {
                 cluster.mirror.put_wait(*client, lock.clone());
-                board.waits(lock, *client, *label, now);
+                board.waits(lock, cluster.mirror.party(*client), *label, now);
             }
             StateLine::Did { .. } | StateLine::At { .. } => {}
         }

@@ -126,7 +126,7 @@ impl Server {
         self.is_begun = true;
         self.desk.engine.note_ready();
         self.desk.log.say(&Event::EngineReady { held: self.held_before.len() });
-        if let Some((sessions, held)) = self.desk.alone().map(|it| (it.count(), it.holds().count())) {
+        if let Some((sessions, held)) = self.desk.alone().map(|it| (it.counts().all(), it.holds().count())) {
             if sessions > 0 {
                 self.desk.log.say(&Event::SessionsKept { sessions, held });
             }

@@ -16,7 +16,7 @@ use crate::awake::{Awake, For};
 use crate::board::Board;
 use crate::cluster::Cluster;
 use crate::connection::{Connection, SHARE};
-use crate::desk::Desk;
+use crate::desk::{Desk, Parts};
 use crate::engine::{Engine, ROOM};
 use crate::engine_version::EngineVersion;
 use crate::figures::Figures;
@@ -173,9 +173,9 @@ impl Server {
         };
         let kept = settings.keep_segments;
         let removals = kept.map(|kept| retention::start(settings.engine_journal(), kept)).transpose()?;
-        let (questions, sums, is_full) = (Questions::new(now), Sums::default(), false);
+        let (questions, sums, parts, is_full) = (Questions::new(now), Sums::default(), Parts::default(), false);
         rules.unknown().iter().for_each(|who| log.say(&Event::RulesUnknown { who }));
-        let desk = Desk { settings, rules, engine, questions, is_full, board, sums, log, mode, now };
+        let desk = Desk { settings, rules, engine, questions, is_full, board, sums, parts, log, mode, now };
         Ok(Server {
             desk,
             poller,

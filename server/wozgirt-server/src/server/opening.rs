@@ -19,9 +19,6 @@ use std::path::{Path, PathBuf};
 use std::process::ExitStatus;
 use wozgirt_system::permit_files;
 
-/// How many sessions there may be for each connection: those of clients that are away are some.
-const SESSIONS_EACH: usize = 8;
-
 /// A list of locks that does not continue that of the journal.
 #[derive(Debug)]
 pub struct OtherList {
@@ -244,7 +241,10 @@ pub(super) fn make_journal(settings: &Settings) -> Result<(), CannotServe> {
     }
     let missing = settings.journal.ancestors().skip(1).take_while(|folder| settings.is_own && !folder.exists());
     let folders = missing.collect::<Vec<_>>().into_iter().rev().chain([&*settings.journal]);
-    folders.map(make_folder).collect::<io::Result<()>>().map_err(|fault| CannotServe::Journal(settings.journal.clone(), fault))
+    folders
+        .map(make_folder)
+        .collect::<io::Result<()>>()
+        .map_err(|fault| CannotServe::Journal(settings.journal.clone(), fault))
 }
 
 /// Makes a folder so that a loss of power leaves it there.
@@ -284,7 +284,7 @@ pub(super) fn open_sessions(settings: &Settings) -> Result<Alone, CannotServe> {
         NoFolder::System(fault) => CannotServe::Sessions(fault),
         fault => CannotServe::Folder(settings.journal.clone(), fault),
     })?;
-    Alone::new(store, SESSIONS_EACH * settings.connections).map_err(CannotServe::Sessions)
+    Alone::new(store, settings.most_sessions()).map_err(CannotServe::Sessions)
 }
 
 /// The system's limit of open files, which the server raises to the hard limit at its start.

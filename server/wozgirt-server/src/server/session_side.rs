@@ -6,6 +6,7 @@ use crate::desk::{NotPermitted, Unasked};
 use crate::log::Event;
 use crate::mode::Mode;
 use crate::questions::Own;
+use crate::shares::Guest;
 use crate::CannotServe;
 use std::io;
 use wozgirt_engine::{Answer, Client, Input, Lock, Token, NOBODY};
@@ -139,7 +140,8 @@ impl Server {
         if let Mode::Alone(alone) = &mut self.desk.mode {
             if alone.start == Start::Serving {
                 for (session, lock, token) in alone.holds() {
-                    self.desk.board.holds(lock, session, token, now);
+                    let guest = alone.session(session).map_or(Guest::UNKNOWN, |it| it.guest);
+                    self.desk.board.holds(lock, (session, guest), token, now);
                 }
                 for line in alone.lines() {
                     self.desk.engine.ask_line(line);

@@ -3,12 +3,13 @@
 use super::{Server, CONNECTIONS, ENGINE_INPUT, LONGEST_TURN, SHORTEST_TURN, TURNS};
 use crate::connection::{Connection, Door, Reading, SHARE};
 use crate::desk::Then;
-use crate::log::End;
+use crate::log::{End, Event};
+use crate::shares::Guest;
 use crate::turns::Turn;
 use crate::CannotServe;
 use std::collections::VecDeque;
 use std::time::Instant;
-use wozgirt_engine::{Answer, Client};
+use wozgirt_engine::{Answer, Client, Lock};
 use wozgirt_system::Event as Ready;
 
 impl Server {
@@ -172,17 +173,23 @@ impl Server {
         }
     }
 
-    pub(super) fn list_of_clients(&self) -> String {
+    pub(super) fn list_of_clients(&mut self) -> String {
         let mut clients: Vec<&Connection> = self.connections.values().collect();
         clients.sort_unstable_by_key(|connection| connection.client);
-        let mut text = format!("clients {}", clients.len());
+        let away = self.desk.mode.away(self.desk.now);
+        let mut text = format!("clients {}", clients.len() + away.len());
         for it in clients {
-            let (holds, waits_for) = self.desk.mode.standing(it);
-            let holds = if holds.is_empty() { "-".into() } else { holds.join(",") };
-            let waits = waits_for.as_deref().unwrap_or("-");
+            let (holds, waits) = self.desk.mode.standing(it);
             let lease = it.lease.map_or(0, |lease| lease.as_millis());
-            let client = self.desk.mode.number(it);
-            text.push_str(&format!("\nclient {client} {lease} {holds} {waits} {}", it.who));
+            put_client(&mut text, self.desk.mode.number(it), lease, &holds, waits.as_ref(), &it.who);
+        }
+        for it in away {
+            let who = match it.guest {
+                Guest::User(Some(user)) => format!("away, {}", self.user_names.name(user)),
+                Guest::User(None) => "away, nobody knows who".into(),
+                Guest::Address(address) => format!("away, {address}"),
+            };
+            put_client(&mut text, it.number, it.left.as_millis(), &it.holds, it.waits.as_ref(), &who);
         }
         text
     }
@@ -191,8 +198,10 @@ impl Server {
     fn kick(&mut self, operator: Client, number: Client) {
         let shown = |connection: &&Connection| number > 0 && self.desk.mode.number(connection) == number;
         let found = self.connections.values().find(shown).map(|connection| connection.client);
+        let is_away = found.is_none() && self.end_away(operator, number);
         if let Some(connection) = self.connections.get_mut(&operator) {
             match found {
+                None if is_away => connection.tell_in_order(format_args!("kicked {number}")),
                 None => connection.tell_in_order(format_args!("refused client {number}")),
                 Some(_) => connection.tell_in_order(format_args!("kicked {number}")),
             }
@@ -203,6 +212,15 @@ impl Server {
         if let Some(client) = found.filter(|client| *client != operator) {
             self.part(client, End::Kicked);
         }
+    }
+
+    /// An operator ends a session whose client is away: whether there is one of this number.
+    fn end_away(&mut self, operator: Client, number: Client) -> bool {
+        let Some(held) = self.desk.end_away(number) else { return false };
+        let by = self.connections.get(&operator).map_or("an operator that is gone", |connection| &connection.who);
+        let held = if held.is_empty() { "nothing" } else { &held };
+        self.desk.log.say(&Event::SessionEnded { by, session: number, held });
+        true
     }
 
     pub(super) fn part(&mut self, client: Client, end: End) {
@@ -261,4 +279,11 @@ impl Server {
             }
         }
     }
+}
+
+/// A line of the list of clients.
+fn put_client(text: &mut String, client: Client, lease: u128, holds: &[Lock], waits: Option<&Lock>, who: &str) {
+    let holds = if holds.is_empty() { "-".into() } else { holds.join(",") };
+    let waits = waits.map_or("-", |lock| lock);
+    text.push_str(&format!("\nclient {client} {lease} {holds} {waits} {who}"));
 }
