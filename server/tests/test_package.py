@@ -18,8 +18,8 @@ POSTINST = os.path.join(TOP, "release", "debian", "wozgirt-server.postinst")
 
 
 class Postinst(unittest.TestCase):
-    def said(self, *words):
-        """What it has systemctl do, where systemd runs; the server does not start again."""
+    def said(self, *words, settings=None):
+        """What it has systemctl do, where systemd runs; the server does not start again. `self.settings` are those that it leaves."""
         with tempfile.TemporaryDirectory(dir=FOLDER) as folder:
             said = os.path.join(folder, "said")
             for name in ("systemctl", "deb-systemd-invoke", "systemd-sysusers"):
@@ -27,14 +27,29 @@ class Postinst(unittest.TestCase):
                     file.write(f'#!/bin/sh\necho {name} "$@" >>{said}\n[ "$1" != try-restart ]\n')
                 os.chmod(os.path.join(folder, name), 0o755)
             with open(POSTINST, encoding="utf-8") as file:
-                script = file.read().replace("/run/systemd/system", folder)
+                script = file.read().replace("/run/systemd/system", folder).replace("/etc/wozgirt", f"{folder}/etc")
+            script = script.replace("/usr/share/wozgirt/settings", os.path.join(TOP, "release", "settings"))
+            if settings is not None:
+                os.mkdir(os.path.join(folder, "etc"))
+                with open(os.path.join(folder, "etc", "settings"), "w", encoding="ascii") as file:
+                    file.write(settings)
             subprocess.run(["sh", "-c", script, "postinst", *words], env={"PATH": f"{folder}:/usr/bin:/bin"}, timeout=PATIENCE, check=True)
+            with open(os.path.join(folder, "etc", "settings"), encoding="ascii") as file:
+                self.settings = file.read()
             with open(said, encoding="ascii") as file:
                 return file.read().splitlines()[1:]
 
     def test_a_first_installation_starts_again_only_what_runs(self):
         """As after a package that had the server under another name."""
         self.assertEqual(self.said("configure", ""), ["systemctl --system daemon-reload", "deb-systemd-invoke try-restart wozgirt-server.service"])
+
+    def test_settings_that_are_there_stay(self):
+        """The journal fits only the list of locks with which it was begun."""
+        self.said("configure", "", settings="WOZGIRT_LOCKS=deploy,more\n")
+        self.assertEqual(self.settings, "WOZGIRT_LOCKS=deploy,more\n")
+        self.said("configure", "")
+        with open(os.path.join(TOP, "release", "settings"), encoding="ascii") as file:
+            self.assertEqual(self.settings, file.read())
 
     def test_an_upgrade_is_left_to_debhelper(self):
         self.assertEqual(self.said("configure", "0.1.0-1"), [])
