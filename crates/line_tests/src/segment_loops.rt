@@ -3,7 +3,6 @@
 ghost use Rattle.std.specs.Prelude.{◌≡◌};
 ghost use Rattle.line_service.specs.Segments.{IsNamed};
 
-use crate::loops::no_files;
 use disks::{Disk, FolderEntry, MemoryDisk};
 use line_service::{
     AnswersLines, EndFault, Pending, SegmentRules, Segmented, begin_segment, close_segment,
@@ -13,6 +12,7 @@ use segment_files::DIGEST_DIGITS;
 use std::alloc::{AllocError, Global};
 use std::io::{self, Cursor, ErrorKind, Read};
 use std::process::Abort;
+use test_files::no_files;
 
 /// A segment is due once more lines are answered in it than this.
 const MOST: u64 = 1;

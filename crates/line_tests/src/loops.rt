@@ -1,16 +1,9 @@
 //! A service that says the same to each line, and keeps a file while it does, until it has answered enough of them.
 
-use disks::{Disk, Grow, MemoryDisk};
+use disks::{Disk, Grow};
 use line_service::{AnswersLines, Ending, LoopFault, Pending, Unread, serve_part};
 use std::alloc::{AllocError, Global};
-
-/// No files.
-pub fn no_files(alloc: Global) -> MemoryDisk {
-    MemoryDisk {
-        alloc,
-        entries: Vec::new(alloc),
-    }
-}
+use test_files::no_files;
 
 #[derive(Drop)]
 struct Same {

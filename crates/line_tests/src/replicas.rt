@@ -2,12 +2,12 @@
 
 ghost use Rattle.std.specs.Prelude.{◌≡◌, false};
 
-use crate::loops::no_files;
 use disks::Disk;
 use line_replica::{HasState, Replica, Restorable};
 use line_service::{AnswersLines, EndFault, Ending, Pending, Segmented, Unread, serve_part};
 use segment_files::{DIGEST_DIGITS, digest};
 use std::alloc::{AllocError, Global};
+use test_files::no_files;
 
 /// A segment is due once more lines were answered than this, and lines are answered all the same.
 const MOST: u64 = 99;
