@@ -23,6 +23,7 @@ NOT_REFUSED, NOT_READ, NO_VERDICT = "not refused", "not read", "no verdict"
 MOST = 24
 ITEM = re.compile(r"(fn|impl|struct|enum|trait) (\S+?): (.*)")
 NOTE = re.compile(r"note: src/\S+?:\d+:\d+: it is not proved that (.*)")
+OPEN = re.compile(r"note: `([^`]*)` of proofs/(\S+?)/(?:Answers|Invariants|Proof)\.antt must prove: ")
 ERROR = re.compile(r"(?:\./)?proofs/(\S+?)\.antt:\d+:\d+: error: (?:`([^`]*)`: )?(.*)")
 NAMES = re.compile(r"has no field|is not in scope|has no `|was not admitted|is no name|no such name")
 SAFETY = re.compile(
@@ -63,6 +64,8 @@ def reasons_in(lines, own_names):
         if note := NOTE.match(line):
             goal = re.search(r"\(`([^`]*)`", note[1])
             notes.append((kind_of(goal[1] if goal else "", note[1], own_names), goal[1] if goal else note[1][:80]))
+        elif left := OPEN.match(line):
+            found.setdefault(left[2].replace("/", "::"), []).append((kind_of(left[1], "", own_names), left[1]))
         elif error := ERROR.match(line):
             folder, _, file = error[1].rpartition("/")
             item = folder.replace("/", "::") if file in ("Answers", "Invariants", "Proof") else ""

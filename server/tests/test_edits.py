@@ -217,6 +217,11 @@ class Verdicts(unittest.TestCase):
             self.assertEqual(self.told(note % ("it holds", goal), "fn high::counts::count: not proved"), (kind, goal))
         self.assertEqual(self.told("fn high::counts::count: no proof: search did not prove `returns`"), ("clause", "returns"))
 
+    def test_a_goal_that_is_left_to_prove_by_hand_refuses(self):
+        line = "note: `returns-in-Full` of proofs/counts/count/Answers.antt must prove: 1 ≡ 2"
+        self.assertEqual(self.told(line, "impl high::counts: not proved; it waits for the proof of `count`"), ("clause", "returns-in-Full"))
+        self.assertEqual(self.told(line.replace("/count/", "/other/")), ("", ""))
+
     def test_what_is_said_of_another_function_does_not_count(self):
         note = "note: src/counts.rt:4:9: it is not proved that it holds (`returns` in the answers)"
         self.assertEqual(self.told(note, "fn high::counts::other: not proved", "fn high::counts::count: no proof: it calls high::counts::other, which is not proved"), ("", ""))
