@@ -81,12 +81,18 @@ def reasons_in(lines, own_names):
 
 
 def said_of(found, place):
-    """What was said against the function at this place. A method is named by its type, wherever that is."""
+    """What was said against the function at this place. A method is named by its type, wherever that is, with its trait, and with the
+    types that the trait is of where the type has it for several."""
     file, function, owner = place
     module = file.removeprefix("src/").removesuffix(".rt").replace("/", "::")
     own = f"{module}::{function}" if module not in ("lib", "main") else function
-    names = [it for it in found if f"::{it}".endswith(f"::{owner}::{function}")] if owner else [own] if own in found else []
-    return [reason for name in names for reason in found[name]]
+    if not owner:
+        return found.get(own, [])
+    for name in (re.sub("[<>]", "", owner), owner.partition("<")[0]):
+        names = [it for it in found if f"::{it}".endswith(f"::{name}::{function}")]
+        if names:
+            return [reason for it in names for reason in found[it]]
+    return []
 
 
 def judged(reasons):

@@ -11,6 +11,7 @@ An edit is some lines, with an empty line before the next edit:
 There may be further pairs of `old:` and `new:`, and further files. A line that begins with # is for readers."""
 import os
 import re
+from itertools import accumulate
 
 TOP = os.path.dirname(os.path.dirname(os.path.realpath(__file__)))
 FOLDER = f"{TOP}/wrong"
@@ -129,14 +130,28 @@ def body_of(lines, first):
 
 
 def owner_of(lines, first):
-    """The type of an impl, with the trait behind it where it is one of a trait, as a check names it."""
-    head = next((lines[i] for i in range(first, -1, -1) if lines[i].startswith("impl")), "")
-    while re.search(r"<[^<>]*>", head):
-        head = re.sub(r"<[^<>]*>", "", head)
-    words = re.findall(r"[\w:]+", head.partition("impl")[2].partition(" where")[0])
-    words = [it.rpartition("::")[2] for it in words]
-    name = words[2] + words[0] if words[1:2] == ["for"] else (words or [""])[0]
-    return name[:1].upper() + name[1:]
+    """The type of an impl, with the trait behind it where it is one of a trait, and in brackets the types that the trait is of."""
+    head = next((lines[i] for i in range(first, -1, -1) if lines[i].startswith("impl")), "impl")
+    text = head.removeprefix("impl").partition(" where")[0].rstrip("{ ")
+    if text.startswith("<"):
+        depths = list(accumulate((it == "<") - (it == ">") for it in text))
+        text = text[depths.index(0) + 1 :]
+    trait, is_of_trait, kind = text.strip().partition(" for ")
+    kind = name_of(kind or trait)
+    own = kind[:1].upper() + kind[1:]
+    if not is_of_trait:
+        return own
+    inner = trait.partition("<")[2].rpartition(">")[0]
+    while re.search(r"<[^<>]*>", inner):
+        inner = re.sub(r"<[^<>]*>", "", inner)
+    types = "".join(name_of(it) for it in inner.split(",") if it.strip() and not it.strip().startswith("'"))
+    return f"{own}{name_of(trait)}" + (f"<{types}>" if types else "")
+
+
+def name_of(text):
+    """The name of a type or a trait, without its path and what it is of."""
+    found = re.match(r"[&\s]*(?:mut )?(?:\w+::)*(\w+)", text)
+    return found[1] if found else ""
 
 
 def groups_of(edits, most):

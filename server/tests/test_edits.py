@@ -168,6 +168,11 @@ class Reading(Tree):
         self.assertEqual(edits.body_at(text, text.index("self.first\n")), ("first", "PairReader"))
         self.assertIsNone(edits.body_at(text, text.index("self.now.first")))
 
+    def test_an_impl_is_named_as_a_check_does(self):
+        for head, owner in (("impl<W: Work> Ring<W> {", "Ring"), ("impl Cell for u8 {", "U8Cell"), ("impl From<ReadError> for ToolError<'_> {", "ToolErrorFrom<ReadError>"),
+                            ("impl<T: Drop> From<low::Failed<T>> for Stop where T: Copy {", "StopFrom<Failed>"), ("impl Rule<'_, Event, u64> for Law {", "LawRule<Eventu64>")):
+            self.assertEqual(edits.owner_of([head, "    fn f() {"], 1), owner)
+
 
 class Sums(Tree):
     def test_what_no_check_reads_changes_no_sum(self):
@@ -227,6 +232,11 @@ class Verdicts(unittest.TestCase):
         self.assertEqual(self.told(note, "fn high::counts::other: not proved", "fn high::counts::count: no proof: it calls high::counts::other, which is not proved"), ("", ""))
         self.assertEqual(self.told(note, "fn high::others::count: not proved"), ("", ""))
         self.assertEqual(self.told(note, "fn high::others::count: not proved", "fn high::counts::count: not proved"), ("", ""))
+
+    def test_a_trait_that_a_type_has_twice_is_told_apart(self):
+        found = {"faults::ErrorFromRead::from": [("clause", "returns")], "locks::LawRule::turn": [("clause", "returns-2")]}
+        for owner, function, said in (("ErrorFrom<Read>", "from", 1), ("ErrorFrom<Write>", "from", 0), ("ErrorFrom", "from", 0), ("LawRule<Eventu64>", "turn", 1)):
+            self.assertEqual(len(edit_checks.said_of(found, ("src/faults.rt", function, owner))), said, owner)
 
     def test_a_name_that_a_proof_misses_is_no_clause(self):
         line = "proofs/counts/count/Answers.antt:3:5: error: `returns`: the type has no field `n`"
