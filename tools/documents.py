@@ -94,6 +94,8 @@ class Sources:
                     self.clauses.setdefault(re.split(r"::|\.", name)[-1], set()).update([found[1]] if found else [])
             elif "/specs/" in path and path.endswith(".antt"):
                 self.defined |= set(reading_order.File(f"{self.top}/{path}").lines_of)
+                with open(f"{self.top}/{path}", encoding="utf-8") as file:
+                    self.defined |= set(re.findall(r"^ +pub (\w+) :", file.read(), re.MULTILINE))  # members of what is defined
 
     def has_word(self, word):
         """Whether a word stands in the sources, or in those of the kit."""
@@ -293,7 +295,8 @@ class Trial:
             return
         self.counts["outputs"] += 1
         if kind == "played":
-            if not os.access(f"{self.top}/{word}", os.X_OK):
+            is_test = os.path.basename(word).startswith("test_") and os.path.isfile(f"{self.top}/{word}")  # which server/tests/run.py runs
+            if not is_test and not os.access(f"{self.top}/{word}", os.X_OK):
                 self.differs(page, block.number, f"there is no {word}")
             return
         with open(f"{self.top}/{word}", encoding="utf-8") as file:

@@ -10,7 +10,7 @@ complete -c wozgirt -f
 complete -c wozgirt -n $none -a lock -d "Run a command while a lock is held"
 complete -c wozgirt -n $none -a try -d "The same, if it is free"
 complete -c wozgirt -n $none -a status -d "Print each lock"
-complete -c wozgirt -n $none -a watch -d "Print that again and again"
+complete -c wozgirt -n $none -a watch -d "Print that each time that it has changed"
 complete -c wozgirt -n $none -a bench -d "Measure hand-overs"
 complete -c wozgirt -n $none -a admin -d "Give a server an order, as an operator"
 complete -c wozgirt -n $none -l help -d "Print the help"

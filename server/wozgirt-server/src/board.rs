@@ -231,6 +231,8 @@ pub struct Board {
     /// Those of other names, if there may be any.
     any: Option<Any>,
     waits: Waits,
+    /// How often a hold, a queue, or the list has changed, or a fault was written.
+    changes: u64,
 }
 
 impl Board {
@@ -241,6 +243,11 @@ impl Board {
         board
     }
 
+    /// A number that is another one after each change of what `status` shows, except the time.
+    pub fn changes(&self) -> u64 {
+        self.changes
+    }
+
     /// How long grants were waited for.
     pub fn all_waits(&self) -> &Waits {
         &self.waits
@@ -248,6 +255,7 @@ impl Board {
 
     /// There are these locks now, in this order; nothing is known of those that are new.
     pub fn take(&mut self, names: &Names) {
+        self.changes += 1;
         let mut known: HashMap<Lock, Sight> = self.locks.drain(..).map(|it| (it.lock.clone(), it)).collect();
         let sights = names.locks().map(|lock| known.remove(lock).unwrap_or_else(|| Sight::new(lock.clone())));
         self.locks = sights.collect();
@@ -317,6 +325,12 @@ impl Board {
         }
     }
 
+    /// The same, of a change that is shown.
+    fn show<R>(&mut self, lock: &str, is_new: bool, change: impl FnOnce(&mut Sight) -> R) -> Option<R> {
+        self.changes += 1;
+        self.change(lock, is_new, change)
+    }
+
     /// Whether one more client might be too many in the queue.
     pub fn is_full(&self, lock: &str, most: usize) -> bool {
         self.lock(lock).is_some_and(|sight| sight.is_full(most))
@@ -360,7 +374,7 @@ impl Board {
     /// The client is at the end of the queue.
     pub fn waits(&mut self, lock: &str, party: impl Into<Party>, label: Label, now: Instant) {
         let Party { client, guest } = party.into();
-        self.change(lock, true, |sight| {
+        self.show(lock, true, |sight| {
             if !sight.is_used() {
                 sight.payer = guest;
             }
@@ -370,20 +384,20 @@ impl Board {
 
     /// The client waits no longer.
     pub fn waits_no_longer(&mut self, lock: &str, client: Client) {
-        self.change(lock, false, |sight| sight.take_waiter(client));
+        self.show(lock, false, |sight| sight.take_waiter(client));
     }
 
     /// The client holds the lock. The label of one that waited is known.
     pub fn granted(&mut self, lock: &str, party: impl Into<Party>, token: Token, label: Option<Label>, now: Instant) {
         let party = party.into();
-        let waited = self.change(lock, true, |sight| sight.grant(party, token, label, now));
+        let waited = self.show(lock, true, |sight| sight.grant(party, token, label, now));
         waited.into_iter().for_each(|waited| self.waits.count(waited));
     }
 
     /// The client holds the lock since before this server started.
     pub fn holds(&mut self, lock: &str, party: impl Into<Party>, token: Token, now: Instant) {
         let Party { client, guest } = party.into();
-        self.change(lock, true, |sight| {
+        self.show(lock, true, |sight| {
             sight.payer = guest;
             sight.holder = Some(Holder { client, token, label: None, since: now });
         });
@@ -396,12 +410,12 @@ impl Board {
 
     /// The hold ended without a release: whether there was one.
     pub fn left(&mut self, lock: &str, client: Client) -> bool {
-        self.change(lock, false, |sight| sight.holder.take_if_held_by(client)).unwrap_or(false)
+        self.show(lock, false, |sight| sight.holder.take_if_held_by(client)).unwrap_or(false)
     }
 
     /// A fault was written and repaired.
     pub fn fault(&mut self, lock: &str, machine: u64, value: u64, old: u64) {
-        self.change(lock, false, |sight| {
+        self.show(lock, false, |sight| {
             sight.faults += 1;
             sight.last_fault = Some(Fault { at: Utc::now(), machine, value, old });
         });
@@ -409,6 +423,7 @@ impl Board {
 
     /// The engine ended: nothing is known of holds and lines.
     pub fn forget(&mut self) {
+        self.changes += 1;
         self.locks.iter_mut().for_each(Sight::forget);
         self.any.iter_mut().for_each(Any::forget);
     }

@@ -166,6 +166,8 @@ pub struct Connection {
     /// How many bytes wait among the answers to be sent.
     untold: usize,
     /// Whether all locks are to be listed, and what came meanwhile.
+    /// The number of changes of the locks that it has seen, as long as it waits for another one.
+    pub awaits_change_of: Option<u64>,
     has_listing: bool,
     late: Vec<u8>,
 }
@@ -202,6 +204,7 @@ impl Connection {
             outbox: Outbox::default(),
             most_unread,
             untold: 0,
+            awaits_change_of: None,
             has_listing: false,
             late: Vec::new(),
         }

@@ -35,6 +35,8 @@ pub enum Then {
     Wait,
     /// To end the connection.
     End(End),
+    /// To have the client hear of a change of the locks.
+    Watch,
     /// To list the connected clients for an operator.
     Clients,
     /// To end this other connection, whose session has come here.
@@ -190,6 +192,10 @@ impl Desk {
             Ok(Request::Status) => {
                 let rules = (connection.door != Door::Operators).then(|| self.rules.clone());
                 connection.put_listing(Listing::new(rules));
+            }
+            Ok(Request::Changes(seen)) => {
+                connection.awaits_change_of = Some(seen);
+                return Then::Watch;
             }
             Ok(Request::Clients) => return Then::Clients,
             Ok(Request::Kick(client)) => return Then::Kick(client),

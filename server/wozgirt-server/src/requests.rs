@@ -22,6 +22,8 @@ pub enum Request<'a> {
     GivenLease,
     /// How all locks are.
     Status,
+    /// To hear when that is not as it was when this was the number of changes.
+    Changes(u64),
     /// To continue the session that has this key.
     Session(u64, bool),
     /// Of an operator: where this server is in the log.
@@ -94,6 +96,7 @@ pub fn parse(line: &str, is_operator: bool) -> Result<Request<'_>, BadRequest> {
         "leave" => alone(rest, Request::Leave),
         "ping" => alone(rest, Request::Ping),
         "status" => alone(rest, Request::Status),
+        "changes" => Ok(Request::Changes(decimal(rest.unwrap_or(""))?)),
         "session" => {
             let rest = rest.unwrap_or("");
             let key = rest.strip_suffix(" attached");

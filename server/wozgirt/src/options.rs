@@ -124,7 +124,7 @@ pub static COMMANDS: [CommandWord; 6] = [
         verb: Verb::Watch,
         name: "watch",
         operands: " [PREFIX] [--every SECONDS] [--json]",
-        help: "prints that again and again",
+        help: "prints that each time that it has changed",
         options: &[Name::Socket, Name::ServerWait, Name::Every, Name::Json],
     },
     CommandWord {
@@ -235,7 +235,7 @@ pub static OPTIONS: [OptionWord<Name>; 14] = [
         "the lock is free when COMMAND has ended, even if its children still run",
     ),
     OptionWord::flag(Name::Group, "--group", "COMMAND gets a process group of its own, and signals go to all in it"),
-    OptionWord::valued(Name::Every, "--every", "SECONDS", "how often `watch` prints [1]"),
+    OptionWord::valued(Name::Every, "--every", "SECONDS", "`watch` prints at each change, and after this time [10]"),
     OptionWord::flag(
         Name::Json,
         "--json",

@@ -90,7 +90,7 @@ impl Reading {
             closes: false,
             is_of_command_only: false,
             is_group: false,
-            every: Duration::from_secs(1),
+            every: Duration::from_secs(10),
             is_json: false,
             others: Vec::new(),
             command: Vec::new(),

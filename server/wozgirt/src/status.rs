@@ -1,6 +1,6 @@
 //! `wozgirt status` and `wozgirt watch`: a table of the locks, or JSON.
 
-use crate::client::{soon, Client, Fault};
+use crate::client::{soon, unexpected, Client, Fault};
 use crate::connecting::while_starting;
 use crate::output::print;
 use crate::table::table;
@@ -13,6 +13,10 @@ const HEAD: [&str; 9] = ["LOCK", "STATE", "CLIENT", "LABEL", "TOKEN", "FOR", "WA
 /// What JSON calls the numbers of a lock.
 const NUMBERS: [&str; 8] =
     ["client", "label", "token", "held_ms", "waiting", "oldest_wait_ms", "grants", "longest_wait_ms"];
+/// How long the table is shown at least.
+const PAUSE: Duration = Duration::from_millis(100);
+/// How often a server over TCP is asked at least.
+const LEAST_LEASE: Duration = Duration::from_secs(1);
 /// To the first line, and nothing below it.
 const CLEAR: &str = "\x1b[H\x1b[J";
 
@@ -22,21 +26,64 @@ pub const GONE: &str = "*";
 /// Of several servers, how long one may take to be there.
 const SOON: Duration = Duration::from_secs(2);
 
-/// Prints the table, as the first of the servers knows it that answers; again after such a time.
+/// Prints the table, as the first of the servers knows it that answers; then again when it has changed, and at least so often.
 pub fn run(look: &Look) -> Result<(), CannotDo> {
     let there = Instant::now() + look.server_wait;
-    let (mut client, mut lines) = while_starting(there, || first(look))?;
+    let (client, mut lines) = while_starting(there, || first(look))?;
     let clear = if look.every.is_some() && io::stdout().is_terminal() { CLEAR } else { "" };
+    let mut watch = Watch { client, seen: 0, is_asked: false };
     loop {
         let text = shown(&lines, look).ok_or_else(|| Fault::Unexpected("a lock that cannot be read".into()))?;
         print(&format!("{clear}{text}"))?;
         let Some(time) = look.every else { return Ok(()) };
-        std::thread::sleep(time);
-        match client.list("status", soon(None)) {
+        std::thread::sleep(PAUSE.min(time));
+        match watch.next(time) {
             Ok(more) => lines = more,
             Err(fault) if look.places.len() == 1 => return Err(fault.into()),
-            Err(_) => (client, lines) = first(look)?,
+            Err(_) => {
+                (watch.client, lines) = first(look)?;
+                (watch.seen, watch.is_asked) = (0, false);
+            }
         }
+    }
+}
+
+/// A server that says when its locks have changed.
+struct Watch {
+    client: Client,
+    /// The number of changes when it last said so, and whether it was asked for the next one.
+    seen: u64,
+    is_asked: bool,
+}
+
+impl Watch {
+    /// The locks when they have changed, but after such a time at the latest.
+    fn next(&mut self, time: Duration) -> Result<Vec<String>, Fault> {
+        if !std::mem::replace(&mut self.is_asked, true) {
+            self.client.send(&format!("changes {}", self.seen))?;
+        }
+        // over TCP a client that is silent for a lease is taken for dead
+        let lease = if self.client.is_tcp() { LEAST_LEASE } else { time };
+        match self.client.line(Some(Instant::now() + time.min(lease))) {
+            Ok(line) => self.note(&line).ok_or_else(|| unexpected(line))?,
+            Err(fault) if fault.is_late() => {}
+            Err(fault) => return Err(fault),
+        }
+        self.client.send("status")?;
+        let mut first = self.client.line(Some(soon(None)))?;
+        if self.note(&first).is_some() {
+            first = self.client.line(Some(soon(None)))?;
+        }
+        let count: Option<usize> = first.strip_prefix("status ").and_then(|word| word.parse().ok());
+        let count = count.ok_or_else(|| unexpected(first))?;
+        (0..count).map(|_| self.client.line(Some(soon(None)))).collect()
+    }
+
+    /// The server says that the locks have changed; nothing if it is another line.
+    fn note(&mut self, line: &str) -> Option<()> {
+        self.seen = line.strip_prefix("changes ")?.parse().ok()?;
+        self.is_asked = false;
+        Some(())
     }
 }
 

@@ -111,6 +111,8 @@ pub struct Server {
     says_unkept: bool,
     /// The connections that get something at the end of this round.
     dirty: Vec<Client>,
+    /// Those who wait for a change of the locks.
+    watchers: Vec<Client>,
     /// The connections that have just spoken, and those that have said more than was taken in their turn.
     fresh: VecDeque<Client>,
     backlog: VecDeque<Client>,
@@ -197,6 +199,7 @@ impl Server {
             last_visitor: 0,
             says_unkept: false,
             dirty: Vec::new(),
+            watchers: Vec::new(),
             fresh: VecDeque::new(),
             backlog: VecDeque::new(),
             held_before: Vec::new(),

@@ -73,6 +73,7 @@ impl Server {
             Then::End(end) => {
                 connection.ending = Some(end);
             }
+            Then::Watch => self.watchers.push(client),
             Then::Clients => {
                 let list = self.list_of_clients();
                 if let Some(connection) = self.connections.get_mut(&client) {
@@ -240,9 +241,27 @@ impl Server {
         }
     }
 
+    /// Sends to each who waits for that, once, that the locks have changed.
+    fn tell_changes(&mut self) {
+        let changes = self.desk.board.changes();
+        for client in std::mem::take(&mut self.watchers) {
+            let Some(connection) = self.connections.get_mut(&client) else { continue };
+            match connection.awaits_change_of {
+                Some(seen) if seen == changes => self.watchers.push(client),
+                Some(_) => {
+                    connection.awaits_change_of = None;
+                    connection.tell_in_order(format_args!("changes {changes}"));
+                    self.touch(client);
+                }
+                None => {}
+            }
+        }
+    }
+
     pub(super) fn write_all(&mut self, buffer: &mut [u8; SHARE]) -> Result<(), CannotServe> {
         self.note_full();
         self.write_sessions();
+        self.tell_changes();
         // it works while the clients get their answers
         self.desk.engine.write();
         // mostly the last one was granted what the one before it gave back: others wait for that
