@@ -35,7 +35,7 @@ sys.path.insert(0, os.path.join(TOP, "clients", "python"))
 
 # seconds until what does not come about is taken for a fault
 PATIENCE = 50
-# as many open files as may be: the server wants 1160
+# as many open files as may be: the server wants 1184
 _MOST = resource.getrlimit(resource.RLIMIT_NOFILE)[1]
 FILES = 1 << 16 if _MOST == resource.RLIM_INFINITY else min(_MOST, 1 << 16)
 resource.setrlimit(resource.RLIMIT_NOFILE, (FILES, _MOST))

@@ -140,7 +140,7 @@ class Declarations(unittest.TestCase):
         self.assertEqual(len(numbers(text)), len(re.findall(r"^(?:pub )?const ", text, re.MULTILINE)))
         self.assertEqual(len(structs(text)), len(re.findall(r"^(?:pub )?struct (?!UnixAddress )", text, re.MULTILINE)))
         lines, found = functions(text)
-        self.assertEqual((len(found), len(re.findall(r'^extern "C"', text, re.MULTILINE))), (len(lines), 1))
+        self.assertEqual((len(found), len(re.findall(r'^extern "C" {$', text, re.MULTILINE))), (len(lines), 1))
 
     @unittest.skipUnless(COMPILER, "there is no C compiler")
     def test_they_are_the_systems(self):

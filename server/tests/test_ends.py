@@ -3,6 +3,7 @@
 import fcntl
 import os
 import re
+import resource
 import shutil
 import signal
 import socket
@@ -12,7 +13,7 @@ import time
 import unittest
 import urllib.request
 
-from harness import (FOLDER, PATIENCE, SERVER, Server, by_the_clock, needs_loopback, needs_programs, read_lines, say, unless_late,
+from harness import (FILES, FOLDER, PATIENCE, SERVER, Server, by_the_clock, needs_loopback, needs_programs, read_lines, say, unless_late,
                      wait_until)
 
 # seconds in which the server has ended, on a machine that is busy: 10 for what was asked, and more for what stands still
@@ -161,6 +162,21 @@ class Hangs(unittest.TestCase):
                 server.wait_for_log(" s, and is ended\n")
                 wait_until(lambda: server.text_of_log().count("engine ready") == 3)
                 self.assertEqual(operator.recv(10), b"")
+
+    def test_it_is_started_where_no_file_is_to_spare(self):
+        """The server may have no more files open than it has when the engine ends, and its clients with it."""
+        with Server() as server:
+            with server.raw() as sock:
+                say(sock, "session 7\n1 acquire a 1\n", 2)
+            wait_until(lambda: " away, " in server.operate("clients", 3))
+            files = sorted(int(file) for file in os.listdir(f"/proc/{server.process.pid}/fd"))
+            resource.prlimit(server.process.pid, resource.RLIMIT_NOFILE, (files[-1] + 1, FILES))
+            server.kill_engine()
+            wait_until(lambda: server.text_of_log().count("engine ready") == 2 or server.process.poll() is not None)
+            self.assertIsNone(server.process.poll(), server.text_of_log())
+            resource.prlimit(server.process.pid, resource.RLIMIT_NOFILE, (FILES, FILES))
+            with server.raw() as sock:
+                self.assertEqual(say(sock, "session 7\n", 2)[1:], ["holds a 1"])
 
     @by_the_clock
     def test_a_server_that_stood_still_itself_ends_no_engine(self, longer):

@@ -5,6 +5,7 @@ import fcntl
 import os
 import pty
 import re
+import resource
 import shutil
 import signal
 import subprocess
@@ -212,6 +213,54 @@ class Rows(unittest.TestCase):
                 done = it.run([], ["grep", "SigIgn", "/proc/self/status"],
                               preexec_fn=lambda: signal.signal(signal.SIGHUP, signal.SIG_IGN))
                 self.assertEqual(int(done.stdout.split()[1], 16) & 1, 1)
+
+    def seen_by_command(self, it, line, prepare):
+        """The mask of signals in this line of what the system says of COMMAND, of which SIGPIPE, SIGUSR1 and SIGTERM count."""
+        done = it.run([], ["grep", line, "/proc/self/status"], preexec_fn=prepare)
+        mask = int(done.stdout.split()[1], 16)
+        return [number for number in (signal.SIGPIPE, signal.SIGUSR1, signal.SIGTERM) if mask >> number - 1 & 1]
+
+    @row("the parent ignores PIPE")
+    def test_no_pipe(self):
+        for it in self.each:
+            with self.subTest(program=it.name):
+                ignored = self.seen_by_command(it, "SigIgn", lambda: signal.signal(signal.SIGPIPE, signal.SIG_IGN))
+                self.assertEqual((ignored, self.seen_by_command(it, "SigIgn", None)), ([signal.SIGPIPE], []))
+
+    @row("the parent blocks signals")
+    def test_blocked(self):
+        some = {signal.SIGUSR1, signal.SIGTERM}
+        for it in self.each:
+            with self.subTest(program=it.name):
+                blocked = self.seen_by_command(it, "SigBlk", lambda: signal.pthread_sigmask(signal.SIG_BLOCK, some))
+                self.assertEqual((blocked, self.seen_by_command(it, "SigBlk", None)), (sorted(some), []))
+
+    @unittest.skipUnless(os.getuid() == 0, "only root can become another user")
+    @row("the system has no process to spare")
+    def test_no_process(self):
+        def become_nobody():
+            os.setgroups([])
+            os.setgid(65534)
+            os.setuid(65534)
+            resource.setrlimit(resource.RLIMIT_NPROC, (1, 1))
+        os.chmod(self.server.folder, 0o755)
+        os.chmod(self.server.path, 0o666)
+        os.chmod(self.folder, 0o777)
+        program = shutil.copy(COMMAND, self.folder)
+        for words in [[program, "lock", "a", "true"]] + ([[FLOCK, os.path.join(self.folder, "other"), "true"]] if FLOCK else []):
+            done = subprocess.run(words, env=self.wozgirt.env, capture_output=True, timeout=PATIENCE, check=False, preexec_fn=become_nobody)
+            self.assertEqual(done.returncode, 71, (words, done.stderr))
+        self.assertTrue(self.wozgirt.is_free())
+
+    @row("as many files open as it may be permitted (ulimit -n)")
+    def test_files(self):
+        with open(os.path.join(TOP, "docs", "man", "wozgirt.1"), encoding="utf-8") as file:
+            cells = re.search(r"^as many files open .*\nT\}\|T\{\nat least (\d+)\nT\}\|T\{\nat least (\d+)\nT\}$", file.read(), re.MULTILINE)
+        for it, least in zip(self.each, (int(cells[2]), int(cells[1]))):
+            with self.subTest(program=it.name):
+                statuses = [it.status([], ["true"], preexec_fn=lambda most=most: resource.setrlimit(resource.RLIMIT_NOFILE, (most, most)))
+                            for most in (least - 1, least)]
+                self.assertEqual([status == 0 for status in statuses], [False, True])
 
     def at_a_terminal(self, it, key):
         """The status, and what it printed, if the key is struck while COMMAND runs, which counts what it gets."""

@@ -193,6 +193,22 @@ class Memory(unittest.TestCase):
             [sock.close() for sock in socks]
             self.check(growth)
 
+    @needs_loopback
+    def test_visitors_who_read_nothing_keep_nobody_out(self):
+        locks = ",".join(f"n{i}" for i in range(20000))
+        with Server("--page", "127.0.0.1:0", locks=locks) as server, contextlib.ExitStack() as socks:
+            port = server.port("page")
+            for count in range(100):
+                sock = socks.enter_context(socket.socket())
+                sock.setsockopt(socket.SOL_SOCKET, socket.SO_RCVBUF, 4096)
+                sock.connect(("127.0.0.1", port))
+                sock.sendall(b"GET /metrics HTTP/1.1\r\n\r\n")
+                if count % 4 == 3:
+                    with socket.create_connection(("127.0.0.1", port), PATIENCE) as sock:
+                        sock.sendall(b"GET /none HTTP/1.1\r\n\r\n")
+                        self.assertEqual(sock.recv(12), b"HTTP/1.1 404")
+            self.assertNotIn("visitor-refused", server.text_of_log())
+
     def test_a_log_that_nobody_reads(self):
         locks = ",".join("n" * 60 + str(i) for i in range(300))
         with Server(locks=locks) as server:

@@ -144,6 +144,20 @@ class Rules(unittest.TestCase):
                                  ["refused permission b", "released b", "refused holder b"])
 
 
+@needs_programs
+class RulesThatAreNoFile(unittest.TestCase):
+    def test_nobody_writes_into_a_pipe(self):
+        with Narrower() as it, it.server.raw() as sock:
+            os.remove(it.rules)
+            os.mkfifo(it.rules)
+            it.server.process.send_signal(signal.SIGHUP)
+            it.server.wait_for_log("rules-bad rules not read again, the old ones hold: ")
+            self.assertIn("not a regular file", it.server.text_of_log())
+            self.assertEqual(say(sock, "try a 1\n"), ["granted a 1"])
+            done = subprocess.run(it.server.words, capture_output=True, text=True, timeout=PATIENCE, check=False)
+            self.assertEqual((done.returncode, "not a regular file" in done.stderr), (1, True), done.stderr)
+
+
 class Narrower(contextlib.ExitStack):
     """A server whose rules are read again. A context manager, as which it ends the server."""
 
@@ -369,7 +383,7 @@ class LogOfEvents(unittest.TestCase):
 
 
     def test_the_page_has_each_key(self):
-        with open(os.path.join(TOP, "server", "wozgirt-server", "src", "log.rs"), encoding="utf-8") as file:
+        with open(os.path.join(TOP, "server", "wozgirt-server", "src", "log", "events.rs"), encoding="utf-8") as file:
             keys = re.findall(r'Event::\w+(?: \{ \.\. \})? => "([a-z-]+)"', file.read()) + ["lines-lost"]
         with open(os.path.join(TOP, "docs", "OPERATING.md"), encoding="utf-8") as file:
             page = file.read()

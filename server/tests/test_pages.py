@@ -158,6 +158,20 @@ class Pages(unittest.TestCase):
         disk = os.statvfs(server.journal)
         self.assertLess(abs(values["wozgirt_journal_free_bytes", None] / (disk.f_bavail * disk.f_frsize) - 1), 0.5)
 
+    @with_page
+    def test_a_refusal_is_read_by_one_that_still_speaks(self, _):
+        """The body of a request, which comes when the answer is there already, takes nothing back."""
+        for _ in range(20):
+            with socket.create_connection(("127.0.0.1", self.port), PATIENCE) as sock:
+                sock.sendall(b"POST / HTTP/1.1\r\nContent-Length: 100000\r\n\r\n")
+                time.sleep(0.02)
+                for _ in range(10):
+                    sock.sendall(b"x" * 10000)
+                answer = b""
+                while more := sock.recv(4096):
+                    answer += more
+                self.assertTrue(answer.startswith(b"HTTP/1.1 405 "))
+
     def check_waits(self, one, two, values):
         """Who waits for 0.02 s is counted there, and who does not wait, below; where that is granted late, another one is."""
         def waits(values):

@@ -103,6 +103,35 @@ class OfNames(unittest.TestCase):
 
 
 @needs_programs
+class OfTheLog(unittest.TestCase):
+    def test_a_line_has_some_names(self):
+        locks = [f"n{i}" for i in range(1000)]
+        with Server(locks=",".join(locks)) as server:
+            with server.raw() as sock:
+                say(sock, "".join(f"try {name} 1\n" for name in locks), 1000)
+            server.wait_for_log("; it held n0,n1,n2,n3,n4,n5,n6,n7 and 992 more\n")
+
+    @needs_loopback
+    def test_nobody_takes_all_of_it(self):
+        with Parts(Server(*words())) as it:
+            for _ in range(300):
+                with it.over_tcp() as sock:
+                    self.assertEqual(say(sock, "nonsense\n"), ["refused syntax"])
+            with it.server.raw() as sock:
+                self.assertEqual(say(sock, "nonsense\n"), ["refused syntax"])
+            wait_until(lambda: " went (syntax): " in it.server.text_of_log().rsplit("\n", 2)[-2] and "process" in it.server.text_of_log())
+            count = it.server.text_of_log().count(" went (syntax): 127.0.0.1:")
+            self.assertTrue(100 <= count < 290, count)
+            wait_until(lambda: self.says_how_many(it))
+
+    @staticmethod
+    def says_how_many(it):
+        with it.over_tcp() as sock:
+            say(sock, "nonsense\n")
+        return " lines-left-out " in it.server.text_of_log()
+
+
+@needs_programs
 class Away(unittest.TestCase):
     def lines(self, server):
         count = int(server.operate("clients").split()[1])

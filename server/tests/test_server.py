@@ -241,7 +241,7 @@ class Others(unittest.TestCase):
             fewer = lambda: resource.setrlimit(resource.RLIMIT_NOFILE, (100, 100))
             it = run("--journal", folder, "--locks", "a", "--socket", folder + "/s", preexec_fn=fewer)
             self.assertEqual(it.returncode, 78)
-            self.assertIn("100 files may be open, and 1160 are needed", it.stderr)
+            self.assertIn("100 files may be open, and 1184 are needed", it.stderr)
 
     def test_the_limit_of_open_files_is_raised(self):
         with a_folder() as folder:

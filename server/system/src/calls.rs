@@ -11,6 +11,7 @@ use std::os::fd::{AsRawFd, BorrowedFd, FromRawFd, OwnedFd};
 use std::os::unix::process::CommandExt;
 use std::process::Command;
 use std::ptr;
+use std::sync::atomic::{AtomicBool, Ordering};
 use std::time::Duration;
 
 #[cfg(not(all(
@@ -48,9 +49,13 @@ pub const SI_KERNEL: i32 = 0x80;
 pub const SIG_BLOCK: i32 = 0;
 pub const SIG_SETMASK: i32 = 2;
 const SIG_DFL: usize = 0;
+const SIG_IGN: usize = 1;
 const SIG_ERR: usize = usize::MAX;
 const SFD_CLOEXEC: i32 = 0o2_000_000;
 const SFD_NONBLOCK: i32 = 0o4_000;
+
+const ENFILE: i32 = 23;
+const EMFILE: i32 = 24;
 
 const F_GETFD: i32 = 1;
 const F_SETFD: i32 = 2;
@@ -100,6 +105,7 @@ struct Time {
 
 /// `sigset_t`: 1,024 bits, in glibc and in musl.
 #[repr(C)]
+#[derive(Clone, Copy)]
 pub struct SignalSet {
     bits: [c_ulong; 1024 / c_ulong::BITS as usize],
 }
@@ -273,11 +279,26 @@ impl SignalSet {
         }
     }
 
-    /// Has the program that the command starts begin with this mask.
-    pub fn mask_program(self, command: &mut Command) {
-        // SAFETY: between fork and exec the closure makes one call that may be made there, and allocates nothing.
+    /// The signals that this thread does not hear.
+    pub fn current() -> io::Result<SignalSet> {
+        let mut set = SignalSet::empty()?;
+        // SAFETY: nothing is changed, and the call writes the whole set.
+        match unsafe { pthread_sigmask(SIG_BLOCK, ptr::null(), &mut set) } {
+            0 => Ok(set),
+            number => Err(io::Error::from_raw_os_error(number)),
+        }
+    }
+
+    /// Has the program that the command starts begin with this mask, and ignore SIGPIPE or not.
+    pub fn mask_program(self, command: &mut Command, ignores_pipe: bool) {
+        // SAFETY: between fork and exec the closure makes two calls that may be made there, and allocates nothing.
         unsafe {
-            command.pre_exec(move || self.mask(SIG_SETMASK));
+            command.pre_exec(move || {
+                if ignores_pipe {
+                    signal(SIGPIPE, SIG_IGN);
+                }
+                self.mask(SIG_SETMASK)
+            });
         }
     }
 
@@ -286,6 +307,31 @@ impl SignalSet {
         // SAFETY: the set is valid; the new file is nobody else's.
         Ok(unsafe { OwnedFd::from_raw_fd(checked(signalfd(-1, self, SFD_CLOEXEC | SFD_NONBLOCK))?) })
     }
+}
+
+/// Whether SIGPIPE was ignored when this program was started.
+static PIPE_WAS_IGNORED: AtomicBool = AtomicBool::new(false);
+
+/// The runtime of Rust ignores SIGPIPE before `main`, so the system calls this before that.
+extern "C" fn look_at_pipe() {
+    // SAFETY: the default is not a function of this program; the runtime sets what it wants after this.
+    let before = unsafe { signal(SIGPIPE, SIG_DFL) };
+    PIPE_WAS_IGNORED.store(before == SIG_IGN, Ordering::Relaxed);
+}
+
+/// What the system calls before the runtime.
+#[used]
+#[link_section = ".init_array"]
+static BEFORE_THE_RUNTIME: extern "C" fn() = look_at_pipe;
+
+/// Whether this program's parent had it ignore SIGPIPE.
+pub fn ignored_pipe() -> bool {
+    PIPE_WAS_IGNORED.load(Ordering::Relaxed)
+}
+
+/// Whether the system had no file to spare.
+pub fn is_out_of_files(fault: &io::Error) -> bool {
+    matches!(fault.raw_os_error(), Some(ENFILE | EMFILE))
 }
 
 /// Has the signal do to this program what it does by default.

@@ -7,7 +7,7 @@
 //! | `getsockopt` | the process at the other end of a Unix socket ([`peer_of`]) |
 //! | `epoll_create1`, `epoll_ctl`, `epoll_wait`, `ppoll` | one thread that serves all connections ([`Poller`]) |
 //! | `sigemptyset`, `sigfillset`, `sigaddset`, `pthread_sigmask`, `signalfd` | signals as a file that is read ([`Signals`]) |
-//! | `signal`, `raise` | what a signal does by default ([`Signal::reset`], [`Signal::end_program`]) |
+//! | `signal`, `raise` | what a signal does by default ([`Signal::reset`], [`Signal::end_program`]), or SIGPIPE in a program that is started ([`Inherited`]) |
 //! | `socket`, `connect` | a Unix socket that is waited for with a deadline ([`connect_within`]) |
 //! | `kill` | the end of a command, asked for ([`send_signal`]) |
 //! | `getrlimit`, `setrlimit` | how many files may be open ([`permit_files`]) |
@@ -39,6 +39,6 @@ pub use disks::free_bytes;
 pub use limits::permit_files;
 pub use peers::{peer_of, Peer};
 pub use polling::{Event, Interest, Poller};
-pub use processes::{inherit, never_wait, send_signal, try_lock};
-pub use signals::{hear_nothing, Heard, Signal, Signals};
+pub use processes::{inherit, lacks_means, never_wait, open_at_once, send_signal, try_lock};
+pub use signals::{hear_nothing, Heard, Inherited, Signal, Signals};
 pub use sockets::connect_within;

@@ -2,8 +2,11 @@
 
 use crate::calls::{self, FD_CLOEXEC, O_NONBLOCK};
 use crate::Signal;
+use std::fs::{File, OpenOptions};
 use std::io;
 use std::os::fd::AsFd;
+use std::os::unix::fs::OpenOptionsExt;
+use std::path::Path;
 
 /// Sends a signal to a child that was not waited for yet, so that its number is still its own; or, with `is_group`, to
 /// all processes of the group that has the child's number.
@@ -18,12 +21,22 @@ pub fn inherit(file: impl AsFd) -> io::Result<()> {
     calls::set_descriptor_flags(file.as_fd(), flags & !FD_CLOEXEC)
 }
 
+/// Whether the system has no process, memory or file to spare for a program that is to be started.
+pub fn lacks_means(fault: &io::Error) -> bool {
+    matches!(fault.kind(), io::ErrorKind::WouldBlock | io::ErrorKind::OutOfMemory) || calls::is_out_of_files(fault)
+}
+
 /// Locks the file, as long as it is open here or in a program that inherited it: whether no other program has it.
 pub fn try_lock(file: impl AsFd) -> io::Result<bool> {
     match calls::lock_file(file.as_fd()) {
         Err(fault) if fault.kind() == io::ErrorKind::WouldBlock => Ok(false),
         other => other.map(|()| true),
     }
+}
+
+/// Opens a file to be read, and waits for nobody: a pipe that has a name would else be opened when somebody writes into it.
+pub fn open_at_once(path: &Path) -> io::Result<File> {
+    OpenOptions::new().read(true).custom_flags(O_NONBLOCK).open(path)
 }
 
 /// From now on no read or write of this end of a pipe waits. The other end stays as it is.
@@ -63,6 +76,13 @@ mod tests {
         assert!(!is_there());
         inherit(&one).unwrap();
         assert!(is_there());
+    }
+
+    #[test]
+    fn what_the_system_lacks() {
+        let lacks = |number| lacks_means(&io::Error::from_raw_os_error(number));
+        assert_eq!([11, 12, 23, 24].map(lacks), [true; 4]); // EAGAIN, ENOMEM, ENFILE, EMFILE
+        assert_eq!([2, 13].map(lacks), [false; 2]); // ENOENT, EACCES
     }
 
     #[test]

@@ -85,7 +85,7 @@ impl Signals {
 
     /// Lets the program that this command starts hear every signal.
     pub fn hear_all(command: &mut Command) -> io::Result<()> {
-        SignalSet::empty()?.mask_program(command);
+        SignalSet::empty()?.mask_program(command, false);
         Ok(())
     }
 
@@ -106,6 +106,26 @@ impl Signals {
             }
             _ => None,
         }
+    }
+}
+
+/// What this program's parent had it not hear: signals that it blocked, and SIGPIPE, if it ignored that. (What else it ignored, a
+/// program that this one starts ignores too.)
+#[derive(Clone, Copy)]
+pub struct Inherited {
+    blocked: SignalSet,
+    ignores_pipe: bool,
+}
+
+impl Inherited {
+    /// To be looked at before [`Signals::new`].
+    pub fn look() -> io::Result<Inherited> {
+        Ok(Inherited { blocked: SignalSet::current()?, ignores_pipe: calls::ignored_pipe() })
+    }
+
+    /// Has the program that this command starts begin as this one did.
+    pub fn pass_on(self, command: &mut Command) {
+        self.blocked.mask_program(command, self.ignores_pipe);
     }
 }
 

@@ -11,7 +11,7 @@ pub(crate) use withdrawing::NotPermitted;
 use crate::board::Board;
 use crate::connection::{Connection, Door, Pending};
 use crate::engine::Engine;
-use crate::log::{End, Event, Log};
+use crate::log::{some_of, End, Event, Log};
 use crate::mode::Mode;
 use crate::questions::Questions;
 use crate::requests::{numbered, parse, BadRequest, Request, Verb, LONGEST_LINE};
@@ -415,7 +415,7 @@ impl Desk {
         }
         let mut held = std::mem::take(&mut connection.holds);
         held.retain(|lock| self.board.left(lock, client));
-        held.join(",")
+        some_of(&held)
     }
 
     /// The connection is gone: the engine hears it, and the log.
@@ -436,7 +436,12 @@ impl Desk {
         self.sums.ended(end);
         let is_wanted = !held.is_empty() || !matches!(end, End::Closed | End::Stop);
         if is_wanted || self.settings.logs_connections {
-            self.log.say(&Event::Went { client: connection.client, who: &connection.who, end, held: &held });
+            let event = Event::Went { client: connection.client, who: &connection.who, end, held: &held };
+            if self.settings.logs_connections {
+                self.log.say(&event); // each is wanted
+            } else {
+                self.log.say_of(connection.guest, self.now, &event);
+            }
         }
     }
 

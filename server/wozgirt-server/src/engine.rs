@@ -4,11 +4,12 @@ use crate::notify;
 use crate::outbox::Outbox;
 use crate::remarks::Remarks;
 use std::fmt;
+use std::fs::File;
 use std::io::{self, ErrorKind, Read};
 use std::os::unix::process::CommandExt;
 use std::process::{Child, ChildStderr, ChildStdin, ChildStdout, Command, ExitStatus, Stdio};
 use std::time::{Duration, Instant};
-use wozgirt_system::{never_wait, Interest, Signals};
+use wozgirt_system::{lacks_means, never_wait, Interest, Signals};
 
 /// How much is read of its lines at once, at first. No answer of the engine is longer.
 pub const ROOM: usize = 64 << 10;
@@ -17,6 +18,9 @@ const MOST_FAILURES: u32 = 6;
 /// How long the next start waits after one that did not last; twice as long after each other one in a row, up to 32 times.
 const FIRST_PAUSE: Duration = Duration::from_millis(50);
 const MOST_DOUBLINGS: u32 = 5;
+/// How many files are kept for a start, which needs pipes and reads the journal; and how long it waits where the system has none.
+const SPARE: usize = 12;
+const LACK_PAUSE: Duration = Duration::from_secs(1);
 /// A start that lasts this long does not count.
 const LASTING: Duration = Duration::from_secs(1);
 /// How long the engine may take to end when its input has ended, or its output.
@@ -46,6 +50,9 @@ pub struct Engine {
     started: Instant,
     /// How often it was started.
     pub starts: u64,
+    /// Files that are kept for the next start, and what that lacked.
+    spare: Vec<File>,
+    lack: Option<io::Error>,
 }
 
 enum State {
@@ -117,6 +124,8 @@ impl Engine {
             is_ready: false,
             started: now,
             starts: 0,
+            spare: Vec::new(),
+            lack: None,
         }
     }
 
@@ -214,7 +223,14 @@ impl Engine {
         command.process_group(0);
         command.env_remove(notify::SOCKET);
         Signals::hear_all(&mut command).map_err(CannotStart::Pipes)?;
-        let mut child = command.spawn().map_err(|fault| CannotStart::Program(self.program.clone(), fault))?;
+        self.lend_files();
+        let mut child = match command.spawn() {
+            Err(fault) if self.starts > 0 && lacks_means(&fault) => {
+                self.postpone(fault, now);
+                return Ok(None);
+            }
+            other => other.map_err(|fault| CannotStart::Program(self.program.clone(), fault))?,
+        };
         let (input, remarks) = (child.stdin.take(), child.stderr.take());
         let Some(output) = child.stdout.take() else { return Ok(None) };
         let never_waits = input.as_ref().map_or(Ok(()), never_wait).and_then(|()| never_wait(&output));
@@ -228,7 +244,24 @@ impl Engine {
         self.is_ready = false;
         self.started = now;
         self.starts += 1;
+        self.spare.extend((0..SPARE).map_while(|_| File::open("/dev/null").ok()));
         Ok(Some(process))
+    }
+
+    /// Lets go of the files that are kept for a start: it needs some where the system may have no other to spare.
+    pub fn lend_files(&mut self) {
+        self.spare.clear();
+    }
+
+    /// The system has not what it needs to start: that is tried again.
+    pub fn postpone(&mut self, fault: io::Error, now: Instant) {
+        self.state = State::Away(now + LACK_PAUSE);
+        self.lack = Some(fault);
+    }
+
+    /// What the system lacked, if it did since this was asked last.
+    pub fn take_lack(&mut self) -> Option<io::Error> {
+        self.lack.take()
     }
 
     /// Puts a line among those that are written at the end of the round.

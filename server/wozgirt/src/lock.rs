@@ -13,7 +13,7 @@ use std::os::unix::net::UnixStream;
 use std::os::unix::process::{CommandExt, ExitStatusExt};
 use std::process::{Child, Command, ExitStatus};
 use std::time::{Duration, Instant};
-use wozgirt_system::{inherit, send_signal, Event, Heard, Interest, Poller, Signal, Signals};
+use wozgirt_system::{inherit, lacks_means, send_signal, Event, Heard, Inherited, Interest, Poller, Signal, Signals};
 
 /// The lease over TCP, and of several servers, if none is asked for.
 pub const LEASE: Duration = Duration::from_secs(30);
@@ -72,6 +72,8 @@ pub enum NotRun {
     Server(Fault),
     /// The command cannot be run.
     Command(OsString, io::Error),
+    /// The system starts no process, for lack of means.
+    Fork(io::Error),
     /// The system refused something else.
     System(io::Error),
 }
@@ -81,6 +83,7 @@ impl fmt::Display for NotRun {
         match self {
             NotRun::Server(fault) => fault.fmt(f),
             NotRun::Command(command, fault) => write!(f, "{}: {fault}", command.to_string_lossy()),
+            NotRun::Fork(fault) => write!(f, "COMMAND cannot be started: {fault}"),
             NotRun::System(fault) => fault.fmt(f),
         }
     }
@@ -128,6 +131,7 @@ pub trait Link {
 
 /// Runs the command while the lock is held, by this server or by these.
 pub fn run(places: &[Place], hold: &Hold) -> Result<Ending, NotRun> {
+    let inherited = Inherited::look()?;
     Signal::Child.reset()?; // where the parent ignores it, no status would be known
     let deadline = match hold.patience {
         Patience::For(time) => Some(Instant::now() + time),
@@ -141,8 +145,8 @@ pub fn run(places: &[Place], hold: &Hold) -> Result<Ending, NotRun> {
         (opened, _) => opened.map(Opened::Session),
     };
     match opened {
-        Ok(Opened::Alone(alone)) => run_alone(alone, hold, deadline),
-        Ok(Opened::Session(session)) => run_in_session(session, hold, deadline),
+        Ok(Opened::Alone(alone)) => run_alone(alone, hold, deadline, inherited),
+        Ok(Opened::Session(session)) => run_in_session(session, hold, deadline, inherited),
         Err(fault) if fault.is_late() && deadline.is_some_and(|deadline| deadline <= Instant::now()) => {
             Ok(Ending::Unanswered(Unanswered::NotAsked))
         }
@@ -155,22 +159,27 @@ enum Opened {
     Session(Session),
 }
 
-fn run_alone(mut alone: Alone, hold: &Hold, deadline: Option<Instant>) -> Result<Ending, NotRun> {
+fn run_alone(mut alone: Alone, hold: &Hold, deadline: Option<Instant>, inherited: Inherited) -> Result<Ending, NotRun> {
     match alone.acquire(hold, deadline)? {
         Got::Token(token) => {
             let signals = heard(alone.poller())?;
-            command(hold, token, &mut alone, signals)
+            command(hold, token, &mut alone, signals, inherited)
         }
         Got::Not(ending) => Ok(ending),
     }
 }
 
-fn run_in_session(mut session: Session, hold: &Hold, deadline: Option<Instant>) -> Result<Ending, NotRun> {
+fn run_in_session(
+    mut session: Session,
+    hold: &Hold,
+    deadline: Option<Instant>,
+    inherited: Inherited,
+) -> Result<Ending, NotRun> {
     if session.is_attached() {
         return match session.acquire(hold, deadline, None)? {
             Got::Token(token) => {
                 let signals = heard(session.poller())?;
-                command(hold, token, &mut session, signals)
+                command(hold, token, &mut session, signals, inherited)
             }
             Got::Not(ending) => Ok(ending),
         };
@@ -178,7 +187,7 @@ fn run_in_session(mut session: Session, hold: &Hold, deadline: Option<Instant>) 
     let ending = (|| {
         let mut signals = heard(session.poller())?;
         match session.acquire(hold, deadline, Some(&mut signals))? {
-            Got::Token(token) => command(hold, token, &mut session, signals),
+            Got::Token(token) => command(hold, token, &mut session, signals, inherited),
             Got::Not(ending) => Ok(ending),
         }
     })();
@@ -197,9 +206,15 @@ fn heard(poller: &Poller) -> io::Result<Signals> {
     Ok(signals)
 }
 
-fn command(hold: &Hold, token: u64, link: &mut impl Link, mut signals: Signals) -> Result<Ending, NotRun> {
+fn command(
+    hold: &Hold,
+    token: u64,
+    link: &mut impl Link,
+    mut signals: Signals,
+    inherited: Inherited,
+) -> Result<Ending, NotRun> {
     let pair = if link.share()? && !hold.is_of_command_only { Some(LeftBehind::new()?) } else { None };
-    let child = start(hold, token)?;
+    let child = start(hold, token, inherited)?;
     let left_behind = pair.map(|(here, _)| here);
     let kill_after = link.lease().map_or(hold.kill_after, |lease| hold.kill_after.min(lease / 4));
     let mut guard = Guard { child, is_group: hold.is_group, ends_at: None, said: Vec::new() };
@@ -235,7 +250,8 @@ impl LeftBehind {
     }
 }
 
-fn start(hold: &Hold, token: u64) -> Result<Child, NotRun> {
+/// COMMAND hears what this program's parent had it hear.
+fn start(hold: &Hold, token: u64, inherited: Inherited) -> Result<Child, NotRun> {
     let program = hold.command.first().cloned().unwrap_or_default();
     let mut command = Command::new(&program);
     command.args(&hold.command[1..]);
@@ -243,8 +259,10 @@ fn start(hold: &Hold, token: u64) -> Result<Child, NotRun> {
     if hold.is_group {
         command.process_group(0);
     }
-    Signals::hear_all(&mut command)?;
-    command.spawn().map_err(|fault| NotRun::Command(program, fault))
+    inherited.pass_on(&mut command);
+    command
+        .spawn()
+        .map_err(|fault| if lacks_means(&fault) { NotRun::Fork(fault) } else { NotRun::Command(program, fault) })
 }
 
 /// The command while it runs.

@@ -36,6 +36,7 @@ const NOT_WRITTEN: u8 = 1;
 // statuses as `sysexits.h` has them
 const USAGE: u8 = 64;
 const UNAVAILABLE: u8 = 69;
+const SYSTEM: u8 = 71;
 const LOST: u8 = 75;
 const PROTOCOL: u8 = 76;
 
@@ -134,6 +135,7 @@ fn status_of(fault: &NotRun) -> u8 {
     match fault {
         NotRun::Server(fault) => status_of_fault(fault),
         NotRun::Command(..) | NotRun::System(_) => UNAVAILABLE,
+        NotRun::Fork(_) => SYSTEM,
     }
 }
 

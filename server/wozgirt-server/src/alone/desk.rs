@@ -5,7 +5,7 @@ use crate::board::Party;
 use crate::cluster::{Key, Line};
 use crate::connection::{Connection, Pending, Seat};
 use crate::desk::{Desk, Then, Unasked};
-use crate::log::{End, Event, Of};
+use crate::log::{some_of, End, Event, Of};
 use crate::mode::Mode;
 use crate::requests::BadRequest;
 use crate::shares::Guest;
@@ -46,7 +46,10 @@ impl Desk {
     fn refuse_session(&mut self, connection: &mut Connection, why: NoSession) -> Then {
         self.sums.refused("session");
         match why {
-            NoSession::Others => self.log.say(&Event::SessionRefused { who: &connection.who }),
+            NoSession::Others => {
+                let event = Event::SessionRefused { who: &connection.who };
+                self.log.say_of(connection.guest, self.now, &event);
+            }
             NoSession::Full => self.note_part(connection, Of::Sessions),
             NoSession::Unkept => {}
         }
@@ -168,7 +171,7 @@ impl Desk {
         for (lock, _) in it.holds.iter() {
             self.board.left(lock, session);
         }
-        it.held().join(",")
+        some_of(&it.held())
     }
 
     /// The connection of a session is gone: its client may come back, unless it has ended it. Returns what it held.
@@ -190,7 +193,7 @@ impl Desk {
             return self.end_session(number, connection.tag);
         }
         session.at = At::Away(Some(until).filter(|_| !is_engine_gone));
-        session.held().join(",")
+        some_of(&session.held())
     }
 
     /// An operator ends the session with this number, whose client is away. Returns what it held, if there is one.
@@ -202,7 +205,7 @@ impl Desk {
             }
             Mode::InLog(cluster) => {
                 let (key, _) = cluster.owns.away().find(|(key, _)| cluster.owns.session(*key) == Some(number))?;
-                let held = cluster.standing(key).held().join(",");
+                let held = some_of(&cluster.standing(key).held());
                 cluster.owns.end_away(key);
                 cluster.put(Line::Gone(key));
                 Some(held)

@@ -3,7 +3,7 @@
 use super::{Key, Line, Session, Standing};
 use crate::connection::{Connection, Pending, Seat};
 use crate::desk::{Desk, Then};
-use crate::log::{End, Event, Of};
+use crate::log::{some_of, End, Event, Of};
 use crate::mode::Mode;
 use crate::requests::BadRequest;
 use crate::shares::Share;
@@ -175,7 +175,8 @@ impl Desk {
             connection.pending.pop_front();
             connection.seat = None;
             self.sums.refused("session");
-            self.log.say(&Event::SessionRefused { who: &connection.who });
+            let event = Event::SessionRefused { who: &connection.who };
+            self.log.say_of(connection.guest, self.now, &event);
             connection.tell("refused session");
             connection.tell_what_waited();
         }
@@ -208,14 +209,14 @@ impl Desk {
             let until = if is_idle { until.min(seat.is_wanted_until()) } else { until };
             cluster.owns.await_client(seat.key, connection.client, until);
         }
-        held.join(",")
+        some_of(&held)
     }
 
     /// Sessions whose clients have not come back are over.
     pub(crate) fn end_late_sessions(&mut self) {
         let Some(cluster) = self.mode.in_log_mut() else { return };
         for key in cluster.owns.take_late(self.now) {
-            let held = cluster.standing(key).held().join(",");
+            let held = some_of(&cluster.standing(key).held());
             cluster.put(Line::Gone(key));
             let session = cluster.owns.session(key).unwrap_or(0);
             self.log.say(&Event::SessionOver { session, held: if held.is_empty() { "nothing" } else { &held } });

@@ -26,6 +26,11 @@ pub struct Visitor {
     has_asked: bool,
     /// What is still to be sent.
     telling: Option<(Asked, Telling)>,
+    /// Since when it takes nothing of what is sent to it.
+    stuck: Option<Instant>,
+    /// It was refused, and may say more, as the body of a request; and it has this answer by now.
+    is_refused: bool,
+    is_done: bool,
 }
 
 /// What is to be done with a visitor.
@@ -40,7 +45,17 @@ pub enum Next {
 impl Visitor {
     /// A new visitor.
     pub fn new(stream: Stream, now: Instant) -> Visitor {
-        Visitor { stream, since: now, input: Vec::new(), outbox: Outbox::default(), has_asked: false, telling: None }
+        Visitor {
+            stream,
+            since: now,
+            input: Vec::new(),
+            outbox: Outbox::default(),
+            has_asked: false,
+            telling: None,
+            stuck: None,
+            is_refused: false,
+            is_done: false,
+        }
     }
 
     /// Its socket.
@@ -50,13 +65,19 @@ impl Visitor {
 
     /// When it has taken too long.
     pub fn deadline(&self) -> Instant {
-        self.since + if self.has_asked { LONGEST_VISIT } else { LONGEST_ASKING }
+        self.since + if self.has_asked && !self.is_done { LONGEST_VISIT } else { LONGEST_ASKING }
     }
 
-    /// Which visitor goes first if there are too many: the smaller it is, the sooner. Nothing if it stays.
-    pub fn turn_to_go(&self, now: Instant) -> Option<(bool, Instant)> {
-        let may_go = !self.has_asked || now.saturating_duration_since(self.since) > SHORTEST_VISIT;
-        may_go.then_some((self.has_asked, self.since))
+    /// Which visitor goes first if there are too many: the smaller it is, the sooner. Nothing if it stays. One that does not read its
+    /// answer, or has it, keeps no place from others; then one goes that has said nothing, and then one that is here long.
+    pub fn turn_to_go(&self, now: Instant) -> Option<(u8, Instant)> {
+        if let Some(since) = self.stuck.or(self.is_done.then_some(self.since)) {
+            return Some((0, since));
+        }
+        if !self.has_asked {
+            return Some((1, self.since));
+        }
+        (now.saturating_duration_since(self.since) > SHORTEST_VISIT).then_some((2, self.since))
     }
 
     /// Reads and writes what can be until this time.
@@ -65,16 +86,23 @@ impl Visitor {
     }
 
     fn try_to_go_on(&mut self, view: &View<'_>, until: Instant) -> io::Result<Next> {
+        if self.is_done {
+            return Ok(self.drain_all());
+        }
         if !self.has_asked && !self.hear(view)? {
             return Ok(Next::Wait(Interest::READS));
         }
         loop {
             self.tell(view, until);
-            self.outbox.write_to(&mut self.stream)?;
+            let is_any = self.outbox.write_to(&mut self.stream)?;
             if self.telling.is_none() && self.outbox.is_empty() {
-                self.drain();
-                return Ok(Next::Close);
+                return self.end();
             }
+            self.stuck = match self.stuck {
+                _ if self.outbox.is_empty() => None,
+                Some(since) if !is_any => Some(since),
+                _ => Some(view.now),
+            };
             if !self.outbox.is_empty() || Instant::now() >= until {
                 return Ok(Next::Wait(Interest { reads: false, writes: true }));
             }
@@ -99,7 +127,10 @@ impl Visitor {
                 self.telling = asked.has_body.then(|| (asked, Telling::new(asked.wanted)));
                 head(asked)
             }
-            Err(refused) => refusal(refused),
+            Err(refused) => {
+                self.is_refused = true;
+                refusal(refused)
+            }
         };
         self.outbox.bytes().extend_from_slice(text.as_bytes());
         Ok(true)
@@ -115,12 +146,26 @@ impl Visitor {
         }
     }
 
-    /// Reads a little of what it still says: a socket that is closed with something unread takes back the answer.
-    fn drain(&mut self) {
+    /// It has its answer. What it still says is read, for a while: a socket that is closed with something unread takes back the answer.
+    fn end(&mut self) -> io::Result<Next> {
+        let next = self.drain_all();
+        if !self.is_refused {
+            return Ok(Next::Close);
+        }
+        self.is_done = true;
+        self.stream.end_writing()?;
+        Ok(next)
+    }
+
+    /// Reads what is there of what it says, and whether that is all.
+    fn drain_all(&mut self) -> Next {
         for _ in 0..8 {
-            if !matches!(self.stream.read(&mut [0; READ]), Ok(count) if count > 0) {
-                return;
+            match self.stream.read(&mut [0; READ]) {
+                Ok(count) if count > 0 => {}
+                Err(fault) if matches!(fault.kind(), ErrorKind::WouldBlock | ErrorKind::Interrupted) => break,
+                _ => return Next::Close,
             }
         }
+        Next::Wait(Interest::READS)
     }
 }

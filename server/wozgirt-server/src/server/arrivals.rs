@@ -111,7 +111,7 @@ impl Server {
             connection.tell("refused connections");
             let _ = connection.write(self.desk.now); // it gets that if it takes it at once
             self.desk.sums.turned_away += 1;
-            self.desk.log.say(&Event::TooMany { who: &connection.who });
+            self.desk.log.say_of(guest, self.desk.now, &Event::TooMany { who: &connection.who });
             return;
         }
         let client = connection.client;
@@ -160,8 +160,10 @@ impl Server {
                 Err(fault) => return self.shut_doors(&fault),
             };
             if self.visitors.len() >= MOST_VISITORS && !self.send_visitor_away() {
+                let guest = address.map_or(Guest::UNKNOWN, |address| Guest::at(address.ip()));
                 let address = address.map_or(String::new(), |address| address.to_string());
-                self.desk.log.say(&Event::Visitor { address: &address, why: "there are too many" });
+                let event = Event::Visitor { address: &address, why: "there are too many" };
+                self.desk.log.say_of(guest, self.desk.now, &event);
                 continue;
             }
             self.last_visitor += 1;

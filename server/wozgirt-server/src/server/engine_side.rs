@@ -12,7 +12,7 @@ use std::io;
 use std::process::ExitStatus;
 use std::time::{Duration, Instant};
 use wozgirt_engine::{decimal, Answer, Answered, Client, Input, Lock, NotALine, StateLine, Token, NOBODY};
-use wozgirt_system::{Interest, Poller};
+use wozgirt_system::{lacks_means, Interest, Poller};
 
 /// An engine that leaves a question unanswered for this time is called silent.
 const SILENCE: Duration = Duration::from_secs(2);
@@ -238,9 +238,14 @@ impl Server {
     /// Whether it has ended, and whether it is to be started.
     pub(super) fn look_at_engine(&mut self) -> Result<(), CannotServe> {
         match self.desk.mode {
-            Mode::Alone(_) => self.look_at_engine_alone(),
-            Mode::InLog(_) => self.look_at_cluster(),
+            Mode::Alone(_) => self.look_at_engine_alone()?,
+            Mode::InLog(_) => self.look_at_cluster()?,
         }
+        let of_log = self.desk.mode.in_log_mut().and_then(|cluster| cluster.log.take_lack());
+        for fault in self.desk.engine.take_lack().into_iter().chain(of_log) {
+            self.desk.log.say(&Event::CannotStart { fault: &fault });
+        }
+        Ok(())
     }
 
     fn look_at_engine_alone(&mut self) -> Result<(), CannotServe> {
@@ -264,7 +269,14 @@ impl Server {
         if !self.desk.engine.is_due(now) {
             return Ok(());
         }
-        self.prepare_engine()?;
+        self.desk.engine.lend_files();
+        match self.prepare_engine() {
+            Err(CannotServe::Sessions(fault)) if self.desk.engine.starts > 0 && lacks_means(&fault) => {
+                self.desk.engine.postpone(fault, now);
+                return Ok(());
+            }
+            other => other?,
+        }
         let Some(process) = self.desk.engine.start(now).map_err(CannotServe::Engine)? else { return Ok(()) };
         let grace = self.desk.settings.grace;
         self.desk.log.say(&Event::EngineStarted { process, grace });

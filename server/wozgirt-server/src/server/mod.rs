@@ -32,9 +32,8 @@ use crate::retention::{self, Removal};
 use crate::settings::Settings;
 use crate::sums::Sums;
 use arrivals::Doors;
-use opening::{check_files, check_list, make_journal, open_sessions, read_names, read_rules};
+use opening::{check_files, check_list, make_journal, open_sessions, read_file, read_names, read_rules};
 use std::collections::{HashMap, VecDeque};
-use std::fs;
 use std::io;
 use std::rc::Rc;
 use std::sync::mpsc::Receiver;
@@ -61,7 +60,7 @@ const MOST_COMERS: usize = 64;
 /// How many visitors the page has at once.
 const MOST_VISITORS: usize = 32;
 /// Files that are open in addition to connections.
-const OTHER_FILES: usize = 32;
+const OTHER_FILES: usize = 56;
 /// How long an end in good order may take; and how long after that the server waits for its processes to be gone.
 const LONGEST_STOP: Duration = Duration::from_secs(10);
 const LONGEST_KILL: Duration = Duration::from_secs(2);
@@ -410,7 +409,7 @@ impl Server {
     fn read_rules_again(&mut self) {
         self.user_names.forget();
         let Some(path) = &self.desk.settings.rules else { return };
-        let text = fs::read_to_string(path).unwrap_or_default(); // if it cannot be read, that is said then
+        let text = read_file(path).unwrap_or_default(); // if it cannot be read, that is said then
         match Accounts::of_rules_aside(text) {
             Ok(accounts) => self.accounts_aside = Some(accounts),
             Err(fault) => self.desk.log.say(&Event::RulesBad { fault: &fault }),

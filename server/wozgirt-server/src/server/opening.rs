@@ -13,11 +13,11 @@ use crate::rules::{BadRule, Rules};
 use crate::settings::Settings;
 use std::fmt;
 use std::fs::{self, DirBuilder, File};
-use std::io::{self, ErrorKind};
+use std::io::{self, ErrorKind, Read};
 use std::os::unix::fs::DirBuilderExt;
 use std::path::{Path, PathBuf};
 use std::process::ExitStatus;
-use wozgirt_system::permit_files;
+use wozgirt_system::{open_at_once, permit_files};
 
 /// A list of locks that does not continue that of the journal.
 #[derive(Debug)]
@@ -271,9 +271,20 @@ pub(super) fn check_list(settings: &Settings, new: &Names) -> Result<(), CannotS
     Err(CannotServe::OtherList(Box::new(lists)))
 }
 
+/// The text of a regular file. A pipe, into which somebody has yet to write, is refused at once.
+pub(super) fn read_file(path: &Path) -> io::Result<String> {
+    let mut file = open_at_once(path)?;
+    if !file.metadata()?.is_file() {
+        return Err(io::Error::new(ErrorKind::InvalidInput, "not a regular file"));
+    }
+    let mut text = String::new();
+    file.read_to_string(&mut text)?;
+    Ok(text)
+}
+
 pub(super) fn read_rules(settings: &Settings, board: &Board, accounts: &mut Accounts) -> Result<Rules, CannotServe> {
     let Some(path) = &settings.rules else { return Ok(Rules::default()) };
-    let text = fs::read_to_string(path).map_err(|fault| CannotServe::Rules(path.clone(), fault))?;
+    let text = read_file(path).map_err(|fault| CannotServe::Rules(path.clone(), fault))?;
     Rules::parse(&text, board, accounts).map_err(|fault| CannotServe::Rule(path.clone(), fault))
 }
 
