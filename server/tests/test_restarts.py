@@ -422,6 +422,24 @@ class Restarts(Trial):
         server = self.server()
         self.assertEqual(self.session(server, 1, 1)[1], ["holds a 1"])
 
+    def test_a_file_of_sessions_that_cannot_be_replaced(self):
+        """The old one stays, and has all, so each start is made from it; the log says that nothing more is kept."""
+        server = self.server()
+        one, _ = self.session(server, 1)
+        self.assertEqual(say(one, "1 acquire a 5\n"), ["1 granted a 1"])
+        part = os.path.join(self.folder, "journal.sessions", "sessions.part")
+        for number in (signal.SIGTERM, signal.SIGKILL):
+            if number == signal.SIGTERM:
+                os.mkdir(part)
+            server = self.again(server, number)
+            one, lines = self.session(server, 1, 1)
+            self.assertEqual((lines, say(one, "1 acquire a 5\n")), (["holds a 1"], ["1 granted a 1"]))
+            server.wait_for_log("sessions-unkept")
+        os.rmdir(part)
+        self.assertEqual(say(one, "2 release a 1\n3 acquire b 6\n", 2), ["2 released a", "3 granted b 1"])
+        server = self.again(server, signal.SIGKILL)
+        self.assertEqual(self.session(server, 1, 1)[1], ["holds b 1"])
+
     def test_a_folder_that_cannot_be_written(self):
         """The server says so, and ends; if it is to have no sessions, all else is as it was."""
         with open(os.path.join(self.folder, "journal.sessions"), "w", encoding="ascii"):
