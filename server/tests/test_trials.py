@@ -77,6 +77,10 @@ class EndedEarly(unittest.TestCase):
         self.leaves_nothing("lock.sock", "restarts.py", "full")
 
     @needs_programs
+    def test_restarts_beside_a_model(self):
+        self.leaves_nothing("lock.sock", "told", "60")
+
+    @needs_programs
     def test_load(self):
         self.leaves_nothing("lock.sock", "load.py")
 

@@ -132,6 +132,10 @@ class Client:
             self.take(line.split(" "))
         return not self.line.is_over
 
+    def may_have_given(self, lock):
+        """Whether what has no answer may have ended its hold of the lock."""
+        return bool(self.asked) and (self.asked == ["leave"] or self.asked[:2] == ["release", lock])
+
     def is_ready(self):
         """Whether it may ask."""
         return self.asked is None
@@ -152,11 +156,9 @@ class Plain(Client):
         self.line.say(" ".join(words))
 
     def lose(self, until):
-        """The server or the engine is lost: it was told no end of its holds, so these last until then. If it gave one up, or the connection,
-        that may be done."""
-        given = self.asked[1] if self.asked and self.asked[0] == "release" else None
+        """The server or the engine is lost: it was told no end of its holds, so these last until then, but those that it was giving up."""
         for lock in self.model.claimed(self.name):
-            if lock == given:
+            if self.may_have_given(lock):
                 self.model.give_up(self.name, lock)
             else:
                 self.model.guard(self.name, lock, until)
@@ -224,9 +226,8 @@ class Session(Client):
         """It never comes back, and another one comes: what it held is another's after its lease; if it is attached, at once, where the
         server sees that."""
         until = time.monotonic() + (0 if self.is_attached and self.line else self.lease)
-        asked = self.asked or [""]
         for lock in self.model.claimed(self.name):
-            if asked[0] == "leave" or asked[:2] == ["release", lock]:
+            if self.may_have_given(lock):
                 self.model.give_up(self.name, lock)
             else:
                 self.model.guard(self.name, lock, until)
@@ -257,11 +258,10 @@ class Session(Client):
 
     def compare(self, holds, waits, is_late):
         claimed, asked = self.model.claimed(self.name), self.asked or [""]
-        given = {asked[1]} if asked[0] == "release" else set(claimed) if asked[0] == "leave" else set()
         for lock, token in claimed.items():
             if holds.get(lock) == token:
                 continue
-            if lock not in given and not is_late:
+            if not self.may_have_given(lock) and not is_late:
                 raise Wrong(f"{self.name} was told {lock} {token}, was back in time, and is told {holds} and {waits}; {asked} is open")
             self.model.give_up(self.name, lock)
             self.model.counts["lost"] += 1
