@@ -270,7 +270,7 @@ def main():
             done.update(was_done)
             sums.update(scene.model.counts)
             folders += 1
-            shutil.rmtree(folder)
+            shutil.rmtree(folder, ignore_errors=True)  # where something is wrong its server may still be there
     did = ", ".join(f"{what} {count}" for what, count in sorted(done.items()))
     print(f"seed {words.seed} engine {os.path.basename(words.engine)} folders {folders} in {time.monotonic() - begun:.0f} s; "
           + ", ".join(f"{what} {count}" for what, count in sums.items()) + f"; {did}")

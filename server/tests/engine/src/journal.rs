@@ -193,8 +193,10 @@ fn begin(folder: &Path, number: u64, locks: &Locks, remarks: &str) -> io::Result
     if number > 1 {
         head.push_str(&carried(locks));
     }
-    let mut file = File::create(path(folder, number))?;
+    let part = folder.join(".wozgirt.part");
+    let mut file = File::create(&part)?;
     file.write_all(head.as_bytes())?;
+    fs::rename(part, path(folder, number))?;
     Ok(file)
 }
 
