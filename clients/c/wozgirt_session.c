@@ -186,28 +186,23 @@ static inline void wozgirt_session_take(struct wozgirt_session *it, int64_t unti
     if (it->pinged && strcmp(line, "pong") == 0) {
         it->spoken = wozgirt_lock_later(it->spoken, it->pinged);
         it->pinged = 0;
-        return;
-    }
-    if (*it->name && wozgirt_lock_says(line, "granted", it->name, &token)) {
+    } else if (*it->name && wozgirt_lock_says(line, "granted", it->name, &token)) {
         wozgirt_session_granted(it, token);
-        return;
-    }
-    if (it->is_waiting && wozgirt_lock_denies(line, it->name)) {
+    } else if (it->is_waiting && wozgirt_lock_denies(line, it->name)) {
         it->is_waiting = 0;
         it->is_refused = 1;
-        return;
-    }
-    if (rest)
-        *rest = '\0';
-    if (!rest || !wozgirt_lock_number(line, &number) || number > it->number) {
-        wozgirt_session_shun(it, until);
-    } else if (number == it->number && it->asked) {
-        memmove(line, rest + 1, strlen(rest + 1) + 1);
-        enum wozgirt_lock_answer answer = wozgirt_lock_read(line, it->asked, it->asked_name, &token);
-        if (answer == WOZGIRT_LOCK_OTHER)
+    } else {
+        line[strcspn(line, " ")] = '\0';
+        if (!rest || !wozgirt_lock_number(line, &number) || number > it->number) {
             wozgirt_session_shun(it, until);
-        else
-            wozgirt_session_answered(it, answer, token);
+        } else if (number == it->number && it->asked) {
+            memmove(line, rest + 1, strlen(rest + 1) + 1);
+            enum wozgirt_lock_answer answer = wozgirt_lock_read(line, it->asked, it->asked_name, &token);
+            if (answer == WOZGIRT_LOCK_OTHER)
+                wozgirt_session_shun(it, until);
+            else
+                wozgirt_session_answered(it, answer, token);
+        }
     }
 }
 

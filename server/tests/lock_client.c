@@ -11,7 +11,7 @@ static void say(const char *what, int result, const uint64_t *token)
 int main(int count, char **words)
 {
     struct wozgirt_lock_client client, other;
-    char unheard_of[200];
+    char unheard_of[129];
     uint64_t token = 0, second = 0;
     (void)count;
     memset(unheard_of, 'x', sizeof unheard_of - 1);

@@ -123,9 +123,7 @@ class Commands(Trial):
     @by_the_clock
     def test_a_server_without_sessions(self, _):
         """It ends what its clients hold; COMMAND is ended, as it was before there were sessions."""
-        with open(os.path.join(self.folder, "journal.sessions"), "w", encoding="ascii"):
-            pass
-        server = self.server()
+        server = self.server("--no-sessions")
         it = self.start(server.path, "a", "--", "sh", "-c", "echo up; exec sleep 1000")
         self.assertEqual(it.stdout.readline(), "up\n")
         server.kill_engine()

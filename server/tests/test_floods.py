@@ -207,7 +207,6 @@ class Memory(unittest.TestCase):
                     with socket.create_connection(("127.0.0.1", port), PATIENCE) as sock:
                         sock.sendall(b"GET /none HTTP/1.1\r\n\r\n")
                         self.assertEqual(sock.recv(12), b"HTTP/1.1 404")
-            self.assertNotIn("visitor-refused", server.text_of_log())
 
     def test_a_log_that_nobody_reads(self):
         locks = ",".join("n" * 60 + str(i) for i in range(300))
@@ -265,7 +264,7 @@ class Memory(unittest.TestCase):
         with Server() as server:
             it = subprocess.run([*server.words, "--connections", "10000", "--memory", "16"], capture_output=True, text=True,
                                 timeout=PATIENCE, check=False)
-            self.assertEqual(it.returncode, 1)
+            self.assertEqual(it.returncode, 78)
             self.assertIn("the connections need --memory ", it.stderr)
 
 

@@ -7,7 +7,7 @@ import unittest
 import urllib.request
 
 from harness import COMMAND, PATIENCE, Server, needs_loopback, needs_programs, read_lines, say, wait_until
-from header_clients import DONE, REFUSED, Clients, needs_c
+from header_clients import DONE, NAME as NO_NAME, REFUSED, Clients, needs_c
 
 from wozgirt import Client, Lock, Session, aio
 
@@ -86,7 +86,8 @@ class OfHeader(Clients):
             client = self.client(server.path)
             self.assertEqual(client.ask(f"acquire {NAME} 7 0")[1:3], (DONE, 1))
             self.assertEqual(client.ask(f"release {NAME} 1").result, DONE)
-            self.assertEqual(client.ask(f"acquire {NAME}x 7 0")[1::4], (REFUSED, f"refused lock {NAME}x"))
+            self.assertEqual(client.ask(f"acquire {NAME[:-1]} 7 0")[1::4], (REFUSED, f"refused lock {NAME[:-1]}"))
+            self.assertEqual(client.ask(f"acquire {NAME}x 7 0").result, NO_NAME)
 
 
 @needs_c

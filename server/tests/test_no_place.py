@@ -38,9 +38,9 @@ def has_place(sock):
         return False
 
 
-def cut_off(place, timeout):
+def cut_off(place, *times):
     """A connection that the server has closed before the client says anything."""
-    sock = connected(place, timeout)
+    sock = connected(place, *times)
     poll = select.poll()
     poll.register(sock, select.POLLHUP)
     if not poll.poll(PATIENCE * 1000):

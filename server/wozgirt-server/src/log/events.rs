@@ -190,10 +190,6 @@ pub enum Event<'a> {
         value: u64,
         old: u64,
     },
-    Visitor {
-        address: &'a str,
-        why: &'static str,
-    },
     Stopping {
         why: &'a str,
     },
@@ -294,7 +290,6 @@ impl Event<'_> {
             Event::PartFull { .. } => "part-full",
             Event::Fault { .. } => "fault",
             Event::LeftOut { .. } => "lines-left-out",
-            Event::Visitor { .. } => "visitor-refused",
             Event::Stopping { .. } => "stopping",
             Event::CannotAccept { .. } => "cannot-accept",
             Event::CannotStart { .. } => "cannot-start",
@@ -376,7 +371,6 @@ impl fmt::Display for Event<'_> {
             Event::LeftOut { count } => {
                 write!(f, "{count} lines about the user, or address, of the next line are left out")
             }
-            Event::Visitor { address, why } => write!(f, "visitor {address} refused: {why}"),
             Event::Stopping { why } => write!(f, "stopping: {why}"),
             Event::CannotStart { fault } => write!(f, "a process cannot be started ({fault}): that is tried again"),
             Event::CannotAccept { fault } => write!(f, "cannot accept a connection: {fault}"),

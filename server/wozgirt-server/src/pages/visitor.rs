@@ -11,8 +11,6 @@ use wozgirt_system::Interest;
 /// How long a visit lasts at most, and how much of that a visitor has to say what it wants.
 const LONGEST_VISIT: Duration = Duration::from_secs(10);
 const LONGEST_ASKING: Duration = Duration::from_secs(3);
-/// A visitor that has been here for this time may have to go for one that comes.
-const SHORTEST_VISIT: Duration = Duration::from_secs(1);
 /// How many bytes of an answer wait to be written.
 const MOST_AHEAD: usize = 16 << 10;
 const READ: usize = 2048;
@@ -68,16 +66,13 @@ impl Visitor {
         self.since + if self.has_asked && !self.is_done { LONGEST_VISIT } else { LONGEST_ASKING }
     }
 
-    /// Which visitor goes first if there are too many: the smaller it is, the sooner. Nothing if it stays. One that does not read its
-    /// answer, or has it, keeps no place from others; then one goes that has said nothing, and then one that is here long.
-    pub fn turn_to_go(&self, now: Instant) -> Option<(u8, Instant)> {
+    /// Which visitor goes first if there are too many: the smaller it is, the sooner. One that does not read its answer, or has it, keeps
+    /// no place from others; then one goes that has said nothing, and then the one that is here longest.
+    pub fn turn_to_go(&self) -> (u8, Instant) {
         if let Some(since) = self.stuck.or(self.is_done.then_some(self.since)) {
-            return Some((0, since));
+            return (0, since);
         }
-        if !self.has_asked {
-            return Some((1, self.since));
-        }
-        (now.saturating_duration_since(self.since) > SHORTEST_VISIT).then_some((2, self.since))
+        (if self.has_asked { 2 } else { 1 }, self.since)
     }
 
     /// Reads and writes what can be until this time.

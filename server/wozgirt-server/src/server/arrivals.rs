@@ -154,17 +154,13 @@ impl Server {
 
     pub(super) fn let_visitors_in(&mut self) {
         for _ in 0..MOST_VISITORS {
-            let (stream, address) = match self.doors.accept(PAGE) {
-                Ok(Some(come)) => come,
+            let stream = match self.doors.accept(PAGE) {
+                Ok(Some((stream, _))) => stream,
                 Ok(None) => return,
                 Err(fault) => return self.shut_doors(&fault),
             };
-            if self.visitors.len() >= MOST_VISITORS && !self.send_visitor_away() {
-                let guest = address.map_or(Guest::UNKNOWN, |address| Guest::at(address.ip()));
-                let address = address.map_or(String::new(), |address| address.to_string());
-                let event = Event::Visitor { address: &address, why: "there are too many" };
-                self.desk.log.say_of(guest, self.desk.now, &event);
-                continue;
+            if self.visitors.len() >= MOST_VISITORS {
+                self.send_visitor_away();
             }
             self.last_visitor += 1;
             let key = VISITORS + self.last_visitor;
@@ -177,12 +173,11 @@ impl Server {
         }
     }
 
-    /// A visitor that has said nothing, or has been here long, makes room for another: whether there is one.
-    fn send_visitor_away(&mut self) -> bool {
-        let now = self.desk.now;
-        let turns = self.visitors.iter().filter_map(|(key, visitor)| Some((visitor.turn_to_go(now)?, *key)));
-        let Some((_, key)) = turns.min() else { return false };
-        self.visitors.remove(&key).is_some()
+    /// The visitor whose turn it is makes room for another.
+    fn send_visitor_away(&mut self) {
+        if let Some((_, key)) = self.visitors.iter().map(|(key, visitor)| (visitor.turn_to_go(), *key)).min() {
+            self.visitors.remove(&key);
+        }
     }
 
     pub(super) fn visit(&mut self, key: u64) {
