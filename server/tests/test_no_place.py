@@ -48,7 +48,7 @@ def cut_off(place, *times):
     return sock
 
 
-connected = wozgirt.client.connected
+connected = wozgirt.wire.connected
 
 
 @needs_programs
@@ -60,7 +60,7 @@ class NoPlace(unittest.TestCase):
                     Client(server.path)
 
     def test_python_s_client_that_comes_late(self):
-        with full_server() as server, mock.patch("wozgirt.client.connected", cut_off):
+        with full_server() as server, mock.patch("wozgirt.wire.connected", cut_off):
             with self.assertRaises(TooMany):
                 Client(server.path)
 

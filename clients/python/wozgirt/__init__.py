@@ -12,6 +12,8 @@ storage that refuses tokens that are older than one it has seen.
 Several servers that share their locks are given as `Lock("tcp:one:7000,tcp:two:7000,tcp:three:7000", "deploy")`: what was asked is
 done once and holds stay, also if the one that was asked dies (`Session`).
 
+`tls:HOST:PORT` is a server that is reached by TLS; `Tls` names the certificates.
+
 `wozgirt.aio` has the same for asyncio, and `wozgirt.ring` has token rings inside a program.
 """
 
@@ -20,7 +22,8 @@ from .lines import (Circle, Holds, Inherited, LockError, LockLost, LockStatus, N
                     NotWaiter, Place, Places, Refused, TooMany, Waits)
 from .lock import Lock
 from .session import Session
+from .tls import Tls
 
 __all__ = ["Circle", "Client", "Holds", "Inherited", "Lock", "LockError", "LockLost", "LockStatus", "NoSuchLock", "NotHolder",
-           "NotInTime", "NotPermitted", "NotWaiter", "Place", "Places", "Refused", "Session", "TooMany", "Waits"]
+           "NotInTime", "NotPermitted", "NotWaiter", "Place", "Places", "Refused", "Session", "Tls", "TooMany", "Waits"]
 __version__ = "0.1.0"

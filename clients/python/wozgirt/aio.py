@@ -15,10 +15,11 @@ from typing import Any, Deque, NamedTuple, NoReturn, Optional, Tuple, Type, Unio
 from . import lines, nesting
 from .aio_session import Session
 from .client import INTERRUPTED, PART, PING, STATUS, WITHDRAW
-from .lines import Inherited, LockError, LockLost, LockStatus, NotInTime, NotWaiter, Place, Places, Question, Refused
+from .lines import Inherited, LockError, LockLost, LockStatus, NotInTime, NotWaiter, Place, Places, Question, Refused, TlsPlace
 from .lock import Default, Function, Settings, is_too_late, left, to_connect, until
 from .process import OfOneProcess
-from .wire import ABSENT, AGAIN, CONNECT, START, TRY
+from .tls import Tls, Tunnel
+from .wire import ABSENT, AGAIN, CONNECT, ROOM, START, TRY
 
 __all__ = ["Client", "Lock", "Session"]
 
@@ -30,6 +31,40 @@ class _Call(NamedTuple):
     outcome: "asyncio.Future[Question]"
 
 
+class _TlsReader:
+    """Lines that come over TLS, as a StreamReader has them."""
+
+    def __init__(self, reader: asyncio.StreamReader, writer: asyncio.StreamWriter, tunnel: Tunnel):
+        self._reader, self._writer, self._tunnel, self._bytes = reader, writer, tunnel, b""
+
+    async def shake(self, deadline: float) -> None:
+        """The handshake, or an OSError."""
+        came = b""
+        while not self._tunnel.is_shaken(came):
+            self._writer.write(self._tunnel.leaving())
+            try:
+                came = await asyncio.wait_for(self._reader.read(ROOM), left(deadline))
+            except asyncio.TimeoutError:
+                raise TimeoutError(errno.ETIMEDOUT, "the server does not answer") from None
+            if not came:
+                raise ConnectionResetError(errno.ECONNRESET, "the server closed the connection")
+        self._writer.write(self._tunnel.leaving())
+        self._bytes = self._tunnel.open(b"")
+
+    async def readline(self) -> bytes:
+        """The next line with its end; nothing when the connection is over."""
+        while b"\n" not in self._bytes:
+            if len(self._bytes) > ROOM:
+                raise LockLost("the server sent a line without an end")
+            came = b"" if self._tunnel.is_over else await self._reader.read(ROOM)
+            if not came:
+                return b""
+            self._bytes += self._tunnel.open(came)
+            self._writer.write(self._tunnel.leaving())
+        line, end, self._bytes = self._bytes.partition(b"\n")
+        return line + end
+
+
 class Client(OfOneProcess):
     """A connection, made by `await Client.connect(place)`. Tasks may share it; it waits for one lock at a time. What a
     lease is, and what a child may do with it, the client for threads says.
@@ -37,10 +72,10 @@ class Client(OfOneProcess):
     A task that is cancelled leaves nothing that waits or that is held. Its cancellation takes WITHDRAW seconds at most: a server that
     takes longer gets it in the background, and if it does not answer within a second, the connection is closed."""
 
-    def __init__(self, reader: asyncio.StreamReader, writer: asyncio.StreamWriter, sock: Optional[socket.socket] = None,
-                 servers: Tuple[Any, ...] = ()):
+    def __init__(self, reader: Union[asyncio.StreamReader, _TlsReader], writer: asyncio.StreamWriter,
+                 sock: Optional[socket.socket] = None, servers: Tuple[Any, ...] = (), tunnel: Optional[Tunnel] = None):
         super().__init__()
-        self._reader, self._writer, self._sock, self.servers = reader, writer, sock, list(servers)
+        self._reader, self._writer, self._sock, self.servers, self._tunnel = reader, writer, sock, list(servers), tunnel
         self._calls: Deque[_Call] = collections.deque()  # answers come in the order of the calls
         self._wait: Optional[_Call] = None
         self._lost: Optional[str] = None
@@ -50,15 +85,15 @@ class Client(OfOneProcess):
         self._undoing: set[asyncio.Task[None]] = set()
 
     @classmethod
-    async def connect(cls, place: Place, *, lease: Optional[float] = None, timeout: float = CONNECT) -> Client:
+    async def connect(cls, place: Place, *, lease: Optional[float] = None, timeout: float = CONNECT, tls: Tls = Tls()) -> Client:
         """Connects within `timeout` seconds, of which a server that starts may take 5 to be there."""
         deadline = time.monotonic() + timeout
         server = lines.place(place)
         asked = lines.lease_of(lease, server)
+        tunnel = Tunnel(server, tls) if isinstance(server, TlsPlace) else None
         sock = await _connected(server, deadline, time.monotonic() + min(START, timeout))
         try:
-            opened = asyncio.open_connection if isinstance(server, tuple) else asyncio.open_unix_connection
-            client = cls(*await opened(sock=sock), sock, (server,))
+            client = await cls._over(sock, server, tunnel, deadline)
         except BaseException:
             sock.close()
             raise
@@ -72,6 +107,19 @@ class Client(OfOneProcess):
         if client._lease:
             client._tasks.append(asyncio.create_task(client._speak()))
         return client
+
+    @classmethod
+    async def _over(cls, sock: socket.socket, server: Place, tunnel: Optional[Tunnel], deadline: float) -> Client:
+        reader, writer = await (asyncio.open_connection if isinstance(server, tuple) else asyncio.open_unix_connection)(sock=sock)
+        if tunnel is None:
+            return cls(reader, writer, sock, (server,))
+        opened = _TlsReader(reader, writer, tunnel)
+        try:
+            await opened.shake(deadline)
+        except BaseException:
+            writer.transport.abort()
+            raise
+        return cls(opened, writer, sock, (server,), tunnel)
 
     async def _granted_lease(self, line: bytes, deadline: float) -> float:
         try:
@@ -170,6 +218,8 @@ class Client(OfOneProcess):
     def _put(self, line: bytes) -> None:
         """Sends it. It does not report that the server has closed the connection: `_read` gets first what it said before. (A transport
         whose write fails reads nothing more.) If the system refuses it for another reason, no answer would ever come."""
+        if self._tunnel is not None:
+            line = self._tunnel.seal(line)
         if self._sock is not None and not self._writer.transport.get_write_buffer_size():
             try:
                 line = line[self._sock.send(line):]
@@ -367,9 +417,9 @@ class Lock(Settings):
     A task that holds the lock by such an object, and asks for it by another one, would wait for itself: `Holds`."""
 
     def __init__(self, place: Union[Places, Client, Session], name: str, *, wait: Optional[float] = None, label: int = 0,
-                 lease: Optional[float] = None):
-        """`wait`, `label` and `lease` are those of `wozgirt.Lock`."""
-        super().__init__(place, name, wait=wait, label=label, lease=lease)
+                 lease: Optional[float] = None, tls: Tls = Tls()):
+        """`wait`, `label`, `lease` and `tls` are those of `wozgirt.Lock`."""
+        super().__init__(place, name, wait=wait, label=label, lease=lease, tls=tls)
 
     async def acquire(self, *, timeout: Union[float, None, Type[Default]] = Default) -> int:
         """Takes the lock; its token. `NotInTime` if it is not granted within `timeout` seconds (None: no limit; if it is not
@@ -402,8 +452,8 @@ class Lock(Settings):
         servers = lines.places(self._place)
         try:
             if len(servers) > 1:
-                return await Session.connect(servers, lease=self._lease, timeout=to_connect(deadline))
-            return await Client.connect(servers[0], lease=self._lease, timeout=to_connect(deadline))
+                return await Session.connect(servers, lease=self._lease, timeout=to_connect(deadline), tls=self._tls)
+            return await Client.connect(servers[0], lease=self._lease, timeout=to_connect(deadline), tls=self._tls)
         except OSError as fault:
             if is_too_late(fault, deadline):
                 raise NotInTime(f"{self.name}: no server answered in time, so nothing was asked ({fault})") from fault

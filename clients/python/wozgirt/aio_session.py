@@ -10,6 +10,7 @@ from typing import Callable, List, Optional, TypeVar
 from . import session
 from .client import CLOSE, WITHDRAW, Answer
 from .lines import LockError, LockStatus, Places
+from .tls import Tls
 from .wire import CONNECT, Late
 
 Result = TypeVar("Result")
@@ -24,9 +25,9 @@ class _CalledOff(Exception):
 class _Stoppable(session.Session):
     """A session whose call can be called off by another thread."""
 
-    def __init__(self, servers: Places, lease: Optional[float], timeout: float):
+    def __init__(self, servers: Places, lease: Optional[float], timeout: float, tls: Tls):
         self.of_thread = threading.local()
-        super().__init__(servers, lease=lease, timeout=timeout)
+        super().__init__(servers, lease=lease, timeout=timeout, tls=tls)
 
     def _hand_over(self, taken: List[int], do: Callable[[], Answer], until: Optional[float] = None) -> Answer:
         stop: Optional[threading.Event] = getattr(self.of_thread, "stop", None)
@@ -63,13 +64,13 @@ class Session:
         self._client, self.servers = client, client.servers
 
     @classmethod
-    async def connect(cls, servers: Places, *, lease: Optional[float] = None, timeout: float = CONNECT) -> Session:
+    async def connect(cls, servers: Places, *, lease: Optional[float] = None, timeout: float = CONNECT, tls: Tls = Tls()) -> Session:
         """Connects to one of them within `timeout` seconds."""
         made: List[_Stoppable] = []
         is_wanted = [True]
 
         def make() -> None:
-            made.append(_Stoppable(servers, lease, timeout))
+            made.append(_Stoppable(servers, lease, timeout, tls))
             if not is_wanted[0]:
                 made[0].close()
         try:

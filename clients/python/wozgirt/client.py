@@ -11,8 +11,9 @@ from typing import Callable, Deque, Dict, List, NoReturn, Optional, Tuple, TypeV
 
 from . import lines
 from .lines import LockError, LockLost, LockStatus, NotHolder, NotInTime, NotWaiter, Place, Question, Refused
+from .tls import Tls
 from .turns import Turns
-from .wire import CONNECT, START, Late, Wire, connected
+from .wire import CONNECT, START, Late, Wire, connected, wire_to
 
 __all__ = ["CONNECT", "Client", "connected"]
 
@@ -36,15 +37,17 @@ class Client(Turns):
 
     With a lease (seconds) the server takes a silence of this length for the client's end. A thread of this client then speaks
     each quarter of it, and `check` raises `LockLost` when half of it is over without an answer. Over TCP each connection has a
-    lease, so one is asked for there in any case. On a Unix socket the server says whether it gave one, which is kept in the same way."""
+    lease, so one is asked for there in any case. On a Unix socket the server says whether it gave one, which is kept in the same way.
+
+    `tls` has the files for a place tls:HOST:PORT."""
 
     _part = PART
 
-    def __init__(self, place: Place, *, lease: Optional[float] = None, timeout: float = CONNECT):
+    def __init__(self, place: Place, *, lease: Optional[float] = None, timeout: float = CONNECT, tls: Tls = Tls()):
         server = lines.place(place)
         until = time.monotonic() + timeout
         asked = lines.lease_of(lease, server)
-        self._prepare([server], Wire(connected(server, timeout, START)))
+        self._prepare([server], wire_to(server, tls, timeout, START))
         try:
             self._lease = self._in_turn(lambda: self._granted_lease(asked, until))
         except BaseException as fault:

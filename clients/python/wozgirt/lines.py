@@ -7,14 +7,14 @@ import operator
 import os
 import re
 from dataclasses import dataclass
-from typing import TYPE_CHECKING, Dict, List, Optional, Sequence, Tuple, Union
+from typing import TYPE_CHECKING, Dict, List, NamedTuple, Optional, Sequence, Tuple, Union
 
 if TYPE_CHECKING:
     _Path = os.PathLike[str]
 else:
     _Path = os.PathLike  # Python 3.8 has no parameter for it
 
-#: Where a server is: the path of its socket, or host and port, also as tcp:HOST:PORT.
+#: Where a server is: the path of its socket, or host and port, also as tcp:HOST:PORT, or tls:HOST:PORT.
 Place = Union[str, _Path, Tuple[str, int]]
 #: One server, or several that share their locks: a list, or in one text with commas.
 Places = Union[Place, Sequence[Place]]
@@ -27,6 +27,13 @@ LONGEST_LEASE = 365 * 24 * 3600.0
 USUAL_LEASE = 30.0
 #: The line that asks for the lease that the server gave by itself.
 GIVEN_LEASE = b"lease\n"
+
+
+class TlsPlace(NamedTuple):
+    """Where a server is that speaks TLS."""
+
+    host: str
+    port: int
 
 
 class LockError(Exception):
@@ -112,25 +119,26 @@ class LockStatus:
 
 
 def place(given: Place) -> Union[str, Tuple[str, int]]:
-    """The same place, where a text tcp:HOST:PORT is host and port, and a path is its text."""
+    """The same place, where a text tcp:HOST:PORT or tls:HOST:PORT is host and port, and a path is its text."""
     if isinstance(given, tuple):
         return given
     given = os.fspath(given)
     if not isinstance(given, str):
         raise TypeError(f"no server: {given!r}")
-    if not given.startswith("tcp:"):
+    if not given.startswith(("tcp:", "tls:")):
         return given
     host, _, port = given[4:].rpartition(":")
     if not host or not port.isdigit() or not 0 < int(port) < 65536:
         raise ValueError(f"no server: {given!r}")
-    return host.strip("[]"), int(port)
+    found = TlsPlace(host.strip("[]"), int(port))
+    return found if given.startswith("tls:") else tuple(found)
 
 
 def places(given: Places) -> List[Union[str, Tuple[str, int]]]:
-    """One server or several: a text is cut at each comma after which another place begins, with tcp:, / or ./."""
+    """One server or several: a text is cut at each comma after which another place begins, with tcp:, tls:, / or ./."""
     if isinstance(given, (tuple, os.PathLike)):
         return [place(given)]  # type: ignore[arg-type]  # a tuple is host and port
-    pieces = re.split(",(?=tcp:|/|[.]/)", given) if isinstance(given, str) else given
+    pieces = re.split(",(?=tcp:|tls:|/|[.]/)", given) if isinstance(given, str) else given
     if not pieces:
         raise ValueError("no server")
     return [place(it) for it in pieces]
@@ -138,7 +146,10 @@ def places(given: Places) -> List[Union[str, Tuple[str, int]]]:
 
 def at(server: Union[str, Tuple[str, int]]) -> str:
     """A place as it is written, on one line."""
-    return f"tcp:{server[0]}:{server[1]}" if isinstance(server, tuple) else server
+    if not isinstance(server, tuple):
+        return server
+    kind, host = "tls" if isinstance(server, TlsPlace) else "tcp", f"[{server[0]}]" if ":" in server[0] else server[0]
+    return f"{kind}:{host}:{server[1]}"
 
 
 def why_not(code: int, path: str) -> OSError:

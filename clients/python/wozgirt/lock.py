@@ -12,6 +12,7 @@ from . import lines, nesting
 from .client import CONNECT, WITHDRAW, Client
 from .lines import Inherited, LockError, LockLost, NotInTime, Places, Refused
 from .session import Session
+from .tls import Tls
 
 #: How much earlier than asked for the system may end a wait, in seconds.
 EARLY = 0.005
@@ -23,11 +24,11 @@ class Default:
     """A timeout that is not given: the `wait` of the object."""
 
 
-def client_of(given: Places, lease: Optional[float] = None, timeout: float = CONNECT) -> Client:
+def client_of(given: Places, lease: Optional[float] = None, timeout: float = CONNECT, tls: Tls = Tls()) -> Client:
     """A client of the server, or of the servers."""
     servers = lines.places(given)
     kind = Client if len(servers) == 1 else Session
-    return kind(servers[0] if len(servers) == 1 else servers, lease=lease, timeout=timeout)
+    return kind(servers[0] if len(servers) == 1 else servers, lease=lease, timeout=timeout, tls=tls)
 
 
 def until(seconds: Optional[float]) -> Optional[float]:
@@ -53,8 +54,9 @@ def is_too_late(fault: OSError, deadline: Optional[float]) -> bool:
 class Settings:
     """What `Lock` for threads and for asyncio have in common: a hold, or none."""
 
-    def __init__(self, place: Any, name: str, *, wait: Optional[float] = None, label: int = 0, lease: Optional[float] = None):
-        self._place, self.name, self._wait, self._label, self._lease = place, name, wait, label, lease
+    def __init__(self, place: Any, name: str, *, wait: Optional[float] = None, label: int = 0, lease: Optional[float] = None,
+                 tls: Tls = Tls()):
+        self._place, self.name, self._wait, self._label, self._lease, self._tls = place, name, wait, label, lease, tls
         self.client: Any = None
         #: The token of the hold, or None.
         self.token: Optional[int] = None
@@ -81,7 +83,7 @@ class Settings:
 
     def _again(self) -> Any:
         """An object like this one."""
-        return type(self)(self._place, self.name, wait=self._wait, label=self._label, lease=self._lease)
+        return type(self)(self._place, self.name, wait=self._wait, label=self._label, lease=self._lease, tls=self._tls)
 
     def _deadline(self, timeout: Union[float, None, Type[Default]]) -> Optional[float]:
         """That of a call that begins now."""
@@ -118,12 +120,13 @@ class Lock(Settings):
     A thread that holds the lock by such an object, and asks for it by another one, would wait for itself: `Holds`."""
 
     def __init__(self, place: Union[Places, Client], name: str, *, wait: Optional[float] = None, label: int = 0,
-                 lease: Optional[float] = None):
+                 lease: Optional[float] = None, tls: Tls = Tls()):
         """`wait`: how many seconds `acquire` and `with` may take, the time to connect included; None: no limit. `label`: a number below
         2^64 that `wozgirt status` and the journal show, as a process or a host. `lease`: after this many seconds of silence the server
         takes this client's program for dead, and others get the lock; a thread speaks meanwhile. None: the server's choice, and over
-        TCP and with several servers 30."""
-        super().__init__(place, name, wait=wait, label=label, lease=lease)
+        TCP and with several servers 30. `tls`: the files for a place tls:HOST:PORT; those that it does not name are named by
+        WOZGIRT_CACERT, WOZGIRT_CERT and WOZGIRT_KEY."""
+        super().__init__(place, name, wait=wait, label=label, lease=lease, tls=tls)
 
     def acquire(self, *, timeout: Union[float, None, Type[Default]] = Default) -> int:
         """Takes the lock; its token. `NotInTime` if it is not granted within `timeout` seconds (None: no limit; if it is not
@@ -162,7 +165,7 @@ class Lock(Settings):
 
     def _connected(self, deadline: Optional[float]) -> Client:
         try:
-            return client_of(self._place, self._lease, to_connect(deadline))
+            return client_of(self._place, self._lease, to_connect(deadline), self._tls)
         except OSError as fault:
             if is_too_late(fault, deadline):
                 raise NotInTime(f"{self.name}: no server answered in time, so nothing was asked ({fault})") from fault

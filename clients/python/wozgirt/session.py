@@ -11,9 +11,10 @@ import time
 from typing import Dict, List, NoReturn, Optional, Tuple
 
 from . import lines
-from .client import CONNECT, PING, STATUS, Client, connected
-from .lines import LockLost, Places, Question
-from .wire import Late, Wire
+from .client import CONNECT, PING, STATUS, Client
+from .lines import LockLost, Places, Question, TlsPlace
+from .tls import Tls
+from .wire import Late, Wire, wire_to
 
 #: How long one server may take to be there, and to say how the session is, where there are others.
 CONNECT_ONE, ANSWER = 2.0, 5.0
@@ -35,9 +36,12 @@ class Session(Client):
 
     _part = PART
 
-    def __init__(self, servers: Places, *, lease: Optional[float] = None, timeout: float = CONNECT):
+    def __init__(self, servers: Places, *, lease: Optional[float] = None, timeout: float = CONNECT, tls: Tls = Tls()):
         until = time.monotonic() + timeout
-        self._prepare(lines.places(servers), Wire(socket.socket()))
+        self._tls, found = tls, lines.places(servers)
+        if any(isinstance(it, TlsPlace) for it in found):
+            tls.context()  # a file that is wrong stays so at each server
+        self._prepare(found, Wire(socket.socket()))
         self._at, self._key = -1, secrets.randbelow(lines.MOST - 1) + 1
         self._number, self._failures, self._why = 0, 0, "no server answers"
         self._asked: Optional[Question] = None  # the input that has no answer yet
@@ -208,7 +212,7 @@ class Session(Client):
         """Continues with the next server, or an OSError. What is done before the connection is this session's leaves no trace."""
         self._at = (self._at + 1) % len(self.servers)
         begun = time.monotonic()
-        wire = Wire(connected(self.servers[self._at], max(0.05, min(CONNECT_ONE, until - begun))))
+        wire = wire_to(self.servers[self._at], self._tls, max(0.05, min(CONNECT_ONE, until - begun)))
         try:
             end = min(until, time.monotonic() + ANSWER)
             wire.send(b"session %d\n" % self._key, [], ANSWER)

@@ -10,7 +10,8 @@ import threading
 import time
 from typing import Any, List, Optional
 
-from .lines import LockLost, Place, is_own, why_not
+from .lines import LockLost, Place, TlsPlace, is_own, why_not
+from .tls import Tls, Tunnel
 
 #: How long the server may take to be there.
 CONNECT = 10.0
@@ -212,3 +213,66 @@ class Wire:
     def close(self) -> None:
         """Closes this process's end of it."""
         self._sock.close()
+
+
+class TlsWire(Wire):
+    """Lines over TLS. It is torn while a line is sealed and sent, too: what a call that was broken off there has sent is not known."""
+
+    def __init__(self, sock: socket.socket, tunnel: Tunnel):
+        super().__init__(sock)
+        self._tunnel = tunnel
+
+    def shake(self, until: float) -> None:
+        """The handshake, or an OSError."""
+        while not self._tunnel.is_shaken(self._came()):
+            self._send_leaving(until - time.monotonic())
+            if not self.wait(until - time.monotonic()):
+                raise TimeoutError(errno.ETIMEDOUT, "the server does not answer")
+            if not self.receive():
+                raise ConnectionResetError(errno.ECONNRESET, "the server closed the connection")
+        self._send_leaving(until - time.monotonic())
+        self._bytes = self._tunnel.open(b"")
+
+    def send(self, data: bytes, sent: List[int], patience: float) -> None:
+        if not sent:
+            was_torn, self.is_torn = self.is_torn, True
+            super().send(self._tunnel.seal(data), [], patience)
+            sent.append(len(data))
+            self.is_torn = was_torn
+
+    def receive(self, waits: bool = False) -> bool:
+        return super().receive(waits) and not self._tunnel.is_over
+
+    def line(self) -> Optional[bytes]:
+        self.is_torn = True
+        if self._chunks:
+            self._bytes += self._tunnel.open(self._came())
+            self._send_leaving(0)
+        return super().line()
+
+    def _came(self) -> bytes:
+        """What was received and not looked at; it is not there any more."""
+        came = b"".join(self._chunks)
+        self._chunks.clear()
+        return came
+
+    def _send_leaving(self, patience: float) -> None:
+        try:
+            super().send(self._tunnel.leaving(), [], max(0.0, patience))
+        except Late:
+            raise LockLost("the server takes nothing") from None
+
+
+def wire_to(place: Place, files: Tls, timeout: float = CONNECT, start: float = 0.0) -> Wire:
+    """Lines to the server, as `connected` says; the handshake of TLS is within `timeout`, too."""
+    until = time.monotonic() + timeout
+    if not isinstance(place, TlsPlace):
+        return Wire(connected(place, timeout, start))
+    tunnel = Tunnel(place, files)  # the files are looked at first
+    wire = TlsWire(connected(place, timeout, start), tunnel)
+    try:
+        wire.shake(until)
+    except BaseException:
+        wire.close()
+        raise
+    return wire
