@@ -109,18 +109,18 @@ class Trial:
 
     def __init__(self, rt, crate, seed):
         self.rt, self.crate, self.seed, self.names = rt, crate, seed, own_names()
-        self.before = rt.listing(seed)
+        self.before = listing(seed)
 
     def ended(self):
         """Removes what the crate's own check kept. Returns whether it was as it had left it."""
-        is_sound = self.rt.listing(self.seed) == self.before
+        is_sound = listing(self.seed) == self.before
         shutil.rmtree(os.path.dirname(self.seed), ignore_errors=True)
         return is_sound
 
     def checked(self, texts):
         """The status of a check of the crate with these texts, and its lines."""
         with tempfile.TemporaryDirectory(prefix="edits-", dir=os.path.dirname(self.seed)) as room:
-            self.rt.linked(self.seed, f"{room}/kept")
+            shutil.copytree(self.seed, f"{room}/kept", copy_function=os.link)
             ran = self.rt.checked(self.crate, texts, ["--jobs", "1"], f"{room}/kept")
         return ran.returncode, ran.stdout.rstrip("\n").split("\n")
 
@@ -165,11 +165,29 @@ class Trial:
         return kind, goals
 
 
+def listing(folder):
+    """Each file below a folder, with its size and the moment of its last change."""
+    found = {}
+    for at, _, files in os.walk(folder):
+        for name in files:
+            told = os.stat(f"{at}/{name}")
+            found[os.path.relpath(f"{at}/{name}", folder)] = told.st_size, told.st_mtime_ns
+    return found
+
+
 def begun(rt, crate, jobs, kept=None):
     """A trial over what a check of the crate as it stands keeps, which begins with what an earlier one kept in a folder; none where the
     crate is not proved."""
-    room = rt.seeded(crate, ["--jobs", str(jobs)], kept if kept and os.path.isdir(kept) else None)
-    return Trial(rt, crate, f"{room}/seed") if room else None
+    room = tempfile.mkdtemp(prefix="edits-")
+    seed = f"{room}/seed"
+    if kept and os.path.isdir(kept):
+        shutil.copytree(kept, seed)
+    else:
+        os.mkdir(seed)
+    if rt.checked(crate, {}, ["--jobs", str(jobs)], seed).returncode == 0:
+        return Trial(rt, crate, seed)
+    shutil.rmtree(room, ignore_errors=True)
+    return None
 
 
 def told(edit, verdict):

@@ -1,5 +1,5 @@
 """The kit's own module, as the scripts of this repository use it: `./build`, `.ci/prove` and `tools/crate.py`. It rests on names
-inside the kit's command `rt`: try it at each move to another kit."""
+inside the kit's command `rt`, which differ between kits of one logic: on as few as will do. Try it at each move to another kit."""
 import importlib.machinery
 import importlib.util
 import os
@@ -12,6 +12,8 @@ import edit_sums
 import edits
 
 TOP = edits.TOP
+# What a check over kept work takes of memory, of what the kit reckons for one from nothing
+OVER = 1.2
 
 
 def load():
@@ -55,56 +57,47 @@ def untried(rtlib, crates):
 
 
 def with_edits(rt, wanted):
-    """Has `rt ci` try these edits too, by the crate's name, behind the proof and the tests of their crate. By itself it tries only
-    the files of must-fail/ in a crate, each by a check of its own. Returns a dict that gets the verdict of each edit."""
-    edits_of, add_edits, verdicts = rt.edits_of, rt.add_edits, {}
+    """Has `rt ci` try these edits too, by the crate's name, behind the proof and the tests of their crate. Returns a dict that gets the
+    verdict of each edit."""
+    in_lanes, verdicts = rt.in_lanes, {}
 
-    def all_edits_of(crate):
-        good, bad = edits_of(crate)
-        return [*good, *map(str, wanted.get(crate.name, []))], bad
+    def in_lanes_with_edits(tasks):
+        crates, tasks = {it.name: it for it in rt.rtlib.crates_below(TOP)}, dict(tasks)
+        for name, chosen in wanted.items():
+            add_groups(rt, tasks, crates[name], edits.groups_of(chosen, edit_checks.MOST), verdicts)
+        return in_lanes(tasks)
 
-    def add_all(tasks, crate, names, first, waits, is_well, *given, **named):
-        joined = edits.groups_of(wanted.get(crate.name, []), edit_checks.MOST)
-        mine = [it for it in wanted.get(crate.name, []) if str(it) in names]
-        theirs, known = add_edits(tasks, crate, names[: len(names) - len(mine)], first, waits, is_well, *given, **named)
-        if mine:
-            add_groups(rt, tasks, crate, joined, first, waits, is_well, verdicts)
-
-        def results(given):
-            return [*theirs(given), *(outcome(rt, it, verdicts) for it in mine)]
-
-        return results, known
-
-    rt.edits_of, rt.add_edits = all_edits_of, add_all
+    rt.in_lanes = in_lanes_with_edits
     return verdicts
 
 
-def add_groups(rt, tasks, crate, groups, first, waits, is_well, verdicts):
+def add_groups(rt, tasks, crate, groups, verdicts):
     """Adds the tasks that try a crate's edits, which are joined in these groups: what they begin with, each group, and the end."""
-    seed, lines, needs, keys = (crate.name, "seed", "joined"), crate.count(rb"\n"), rt.OVER * rt.need(crate), []
+    first, seed = [(crate.name, "proof"), (crate.name, "tests")], (crate.name, "seed", "joined")
+    lines, needs, keys = crate.count(rb"\n"), OVER * rt.need(crate), []
 
     def begin(given, jobs):
         return edit_checks.begun(rt, crate, jobs) if all(given[it] for it in first) else None
 
-    def one(given, jobs, group):
-        if given[seed] and is_well(given, len(group)):
+    def one(given, _jobs, group):
+        if given[seed]:
             verdicts.update(given[seed].tried(group))
 
-    def end(given, jobs):
+    def end(given, _jobs):
         if given[seed] and not given[seed].ended():
             verdicts.update({it: (edit_checks.NO_VERDICT, "what the tries begin with was changed") for group in groups for it in group})
 
-    tasks[seed] = (first, 0, rt.need(crate), begin)
+    tasks[seed] = (first, lines, needs, begin)
     for number, group in enumerate(groups):
         keys.append((crate.name, "edits", f"joined {number}"))
-        tasks[keys[-1]] = ([*waits, seed], lines, needs, lambda given, jobs, group=group: one(given, jobs, group))
+        tasks[keys[-1]] = ([seed], lines, needs, lambda given, jobs, group=group: one(given, jobs, group))
     tasks[crate.name, "sound", "joined"] = ([seed, *keys], 0, 0, end)
 
 
-def outcome(rt, edit, verdicts):
-    """What an edit came to, as `rt ci` counts it, and what to say."""
-    is_refused, line = edit_checks.told(edit, verdicts.get(edit, (edit_checks.NO_VERDICT, "it was not tried")))
-    return rt.REFUSED if is_refused else rt.MISSED, line
+def outcomes(wanted, verdicts):
+    """Of each edit whether it is refused, and a line that says so. One without a verdict was not tried, and is not refused."""
+    untried = edit_checks.NO_VERDICT, "it was not tried"
+    return [edit_checks.told(it, verdicts.get(it, untried)) for chosen in wanted.values() for it in chosen]
 
 
 class Statements:

@@ -248,34 +248,87 @@ class Verdicts(unittest.TestCase):
 
 
 class Gate(Tree):
-    """What `rt ci` counts of edits that are tried beside its proofs, with a prover that gives these verdicts."""
+    """What becomes of edits that are tried beside the proofs of `rt ci`, with a prover that gives these verdicts."""
 
-    def outcomes(self, verdicts, is_sound=True, is_proved=True):
-        trial = types.SimpleNamespace(tried=lambda group: {it: verdicts[it.name] for it in group if it.name in verdicts}, ended=lambda: is_sound)
-        self.addCleanup(setattr, edit_checks, "begun", edit_checks.begun)
-        edit_checks.begun = lambda rt, crate, jobs: trial if is_proved else None
-        rt = types.SimpleNamespace(REFUSED="refused", MISSED="missed", OVER=1, need=lambda crate: 1, edits_of=lambda crate: ([], []),
-                                   add_edits=lambda *given, **named: (lambda given: [], lambda: {}))
-        self.high.count = lambda pattern: 1
-        kit.with_edits(rt, {"high": self.edits()})
-        tasks, given, (good, _) = {}, {}, rt.edits_of(self.high)
-        results, _ = rt.add_edits(tasks, self.high, good, [], [], lambda given, new=0: True, None)
+    def in_lanes(self, tasks):
+        given = {}
         for key, (waits, _, _, call) in tasks.items():
             self.assertTrue(all(it in given for it in waits), key)
             given[key] = call(given, 1)
-        return [kind for kind, _ in results(given)]
+        return given
+
+    def outcomes(self, verdicts, is_sound=True, is_proved=True, passes_tests=True):
+        trial = types.SimpleNamespace(tried=lambda group: {it: verdicts[it.name] for it in group if it.name in verdicts}, ended=lambda: is_sound)
+        self.addCleanup(setattr, edit_checks, "begun", edit_checks.begun)
+        edit_checks.begun = lambda rt, crate, jobs: trial if is_proved else None
+        self.high.count = lambda pattern: 1
+        rt = types.SimpleNamespace(rtlib=types.SimpleNamespace(crates_below=lambda top: [self.high]), need=lambda crate: 1, in_lanes=self.in_lanes)
+        wanted = {"high": self.edits()}
+        told = kit.with_edits(rt, wanted)
+        given = rt.in_lanes({("high", "proof"): ([], 1, 1, lambda given, jobs: True), ("high", "tests"): ([], 1, 1, lambda given, jobs: passes_tests)})
+        self.assertTrue(given["high", "proof"])
+        return [is_refused for is_refused, _ in kit.outcomes(wanted, told)]
 
     def test_only_a_clause_an_invariant_or_a_law_counts(self):
         telling = dict(zip(("adds_once", "adds_twice", "calls_another"), ((it, "goal") for it in edit_checks.TELLS)))
         for kind in (*edit_checks.LITTLE, edit_checks.NOT_REFUSED, edit_checks.NOT_READ, edit_checks.NO_VERDICT):
-            self.assertEqual(self.outcomes({**telling, "another_twice": (kind, "goal")}), ["refused", "refused", "refused", "missed"], kind)
+            self.assertEqual(self.outcomes({**telling, "another_twice": (kind, "goal")}), [True, True, True, False], kind)
 
     def test_an_edit_that_was_not_tried_fails(self):
-        self.assertEqual(self.outcomes({"adds_once": ("clause", "returns")}), ["refused", "missed", "missed", "missed"])
+        self.assertEqual(self.outcomes({"adds_once": ("clause", "returns")}), [True, False, False, False])
         verdicts = {it.name: ("clause", "returns") for it in self.edits()}
-        self.assertEqual(self.outcomes(verdicts), ["refused"] * 4)
-        self.assertEqual(self.outcomes(verdicts, is_sound=False), ["missed"] * 4)
-        self.assertEqual(self.outcomes(verdicts, is_proved=False), ["missed"] * 4)
+        self.assertEqual(self.outcomes(verdicts), [True] * 4)
+        self.assertEqual(self.outcomes(verdicts, is_sound=False), [False] * 4)
+        self.assertEqual(self.outcomes(verdicts, is_proved=False), [False] * 4)
+        self.assertEqual(self.outcomes(verdicts, passes_tests=False), [False] * 4)
+
+
+class Kept(unittest.TestCase):
+    """What the tries of a crate begin with, with a prover that writes a file into what is kept."""
+
+    def setUp(self):
+        room = tempfile.TemporaryDirectory()
+        self.addCleanup(room.cleanup)
+        self.room = room.name
+        self.addCleanup(setattr, tempfile, "tempdir", tempfile.tempdir)
+        tempfile.tempdir = self.room
+
+    def begun(self, status, kept=None, spoils=False):
+        def checked(_crate, texts, _flags, folder):
+            self.seen = sorted(os.listdir(folder))
+            if os.path.exists(f"{folder}/proofs") and not spoils:
+                os.remove(f"{folder}/proofs")
+            with open(f"{folder}/proofs", "a", encoding="utf-8") as file:
+                file.write("changed" if texts else "proved")
+            return types.SimpleNamespace(returncode=status if not texts else 1, stdout="logic=not-proved")
+
+        return edit_checks.begun(types.SimpleNamespace(checked=checked, unread=lambda *_: False), types.SimpleNamespace(name="high"), 1, kept)
+
+    def test_each_try_has_a_copy(self):
+        trial = self.begun(0)
+        trial.checked({"src/lib.rt": "another"})
+        self.assertEqual(self.seen, ["proofs"])
+        self.assertTrue(trial.ended())
+        self.assertEqual(os.listdir(self.room), [])
+
+    def test_a_try_that_spoils_what_it_begins_with_is_seen(self):
+        trial = self.begun(0, spoils=True)
+        trial.checked({"src/lib.rt": "another"})
+        self.assertFalse(trial.ended())
+
+    def test_they_begin_with_what_was_kept_and_leave_it(self):
+        kept = f"{self.room}/kept"
+        os.mkdir(kept)
+        with open(f"{kept}/older", "w", encoding="utf-8"):
+            pass
+        trial = self.begun(0, kept)
+        self.assertEqual(self.seen, ["older"])
+        self.assertTrue(trial.ended())
+        self.assertEqual(os.listdir(kept), ["older"])
+
+    def test_a_crate_that_is_not_proved_has_no_tries(self):
+        self.assertIsNone(self.begun(1))
+        self.assertEqual(os.listdir(self.room), [])
 
 
 class Files(unittest.TestCase):
