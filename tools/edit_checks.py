@@ -21,6 +21,8 @@ LITTLE = "condition", "name", "safety"
 # What else an edit can come to
 NOT_REFUSED, NOT_READ, NO_VERDICT = "not refused", "not read", "no verdict"
 MOST = 24
+# An empty file in what a check keeps, which every check over it touches
+LAST_USED = "rattle-last-used"
 ITEM = re.compile(r"(fn|impl|struct|enum|trait) (\S+?): (.*)")
 NOTE = re.compile(r"note: src/\S+?:\d+:\d+: it is not proved that (.*)")
 OPEN = re.compile(r"note: `([^`]*)` of proofs/(\S+?)/(?:Answers|Invariants|Proof)\.antt must prove: ")
@@ -166,10 +168,10 @@ class Trial:
 
 
 def listing(folder):
-    """Each file below a folder, with its size and the moment of its last change."""
+    """Each file below a folder, with its size and the moment of its last change, but for those that say when a check last used them."""
     found = {}
     for at, _, files in os.walk(folder):
-        for name in files:
+        for name in (it for it in files if it != LAST_USED):
             told = os.stat(f"{at}/{name}")
             found[os.path.relpath(f"{at}/{name}", folder)] = told.st_size, told.st_mtime_ns
     return found

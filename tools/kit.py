@@ -91,7 +91,8 @@ def add_groups(rt, tasks, crate, groups, verdicts):
     for number, group in enumerate(groups):
         keys.append((crate.name, "edits", f"joined {number}"))
         tasks[keys[-1]] = ([seed], lines, needs, lambda given, jobs, group=group: one(given, jobs, group))
-    tasks[crate.name, "sound", "joined"] = ([seed, *keys], 0, 0, end)
+    # (the kit divides by the memory that a task takes)
+    tasks[crate.name, "sound", "joined"] = ([seed, *keys], 0, 1, end)
 
 
 def outcomes(wanted, verdicts):

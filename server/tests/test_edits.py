@@ -300,6 +300,8 @@ class Kept(unittest.TestCase):
                 os.remove(f"{folder}/proofs")
             with open(f"{folder}/proofs", "a", encoding="utf-8") as file:
                 file.write("changed" if texts else "proved")
+            with open(f"{folder}/{edit_checks.LAST_USED}", "w", encoding="utf-8"):
+                pass
             return types.SimpleNamespace(returncode=status if not texts else 1, stdout="logic=not-proved")
 
         return edit_checks.begun(types.SimpleNamespace(checked=checked, unread=lambda *_: False), types.SimpleNamespace(name="high"), 1, kept)
@@ -307,7 +309,7 @@ class Kept(unittest.TestCase):
     def test_each_try_has_a_copy(self):
         trial = self.begun(0)
         trial.checked({"src/lib.rt": "another"})
-        self.assertEqual(self.seen, ["proofs"])
+        self.assertEqual(self.seen, ["proofs", edit_checks.LAST_USED])
         self.assertTrue(trial.ended())
         self.assertEqual(os.listdir(self.room), [])
 
