@@ -3,6 +3,7 @@
 import importlib
 import inspect
 import os
+import re
 import shutil
 import subprocess
 import sys
@@ -30,6 +31,21 @@ class Lines(unittest.TestCase):
         self.assertEqual(lines.lease(0.0001), b"lease 1\n")
         self.assertEqual([lines.lease_of(*it) for it in ((None, "/a"), (2, "/a"), (None, ("a", 1)), (2, ("a", 1)))],
                          [b"lease\n", b"lease 2000\n", b"lease 30000\n", b"lease 2000\n"])
+
+    def test_a_text_is_a_label_by_its_number(self):
+        self.assertEqual([lines.label_number(it) for it in (7, "", "7", "build 17", "caf\u00e9")],
+                         [7, 16406829232824261652, 8719647946811673230, 13517601641504243330, 9588020413419552649])
+        self.assertEqual(lines.acquire("deploy", "build 17"), f"acquire deploy {wozgirt.label_number('build 17')}\n".encode())
+
+    def test_the_page_shows_the_number_of_a_text(self):
+        with open(os.path.join(PYTHON, "README.md"), encoding="utf-8") as file:
+            block = re.search(r"<!-- played: clients/python/tests/test_lines.py -->\n\n((?:    .*\n)+)", file.read())[1]
+        shown = [line[4:] for line in block.splitlines()]
+        commands = [(line[2:], told) for line, told in zip(shown, shown[1:]) if line.startswith("$ ")]
+        self.assertEqual(len(commands), 2)
+        for command, told in commands:
+            done = subprocess.run(["bash", "-c", command], env=dict(os.environ, PYTHONPATH=PYTHON), capture_output=True, text=True, check=True)
+            self.assertEqual(done.stdout, told + "\n", command)
 
     def test_what_is_never_said(self):
         lines.acquire(f"{'x' * 120}/aZ.9_-", 0)

@@ -18,12 +18,12 @@ done once and holds stay, also if the one that was asked dies (`Session`).
 """
 
 from .client import Client
-from .lines import (Circle, Holds, Inherited, LockError, LockLost, LockStatus, NoSuchLock, NotHolder, NotInTime, NotPermitted,
-                    NotWaiter, Place, Places, Refused, TooMany, Waits)
+from .lines import (Circle, Holds, Inherited, Label, LockError, LockLost, LockStatus, NoSuchLock, NotHolder, NotInTime, NotPermitted,
+                    NotWaiter, Place, Places, Refused, TooMany, Waits, label_number)
 from .lock import Lock
 from .session import Session
 from .tls import Tls
 
-__all__ = ["Circle", "Client", "Holds", "Inherited", "Lock", "LockError", "LockLost", "LockStatus", "NoSuchLock", "NotHolder",
-           "NotInTime", "NotPermitted", "NotWaiter", "Place", "Places", "Refused", "Session", "Tls", "TooMany", "Waits"]
+__all__ = ["Circle", "Client", "Holds", "Inherited", "Label", "Lock", "LockError", "LockLost", "LockStatus", "NoSuchLock", "NotHolder",
+           "NotInTime", "NotPermitted", "NotWaiter", "Place", "Places", "Refused", "Session", "Tls", "TooMany", "Waits", "label_number"]
 __version__ = "0.1.0"

@@ -127,7 +127,7 @@ class Client(OfOneProcess):
         except Refused as refused:
             return lines.no_lease(line, refused)
 
-    async def acquire(self, name: str, *, label: int = 0, wait: Optional[float] = None) -> int:
+    async def acquire(self, name: str, *, label: lines.Label = 0, wait: Optional[float] = None) -> int:
         """The token, as soon as the lock is granted. `NotInTime` if it is not within `wait` seconds, at most WITHDRAW seconds
         later: what was asked is then withdrawn, or the connection is closed if the server does not answer."""
         deadline = until(wait)
@@ -143,7 +143,7 @@ class Client(OfOneProcess):
             await self._undo(name, grant)
             raise
 
-    async def try_acquire(self, name: str, *, label: int = 0) -> Optional[int]:
+    async def try_acquire(self, name: str, *, label: lines.Label = 0) -> Optional[int]:
         """The token, or None if another holds the lock."""
         line = lines.acquire(name, label, "try")
         await self._others_undone(name, None)
@@ -416,7 +416,7 @@ class Lock(Settings):
 
     A task that holds the lock by such an object, and asks for it by another one, would wait for itself: `Holds`."""
 
-    def __init__(self, place: Union[Places, Client, Session], name: str, *, wait: Optional[float] = None, label: int = 0,
+    def __init__(self, place: Union[Places, Client, Session], name: str, *, wait: Optional[float] = None, label: lines.Label = 0,
                  lease: Optional[float] = None, tls: Tls = Tls()):
         """`wait`, `label`, `lease` and `tls` are those of `wozgirt.Lock`."""
         super().__init__(place, name, wait=wait, label=label, lease=lease, tls=tls)

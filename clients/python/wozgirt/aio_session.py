@@ -7,7 +7,7 @@ import threading
 import time
 from typing import Callable, List, Optional, TypeVar
 
-from . import session
+from . import lines, session
 from .client import CLOSE, WITHDRAW, Answer
 from .lines import LockError, LockStatus, Places
 from .tls import Tls
@@ -82,13 +82,13 @@ class Session:
             raise
         return cls(made[0])
 
-    async def acquire(self, name: str, *, label: int = 0, wait: Optional[float] = None) -> int:
+    async def acquire(self, name: str, *, label: lines.Label = 0, wait: Optional[float] = None) -> int:
         """The token, as soon as the lock is granted; `NotInTime` if it is not within `wait` seconds."""
         token = await self._call(lambda: self._client.acquire(name, label=label, wait=wait), name)
         assert token is not None
         return token
 
-    async def try_acquire(self, name: str, *, label: int = 0) -> Optional[int]:
+    async def try_acquire(self, name: str, *, label: lines.Label = 0) -> Optional[int]:
         """The token, or None if another holds the lock."""
         return await self._call(lambda: self._client.try_acquire(name, label=label), name)
 

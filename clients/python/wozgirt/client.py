@@ -78,7 +78,7 @@ class Client(Turns):
         self._lease = 0.0
         self._spoken = self._said = time.monotonic()  # the server has heard this client by then, or later; the last line was sent
 
-    def acquire(self, name: str, *, label: int = 0, wait: Optional[float] = None) -> int:
+    def acquire(self, name: str, *, label: lines.Label = 0, wait: Optional[float] = None) -> int:
         """The token, as soon as the lock is granted. `NotInTime` if it is not within `wait` seconds, at most WITHDRAW seconds
         later: what was asked is then withdrawn, or the connection is closed if the server does not answer."""
         until = None if wait is None else time.monotonic() + wait
@@ -93,7 +93,7 @@ class Client(Turns):
                 self._give_back(name, taken[0])
             raise
 
-    def try_acquire(self, name: str, *, label: int = 0) -> Optional[int]:
+    def try_acquire(self, name: str, *, label: lines.Label = 0) -> Optional[int]:
         """The token, or None if another holds the lock."""
         line, taken = lines.acquire(name, label, "try"), []  # type: bytes, List[int]
         try:

@@ -3,6 +3,7 @@
 from __future__ import annotations
 
 import errno
+import hashlib
 import operator
 import os
 import re
@@ -18,6 +19,9 @@ else:
 Place = Union[str, _Path, Tuple[str, int]]
 #: One server, or several that share their locks: a list, or in one text with commas.
 Places = Union[Place, Sequence[Place]]
+
+#: The label of a hold: a number below 2^64, or a text, of which the server gets `label_number`.
+Label = Union[int, str]
 
 #: The names that locks can have.
 NAME = re.compile("[A-Za-z0-9._/-]{1,128}")
@@ -166,16 +170,24 @@ def checked_name(name: str) -> str:
 
 
 def checked_number(number: int) -> int:
-    """A label or a token, if it can be one."""
+    """A number that is a label, or a token, if it can be one."""
     number = operator.index(number)
     if not 0 <= number < MOST:
         raise ValueError(f"not 0 to 2 ** 64 - 1: {number}")
     return number
 
 
-def acquire(name: str, label: int, verb: str = "acquire") -> bytes:
+def label_number(label: Label) -> int:
+    """The number that the journal keeps for a label: a number itself; of a text the first 8 bytes of the SHA-256 of its UTF-8, the
+    greatest first. `printf %s TEXT | sha256sum | cut -c 1-16` prints it in hexadecimal. The text "7" is not the number 7."""
+    if isinstance(label, str):
+        return int.from_bytes(hashlib.sha256(label.encode()).digest()[:8], "big")
+    return checked_number(label)
+
+
+def acquire(name: str, label: Label, verb: str = "acquire") -> bytes:
     """The line that asks for a lock."""
-    return f"{verb} {checked_name(name)} {checked_number(label)}\n".encode()
+    return f"{verb} {checked_name(name)} {label_number(label)}\n".encode()
 
 
 def release(name: str, token: int) -> bytes:

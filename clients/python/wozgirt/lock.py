@@ -54,7 +54,7 @@ def is_too_late(fault: OSError, deadline: Optional[float]) -> bool:
 class Settings:
     """What `Lock` for threads and for asyncio have in common: a hold, or none."""
 
-    def __init__(self, place: Any, name: str, *, wait: Optional[float] = None, label: int = 0, lease: Optional[float] = None,
+    def __init__(self, place: Any, name: str, *, wait: Optional[float] = None, label: lines.Label = 0, lease: Optional[float] = None,
                  tls: Tls = Tls()):
         self._place, self.name, self._wait, self._label, self._lease, self._tls = place, name, wait, label, lease, tls
         self.client: Any = None
@@ -119,11 +119,11 @@ class Lock(Settings):
 
     A thread that holds the lock by such an object, and asks for it by another one, would wait for itself: `Holds`."""
 
-    def __init__(self, place: Union[Places, Client], name: str, *, wait: Optional[float] = None, label: int = 0,
+    def __init__(self, place: Union[Places, Client], name: str, *, wait: Optional[float] = None, label: lines.Label = 0,
                  lease: Optional[float] = None, tls: Tls = Tls()):
         """`wait`: how many seconds `acquire` and `with` may take, the time to connect included; None: no limit. `label`: a number below
-        2^64 that `wozgirt status` and the journal show, as a process or a host. `lease`: after this many seconds of silence the server
-        takes this client's program for dead, and others get the lock; a thread speaks meanwhile. None: the server's choice, and over
+        2^64 that `wozgirt status` and the journal show, as a process or a host; of a text they show `label_number`. `lease`: after this
+        many seconds of silence the server takes this client's program for dead, and others get the lock; a thread speaks meanwhile. None: the server's choice, and over
         TCP and with several servers 30. `tls`: the files for a place tls:HOST:PORT; those that it does not name are named by
         WOZGIRT_CACERT, WOZGIRT_CERT and WOZGIRT_KEY."""
         super().__init__(place, name, wait=wait, label=label, lease=lease, tls=tls)
