@@ -93,11 +93,12 @@ class Scene:
                 client.come()
             except OSError:
                 return None
-            client.seen = time.monotonic()
         if not client.pump():
             return client.lose(self.ended + LEASE)
         if client.line and self.draw.random() < 0.6:
             self.ask(client)
+        if client.line:
+            client.keep()
         return None
 
     def ask(self, client):

@@ -7,6 +7,8 @@ from model import Wrong
 
 #: how long a line may wait for its answer where nothing is disturbed
 PATIENCE = 30
+#: a client with a session says something after this part of its lease
+PART = 8
 
 
 class Line:
@@ -58,8 +60,8 @@ class Client:
     def __init__(self, name, model, path, lease):
         self.name, self.model, self.path, self.lease = name, model, path, lease
         self.line, self.waits, self.asked = None, None, None
-        #: when it looked for what has come
-        self.seen = 0.0
+        #: when it looked for what has come, and when it said something last
+        self.seen, self.said = 0.0, 0.0
 
     def label_of(self, lock):
         """The label of what asked for the lock."""
@@ -92,7 +94,8 @@ class Client:
         if words[0] == "granted" and verb in ("acquire", "try"):
             self.tell(lock, int(words[2]), int(asked[2]))
         elif words[0] == "waiting" and verb == "acquire":
-            self.waits = lock, int(asked[2])
+            if lock not in self.model.claimed(self.name):  # else it was granted the lock before it heard the answer once more
+                self.waits = lock, int(asked[2])
         elif words[0] == "released" and verb == "release":
             self.model.give_up(self.name, lock)
         elif words[0] == "cancelled" and verb == "cancel":
@@ -125,7 +128,7 @@ class Client:
         now = time.monotonic()
         seen, self.seen = self.seen, now
         if now - seen > self.lease / 2:
-            self.model.away.setdefault(self.name, seen)
+            self.model.away.setdefault(self.name, min(seen, self.said))
             self.close()
             return True
         for line in self.line.lines():
@@ -140,6 +143,9 @@ class Client:
         """Whether it may ask."""
         return self.asked is None
 
+    def keep(self):
+        """Says something, so that its lease does not end."""
+
 
 class Plain(Client):
     """A client without a session: what it holds when its connection ends is nobody's for the grace."""
@@ -151,7 +157,7 @@ class Plain(Client):
             self.heard(words)
 
     def say(self, words):
-        self.asked = words
+        self.asked, self.said = words, time.monotonic()
         self.model.give(self.name, words)
         self.line.say(" ".join(words))
 
@@ -174,6 +180,7 @@ class Plain(Client):
 
     def come(self):
         self.line = Line(self.path)
+        self.seen = self.said = time.monotonic()
         self.model.away.pop(self.name, None)
 
 
@@ -187,8 +194,12 @@ class Session(Client):
         self.last, self.again, self.heard_at = None, None, 0.0
         #: what it was told when it came back, as long as that is not all
         self.opening = None
+        #: it was away for so long that its session may be over, and what it asked last may have been done in that one and in a new one
+        self.is_unsure = False
 
     def take(self, words):
+        if words == ["pong"]:
+            return
         self.heard_at = time.monotonic()
         if self.opening is not None:
             self.open(words)
@@ -204,11 +215,28 @@ class Session(Client):
             self.last = self.number, self.asked, words[1:]
             self.heard(words[1:])
 
+    def answered(self, asked, words):
+        is_unsure, self.is_unsure = self.is_unsure, False
+        if is_unsure and asked[0] == "release" and words[:2] == ["refused", "holder"]:
+            self.model.give_up(self.name, asked[1])  # the hold ended with the session
+        elif not is_unsure or asked[0] != "try" or words[0] != "busy":  # the session that is over may have been granted the lock
+            super().answered(asked, words)
+
     def say(self, words):
         self.number += 1
         self.asked, self.last = words, None
         self.model.give(self.name, words)
-        self.line.say(" ".join([str(self.number), *words]))
+        self.say_line(" ".join([str(self.number), *words]))
+
+    def say_line(self, line):
+        self.said = time.monotonic()
+        if not self.is_attached:
+            self.model.said[self.name] = self.said  # the connection has a lease
+        self.line.say(line)
+
+    def keep(self):
+        if self.opening is None and time.monotonic() > self.said + self.lease / PART:
+            self.say_line("ping")
 
     def lose(self, _until):
         self.close()
@@ -217,7 +245,7 @@ class Session(Client):
         """Its connection is over; it comes back."""
         self.line.close()
         self.line = self.again = self.opening = None
-        self.model.away.setdefault(self.name, time.monotonic())
+        self.model.away.setdefault(self.name, self.said)
 
     def is_ready(self):
         return self.asked is None and self.opening is None
@@ -225,7 +253,10 @@ class Session(Client):
     def vanish(self):
         """It never comes back, and another one comes: what it held is another's after its lease; if it is attached, at once, where the
         server sees that."""
-        until = time.monotonic() + (0 if self.is_attached and self.line else self.lease)
+        if self.line:
+            until = time.monotonic() if self.is_attached else self.said + self.lease
+        else:
+            until = time.monotonic() + self.lease  # the server is gone too, and counts anew
         for lock in self.model.claimed(self.name):
             if self.may_have_given(lock):
                 self.model.give_up(self.name, lock)
@@ -234,14 +265,16 @@ class Session(Client):
         if self.line:
             self.line.close()
         self.line = self.asked = self.waits = self.last = self.again = self.opening = None
+        self.is_unsure = False
         self.key += 1000
         self.number, self.name = 0, f"session {self.key}"
 
     def come(self):
         """Comes back. What it is told then is compared when all of it is there."""
         self.line = Line(self.path)
+        self.seen = time.monotonic()
         self.opening = []
-        self.line.say(f"session {self.key}" + (" attached" if self.is_attached else ""))
+        self.say_line(f"session {self.key}" + (" attached" if self.is_attached else ""))
 
     def open(self, words):
         """One line of what it has."""
@@ -253,6 +286,9 @@ class Session(Client):
         is_late = begun is not None and time.monotonic() - begun > self.lease / 2
         self.model.counts["returns"] += 1
         self.model.counts["late"] += is_late
+        if is_late:
+            # a session that is new does once more what was answered
+            self.last, self.is_unsure = None, self.asked is not None
         self.compare({it[1]: int(it[2]) for it in told if it[0] == "holds"}, [it[1] for it in told if it[0] == "waits"], is_late)
         self.ask_again()
 
@@ -283,8 +319,8 @@ class Session(Client):
     def ask_again(self):
         """Sends again what has no answer; or what had one, and gets it again."""
         if self.asked:
-            self.line.say(" ".join([str(self.number), *self.asked]))
+            self.say_line(" ".join([str(self.number), *self.asked]))
         elif self.last:
             self.again = self.last
             self.model.counts["again"] += 1
-            self.line.say(" ".join([str(self.number), *self.last[1]]))
+            self.say_line(" ".join([str(self.number), *self.last[1]]))

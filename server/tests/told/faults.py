@@ -16,8 +16,8 @@ SOURCES = "wozgirt-server/src"
 #: a name, and in which file what is replaced by what
 FAULTS = (
     ("none", "alone/mod.rs", "", ""),
-    ("what was reported does not count", "alone/mod.rs", "        let has_news = self.hear_remarks(remarks);",
-     "        self.sessions.values_mut().for_each(|session| session.holds.retain(|_| false));\n        let has_news = self.hear_remarks(remarks);"),
+    ("what was reported does not count", "alone/mod.rs", "        self.has_news |= self.hear_remarks(remarks);",
+     "        self.sessions.values_mut().for_each(|session| session.holds.retain(|_| false));\n        self.has_news |= self.hear_remarks(remarks);"),
     ("remarks do not count", "alone/mod.rs", "self.hear_remarks(remarks)", "self.hear_remarks(Vec::from_iter(remarks.into_iter().take(0)))"),
     ("who waits gets what is nobody's", "alone/mod.rs", "        self.is_stale = true;\n        self.sessions.values().any",
      """        for (lock, token) in open.iter().filter(|hold| claims.get(*hold) == Some(&0)) {

@@ -6,7 +6,10 @@ A *claim* is a hold that a client was told, until it has given it up, was told t
 - while there is a claim of a lock, no other client is told that it holds the lock;
 - the hold of a client that is gone for good is granted to nobody before its time is over: its lease, or the grace;
 - a client that is back in time is told its claims, and its place if it waits; and nothing that it has not asked for;
-- an input that was answered gets the same answer again; and a `try` that is answered `busy` has been granted nothing."""
+- an input that was answered gets the same answer again, if the client was back in time; and a `try` that is answered `busy` has been
+  granted nothing.
+
+A client that is back too late cannot know whether its session is over. What it asks once more may then be done in two sessions."""
 
 import itertools
 
@@ -28,8 +31,8 @@ class Model:
         self.guards = {}
         #: the holds that their clients are giving up: which of them and which locks
         self.given = set()
-        #: since when clients are away: they have stopped when half of their lease is over
-        self.away, self.lease = {}, lease
+        #: since when clients are away, and when those with a lease said something last: they have stopped when half of the lease is over
+        self.away, self.said, self.lease = {}, {}, lease
         self.counts = dict.fromkeys(("told", "returns", "late", "lost", "restarts", "again"), 0)
 
     def note(self, client, lock, token, label):
@@ -42,7 +45,7 @@ class Model:
         """The client is told that it holds the lock."""
         self.note(client, lock, token, label)
         claim = self.claims.get(lock)
-        if claim and (now - self.away.get(claim[0], now) > self.lease / 2 or claim[0] != client and (claim[0], lock) in self.given):
+        if claim and (self.has_stopped(claim[0], now) or claim[0] != client and (claim[0], lock) in self.given):
             claim = None
         if claim and claim[0] != client:
             raise Wrong(f"{client} is told {lock} {token} while {claim[0]} has it by {claim[1]}")
@@ -55,6 +58,10 @@ class Model:
         if not claim or claim[1] != token:
             self.given.discard((client, lock))
         self.claims[lock] = client, token
+
+    def has_stopped(self, client, now):
+        """Whether the client does not believe any more that it holds anything."""
+        return now - self.away.get(client, self.said.get(client, now)) > self.lease / 2
 
     def give(self, client, words):
         """The client asks to give up a hold, or all."""

@@ -69,6 +69,8 @@ pub struct Alone {
     changed: BTreeSet<Client>,
     /// All is to be written anew.
     is_stale: bool,
+    /// The journal has remarks that the file on the disk has not, and the engine drops them when it starts.
+    has_news: bool,
 }
 
 impl Alone {
@@ -85,6 +87,7 @@ impl Alone {
             ended: Vec::new(),
             changed: BTreeSet::new(),
             is_stale: false,
+            has_news: false,
             store: None,
         };
         if let Some(store) = store {
@@ -302,7 +305,7 @@ impl Alone {
     pub fn prepare(&mut self) -> io::Result<()> {
         let Some(store) = &self.store else { return Ok(()) };
         let remarks = if self.sessions.is_empty() { Vec::new() } else { store.remarks()? };
-        let has_news = self.hear_remarks(remarks);
+        self.has_news |= self.hear_remarks(remarks); // it may be that those of an earlier try are not kept yet
         let left: Vec<Client> = self.sessions.iter().filter(|(_, it)| it.is_left).map(|(number, _)| *number).collect();
         left.into_iter().for_each(|number| _ = self.remove(number));
         for session in self.sessions.values_mut() {
@@ -313,11 +316,10 @@ impl Alone {
         self.start = if has_holds { Start::Looking } else { Start::Serving };
         let lines = self.all();
         let Some(store) = &mut self.store else { return Ok(()) };
-        if let Err(fault) = store.replace(&lines) {
-            if has_news || !store.is_whole() {
-                return Err(fault);
-            }
-            self.is_stale = true;
+        match store.replace(&lines) {
+            Err(fault) if self.has_news || !store.is_whole() => return Err(fault),
+            Err(_) => self.is_stale = true,
+            Ok(()) => self.has_news = false,
         }
         Ok(())
     }

@@ -237,6 +237,7 @@ fn where_nothing_new_is_to_be_kept_the_old_file_is_enough() {
     place.write_remarks("# 1 2 did 1 granted b 4\n");
     let mut it = place.start();
     assert!(it.prepare().is_err()); // the journal has something new, which the engine drops
+    assert!(it.prepare().is_err()); // it has that still, and no file has it
     drop(it);
     assert_eq!(found(&place.start().sessions[&1]), has(&["a 3"], 1, None));
 }
