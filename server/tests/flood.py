@@ -2,7 +2,7 @@
 """flood.py SOCKET KIND CLIENTS: so many clients say all that the server takes of them, until this process is ended. It says `up` when
 they have been answered for the first time. KIND is one of KINDS; clients of an odd number read nothing in those that end in `deaf`. In
 `come` and `asked` they come and go all the time: at once, and when they have been answered, so that the engine has to hear of it; in
-`attached` so that a session of each ends."""
+`attached` so that a session of each ends. In `lease` each has a session, whose lease is another one with each line."""
 
 import itertools
 import os
@@ -24,7 +24,10 @@ KINDS = {
     "come": b"try a 1\n" * 128,
     "asked": b"try a 1\n",
     "attached": b"session KEY attached\n1 try a 1\n",
+    "lease": b"lease 7000\nlease 8000\n" * 400,
 }
+#: what each client says before that
+FIRST = {"lease": b"session KEY\n"}
 
 
 def connect(path):
@@ -40,7 +43,7 @@ def pour(path, kind, clients):
     for number in range(clients):
         sock = connect(path)
         is_deaf = kind.endswith("deaf") and number % 2
-        socks[sock.fileno()], left[sock.fileno()] = sock, b""
+        socks[sock.fileno()], left[sock.fileno()] = sock, FIRST.get(kind, b"").replace(b"KEY", b"%d" % (number + 1))
         poller.register(sock, select.POLLOUT | (0 if is_deaf else select.POLLIN))
     is_up = False
     while True:

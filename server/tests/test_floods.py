@@ -356,6 +356,29 @@ class OnTime(unittest.TestCase):
 
 
 @needs_programs
+class Disk(unittest.TestCase):
+    """What a client says of its session is kept, however often it says that."""
+
+    LINES = 100_000
+
+    def test_leases_are_not_written_one_by_one(self):
+        with Server() as server, server.raw() as sock:
+            path = os.path.join(server.journal + ".sessions", "sessions")
+            self.assertEqual(say(sock, "session 77\n1 try a 1\n", 2), ["session 77 0 alone", "1 granted a 1"])
+            before = os.stat(path)
+            sent = threading.Thread(target=sock.sendall, args=(b"lease 7000\nlease 8000\n" * (self.LINES // 2),))
+            sent.start()
+            self.assertEqual(read_lines(sock, self.LINES)[-1], "lease 8000")
+            sent.join()
+            after = os.stat(path)
+            with open(path, encoding="ascii") as file:
+                kept = [line for line in file if line.startswith("session ")]
+            self.assertIn(" 77 8000 ", kept[-1])
+            self.assertEqual(after.st_ino, before.st_ino)  # no other file has taken its place
+            self.assertLess(after.st_size - before.st_size, self.LINES / 10 * len(kept[-1]))
+
+
+@needs_programs
 class Turns(unittest.TestCase):
     """Beside 20 clients that flood, half of the acquires of another one are answered within 20 ms, and nine of ten too where time is not
     counted in which nobody worked; all of them are answered, and who comes new has a turn. A server that lets others come before does so
@@ -425,6 +448,10 @@ class Turns(unittest.TestCase):
     def test_beside_sessions_that_end_with_their_connections(self):
         """Each `wozgirt lock` has one, and many may end at once."""
         self.check("attached", 200)
+
+    def test_beside_sessions_that_change_their_leases(self):
+        """That is kept, so it is written to the disk."""
+        self.check("lease")
 
     def test_each_has_its_turn(self):
         """Twenty clients have all asked much before one asks little, while the server stands still. The order in which the engine is
