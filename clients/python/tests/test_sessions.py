@@ -1,5 +1,6 @@
 """The client of several servers, with servers in this process that fail when they are told to."""
 
+import asyncio
 import os
 import signal
 import socket
@@ -13,7 +14,7 @@ sys.path.insert(0, os.path.join(os.path.dirname(os.path.abspath(__file__)), ".."
 import test_cluster  # noqa: E402
 import test_restarts  # noqa: E402
 from harness import PATIENCE, by_the_clock, needs_loopback, needs_programs, wait_until  # noqa: E402
-from wozgirt import Client, Holds, Lock, LockLost, NotHolder, NotInTime, NotWaiter, Session, lines  # noqa: E402
+from wozgirt import Client, Holds, Lock, LockLost, NotHolder, NotInTime, NotWaiter, Refused, Session, aio, lines  # noqa: E402
 
 
 def end(sock):
@@ -438,6 +439,15 @@ class OfOne(test_restarts.Trial):
         except LockLost:
             return True
         return False
+
+    def test_a_server_that_keeps_no_sessions(self):
+        server = self.server("--no-sessions")
+        for begin in (lambda: Session(server.path), lambda: asyncio.run(aio.Session.connect(server.path))):
+            with self.assertRaises(Refused) as it:
+                begin()
+            self.assertEqual((it.exception.why, it.exception.lock), ("session", None))
+        with Client(server.path) as client:
+            self.assertEqual(client.acquire("a"), 1)
 
 
 @needs_programs

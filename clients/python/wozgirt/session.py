@@ -12,7 +12,7 @@ from typing import Dict, List, NoReturn, Optional, Tuple
 
 from . import lines
 from .client import CONNECT, PING, STATUS, Client
-from .lines import LockLost, Places, Question, TlsPlace
+from .lines import LockLost, Places, Question, Refused, TlsPlace
 from .tls import Tls
 from .wire import Late, Wire, wire_to
 
@@ -27,10 +27,17 @@ ROUNDS = 3
 PART = 8
 
 
+def _is_of_server(fault: Exception) -> bool:
+    """Whether another server may do without it."""
+    return isinstance(fault, Refused) or lines.is_own(fault)
+
+
 class Session(Client):
     """A `Client` of several servers that share their locks, or of one that is started again. It has a key that it drew, and numbers what
     it asks: another server, or the new start, continues with the same holds, and does not do again what was done. It has a lease in any
     case; if no server answers for this time, it is lost.
+
+    `Refused` with the word `session`: no server has one for this client, since they keep none, or this user or address has its part.
 
     What cannot be withdrawn in time, since no server answers, is withdrawn as soon as one does; if none does, when the lease is over."""
 
@@ -184,8 +191,8 @@ class Session(Client):
             try:
                 self._attach_next(until)
                 return
-            except (OSError, ValueError) as fault:
-                if not lines.is_own(fault) or tried == most or time.monotonic() > until:
+            except (OSError, ValueError, Refused) as fault:
+                if not _is_of_server(fault) or tried == most or time.monotonic() > until:
                     raise
             if tried % len(self.servers) == 0:
                 time.sleep(PAUSE)
@@ -199,10 +206,10 @@ class Session(Client):
         try:
             self._attach_next(until)
             self._failures = 0
-        except (OSError, ValueError) as fault:
+        except (OSError, ValueError, Refused) as fault:
             if self._lost is not None:
                 raise LockLost(self._lost) from None
-            if not lines.is_own(fault):
+            if not _is_of_server(fault):
                 raise
             self._failures += 1
             if self._failures % len(self.servers) == 0:
@@ -217,6 +224,9 @@ class Session(Client):
             end = min(until, time.monotonic() + ANSWER)
             wire.send(b"session %d\n" % self._key, [], ANSWER)
             words = lines.words_of(wire.line_until(end))
+            refused = lines.refusal(words)
+            if refused is not None:
+                raise refused
             if words[:2] != ["session", str(self._key)]:
                 raise OSError(errno.EPROTO, f"the server sent {' '.join(words)!r}")
             if words[3:] == ["alone"] and len(self.servers) > 1:

@@ -73,6 +73,7 @@ fn read_head(head: &str) -> Request {
         return Err(Refused::Bad);
     }
     let mut hosts = lines.filter_map(|line| line.split_once(':')).filter(|(name, _)| name.eq_ignore_ascii_case("host"));
+    // a browser always names the host: what names none, as of HTTP/1.0, shows nothing to a web page elsewhere
     if hosts.any(|(_, host)| !is_of_this_machine(host.trim())) {
         return Err(Refused::Host);
     }
