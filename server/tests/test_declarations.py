@@ -1,4 +1,4 @@
-"""The numbers, structs and functions that `system/src/calls.rs` declares are those of the system's headers: the same declarations
+"""The numbers, structs and functions that `system/src/calls/declarations.rs` declares are those of the system's headers: the same declarations
 in C, beside the headers, do not compile if one differs."""
 
 import os
@@ -10,7 +10,7 @@ import unittest
 
 from harness import TOP
 
-CALLS = os.path.join(TOP, "server", "system", "src", "calls.rs")
+CALLS = os.path.join(TOP, "server", "system", "src", "calls", "declarations.rs")
 COMPILER = shutil.which("cc")
 HEADERS = ("errno", "fcntl", "grp", "poll", "pthread", "pwd", "signal", "stddef", "stdint", "sys/epoll", "sys/file", "sys/resource", "sys/signalfd",
            "sys/socket", "sys/stat", "sys/statvfs", "sys/un", "unistd")
@@ -46,12 +46,12 @@ SPECIAL = {"signal": "void (*(*ours_signal)(int, void (*)(int)))(int)",
 ROOM_FOR_MORE = "rest"
 #: wrong declarations
 CHANGES = {"SOCK_STREAM: i32 = 1;": "SOCK_STREAM: i32 = 2;", "SIG_ERR: usize = usize::MAX": "SIG_ERR: usize = 1",
-           "pub uid: u32,": "pub uid: u16,", "pid: i32,\n    pub uid: u32,": "uid: u32,\n    pub pid: i32,",
+           "pub uid: u32,": "pub uid: u16,", "pub pid: i32,\n    pub uid: u32,": "pub uid: u32,\n    pub pid: i32,",
            "[c_char; 108],": "[c_char; 100],", "[c_ulong; 1024 /": "[c_ulong; 512 /", "    pub data: u64,\n": "",
            "fn kill(process: i32, signal: i32)": "fn kill(process: i32)", "command: i32, ...)": "command: i32)",
            "fn flock(file: i32, operation: i32)": "fn flock(file: i32, operation: c_long)",
-           "    f_frsize: c_ulong,\n": "", "rest: [c_ulong; 32]": "rest: [c_ulong; 2]",
-           "    pw_uid: u32,\n": "", "gr_mem: *mut *mut c_char": "gr_mem: u32", "fn getpwuid_r(user: u32": "fn getpwuid_r(user: u64"}
+           "    pub f_frsize: c_ulong,\n": "", "rest: [c_ulong; 32]": "rest: [c_ulong; 2]",
+           "    pub pw_uid: u32,\n": "", "gr_mem: *mut *mut c_char": "gr_mem: u32", "fn getpwuid_r(user: u32": "fn getpwuid_r(user: u64"}
 
 
 def read():
@@ -71,7 +71,7 @@ def structs(text):
 
 def functions(text):
     block = re.search(r'^extern "C" \{\n(.*?)^\}', text, re.MULTILINE | re.DOTALL)[1]
-    return block.splitlines(), re.findall(r"^    fn (\w+)\((.*)\) -> (\w+);$", block, re.MULTILINE)
+    return block.splitlines(), re.findall(r"^    pub fn (\w+)\((.*)\) -> (\w+);$", block, re.MULTILINE)
 
 
 def type_in_c(it, systems):

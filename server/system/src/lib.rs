@@ -1,6 +1,6 @@
 //! The calls of the system that the standard library has no stable form of, each inside a safe function.
 //!
-//! Unsafe code is in one file of this crate, `calls.rs`, and nowhere else in the workspace. What is called:
+//! Unsafe code is in one module of this crate, `calls`, and nowhere else in the workspace. What is called:
 //!
 //! | Call | For |
 //! |---|---|

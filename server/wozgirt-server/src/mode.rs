@@ -89,10 +89,7 @@ impl Mode {
     pub fn next_client(&mut self) -> Client {
         match self {
             Mode::Alone(alone) => alone.next_number(),
-            Mode::InLog(cluster) => {
-                cluster.last_client += 1;
-                cluster.last_client
-            }
+            Mode::InLog(cluster) => cluster.next_client(),
         }
     }
 
@@ -111,7 +108,7 @@ impl Mode {
         match self {
             Mode::Alone(_) => [None, None],
             Mode::InLog(cluster) => {
-                let look = cluster.log.next_look(now).filter(|_| cluster.is_restored);
+                let look = cluster.log.next_look(now).filter(|_| cluster.replica.is_restored);
                 [look, cluster.entry_due()]
             }
         }
@@ -159,7 +156,7 @@ impl Mode {
                 let session = seat.session.and_then(|number| alone.session(number));
                 session.map_or((Vec::new(), None), |it| (it.held(), it.waits.as_ref().map(|place| place.lock.clone())))
             }
-            _ => (connection.holds.clone(), connection.waits_for.clone()),
+            _ => (connection.has.holds.clone(), connection.has.waits_for.clone()),
         }
     }
 
@@ -169,7 +166,7 @@ impl Mode {
             (Mode::Alone(alone), Some(seat)) => {
                 seat.session.and_then(|number| alone.session(number)).map_or(0, Session::count_locks)
             }
-            (Mode::Alone(_), None) => connection.holds.len() + usize::from(connection.waits_for.is_some()),
+            (Mode::Alone(_), None) => connection.has.holds.len() + usize::from(connection.has.waits_for.is_some()),
             (Mode::InLog(cluster), Some(seat)) => {
                 cluster.owns.session(seat.key).map_or(0, |session| cluster.mirror.count_locks(session))
             }
@@ -183,7 +180,7 @@ impl Mode {
             (Mode::Alone(alone), Some(seat)) => {
                 seat.session.and_then(|number| alone.session(number)).is_some_and(|session| session.has(lock))
             }
-            (Mode::Alone(_), None) => connection.holds.iter().any(|held| *held == lock),
+            (Mode::Alone(_), None) => connection.has.holds.iter().any(|held| *held == lock),
             (Mode::InLog(cluster), Some(seat)) => {
                 cluster.owns.session(seat.key).is_some_and(|session| cluster.mirror.holds(session, lock))
             }

@@ -44,6 +44,12 @@ impl Listing {
         Listing { rules, stage: Stage::New, next: Place::FIRST, last: 0 }
     }
 
+    /// Of no lock, the first line of which is sent.
+    #[cfg(test)]
+    pub fn begun() -> Listing {
+        Listing { stage: Stage::Telling(0), ..Listing::new(None) }
+    }
+
     /// Whether some of it is sent.
     pub fn has_begun(&self) -> bool {
         matches!(self.stage, Stage::Telling(_))

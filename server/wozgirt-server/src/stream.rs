@@ -1,7 +1,7 @@
 //! A connection's socket: by name, or over TCP.
 
 use std::io::{self, Read, Write};
-use std::net::{IpAddr, Shutdown, TcpStream};
+use std::net::{Shutdown, TcpStream};
 use std::os::fd::{AsFd, BorrowedFd};
 use std::os::unix::net::UnixStream;
 
@@ -33,14 +33,6 @@ impl Stream {
         match self {
             Stream::Unix(stream) => stream.shutdown(Shutdown::Write),
             Stream::Tcp(stream) => stream.shutdown(Shutdown::Write),
-        }
-    }
-
-    /// The address of the other end, over TCP; none if that is gone.
-    pub fn address(&self) -> Option<IpAddr> {
-        match self {
-            Stream::Unix(_) => None,
-            Stream::Tcp(stream) => stream.peer_addr().ok().map(|from| from.ip()),
         }
     }
 }

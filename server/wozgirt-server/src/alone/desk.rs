@@ -23,7 +23,7 @@ impl Desk {
 
     /// The client gives its key. Its session begins or continues. One that is attached is over when the client closes the connection.
     pub(crate) fn begin_session(&mut self, connection: &mut Connection, key: Key, is_attached: bool) -> Then {
-        if connection.seat.is_some() || connection.has_asked {
+        if connection.seat.is_some() || connection.asking.has_asked {
             connection.tell_in_order(format_args!("refused {}", BadRequest::Rest(NotALine::Syntax)));
             return Then::Wait;
         }
@@ -47,8 +47,8 @@ impl Desk {
         self.sums.refused("session");
         match why {
             NoSession::Others => {
-                let event = Event::SessionRefused { who: &connection.who };
-                self.log.say_of(connection.guest, self.now, &event);
+                let event = Event::SessionRefused { who: &connection.caller.who };
+                self.log.say_of(connection.caller.guest, self.now, &event);
             }
             NoSession::Full => self.note_part(connection, Of::Sessions),
             NoSession::Unkept => {}
@@ -185,12 +185,12 @@ impl Desk {
         let is_engine_gone = matches!(end, End::Engine | End::Stop);
         let is_over = matches!(end, End::Lease | End::Kicked) || seat.is_attached || session.is_blank();
         if is_over && !is_engine_gone {
-            return self.end_session(number, connection.tag);
+            return self.end_session(number, connection.asking.tag);
         }
         let until = now + connection.lease.unwrap_or(longest);
         let until = if session.is_idle() { until.min(seat.is_wanted_until()) } else { until };
         if until <= now && !is_engine_gone {
-            return self.end_session(number, connection.tag);
+            return self.end_session(number, connection.asking.tag);
         }
         session.at = At::Away(Some(until).filter(|_| !is_engine_gone));
         some_of(&session.held())

@@ -35,7 +35,7 @@ impl Desk {
         connection.pending.push_back(Pending::Opening);
         let who = connection.identity();
         cluster.put(Line::Here(key, who));
-        cluster.opening.push_back(connection.client);
+        cluster.owns.opening.push_back(connection.client);
         if !cluster.owns.admits(key, who) {
             return Then::Wait; // the log says whose it is
         }
@@ -56,7 +56,7 @@ impl Desk {
         let seat = connection.seat.as_mut()?;
         if std::mem::take(&mut seat.has_left) {
             cluster.put(Line::Here(seat.key, who));
-            cluster.opening.push_back(connection.client);
+            cluster.owns.opening.push_back(connection.client);
         }
         Some(seat.key)
     }
@@ -85,7 +85,7 @@ impl Desk {
     /// Whether one more session of this user or address may be in the log: as many may be there as of a single server.
     fn may_begin(&mut self, connection: &Connection) -> bool {
         let share = Share::beyond(self.settings.most_sessions());
-        let may = self.mode.in_log().map_or(true, |it| share.permits(it.mirror.parties(), connection.guest));
+        let may = self.mode.in_log().map_or(true, |it| share.permits(it.mirror.parties(), connection.caller.guest));
         if !may {
             self.sums.refused("session");
             self.note_part(connection, Of::Sessions);
@@ -118,12 +118,12 @@ impl Desk {
             connection.tell_in_order("refused cluster");
             return;
         };
-        let (position, digest) = cluster.digests.last();
+        let (position, digest) = cluster.replica.digests.last();
         let alive: Vec<String> =
-            cluster.alive.iter().flatten().map(|it| format!("{}:{}", it.name, it.incarnation)).collect();
-        let me = cluster.me.as_ref().map_or("- 0".into(), ToString::to_string);
+            cluster.member.alive.iter().flatten().map(|it| format!("{}:{}", it.name, it.incarnation)).collect();
+        let me = cluster.member.me.as_ref().map_or("- 0".into(), ToString::to_string);
         let alive = if alive.is_empty() { "-".into() } else { alive.join(",") };
-        connection.tell_in_order(format_args!("cluster {me} {position} {digest} {} {alive}", cluster.saved.1));
+        connection.tell_in_order(format_args!("cluster {me} {position} {digest} {} {alive}", cluster.replica.saved.1));
     }
 
     /// Sends the client an answer to its own input, if it waits for that.
@@ -175,8 +175,8 @@ impl Desk {
             connection.pending.pop_front();
             connection.seat = None;
             self.sums.refused("session");
-            let event = Event::SessionRefused { who: &connection.who };
-            self.log.say_of(connection.guest, self.now, &event);
+            let event = Event::SessionRefused { who: &connection.caller.who };
+            self.log.say_of(connection.caller.guest, self.now, &event);
             connection.tell("refused session");
             connection.tell_what_waited();
         }

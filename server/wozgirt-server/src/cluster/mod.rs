@@ -10,9 +10,12 @@ mod desk;
 mod digests;
 mod entries;
 mod log;
+mod member;
 mod mirror;
 mod owner;
 mod place;
+mod reading;
+mod replica;
 mod sessions;
 mod words;
 mod writer;
@@ -25,9 +28,14 @@ pub use digests::{Digests, Verdict};
 use entries::VERSION;
 pub use entries::{is_name, Entry, Key, Line, Server, Session};
 pub use log::Told;
+use member::Member;
 pub use mirror::{Effect, Mirror, Standing};
 pub use owner::{Owner, Who};
 pub use place::{Other, Place};
+pub use reading::Read;
+use reading::{Reading, MOST_FOR_ENGINE};
+use replica::Replica;
+pub use replica::{Block, Phase};
 pub use sessions::{draw, Owns};
 pub use words::{OverEtcd, ReadingOverEtcd};
 use writer::Writer;
@@ -36,12 +44,11 @@ use crate::engine::Engine;
 use crate::names::Names;
 use crate::pages::InLog;
 use crate::settings::Settings;
-use std::collections::{BTreeMap, BTreeSet, VecDeque};
+use std::collections::BTreeSet;
 use std::fs::File;
 use std::io;
-use std::rc::Rc;
 use std::time::{Duration, Instant};
-use wozgirt_engine::{Client, StateLine};
+use wozgirt_engine::Client;
 
 /// The longest line of the process that speaks to etcd.
 const LONGEST_LOG_LINE: usize = 8 << 20;
@@ -49,39 +56,10 @@ const LONGEST_LOG_LINE: usize = 8 << 20;
 pub const LONGEST_LIST: usize = 200_000;
 /// How many locks may be held of names that are not in the list, if nothing is said.
 const MOST_NAMES: u32 = 65_536;
-/// With this many entries unread, or bytes for the engine, no more is read of the log.
-const MOST_UNREAD: usize = 64;
-const MOST_FOR_ENGINE: usize = 1 << 20;
-
-/// What the engine is at.
-#[derive(Debug)]
-pub enum Phase {
-    /// It is started with a state, and reports that again.
-    Restoring(Vec<String>),
-    /// It is given entries.
-    Following,
-    /// The last entry before a checkpoint is done, and it reports its state.
-    Asking(Vec<String>),
-    /// It has reported this state, and is to end.
-    Ending(Vec<StateLine>),
-}
-
-/// An entry that was read.
-pub struct Read {
-    /// Its position.
-    pub position: u64,
-    /// Its revision.
-    pub revision: u64,
-    /// The entry, if it is one.
-    pub entry: Option<Entry>,
-}
-
-/// An entry that the engine was given.
-pub struct Block {
-    /// What its writer's engine had answered: a name, a position, a digest.
-    pub claim: Option<(Rc<str>, u64, String)>,
-    /// Whether there is a checkpoint after it.
-    pub is_checkpoint: bool,
+/// Numbers that no client has had.
+struct Numbers {
+    last: Client,
+    random: File,
 }
 
 /// What a server has that is one of several.
@@ -90,58 +68,24 @@ pub struct Cluster {
     pub with: String,
     /// The list of locks that its engine has.
     pub list: String,
-    /// The folder of the checkpoint.
-    pub folder: Folder,
     /// The process that speaks to etcd.
     pub log: Engine,
     /// Which log it is, and how far it was read.
     pub place: Place,
-    /// Whether etcd has no room for entries.
-    pub is_full: bool,
-    /// This server, as long as it is in the log.
-    pub me: Option<Server>,
-    /// What the log says.
+    /// What was read of it, and waits.
+    pub reading: Reading,
+    /// This server in it, and the others.
+    pub member: Member,
+    /// What it says.
     pub applied: Applied,
     /// What the engine was given.
     pub mirror: Mirror,
-    /// What it answered.
-    pub digests: Digests,
-    /// What it is at.
-    pub phase: Phase,
-    /// Whether it was ready once since the state was read from the checkpoint.
-    pub is_restored: bool,
-    /// The state that it begins with.
-    pub state: Vec<StateLine>,
-    /// The last segment, and the position, of the last checkpoint.
-    pub saved: (u64, u64),
-    /// Entries that wait for the engine.
-    pub unread: VecDeque<Read>,
-    /// Entries that it was given and has not done.
-    pub blocks: VecDeque<Block>,
+    /// What it makes of that.
+    pub replica: Replica,
     /// The sessions of this server's clients.
     pub owns: Owns,
-    /// The connections where sessions have begun, until the log says so.
-    pub opening: VecDeque<Client>,
-    /// The servers that are alive, once that is known.
-    pub alive: Option<BTreeSet<Server>>,
-    /// Since when others are not.
-    pub absent: BTreeMap<Server, Instant>,
-    /// Until when this server's lease in etcd lives for sure, once that is known.
-    pub lease: Option<Instant>,
-    /// Whether the engine owed an answer at the last sign of life, and whether it has answered anything since.
-    is_owing: bool,
-    pub has_answered: bool,
-    /// The signs of life that were given and not answered: the number of the first, and when.
-    signs: VecDeque<Instant>,
-    first_sign: u64,
-    /// When the last one was given.
-    last_sign: Instant,
-    /// The number of the last connection.
-    pub last_client: Client,
-    /// How often another server had other answers.
-    pub contradictions: u64,
+    numbers: Numbers,
     writer: Writer,
-    random: File,
 }
 
 impl Cluster {
@@ -159,34 +103,16 @@ impl Cluster {
         Ok(Some(Cluster {
             with: format!("{VERSION} {} {segment} {faults} {list}{most}", words.checkpoint),
             list,
-            folder: Folder::open(&settings.journal)?,
             log: Engine::new(words.program.clone(), words.words(), LONGEST_LOG_LINE, now),
+            replica: Replica::new(Folder::open(&settings.journal)?),
             place: Place::open(&settings.journal, now)?,
-            is_full: false,
-            me: None,
+            reading: Reading::default(),
+            member: Member::new(now),
             applied: Applied::new(words.checkpoint),
             mirror: Mirror::default(),
-            digests: Digests::default(),
-            phase: Phase::Restoring(Vec::new()),
-            is_restored: false,
-            state: Vec::new(),
-            saved: (0, 0),
-            unread: VecDeque::new(),
-            blocks: VecDeque::new(),
             owns: Owns::default(),
-            opening: VecDeque::new(),
-            alive: None,
-            absent: BTreeMap::new(),
-            lease: None,
-            is_owing: false,
-            has_answered: false,
-            signs: VecDeque::new(),
-            first_sign: 1,
-            last_sign: now,
-            last_client: 0,
-            contradictions: 0,
+            numbers: Numbers { last: 0, random: File::open("/dev/urandom")? },
             writer: Writer::default(),
-            random: File::open("/dev/urandom")?,
         }))
     }
 
@@ -197,18 +123,18 @@ impl Cluster {
 
     /// Whether clients are heard.
     pub fn is_ready(&self) -> bool {
-        self.is_restored && self.lease.is_some()
+        self.replica.is_restored && self.member.lease.is_some()
     }
 
     /// What is shown of it.
     pub fn view(&self) -> InLog {
         InLog {
             is_in_log: self.is_ready(),
-            is_full: self.is_full,
-            position: self.digests.last().0,
-            checkpoint: self.saved.1,
-            alive: self.alive.as_ref().map_or(0, BTreeSet::len),
-            contradictions: self.contradictions,
+            is_full: self.reading.is_full,
+            position: self.replica.digests.last().0,
+            checkpoint: self.replica.saved.1,
+            alive: self.member.alive.as_ref().map_or(0, BTreeSet::len),
+            contradictions: self.replica.contradictions,
         }
     }
 
@@ -219,19 +145,25 @@ impl Cluster {
 
     /// Whether all that was asked is answered.
     pub fn is_idle(&self) -> bool {
-        self.writer.is_idle() && self.unread.is_empty() && self.mirror.is_idle()
+        self.writer.is_idle() && self.reading.is_empty() && self.mirror.is_idle()
     }
 
     /// The line goes into the log with the next entry, if this server is in it.
     pub fn put(&mut self, line: Line) {
-        if self.me.is_some() {
+        if self.member.me.is_some() {
             self.writer.put(line);
         }
     }
 
+    /// A number for a client that comes.
+    pub fn next_client(&mut self) -> Client {
+        self.numbers.last += 1;
+        self.numbers.last
+    }
+
     /// A key for a client that gave none.
     pub fn draw(&mut self) -> io::Result<Key> {
-        draw(&mut self.random)
+        draw(&mut self.numbers.random)
     }
 
     /// What the client with this key has.
@@ -248,52 +180,30 @@ impl Cluster {
 
     /// This server begins in the log.
     pub fn join(&mut self, server: Server) {
-        self.me = Some(server);
+        self.member.me = Some(server);
         self.put(Line::With(self.with.clone()));
     }
 
     /// This server is in the log no longer.
     pub fn leave(&mut self) {
-        self.me = None;
-        self.lease = None;
-        self.signs.clear();
-        self.first_sign = 1;
-        self.alive = None;
-        self.absent.clear();
+        self.member.leave();
         self.writer = Writer::default();
-        self.unread.clear();
+        self.reading.clear();
         self.owns = Owns::default();
-        self.opening.clear();
         self.mirror.forget_clients();
     }
 
-    /// When the next sign of life is due.
-    pub fn next_alive(&self, lease: Duration) -> Instant {
-        self.last_sign + lease / 4
+    /// The engine begins again at the last checkpoint, and so has the log to be read again from there.
+    pub fn begin_again(&mut self) {
+        self.replica.begin_again();
+        self.mirror.forget();
     }
 
     /// Gives a sign of life, after which the lease is renewed; not while the engine owes an answer for as long as this.
     pub fn say_alive(&mut self, now: Instant) {
-        let is_stuck =
-            std::mem::replace(&mut self.is_owing, !self.mirror.is_idle()) && self.is_owing && !self.has_answered;
-        self.has_answered = false;
-        self.last_sign = now;
-        if self.me.is_some() && !is_stuck {
-            let number = self.first_sign + self.signs.len() as u64;
-            self.signs.push_back(now);
+        if let Some(number) = self.member.next_sign(self.mirror.is_idle(), now) {
             self.log.ask_line(format_args!("here {number}"));
         }
-    }
-
-    /// The lease was renewed after this sign of life: whether it is the first time.
-    pub fn kept(&mut self, number: u64, lease: Option<Duration>) -> bool {
-        let mut is_first = false;
-        while self.first_sign <= number {
-            let (Some(sign), Some(lease)) = (self.signs.pop_front(), lease) else { break };
-            self.first_sign += 1;
-            is_first |= self.lease.replace(sign + lease).is_none();
-        }
-        is_first
     }
 
     /// The next entry, if there is something to say and it is time; not before the log is known to be the one that was read.
@@ -301,20 +211,16 @@ impl Cluster {
         if !self.place.is_right() {
             return None;
         }
-        self.writer.next(self.me.as_ref()?, &self.digests, now)
+        self.writer.next(self.member.me.as_ref()?, &self.replica.digests, now)
     }
 
     /// The next entry of the log. Nothing if it is not the next one.
     pub fn receive(&mut self, position: u64, revision: u64, text: &str, now: Instant) -> Option<()> {
-        let last = self.unread.back().map_or(self.applied.position, |read| read.position);
-        if position != last + 1 {
-            return None;
+        let read = Read { position, revision, entry: text.parse().ok() };
+        let read = self.reading.put(read, self.applied.position)?;
+        if let Some(entry) = &read.entry {
+            self.writer.note(entry, self.member.me.as_ref(), now);
         }
-        let entry: Option<Entry> = text.parse().ok();
-        if let Some(entry) = &entry {
-            self.writer.note(entry, self.me.as_ref(), now);
-        }
-        self.unread.push_back(Read { position, revision, entry });
         Some(())
     }
 
@@ -338,33 +244,16 @@ impl Cluster {
         self.writer.due()
     }
 
-    /// Whether more is read of the log.
-    pub fn takes_more(&self, for_engine: usize) -> bool {
-        self.unread.len() < MOST_UNREAD && for_engine < MOST_FOR_ENGINE
-    }
-
     /// The next entry for the engine, if it may be given one.
     pub fn next_read(&mut self, for_engine: usize) -> Option<Read> {
-        let is_at_checkpoint = self.blocks.back().is_some_and(|block| block.is_checkpoint);
-        let is_given = matches!(self.phase, Phase::Following) && !is_at_checkpoint && for_engine < MOST_FOR_ENGINE;
-        if is_given {
-            self.unread.pop_front()
-        } else {
-            None
-        }
+        let is_given = self.replica.takes_entries() && for_engine < MOST_FOR_ENGINE;
+        is_given.then(|| self.reading.take()).flatten()
     }
 
     /// Servers that are not alive for as long as this: they are over.
     pub fn declare(&mut self, grace: Duration, now: Instant) {
-        let (Some(alive), true) = (&self.alive, self.me.is_some()) else { return };
-        let missing: Vec<Server> = self.applied.servers.keys().filter(|it| !alive.contains(it)).cloned().collect();
-        self.absent.retain(|server, _| missing.contains(server));
-        for server in missing {
-            let since = self.absent.entry(server.clone()).or_insert(now);
-            if now.saturating_duration_since(*since) >= grace {
-                *since = now;
-                self.writer.put(Line::Server(server));
-            }
+        for server in self.member.over(self.applied.servers.keys(), grace, now) {
+            self.writer.put(Line::Server(server));
         }
     }
 }

@@ -2,7 +2,7 @@
 
 use super::entries::{Key, Session};
 use super::owner::Who;
-use std::collections::HashMap;
+use std::collections::{HashMap, VecDeque};
 use std::fs::File;
 use std::io::{self, Read};
 use std::time::Instant;
@@ -33,6 +33,8 @@ pub struct Owns {
     /// The number of the client's last session, as soon as the log has given it.
     sessions: HashMap<Key, Session>,
     keys: HashMap<Session, Key>,
+    /// The connections where sessions have begun, until the log says so.
+    pub opening: VecDeque<Client>,
 }
 
 impl Owns {

@@ -1,7 +1,7 @@
 //! The part of each user and address: what is said of one that has it.
 
 use super::Desk;
-use crate::connection::{Connection, Door};
+use crate::connection::Connection;
 use crate::log::{Event, Of};
 use crate::shares::{Guest, Share};
 use std::collections::HashMap;
@@ -39,7 +39,7 @@ impl Desk {
     /// Whether this client may bring the name into use, or the lock is in use already, or in the list.
     pub(super) fn has_name_for(&mut self, connection: &Connection, name: &str) -> bool {
         let share = Share::within(self.settings.most_names());
-        let has = connection.door == Door::Operators || self.board.has_name_for(name, connection.guest, share);
+        let has = connection.caller.is_operator() || self.board.has_name_for(name, connection.caller.guest, share);
         if !has {
             self.note_part(connection, Of::Names);
         }
@@ -48,14 +48,14 @@ impl Desk {
 
     /// The client was refused one more, since its user or address has its part, or all have theirs.
     pub(crate) fn note_part(&mut self, connection: &Connection, of: Of) {
-        let guest = connection.guest;
+        let guest = connection.caller.guest;
         let (has, all) = match of {
             Of::Sessions => self.mode.sessions().map_or((0, 0), |it| (it.of(guest), it.all())),
             Of::Names => self.board.any().map_or((0, 0), |it| (it.payers().of(guest), it.payers().all())),
         };
         self.sums.refused_part(of);
         if self.parts.is_news(guest, of, self.now) {
-            self.log.say(&Event::PartFull { who: &connection.who, of, has, all });
+            self.log.say(&Event::PartFull { who: &connection.caller.who, of, has, all });
         }
     }
 }

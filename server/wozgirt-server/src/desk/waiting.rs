@@ -1,7 +1,7 @@
 //! Which lines wait here until the engine has less to do, and who has the next turn.
 
 use super::Desk;
-use crate::connection::{Connection, Door, MOST_PENDING};
+use crate::connection::{Connection, MOST_PENDING};
 use crate::turns::Turn;
 use wozgirt_engine::Client;
 
@@ -13,15 +13,19 @@ impl Desk {
         }
         let may_ask = self.may_ask(connection);
         // one that has its part there gets an answer before long
-        if !may_ask && connection.place.is_none() && self.questions.has_part(connection.asked, MOST_PENDING) {
-            connection.place = Some(self.questions.turns.line_up(connection.client, connection.tag, Turn::Ask));
+        if !may_ask
+            && connection.asking.place.is_none()
+            && self.questions.has_part(connection.asking.asked, MOST_PENDING)
+        {
+            connection.asking.place =
+                Some(self.questions.turns.line_up(connection.client, connection.asking.tag, Turn::Ask));
         }
         may_ask
     }
 
     /// The connection leaves the queue.
     pub(super) fn step_out(&mut self, connection: &mut Connection) {
-        if let Some(place) = connection.place.take() {
+        if let Some(place) = connection.asking.place.take() {
             self.questions.turns.step_out(connection.client, place);
         }
     }
@@ -29,10 +33,10 @@ impl Desk {
     /// Whether one more line of the connection may wait for the engine. Operators may ask when clients may not.
     pub(super) fn may_ask(&mut self, connection: &Connection) -> bool {
         self.is_full |= self.waits_for_log(1, 1);
-        let is_operator = connection.door == Door::Operators;
+        let is_operator = connection.caller.is_operator();
         let is_refused = if is_operator { self.waits_for_log(2, 1) } else { self.is_full };
-        let is_permitted = is_operator || self.questions.permits(connection.asked, connection.tag);
-        !is_refused && is_permitted && self.questions.has_part(connection.asked, MOST_PENDING)
+        let is_permitted = is_operator || self.questions.permits(connection.asking.asked, connection.asking.tag);
+        !is_refused && is_permitted && self.questions.has_part(connection.asking.asked, MOST_PENDING)
     }
 
     /// Whether of the lines that may wait for the log `times` parts in `parts` do.
@@ -64,53 +68,8 @@ impl Desk {
 #[cfg(test)]
 mod tests {
     use super::*;
-    use crate::alone::Alone;
-    use crate::board::Board;
-    use crate::connection::{Visit, SHARE};
-    use crate::engine::{Engine, ROOM};
-    use crate::log::Log;
-    use crate::mode::Mode;
-    use crate::names::Names;
-    use crate::questions::Questions;
-    use crate::settings::{parse, Words};
-    use crate::shares::Guest;
-    use crate::stream::Stream;
-    use std::io::Write;
-    use std::os::unix::net::UnixStream;
+    use crate::desk::tests::{connection, desk};
     use std::time::Instant;
-
-    /// A desk of the locks a1, a2 and so on, whose engine is not there.
-    fn desk(locks: usize, now: Instant) -> Desk {
-        let names = (1..=locks).map(|lock| format!("a{lock}")).collect::<Vec<_>>().join(",");
-        let listed = Names::parse(&names).unwrap();
-        let Ok(Words::Run(settings)) = parse(["--journal", "j", "--locks", &names, "--socket", "s"], None) else {
-            panic!()
-        };
-        Desk {
-            rules: Default::default(),
-            engine: Engine::new("none".into(), Vec::new(), ROOM, now),
-            questions: Questions::new(now),
-            is_full: false,
-            board: Board::new(&listed),
-            sums: Default::default(),
-            parts: Default::default(),
-            log: Log::start().unwrap(),
-            mode: Mode::Alone(Alone::new(None, 9).unwrap()),
-            now,
-            settings: *settings,
-        }
-    }
-
-    /// Client 1, which says this; and the other end.
-    fn connection(lines: &[u8], now: Instant) -> (Connection, UnixStream) {
-        let (stream, mut other) = UnixStream::pair().unwrap();
-        let visit =
-            Visit { stream: Stream::unix(stream).unwrap(), peer: None, who: String::new(), guest: Guest::User(None) };
-        let mut connection = Connection::new(1, Door::Clients, visit, 1 << 16, now);
-        other.write_all(lines).unwrap();
-        connection.read(&mut [0; SHARE], now).unwrap();
-        (connection, other)
-    }
 
     #[test]
     fn a_leave_takes_the_room_of_one_line() {
@@ -147,23 +106,23 @@ mod tests {
         assert!(!desk.questions.has_room() && desk.has_work(&mut connection));
         desk.take_lines(&mut connection, now);
         // the leave, and the question that shows that it is done
-        assert_eq!((connection.asked, connection.tag, desk.questions.waiting()), (1, 2, 130));
+        assert_eq!((connection.asking.asked, connection.asking.tag, desk.questions.waiting()), (1, 2, 130));
         assert!(!desk.has_work(&mut connection));
-        assert_eq!((connection.place, desk.questions.turns.first()), (Some(2), Some(Turn::Ask)));
+        assert_eq!((connection.asking.place, desk.questions.turns.first()), (Some(2), Some(Turn::Ask)));
     }
 
     #[test]
     fn a_place_in_the_line_goes_with_what_it_is_for() {
         let now = Instant::now();
         let (mut desk, (mut connection, _other)) = (desk(1, now), connection(b"try a1 1\n", now));
-        connection.tag = 1000;
+        connection.asking.tag = 1000;
         (0..1000).for_each(|_| {
             desk.questions.ask();
         });
         assert!(!desk.has_work(&mut connection) && desk.questions.turns.first() == Some(Turn::Ask));
         desk.questions.forget(now); // the engine has nothing to do
-        assert!(desk.has_work(&mut connection) && connection.place.is_some());
+        assert!(desk.has_work(&mut connection) && connection.asking.place.is_some());
         desk.take_lines(&mut connection, now);
-        assert_eq!((connection.asked, connection.place, desk.questions.turns.first()), (1, None, None));
+        assert_eq!((connection.asking.asked, connection.asking.place, desk.questions.turns.first()), (1, None, None));
     }
 }

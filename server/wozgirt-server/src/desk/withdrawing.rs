@@ -2,7 +2,7 @@
 
 use super::Desk;
 use crate::alone::{Ask, What};
-use crate::connection::{Connection, Door, Pending};
+use crate::connection::{Connection, Pending};
 use crate::mode::Mode;
 use std::fmt;
 use wozgirt_engine::{Answer, Client, Input, Lock};
@@ -19,7 +19,7 @@ impl fmt::Display for NotPermitted<'_> {
 impl Desk {
     /// Cancels what the client of a single server waits for, or has asked for, where the rules do not permit that. What it holds stays.
     pub fn withdraw(&mut self, connection: &mut Connection) {
-        if connection.door == Door::Operators {
+        if connection.caller.is_operator() {
             return;
         }
         match (&self.mode, &connection.seat) {
@@ -29,7 +29,7 @@ impl Desk {
                     Pending::Asked(input) => wanted(input),
                     _ => None,
                 });
-                for lock in self.forbidden(connection, asked.chain(connection.waits_for.as_ref())) {
+                for lock in self.forbidden(connection, asked.chain(connection.has.waits_for.as_ref())) {
                     self.ask_engine(connection.client, &Input::Cancel { lock: lock.clone() });
                     self.note_asked(connection, Pending::Withdrawn(lock));
                 }
@@ -51,7 +51,7 @@ impl Desk {
     }
 
     fn forbidden<'a>(&self, connection: &Connection, locks: impl Iterator<Item = &'a Lock>) -> Vec<Lock> {
-        let peer = connection.peer.as_ref();
+        let peer = connection.caller.peer.as_ref();
         locks.filter(|lock| !self.rules.permits(lock, peer)).cloned().collect()
     }
 

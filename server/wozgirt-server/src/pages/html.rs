@@ -42,10 +42,10 @@ pub const TAIL: &str = "</tbody></table>
 ";
 
 fn summary(text: &mut String, view: &View<'_>) {
-    let engine = match view.is_engine_ready {
+    let engine = match view.engine.is_ready {
         false => "<span class=\"down\">is away</span>".into(),
-        true if view.is_engine_silent => {
-            format!("<span class=\"down\">has not answered for {}</span>", time(view.engine_silence))
+        true if view.engine.is_silent => {
+            format!("<span class=\"down\">has not answered for {}</span>", time(view.engine.silence))
         }
         true => String::from("answers"),
     };
@@ -58,7 +58,7 @@ fn summary(text: &mut String, view: &View<'_>) {
         text,
         "<h1>Locks</h1>\n<p>The engine {engine} (start {}). Clients: {}, locks held: {held} of {}{others}, waiting: {waiting}. \
          Up for {}. Journal: {} bytes, segments: {}, the last is {}.</p>",
-        view.engine_starts,
+        view.engine.starts,
         view.connected,
         locks.len(),
         time(view.now.saturating_duration_since(view.started)),
@@ -162,7 +162,7 @@ mod tests {
     use crate::journal::JournalSize;
     use crate::names::Names;
     use crate::pages::http::Wanted;
-    use crate::pages::Telling;
+    use crate::pages::{EngineView, Telling};
     use crate::sums::Sums;
 
     /// Two locks.
@@ -202,12 +202,14 @@ mod tests {
             sums: &sums,
             connected: 2,
             sessions: 3,
-            engine_version: &EngineVersion { name: "ring_tool 0.1.0".into(), is_proved: false },
-            engine_starts: 1,
-            is_engine_ready: true,
-            engine_silence: Duration::from_millis(500),
-            is_engine_silent: false,
-            waiting_lines: 7,
+            engine: EngineView {
+                version: &EngineVersion { name: "ring_tool 0.1.0".into(), is_proved: false },
+                starts: 1,
+                is_ready: true,
+                silence: Duration::from_millis(500),
+                is_silent: false,
+                waiting_lines: 7,
+            },
             in_log: Some(InLog {
                 is_in_log: true,
                 is_full: false,

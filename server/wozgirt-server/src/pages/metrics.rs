@@ -36,7 +36,7 @@ impl<'a> Family<'a> {
 
 /// What is not of one lock.
 pub fn head(text: &mut String, view: &View<'_>) {
-    build(text, view.engine_version);
+    build(text, view.engine.version);
     server(text, view);
     process(text, view.figures);
     waits(text, view.board.all_waits());
@@ -87,7 +87,7 @@ fn waits(text: &mut String, waits: &Waits) {
 fn server(text: &mut String, view: &View<'_>) {
     let uptime = view.now.saturating_duration_since(view.started).as_secs_f64();
     let is_up = u8::from(view.is_well());
-    let silence = view.engine_silence.as_secs_f64();
+    let silence = view.engine.silence.as_secs_f64();
     let values: [(&str, &str, &str, &dyn Display); 12] = [
         ("wozgirt_uptime_seconds", "gauge", "Seconds since the server started.", &uptime),
         ("wozgirt_engine_up", "gauge", "1 if the engine answers.", &is_up),
@@ -97,8 +97,13 @@ fn server(text: &mut String, view: &View<'_>) {
             "Age of the oldest question that the engine has not answered; it is asked one each second.",
             &silence,
         ),
-        ("wozgirt_engine_lines_waiting", "gauge", "Lines that the engine may not have done.", &view.waiting_lines),
-        ("wozgirt_engine_starts_total", "counter", "How often the engine was started.", &view.engine_starts),
+        (
+            "wozgirt_engine_lines_waiting",
+            "gauge",
+            "Lines that the engine may not have done.",
+            &view.engine.waiting_lines,
+        ),
+        ("wozgirt_engine_starts_total", "counter", "How often the engine was started.", &view.engine.starts),
         ("wozgirt_connections", "gauge", "Open connections.", &view.connected),
         ("wozgirt_sessions", "gauge", "Sessions, those of clients that are away included.", &view.sessions),
         ("wozgirt_connections_total", "counter", "Connections that were let in.", &view.sums.connections),

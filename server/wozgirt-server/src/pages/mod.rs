@@ -32,6 +32,22 @@ pub struct InLog {
     pub contradictions: u64,
 }
 
+/// What there is to show of the engine.
+pub struct EngineView<'a> {
+    /// Which engine it is.
+    pub version: &'a EngineVersion,
+    /// How often it was started.
+    pub starts: u64,
+    /// Whether it answers.
+    pub is_ready: bool,
+    /// How long it has left a question unanswered.
+    pub silence: Duration,
+    /// Whether that is long.
+    pub is_silent: bool,
+    /// How many lines may wait for it.
+    pub waiting_lines: usize,
+}
+
 /// What there is to show.
 pub struct View<'a> {
     /// The locks.
@@ -42,21 +58,11 @@ pub struct View<'a> {
     pub connected: usize,
     /// How many sessions there are.
     pub sessions: usize,
-    /// Which engine it is.
-    pub engine_version: &'a EngineVersion,
-    /// How often the engine was started.
-    pub engine_starts: u64,
-    /// Whether it answers.
-    pub is_engine_ready: bool,
-    /// How long it has left a question unanswered, and whether that is long.
-    pub engine_silence: Duration,
-    /// Whether that is long.
-    pub is_engine_silent: bool,
-    /// How many lines may wait for it.
-    pub waiting_lines: usize,
-    /// The log that it has with others, if it has one.
+    /// The engine.
+    pub engine: EngineView<'a>,
+    /// The log that the server has with others, if it has one.
     pub in_log: Option<InLog>,
-    /// Its journal.
+    /// The engine's journal.
     pub journal: &'a JournalSize,
     /// What the system says of the process.
     pub figures: &'a Figures,
@@ -69,6 +75,6 @@ pub struct View<'a> {
 impl View<'_> {
     /// Whether the engine answers in time.
     pub fn is_well(&self) -> bool {
-        self.is_engine_ready && !self.is_engine_silent
+        self.engine.is_ready && !self.engine.is_silent
     }
 }

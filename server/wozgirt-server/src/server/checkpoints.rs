@@ -1,6 +1,5 @@
 //! Where one of several servers begins: at its checkpoint, with the settings of the log.
 
-use super::opening::read_rules;
 use super::Server;
 use crate::board::Board;
 use crate::cluster::{agrees, holders, list, most_names, Applied, BadCheckpoint, Checkpoint, Cluster, Phase};
@@ -23,12 +22,13 @@ impl Server {
     pub(super) fn begin_cluster(&mut self) -> Result<(), CannotServe> {
         let now = self.desk.now;
         let Some(cluster) = self.desk.mode.in_log_mut() else { return Ok(()) };
-        let (applied, state, segment) = match cluster.folder.read()? {
+        let (applied, state, segment) = match cluster.replica.folder.read()? {
             None => (Applied::new(cluster.applied.most_lines), first_state(), 0),
             Some(text) => {
                 let found = Checkpoint::parse(&text, cluster.applied.most_lines);
-                let Checkpoint { identity, segment, applied, state } =
-                    found.map_err(|BadCheckpoint(line)| CannotServe::Checkpoint(cluster.folder.checkpoint(), line))?;
+                let Checkpoint { identity, segment, applied, state } = found.map_err(|BadCheckpoint(line)| {
+                    CannotServe::Checkpoint(cluster.replica.folder.checkpoint(), line)
+                })?;
                 cluster.place.raise(&identity, applied.position, applied.revision)?;
                 (applied, state, segment)
             }
@@ -40,18 +40,15 @@ impl Server {
         let desk = &mut self.desk;
         let Some(cluster) = desk.mode.in_log_mut() else { return Ok(()) };
         cluster.place.begin(applied.position);
-        cluster.folder.restore(segment, applied.position, list(&settings))?;
-        cluster.folder.write_holders(&holders(&state))?;
-        cluster.saved = (segment, applied.position);
+        cluster.replica.folder.restore(segment, applied.position, list(&settings))?;
+        cluster.replica.folder.write_holders(&holders(&state))?;
+        cluster.replica.saved = (segment, applied.position);
         cluster.applied = applied;
-        cluster.phase = Phase::Restoring(Vec::new());
-        cluster.is_restored = false;
-        cluster.blocks.clear();
-        cluster.unread.clear();
-        cluster.mirror.forget();
+        cluster.begin_again();
+        cluster.reading.clear();
         desk.board.forget();
         put_state(cluster, &mut desk.board, &state, now);
-        cluster.state = state;
+        cluster.replica.state = state;
         Ok(())
     }
 
@@ -69,7 +66,7 @@ impl Server {
         desk.board.take(&Names::parse(list).map_err(CannotServe::Names)?);
         let count = list.split(',').count();
         if is_longer {
-            match read_rules(&desk.settings, &desk.board, &mut self.accounts) {
+            match self.people.read_rules(&desk.settings, &desk.board) {
                 Ok(rules) => desk.rules = Rc::new(rules),
                 Err(fault) => desk.log.say(&Event::RulesBad { fault: &fault }),
             }
@@ -87,22 +84,22 @@ impl Server {
     pub(super) fn save(&mut self) -> Result<(), CannotServe> {
         let now = self.desk.now;
         let Some(cluster) = self.desk.mode.in_log_mut() else { return Ok(()) };
-        let Phase::Ending(state) = mem::replace(&mut cluster.phase, Phase::Restoring(Vec::new())) else {
+        let Phase::Ending(state) = mem::replace(&mut cluster.replica.phase, Phase::Restoring(Vec::new())) else {
             return Ok(());
         };
-        let segment = cluster.folder.sync_from(cluster.saved.0)?;
+        let segment = cluster.replica.folder.sync_from(cluster.replica.saved.0)?;
         let (position, revision) = (cluster.applied.position, cluster.applied.revision);
-        cluster.folder.keep(segment, position)?;
+        cluster.replica.folder.keep(segment, position)?;
         let identity = cluster.place.known().map(|known| known.identity.clone()).unwrap_or_default();
         let checkpoint = Checkpoint { identity, segment, applied: cluster.applied.clone(), state };
-        cluster.folder.write(&checkpoint.text())?;
+        cluster.replica.folder.write(&checkpoint.text())?;
         cluster.place.rewrite()?;
-        cluster.folder.write_holders(&checkpoint.holders())?;
-        cluster.folder.forget(cluster.saved.1, position)?;
-        cluster.saved = (segment, position);
-        cluster.state = checkpoint.state;
+        cluster.replica.folder.write_holders(&checkpoint.holders())?;
+        cluster.replica.folder.forget(cluster.replica.saved.1, position)?;
+        cluster.replica.saved = (segment, position);
+        cluster.replica.state = checkpoint.state;
         let settings = cluster.applied.settings.clone();
-        if cluster.me.is_some() {
+        if cluster.member.me.is_some() {
             cluster.log.ask_line(format_args!("checkpoint {position} {revision}"));
         }
         self.desk.log.say(&Event::Checkpoint { position, segment });

@@ -51,10 +51,10 @@ impl Server {
         let Some(cluster) = self.desk.mode.in_log() else { return Ok(()) };
         match outcome {
             Outcome::NotYet => {}
-            Outcome::Again(status) if is_planned(&cluster.phase, &status) => self.save()?,
+            Outcome::Again(status) if is_planned(&cluster.replica.phase, &status) => self.save()?,
             Outcome::Again(status) => {
                 self.desk.log.say(&Event::EngineEnded { status: status.to_string() });
-                if cluster.is_restored {
+                if cluster.replica.is_restored {
                     self.lose_engine_of_cluster(true); // it ended badly while it was to end
                 }
                 self.begin_cluster()?;
@@ -74,17 +74,17 @@ impl Server {
         let desk = &mut self.desk;
         let Some(process) = desk.engine.start(desk.now).map_err(CannotServe::Engine)? else { return Ok(()) };
         let Some(cluster) = desk.mode.in_log_mut() else { return Ok(()) };
-        if !cluster.is_restored {
+        if !cluster.replica.is_restored {
             desk.log.say(&Event::EngineStarted { process, grace: desk.settings.grace });
         }
         poll_process(&self.poller, &desk.engine, ENGINE, ENGINE_INPUT)?;
         for sight in desk.board.locks() {
             desk.engine.ask_line(format_args!("{NOBODY} {}", Input::Stats { lock: sight.lock.clone() }));
         }
-        if cluster.saved.1 == 0 {
+        if cluster.replica.saved.1 == 0 {
             desk.engine.ask_line("at 0");
         } else {
-            for line in cluster.state.iter().filter(|line| !matches!(line, StateLine::Hold { .. })) {
+            for line in cluster.replica.state.iter().filter(|line| !matches!(line, StateLine::Hold { .. })) {
                 desk.engine.ask_line(line);
             }
         }
@@ -104,7 +104,7 @@ impl Server {
             }
             Err(Unheard::Ended) => {
                 let is_planned =
-                    self.desk.mode.in_log().is_some_and(|cluster| matches!(cluster.phase, Phase::Ending(_)));
+                    self.desk.mode.in_log().is_some_and(|cluster| matches!(cluster.replica.phase, Phase::Ending(_)));
                 if is_planned && self.stopping.is_none() {
                     self.desk.engine.give_up(true, self.desk.now);
                 } else {
@@ -121,8 +121,8 @@ impl Server {
         let now = self.desk.now;
         let desk = &mut self.desk;
         let Some(cluster) = desk.mode.in_log_mut() else { return Ok(false) };
-        cluster.has_answered = true;
-        match &mut cluster.phase {
+        cluster.member.has_answered = true;
+        match &mut cluster.replica.phase {
             Phase::Restoring(lines) | Phase::Asking(lines) => {
                 let is_last = line.starts_with("state ");
                 lines.push(line.into());
@@ -154,7 +154,7 @@ impl Server {
     /// The engine has reported its whole state.
     fn hear_state(&mut self) -> Result<(), CannotServe> {
         let Some(cluster) = self.desk.mode.in_log_mut() else { return Ok(()) };
-        let phase = mem::replace(&mut cluster.phase, Phase::Following);
+        let phase = mem::replace(&mut cluster.replica.phase, Phase::Following);
         let is_asked = matches!(phase, Phase::Asking(_));
         let (Phase::Restoring(mut lines) | Phase::Asking(mut lines)) = phase else { return Ok(()) };
         let count = lines.pop().and_then(|last| last.strip_prefix("state ").and_then(|count| count.parse().ok()));
@@ -168,11 +168,11 @@ impl Server {
             return Ok(());
         };
         if is_asked {
-            cluster.phase = Phase::Ending(state);
+            cluster.replica.phase = Phase::Ending(state);
             self.desk.engine.end();
             return Ok(());
         }
-        if state != cluster.state {
+        if state != cluster.replica.state {
             return Err(CannotServe::Restored);
         }
         self.restored(&lines)
@@ -187,13 +187,14 @@ impl Server {
                 desk.board.note_stats(&stats);
             }
         }
-        if let (Some(StateLine::At { digest, .. }), false) = (cluster.state.last(), cluster.is_restored) {
+        if let (Some(StateLine::At { digest, .. }), false) = (cluster.replica.state.last(), cluster.replica.is_restored)
+        {
             cluster.place.done(cluster.applied.position, digest)?;
-            cluster.digests.note(cluster.applied.position, digest.clone());
+            cluster.replica.digests.note(cluster.applied.position, digest.clone());
         }
         desk.engine.note_ready();
-        if !mem::replace(&mut cluster.is_restored, true) {
-            let held = cluster.state.iter().filter(|line| matches!(line, StateLine::Hold { .. })).count();
+        if !mem::replace(&mut cluster.replica.is_restored, true) {
+            let held = cluster.replica.state.iter().filter(|line| matches!(line, StateLine::Hold { .. })).count();
             desk.log.say(&Event::EngineReady { held });
         }
         self.start_log()?;
@@ -214,10 +215,7 @@ impl Server {
         self.part_all(End::Engine);
         self.leave_log(false);
         if let Some(cluster) = self.desk.mode.in_log_mut() {
-            cluster.is_restored = false;
-            cluster.blocks.clear();
-            cluster.mirror.forget();
-            cluster.phase = Phase::Restoring(Vec::new());
+            cluster.begin_again();
         }
     }
 
@@ -251,7 +249,7 @@ impl Server {
                 return Ok(());
             }
         }
-        let is_own = entry.as_ref().is_some_and(|entry| Some(&entry.writer) == cluster.me.as_ref());
+        let is_own = entry.as_ref().is_some_and(|entry| Some(&entry.writer) == cluster.member.me.as_ref());
         for given in step.given {
             let line = given.to_string();
             if !line.is_empty() {
@@ -266,7 +264,7 @@ impl Server {
         }
         let claim = entry.filter(|_| step.is_taken && !is_own);
         let claim = claim.map(|entry| (entry.writer.name, entry.position, entry.digest));
-        cluster.blocks.push_back(Block { claim, is_checkpoint: step.is_checkpoint });
+        cluster.replica.blocks.push_back(Block { claim, is_checkpoint: step.is_checkpoint });
         self.note_ends(position, &step.over, &step.moved);
         Ok(())
     }
@@ -275,7 +273,7 @@ impl Server {
     fn note_ends(&mut self, position: u64, over: &[LogServer], moved: &[(Key, LogServer)]) {
         let desk = &mut self.desk;
         let Some(cluster) = desk.mode.in_log_mut() else { return };
-        let me = cluster.me.clone();
+        let me = cluster.member.me.clone();
         let owns = &mut cluster.owns;
         let moved = moved.iter().filter(|(_, before)| Some(before) == me.as_ref());
         let clients: Vec<Client> = moved.filter_map(|(key, _)| owns.moved(*key)).collect();
@@ -292,7 +290,7 @@ impl Server {
 
     /// Sends the answers of the engine to those that they concern.
     fn tell_effect(&mut self, effect: Effect<'_>) -> Result<(), CannotServe> {
-        let (desk, connections) = (&mut self.desk, &mut self.connections);
+        let (desk, talks) = (&mut self.desk, &mut self.talks);
         let Some(cluster) = desk.mode.in_log_mut() else { return Ok(()) };
         let client = match &effect {
             Effect::Done { position, digest } => return self.done(*position, digest.clone()),
@@ -305,7 +303,7 @@ impl Server {
                 return self.opened(key, effect);
             }
             Effect::Closed(key) => {
-                let client = cluster.opening.pop_front();
+                let client = cluster.owns.opening.pop_front();
                 client.map(|client| cluster.owns.go(*key, client));
                 client
             }
@@ -319,7 +317,7 @@ impl Server {
                 cluster.owns.client_of(*session)
             }
         };
-        let Some(connection) = client.and_then(|client| connections.get_mut(&client)) else { return Ok(()) };
+        let Some(connection) = client.and_then(|client| talks.get_mut(client)) else { return Ok(()) };
         match effect {
             Effect::Answered { number, answer, .. } => desk.tell_numbered(connection, number, &answer),
             Effect::Granted { lock, token, .. } => desk.tell_grant(connection, lock, token),
@@ -338,18 +336,14 @@ impl Server {
         Ok(())
     }
 
-    /// The connection got an answer, and may say more.
-    fn go_on(&mut self, client: Client) {
-        self.queue(client);
-        self.touch(client);
-    }
-
     /// The session has come here. A client may have come twice, and gets what it has where it came last.
     fn opened(&mut self, key: Key, effect: Effect<'_>) -> Result<(), CannotServe> {
         let (now, lease) = (self.desk.now, self.desk.settings.longest_lease);
         let Some(cluster) = self.desk.mode.in_log_mut() else { return Ok(()) };
-        let (Some(client), Effect::Here(_, session)) = (cluster.opening.pop_front(), effect) else { return Ok(()) };
-        let Some(connection) = self.connections.get_mut(&client) else {
+        let (Some(client), Effect::Here(_, session)) = (cluster.owns.opening.pop_front(), effect) else {
+            return Ok(());
+        };
+        let Some(connection) = self.talks.get_mut(client) else {
             cluster.owns.await_gone(key, now + lease);
             return Ok(());
         };
@@ -370,16 +364,16 @@ impl Server {
         let desk = &mut self.desk;
         let Some(cluster) = desk.mode.in_log_mut() else { return Ok(()) };
         cluster.place.done(position, &digest)?;
-        cluster.digests.note(position, digest);
-        let Some(block) = cluster.blocks.pop_front() else { return Ok(()) };
+        cluster.replica.digests.note(position, digest);
+        let Some(block) = cluster.replica.blocks.pop_front() else { return Ok(()) };
         if block.is_checkpoint {
-            cluster.phase = Phase::Asking(Vec::new());
+            cluster.replica.phase = Phase::Asking(Vec::new());
         }
         let Some((name, position, digest)) = block.claim else { return Ok(()) };
-        match cluster.digests.compare(&name, position, &digest) {
+        match cluster.replica.digests.compare(&name, position, &digest) {
             Verdict::Nothing => Ok(()),
             Verdict::Other => {
-                cluster.contradictions += 1;
+                cluster.replica.contradictions += 1;
                 desk.log.say(&Event::Contradiction { name: &name, position });
                 Ok(())
             }
@@ -393,7 +387,7 @@ impl Server {
     /// Ends both processes when all that was asked is answered.
     pub(super) fn stop_cluster(&mut self) {
         let Some(cluster) = self.desk.mode.in_log_mut() else { return };
-        if cluster.is_idle() || cluster.me.is_none() {
+        if cluster.is_idle() || cluster.member.me.is_none() {
             cluster.log.end();
             self.desk.engine.end();
         }

@@ -7,11 +7,14 @@ use crate::engine::{Engine, Outcome, Unheard};
 use crate::log::{End, Event};
 use crate::mode::Mode;
 use crate::questions::Own;
+use crate::retention::{self, Removal};
+use crate::settings::Settings;
 use crate::CannotServe;
 use std::io;
 use std::process::ExitStatus;
+use std::sync::mpsc::Receiver;
 use std::time::{Duration, Instant};
-use wozgirt_engine::{decimal, Answer, Answered, Client, Input, Lock, NotALine, StateLine, Token, NOBODY};
+use wozgirt_engine::{decimal, Answer, Answered, Input, Lock, NotALine, StateLine, NOBODY};
 use wozgirt_system::{lacks_means, Interest, Poller};
 
 /// An engine that leaves a question unanswered for this time is called silent.
@@ -26,6 +29,70 @@ pub(super) fn poll_process(poller: &Poller, process: &Engine, output: u64, input
         poller.add(pipe, input, Interest { reads: false, writes: false })?;
     }
     process.complaints().map_or(Ok(()), |pipe| poller.add(pipe, REMARKS, Interest::READS))
+}
+
+/// What is known of the engine's last start.
+pub(super) struct EngineSide {
+    /// The locks that were held then.
+    pub(super) held_before: Vec<Lock>,
+    /// When these are given up.
+    pub(super) grace_until: Option<Instant>,
+    /// Whether it has answered how all locks are.
+    pub(super) is_begun: bool,
+    /// When it was started, and since when it leaves a question unanswered, if the log says so.
+    since: Instant,
+    silent_since: Option<Instant>,
+    /// Whether the log says that sessions are not kept.
+    pub(super) says_unkept: bool,
+    /// What becomes of old segments of its journal, if not all are kept.
+    removals: Option<Receiver<Removal>>,
+}
+
+impl EngineSide {
+    /// Before its first start.
+    pub(super) fn start(settings: &Settings, now: Instant) -> io::Result<EngineSide> {
+        let kept = settings.keep_segments;
+        let removals = kept.map(|kept| retention::start(settings.engine_journal(), kept)).transpose()?;
+        Ok(EngineSide { removals, ..EngineSide::new(now) })
+    }
+
+    fn new(now: Instant) -> EngineSide {
+        EngineSide {
+            held_before: Vec::new(),
+            grace_until: None,
+            is_begun: false,
+            since: now,
+            silent_since: None,
+            says_unkept: false,
+            removals: None,
+        }
+    }
+
+    /// It is started now, and what was held stays held until then.
+    fn begin(&mut self, now: Instant, grace: Duration) {
+        self.since = now;
+        self.grace_until = Some(now + grace);
+    }
+
+    /// It is gone, and nothing is known of it.
+    fn forget(&mut self) {
+        self.is_begun = false;
+        self.silent_since = None;
+        self.held_before.clear();
+        self.grace_until = None;
+    }
+
+    /// The oldest question without an answer is another one, or there is none: since when it was silent, if the log says so.
+    fn answers_again(&mut self, oldest: Option<Instant>) -> Option<Instant> {
+        let since = self.silent_since.filter(|since| Some(*since) != oldest)?;
+        self.silent_since = None;
+        Some(since)
+    }
+
+    /// It leaves the question of this time unanswered for long: whether the log does not say so yet.
+    fn is_silence_news(&mut self, asked: Instant) -> bool {
+        self.silent_since.replace(asked).is_none()
+    }
 }
 
 impl Server {
@@ -67,14 +134,13 @@ impl Server {
         if client == NOBODY {
             return self.answer_own(&answer);
         }
-        let Some(connection) = self.connections.get_mut(&client).filter(|it| it.seat.is_none()) else {
+        let Some(connection) = self.talks.get_mut(client).filter(|it| it.seat.is_none()) else {
             return self.answer_session(client, &answer);
         };
         if let Some((operator, lock, token)) = self.desk.tell_answer(connection, &answer)? {
             self.tell_ended(operator, client, &lock, token, &answer);
         }
-        self.queue(client);
-        self.touch(client);
+        self.go_on(client);
         Ok(())
     }
 
@@ -90,13 +156,13 @@ impl Server {
         let own = self.desk.questions.answered(answer, self.desk.now).ok_or(Unasked)?;
         if let Own::End(operator, lock, token, _) = own {
             if matches!(answer, Answer::Released { .. }) {
-                self.held_before.retain(|held| *held != lock);
+                self.engine.held_before.retain(|held| *held != lock);
                 self.desk.board.released(&lock, NOBODY);
             }
             self.tell_ended(operator, NOBODY, &lock, token, answer);
         } else if let (Own::Begin(lock), Answer::Stats(stats)) = (own, answer) {
             if self.desk.board.begin(stats, self.desk.now) {
-                self.held_before.push(lock);
+                self.engine.held_before.push(lock);
             }
             self.note_begun();
         }
@@ -112,7 +178,7 @@ impl Server {
         } else if let StateLine::Hold { lock, token, client: NOBODY } = line.parse()? {
             if !self.desk.board.is_listed(&lock) {
                 self.desk.board.holds(&lock, NOBODY, token, self.desk.now);
-                self.held_before.push(lock);
+                self.engine.held_before.push(lock);
             }
         }
         Ok(())
@@ -123,49 +189,15 @@ impl Server {
         if !self.desk.questions.has_begun() || !self.has_begun() {
             return;
         }
-        self.is_begun = true;
+        self.engine.is_begun = true;
         self.desk.engine.note_ready();
-        self.desk.log.say(&Event::EngineReady { held: self.held_before.len() });
+        self.desk.log.say(&Event::EngineReady { held: self.engine.held_before.len() });
         if let Some((sessions, held)) = self.desk.alone().map(|it| (it.counts().all(), it.holds().count())) {
             if sessions > 0 {
                 self.desk.log.say(&Event::SessionsKept { sessions, held });
             }
         }
-        self.touch_all();
-    }
-
-    /// An operator has a hold end: of a client that is connected, or of one from before the engine's start.
-    pub(super) fn end_hold(&mut self, operator: Client, holder: Client, lock: Lock, token: Token) {
-        if holder == NOBODY {
-            self.desk.questions.put(Own::End(operator, lock.clone(), token, self.desk.now));
-            self.desk.engine.ask_line(format_args!("{NOBODY} {}", Input::Release { lock, token }));
-        } else if let Some(connection) = self.connections.get_mut(&holder).filter(|it| it.seat.is_none()) {
-            self.desk.ask_to_end(connection, operator, lock, token);
-        } else {
-            self.desk.ask_session_to_end(operator, holder, lock, token);
-        }
-    }
-
-    /// Sends the operator what came of that.
-    pub(super) fn tell_ended(
-        &mut self,
-        operator: Client,
-        holder: Client,
-        lock: &str,
-        token: Token,
-        answer: &Answer<'_>,
-    ) {
-        let is_ended = matches!(answer, Answer::Released { .. });
-        let by = self.connections.get(&operator).map_or("an operator that is gone", |connection| &connection.who);
-        if is_ended {
-            self.desk.log.say(&Event::HoldEnded { by, lock, token, client: holder });
-        }
-        if let Some(connection) = self.connections.get_mut(&operator) {
-            let word = if is_ended { "ended" } else { "refused holder" };
-            connection.tell_ending(format_args!("{word} {lock}"));
-            self.queue(operator);
-            self.touch(operator);
-        }
+        self.talks.touch_all();
     }
 
     /// Asks the engine each second whether it is there. One that leaves that unanswered for too long is ended. `seen`: all that it
@@ -177,21 +209,20 @@ impl Server {
             return;
         }
         let patience = self.desk.settings.engine_patience;
-        if !self.is_begun {
+        if !self.engine.is_begun {
             // it reads its journal first
-            return self.end_engine_after(TIMES_AT_START * patience, self.engine_since, seen);
+            return self.end_engine_after(TIMES_AT_START * patience, self.engine.since, seen);
         }
         if self.desk.questions.next_mark().is_some_and(|due| due <= now) {
             self.desk.mark();
         }
         let oldest = self.desk.questions.oldest();
-        if let Some(since) = self.silent_since.filter(|since| Some(*since) != oldest) {
+        if let Some(since) = self.engine.answers_again(oldest) {
             let time = now.saturating_duration_since(since);
             self.desk.log.say(&Event::EngineAnswers { time });
-            self.silent_since = None;
         }
         let Some(asked) = oldest else { return };
-        if self.is_engine_silent() && self.silent_since.replace(asked).is_none() {
+        if self.is_engine_silent() && self.engine.is_silence_news(asked) {
             self.desk.log.say(&Event::EngineSilent { time: self.desk.engine_silence() });
         }
         self.end_engine_after(patience, asked, seen);
@@ -229,10 +260,7 @@ impl Server {
         }
         self.desk.board.forget();
         self.desk.questions.forget(self.desk.now);
-        self.is_begun = false;
-        self.silent_since = None;
-        self.held_before.clear();
-        self.grace_until = None;
+        self.engine.forget();
     }
 
     /// Whether it has ended, and whether it is to be started.
@@ -281,8 +309,7 @@ impl Server {
         let grace = self.desk.settings.grace;
         self.desk.log.say(&Event::EngineStarted { process, grace });
         poll_process(&self.poller, &self.desk.engine, ENGINE, ENGINE_INPUT)?;
-        self.engine_since = now;
-        self.grace_until = Some(now + grace);
+        self.engine.begin(now, grace);
         self.begin_engine();
         Ok(())
     }
@@ -290,6 +317,16 @@ impl Server {
     /// It keeps ending before it is ready, and has said why.
     pub(super) fn engine_ends(&self, status: ExitStatus) -> CannotServe {
         CannotServe::EngineEnds(status, self.desk.engine.last_remark().map(String::from))
+    }
+
+    /// Puts into the log which old segments were removed.
+    pub(super) fn log_removals(&mut self) {
+        for removal in self.engine.removals.iter().flat_map(Receiver::try_iter) {
+            match &removal {
+                Ok((name, digest)) => self.desk.log.say(&Event::SegmentRemoved { name, digest }),
+                Err(fault) => self.desk.log.say(&Event::SegmentsStay { fault }),
+            }
+        }
     }
 
     /// Puts into the log what the processes said on their standard errors.
@@ -306,11 +343,39 @@ impl Server {
 
     /// A holder of a lock when the engine ended knows by now that it lost it, or its lease is over.
     pub(super) fn end_grace(&mut self) {
-        self.grace_until = None;
+        self.engine.grace_until = None;
         self.desk.ask_engine(NOBODY, &Input::Leave);
-        for lock in std::mem::take(&mut self.held_before) {
+        for lock in std::mem::take(&mut self.engine.held_before) {
             self.desk.board.left(&lock, NOBODY);
         }
         self.desk.log.say(&Event::GraceOver);
+    }
+}
+
+#[cfg(test)]
+mod tests {
+    use super::*;
+
+    #[test]
+    fn a_silence_is_said_once_and_ends_with_another_question() {
+        let begun = Instant::now();
+        let (mut side, later) = (EngineSide::new(begun), begun + SILENCE);
+        assert_eq!((side.answers_again(None), side.is_silence_news(begun)), (None, true));
+        assert_eq!((side.answers_again(Some(begun)), side.is_silence_news(begun)), (None, false));
+        assert_eq!((side.answers_again(Some(later)), side.answers_again(None)), (Some(begun), None));
+        assert!(side.is_silence_news(later));
+    }
+
+    #[test]
+    fn a_new_start_has_its_own_grace() {
+        let begun = Instant::now();
+        let mut side = EngineSide::new(begun);
+        side.begin(begun + SILENCE, SILENCE);
+        (side.is_begun, side.says_unkept) = (true, true);
+        side.held_before.push("a".parse().unwrap());
+        assert_eq!((side.since, side.grace_until), (begun + SILENCE, Some(begun + 2 * SILENCE)));
+        side.forget();
+        assert_eq!((side.is_begun, side.grace_until, side.held_before.len()), (false, None, 0));
+        assert!(side.says_unkept); // that is no matter of one start
     }
 }

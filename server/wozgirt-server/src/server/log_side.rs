@@ -13,12 +13,12 @@ impl Server {
     /// Starts the process that speaks to etcd, if the engine is ready.
     pub(super) fn start_log(&mut self) -> Result<(), CannotServe> {
         let desk = &mut self.desk;
-        let Some(cluster) = desk.mode.in_log_mut().filter(|cluster| cluster.is_restored) else { return Ok(()) };
+        let Some(cluster) = desk.mode.in_log_mut().filter(|cluster| cluster.replica.is_restored) else { return Ok(()) };
         let Some(process) = cluster.log.start(desk.now).map_err(CannotServe::Log)? else { return Ok(()) };
         desk.log.say(&Event::LogStarted { process });
         cluster.log.ask_line(cluster.known());
         poll_process(&self.poller, &cluster.log, LOG, LOG_INPUT)?;
-        self.reads_log = true;
+        cluster.reading.begin();
         Ok(())
     }
 
@@ -69,8 +69,8 @@ impl Server {
                 cluster.receive(position, revision, &text, desk.now).is_some()
             }
             Ok(Told::Alive(servers)) => {
-                let is_alive = cluster.me.as_ref().map_or(true, |me| servers.contains(me));
-                cluster.alive = Some(servers);
+                let is_alive = cluster.member.me.as_ref().map_or(true, |me| servers.contains(me));
+                cluster.member.alive = Some(servers);
                 if !is_alive {
                     self.lose_log("its lease in etcd is over", false);
                     return Ok(false);
@@ -79,8 +79,8 @@ impl Server {
             }
             Ok(Told::Kept(number)) => {
                 let lease = desk.settings.cluster.as_ref().map(|words| words.host_lease);
-                if cluster.kept(number, lease) {
-                    self.touch_all(); // now they are read
+                if cluster.member.kept(number, lease) {
+                    self.talks.touch_all(); // now they are read
                 }
                 return Ok(true);
             }
@@ -105,7 +105,7 @@ impl Server {
         let desk = &mut self.desk;
         let (Some(cluster), Some(words)) = (desk.mode.in_log_mut(), &desk.settings.cluster) else { return Ok(()) };
         cluster.place.join(&identity, incarnation)??;
-        cluster.is_full = false;
+        cluster.reading.is_full = false;
         let (position, revision) = (cluster.applied.position, cluster.applied.revision);
         let server = crate::cluster::Server { name: words.name.as_str().into(), incarnation };
         desk.log.say(&Event::LogJoined { identity: &identity, server: &server, position });
@@ -119,10 +119,10 @@ impl Server {
     /// etcd has no room for entries, so nothing can be put into the log until an operator makes some. False: nothing more is heard of it.
     fn fill_log(&mut self) -> bool {
         let Some(cluster) = self.desk.mode.in_log_mut() else { return false };
-        if !mem::replace(&mut cluster.is_full, true) {
+        if !mem::replace(&mut cluster.reading.is_full, true) {
             self.desk.log.say(&Event::LogFull);
         }
-        let is_in_log = self.desk.mode.in_log().is_some_and(|cluster| cluster.me.is_some());
+        let is_in_log = self.desk.mode.in_log().is_some_and(|cluster| cluster.member.me.is_some());
         if is_in_log {
             self.lose_log("etcd has no room", false);
         }
@@ -135,7 +135,7 @@ impl Server {
         self.desk.end_late_sessions();
         if let (Some(cluster), Some(words)) = (self.desk.mode.in_log_mut(), &self.desk.settings.cluster) {
             cluster.declare(grace, now);
-            if now >= cluster.next_alive(words.host_lease) {
+            if now >= cluster.member.next_alive(words.host_lease) {
                 cluster.say_alive(now);
             }
         }
@@ -143,7 +143,7 @@ impl Server {
 
     /// A server that does not know that its lease is valid may have been declared over, as one that was stopped for a while.
     pub(super) fn check_lease(&mut self) {
-        let is_over = |cluster: &Cluster| cluster.lease.is_some_and(|until| until <= self.desk.now);
+        let is_over = |cluster: &Cluster| cluster.member.lease.is_some_and(|until| until <= self.desk.now);
         if self.desk.mode.in_log().is_some_and(is_over) {
             self.lose_log("its lease in etcd was not renewed in time", false);
         }
@@ -160,11 +160,9 @@ impl Server {
         if let Some((input, interest)) = cluster.log.awaited_input() {
             self.poller.change(input, LOG_INPUT, interest)?;
         }
-        let reads = cluster.takes_more(waiting);
-        if let Some(output) = cluster.log.output() {
-            if mem::replace(&mut self.reads_log, reads) != reads {
-                self.poller.change(output, LOG, Interest { reads, writes: false })?;
-            }
+        let Some(output) = cluster.log.output() else { return Ok(()) };
+        if let Some(reads) = cluster.reading.change(waiting) {
+            self.poller.change(output, LOG, Interest { reads, writes: false })?;
         }
         Ok(())
     }

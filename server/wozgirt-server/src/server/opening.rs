@@ -1,6 +1,7 @@
 //! What is read and checked before the server serves.
 
-use super::{MOST_VISITORS, OTHER_FILES};
+use super::shows::MOST_VISITORS;
+use super::OTHER_FILES;
 use crate::accounts::Accounts;
 use crate::alone::{Alone, Store};
 use crate::board::Board;

@@ -33,7 +33,7 @@ impl Server {
                 if is_new {
                     self.desk.done_for(number, input_number, &input, answer)?;
                 }
-                if let Some(connection) = self.connections.get_mut(&client) {
+                if let Some(connection) = self.talks.get_mut(client) {
                     self.desk.tell_done(connection, input_number, answer);
                 }
             }
@@ -41,13 +41,12 @@ impl Server {
             What::Withdraw(lock) => self.withdrawn_for_session(number, client, lock, answer),
             What::Leave(leave) => {
                 self.desk.forget_session(number);
-                if let Some(connection) = self.connections.get_mut(&client) {
+                if let Some(connection) = self.talks.get_mut(client) {
                     self.desk.tell_session_left(connection, leave);
                 }
             }
         }
-        self.queue(client);
-        self.touch(client);
+        self.go_on(client);
         self.open_if_answered(number);
         Ok(())
     }
@@ -61,20 +60,19 @@ impl Server {
     fn granted_late(&mut self, session: Client, lock: Lock, token: Token) {
         self.desk.granted_late(session, lock.clone(), token);
         let Some(client) = self.client_of(session) else { return };
-        let Some(connection) = self.connections.get_mut(&client) else { return };
+        let Some(connection) = self.talks.get_mut(client) else { return };
         if !connection.is_to_be_opened() {
             connection.tell(Answer::Granted { lock: &lock, token });
-            self.touch(client);
+            self.talks.touch(client);
         }
     }
 
     /// A client that has come back while something was on its way gets what the session has when that is answered.
     fn open_if_answered(&mut self, session: Client) {
         let Some(client) = self.client_of(session) else { return };
-        let Some(connection) = self.connections.get_mut(&client).filter(|it| it.is_to_be_opened()) else { return };
+        let Some(connection) = self.talks.get_mut(client).filter(|it| it.is_to_be_opened()) else { return };
         self.desk.tell_opened(connection);
-        self.queue(client);
-        self.touch(client);
+        self.go_on(client);
     }
 
     fn ended_for_session(&mut self, session: Client, operator: Client, lock: Lock, token: Token, answer: &Answer<'_>) {
@@ -94,7 +92,7 @@ impl Server {
         if let Some(alone) = self.desk.alone() {
             alone.free(session, lock.clone());
         }
-        if let Some(connection) = self.connections.get_mut(&client) {
+        if let Some(connection) = self.talks.get_mut(client) {
             connection.tell(NotPermitted(&lock));
         }
     }
@@ -111,7 +109,7 @@ impl Server {
     }
 
     fn say_unkept(&mut self, fault: &io::Error) {
-        if !std::mem::replace(&mut self.says_unkept, true) {
+        if !std::mem::replace(&mut self.engine.says_unkept, true) {
             self.desk.log.say(&Event::SessionsUnkept { fault });
         }
     }
@@ -136,7 +134,7 @@ impl Server {
     pub(super) fn begin_engine(&mut self) {
         let now = self.desk.now;
         self.desk.board.forget();
-        self.held_before.clear();
+        self.engine.held_before.clear();
         if let Mode::Alone(alone) = &mut self.desk.mode {
             if alone.start == Start::Serving {
                 for (session, lock, token) in alone.holds() {
@@ -160,7 +158,7 @@ impl Server {
 
     /// The engine has answered how all locks are: whether it serves from here on.
     pub(super) fn has_begun(&mut self) -> bool {
-        let open = self.held_before.iter().filter_map(|lock| {
+        let open = self.engine.held_before.iter().filter_map(|lock| {
             let holder = self.desk.board.lock(lock)?.holder?;
             Some((lock.clone(), holder.token))
         });

@@ -1,27 +1,129 @@
-//! Connections: read, written, ended.
+//! What is asked: the connections, whose turn it is, and what is written to them.
 
 use super::{Server, CONNECTIONS, ENGINE_INPUT, LONGEST_TURN, SHORTEST_TURN, TURNS};
 use crate::connection::{Connection, Door, Reading, SHARE};
 use crate::desk::Then;
-use crate::log::{End, Event};
-use crate::shares::Guest;
+use crate::log::End;
 use crate::turns::Turn;
 use crate::CannotServe;
-use std::collections::VecDeque;
+use std::collections::{HashMap, VecDeque};
+use std::mem;
 use std::time::Instant;
-use wozgirt_engine::{Answer, Client, Lock};
+use wozgirt_engine::{Answer, Client};
 use wozgirt_system::Event as Ready;
+
+/// The connections.
+#[derive(Default)]
+pub(super) struct Talks {
+    connections: HashMap<Client, Connection>,
+    /// Those that get something at the end of this round.
+    dirty: Vec<Client>,
+    /// Those who wait for a change of the locks.
+    watchers: Vec<Client>,
+    /// Those that have just spoken, and those that have said more than was taken in their turn.
+    fresh: VecDeque<Client>,
+    backlog: VecDeque<Client>,
+    /// Whether clients were not heard in the last round, since the engine has enough to do.
+    was_full: bool,
+}
+
+impl Talks {
+    /// How many there are.
+    pub(super) fn count(&self) -> usize {
+        self.connections.len()
+    }
+
+    /// The connection of this client.
+    pub(super) fn get(&self, client: Client) -> Option<&Connection> {
+        self.connections.get(&client)
+    }
+
+    /// The same, to be changed.
+    pub(super) fn get_mut(&mut self, client: Client) -> Option<&mut Connection> {
+        self.connections.get_mut(&client)
+    }
+
+    /// All of them.
+    pub(super) fn all(&self) -> impl Iterator<Item = &Connection> {
+        self.connections.values()
+    }
+
+    /// The same, to be changed.
+    pub(super) fn all_mut(&mut self) -> impl Iterator<Item = &mut Connection> {
+        self.connections.values_mut()
+    }
+
+    /// Their clients.
+    pub(super) fn clients(&self) -> Vec<Client> {
+        self.connections.keys().copied().collect()
+    }
+
+    /// One more.
+    pub(super) fn insert(&mut self, connection: Connection) {
+        self.connections.insert(connection.client, connection);
+    }
+
+    /// One less.
+    fn remove(&mut self, client: Client) -> Option<Connection> {
+        self.connections.remove(&client)
+    }
+
+    /// Something is to be written to it.
+    pub(super) fn touch(&mut self, client: Client) {
+        if let Some(connection) = self.connections.get_mut(&client) {
+            if !mem::replace(&mut connection.is_dirty, true) {
+                self.dirty.push(client);
+            }
+        }
+    }
+
+    /// Something is to be written to each.
+    pub(super) fn touch_all(&mut self) {
+        self.clients().into_iter().for_each(|client| self.touch(client));
+    }
+
+    /// Whether lines of some are to be taken.
+    pub(super) fn has_turns(&self) -> bool {
+        !self.fresh.is_empty() || self.has_backlog()
+    }
+
+    /// Whether some have said more than was taken.
+    pub(super) fn has_backlog(&self) -> bool {
+        !self.backlog.is_empty()
+    }
+
+    /// It is told when the locks change.
+    fn watch(&mut self, client: Client) {
+        self.watchers.push(client);
+    }
+
+    /// Tells each who waits for that, once, that the locks have changed.
+    fn tell_changes(&mut self, changes: u64) {
+        for client in mem::take(&mut self.watchers) {
+            let Some(connection) = self.connections.get_mut(&client) else { continue };
+            match connection.awaits_change_of {
+                Some(seen) if seen == changes => self.watchers.push(client),
+                Some(_) => {
+                    connection.awaits_change_of = None;
+                    connection.tell_in_order(format_args!("changes {changes}"));
+                    self.touch(client);
+                }
+                None => {}
+            }
+        }
+    }
+}
 
 impl Server {
     pub(super) fn read(&mut self, client: Client, event: &Ready, buffer: &mut [u8; SHARE]) {
-        self.touch(client);
-        let Some(connection) = self.connections.get(&client) else { return };
+        self.talks.touch(client);
+        let Some(connection) = self.talks.get(client) else { return };
         let is_open = connection.takes_more() && !connection.is_read_enough();
         // of a client that is gone nothing more is read: nobody hears the answers, and all that it would hold is free
-        let is_of_use = !event.is_gone || connection.door == Door::Operators;
-        let is_read = event.is_readable && is_open && is_of_use && self.hears(connection.door);
+        let is_of_use = !event.is_gone || connection.caller.is_operator();
+        let is_read = event.is_readable && is_open && is_of_use && self.hears(connection.caller.door);
         let now = self.desk.now;
-        let Some(connection) = self.connections.get_mut(&client).filter(|_| is_read) else {
+        let Some(connection) = self.talks.get_mut(client).filter(|_| is_read) else {
             return if event.is_gone {
                 self.lose(client, buffer)
             };
@@ -29,17 +131,17 @@ impl Server {
         match connection.read(buffer, now) {
             Ok(Reading::Open) => {
                 if self.has_turn(client) {
-                    self.fresh.push_back(client);
+                    self.talks.fresh.push_back(client);
                 }
             }
-            Ok(Reading::Ended) if !event.is_gone => connection.has_said_all = true,
+            Ok(Reading::Ended) if !event.is_gone => connection.note_said_all(),
             Ok(Reading::Ended) | Err(_) => self.lose(client, buffer),
         }
     }
 
     /// The other end is gone. What it has said for a session that continues is done as soon as it may be asked.
     pub(super) fn lose(&mut self, client: Client, buffer: &mut [u8; SHARE]) {
-        let Some(connection) = self.connections.get_mut(&client) else { return };
+        let Some(connection) = self.talks.get_mut(client) else { return };
         let stays = connection.may_be_left() && self.stopping.is_none() && connection.note_gone(buffer);
         if stays && self.poller.remove(connection.stream()).is_ok() {
             self.queue(client);
@@ -55,9 +157,9 @@ impl Server {
     }
 
     fn take_lines(&mut self, client: Client, until: Instant) {
-        let Some(door) = self.connections.get(&client).map(|connection| connection.door) else { return };
+        let Some(door) = self.talks.get(client).map(|connection| connection.caller.door) else { return };
         let hears = self.hears(door);
-        let Some(connection) = self.connections.get_mut(&client) else { return };
+        let Some(connection) = self.talks.get_mut(client) else { return };
         let mut then = Then::Wait;
         loop {
             self.desk.tell_listing(connection, until);
@@ -70,55 +172,51 @@ impl Server {
         }
         match then {
             Then::Wait => {}
-            Then::End(end) => {
-                connection.ending = Some(end);
-            }
-            Then::Watch => self.watchers.push(client),
-            Then::Clients => {
-                let list = self.list_of_clients();
-                if let Some(connection) = self.connections.get_mut(&client) {
-                    connection.tell_in_order(list);
-                }
-            }
+            Then::End(end) => connection.ending = Some(end),
+            Then::Watch => self.talks.watch(client),
             Then::Moved(before) => self.part(before, End::Moved),
-            Then::Kick(number) => self.kick(client, number),
-            Then::EndHold(holder, lock, token) => self.end_hold(client, holder, lock, token),
-            Then::Stop => self.stop("an operator said so"),
+            Then::Operator(order) => self.obey(client, order),
         }
         self.note_deadline(client);
         self.queue(client);
-        self.touch(client);
+        self.talks.touch(client);
     }
 
     /// Has the connection's turn come again, if it has more lines that may be taken, or more is to be sent to it.
     pub(super) fn queue(&mut self, client: Client) {
         if self.has_turn(client) {
-            self.backlog.push_back(client);
+            self.talks.backlog.push_back(client);
         }
+    }
+
+    /// The connection got an answer, and may say more.
+    pub(super) fn go_on(&mut self, client: Client) {
+        self.queue(client);
+        self.talks.touch(client);
     }
 
     /// Whether the connection gets a turn that it did not have yet.
     fn has_turn(&mut self, client: Client) -> bool {
         let is_ready = self.is_engine_ready() && self.stopping.is_none();
-        let Some(connection) = self.connections.get_mut(&client).filter(|it| !it.is_queued) else { return false };
-        let hears = is_ready && (connection.door == Door::Operators || !self.desk.is_full);
-        connection.is_queued = connection.is_listing() || hears && self.desk.has_work(connection);
-        connection.is_queued
+        let Some(connection) = self.talks.get_mut(client).filter(|it| !it.asking.is_queued) else { return false };
+        let hears = is_ready && (connection.caller.is_operator() || !self.desk.is_full);
+        connection.asking.is_queued = connection.is_listing() || hears && self.desk.has_work(connection);
+        connection.asking.is_queued
     }
 
     /// Takes lines of connections that have just spoken, and of those that waited until the engine had done enough; each time for a while.
     pub(super) fn take_turns(&mut self) {
-        let fresh = std::mem::take(&mut self.fresh);
-        self.fresh = self.take_some(fresh);
+        let fresh = mem::take(&mut self.talks.fresh);
+        self.talks.fresh = self.take_some(fresh);
         self.take_next();
     }
 
     /// Takes lines of connections that have said more.
     pub(super) fn take_backlog(&mut self) {
-        let backlog = std::mem::take(&mut self.backlog);
+        let backlog = mem::take(&mut self.talks.backlog);
         let mut rest = self.take_some(backlog);
-        rest.append(&mut self.backlog);
-        self.backlog = rest;
+        rest.append(&mut self.talks.backlog);
+        self.talks.backlog = rest;
     }
 
     fn take_next(&mut self) {
@@ -126,8 +224,8 @@ impl Server {
         while let Some((client, turn)) = self.desk.next_turn(self.stopping.is_some()) {
             if let Turn::Gone(last) = turn {
                 self.desk.ask_to_forget(client, last);
-            } else if let Some(connection) = self.connections.get_mut(&client) {
-                connection.place = None;
+            } else if let Some(connection) = self.talks.get_mut(client) {
+                connection.asking.place = None;
                 self.take_lines(client, until);
             }
             if Instant::now() >= until {
@@ -147,8 +245,8 @@ impl Server {
         let mut now = begun;
         while now < begun + TURNS {
             let Some(client) = line.pop_front() else { break };
-            if let Some(connection) = self.connections.get_mut(&client) {
-                connection.is_queued = false;
+            if let Some(connection) = self.talks.get_mut(client) {
+                connection.asking.is_queued = false;
                 self.take_lines(client, now + turn);
             }
             now = Instant::now();
@@ -161,72 +259,16 @@ impl Server {
         if self.desk.is_free_again() {
             self.desk.is_full = false;
         }
-        let keeps_out = self.desk.keeps_out(self.keeps_out);
-        if std::mem::replace(&mut self.keeps_out, keeps_out) != keeps_out {
-            self.set_doors();
+        let keeps_out = self.desk.keeps_out(self.entrance.keeps_out());
+        self.entrance.keep_out(keeps_out, &self.poller);
+        if mem::replace(&mut self.talks.was_full, self.desk.is_full) != self.desk.is_full {
+            self.talks.clients().into_iter().for_each(|client| self.go_on(client));
         }
-        if std::mem::replace(&mut self.was_full, self.desk.is_full) == self.desk.is_full {
-            return;
-        }
-        for client in self.connections.keys().copied().collect::<Vec<_>>() {
-            self.queue(client);
-            self.touch(client);
-        }
-    }
-
-    pub(super) fn list_of_clients(&mut self) -> String {
-        let mut clients: Vec<&Connection> = self.connections.values().collect();
-        clients.sort_unstable_by_key(|connection| connection.client);
-        let away = self.desk.mode.away(self.desk.now);
-        let mut text = format!("clients {}", clients.len() + away.len());
-        for it in clients {
-            let (holds, waits) = self.desk.mode.standing(it);
-            let lease = it.lease.map_or(0, |lease| lease.as_millis());
-            put_client(&mut text, self.desk.mode.number(it), lease, &holds, waits.as_ref(), &it.who);
-        }
-        for it in away {
-            let who = match it.guest {
-                Guest::User(Some(user)) => format!("away, {}", self.user_names.name(user)),
-                Guest::User(None) => "away, nobody knows who".into(),
-                Guest::Address(address) => format!("away, {address}"),
-            };
-            put_client(&mut text, it.number, it.left.as_millis(), &it.holds, it.waits.as_ref(), &who);
-        }
-        text
-    }
-
-    /// An operator has this client go, by the number by which it is shown.
-    fn kick(&mut self, operator: Client, number: Client) {
-        let shown = |connection: &&Connection| number > 0 && self.desk.mode.number(connection) == number;
-        let found = self.connections.values().find(shown).map(|connection| connection.client);
-        let is_away = found.is_none() && self.end_away(operator, number);
-        if let Some(connection) = self.connections.get_mut(&operator) {
-            match found {
-                None if is_away => connection.tell_in_order(format_args!("kicked {number}")),
-                None => connection.tell_in_order(format_args!("refused client {number}")),
-                Some(_) => connection.tell_in_order(format_args!("kicked {number}")),
-            }
-            if found == Some(operator) {
-                connection.ending = Some(End::Kicked); // when it has heard that
-            }
-        }
-        if let Some(client) = found.filter(|client| *client != operator) {
-            self.part(client, End::Kicked);
-        }
-    }
-
-    /// An operator ends a session whose client is away: whether there is one of this number.
-    fn end_away(&mut self, operator: Client, number: Client) -> bool {
-        let Some(held) = self.desk.end_away(number) else { return false };
-        let by = self.connections.get(&operator).map_or("an operator that is gone", |connection| &connection.who);
-        let held = if held.is_empty() { "nothing" } else { &held };
-        self.desk.log.say(&Event::SessionEnded { by, session: number, held });
-        true
     }
 
     pub(super) fn part(&mut self, client: Client, end: End) {
-        if let Some(mut connection) = self.connections.remove(&client) {
-            self.places.give_back(connection.door, connection.guest);
+        if let Some(mut connection) = self.talks.remove(client) {
+            self.entrance.give_back(connection.caller.door, connection.caller.guest);
             for (operator, lock, token) in connection.ended() {
                 // it leaves all
                 self.tell_ended(operator, client, &lock, token, &Answer::Released { lock: &lock });
@@ -236,36 +278,17 @@ impl Server {
     }
 
     pub(super) fn part_all(&mut self, end: End) {
-        for client in self.connections.keys().copied().collect::<Vec<_>>() {
-            self.part(client, end);
-        }
-    }
-
-    /// Sends to each who waits for that, once, that the locks have changed.
-    fn tell_changes(&mut self) {
-        let changes = self.desk.board.changes();
-        for client in std::mem::take(&mut self.watchers) {
-            let Some(connection) = self.connections.get_mut(&client) else { continue };
-            match connection.awaits_change_of {
-                Some(seen) if seen == changes => self.watchers.push(client),
-                Some(_) => {
-                    connection.awaits_change_of = None;
-                    connection.tell_in_order(format_args!("changes {changes}"));
-                    self.touch(client);
-                }
-                None => {}
-            }
-        }
+        self.talks.clients().into_iter().for_each(|client| self.part(client, end));
     }
 
     pub(super) fn write_all(&mut self, buffer: &mut [u8; SHARE]) -> Result<(), CannotServe> {
         self.note_full();
         self.write_sessions();
-        self.tell_changes();
+        self.talks.tell_changes(self.desk.board.changes());
         // it works while the clients get their answers
         self.desk.engine.write();
         // mostly the last one was granted what the one before it gave back: others wait for that
-        for client in std::mem::take(&mut self.dirty).into_iter().rev() {
+        for client in mem::take(&mut self.talks.dirty).into_iter().rev() {
             self.write(client, buffer);
         }
         self.desk.engine.write(); // those who have left
@@ -276,7 +299,7 @@ impl Server {
     }
 
     fn write(&mut self, client: Client, buffer: &mut [u8; SHARE]) {
-        let Some(connection) = self.connections.get_mut(&client) else { return };
+        let Some(connection) = self.talks.get_mut(client) else { return };
         connection.is_dirty = false;
         if connection.write(self.desk.now).is_err() {
             return self.lose(client, buffer);
@@ -289,8 +312,8 @@ impl Server {
             self.note_deadline(client);
         }
         self.queue(client); // it may say more, since it has read what was sent
-        let hears = self.connections.get(&client).is_some_and(|connection| self.hears(connection.door));
-        let Some(connection) = self.connections.get_mut(&client) else { return };
+        let hears = self.talks.get(client).is_some_and(|connection| self.hears(connection.caller.door));
+        let Some(connection) = self.talks.get_mut(client) else { return };
         if let Some(interest) = connection.new_interest(hears) {
             let changed = self.poller.change(connection.stream(), CONNECTIONS + client, interest);
             if changed.is_err() {
@@ -300,9 +323,57 @@ impl Server {
     }
 }
 
-/// A line of the list of clients.
-fn put_client(text: &mut String, client: Client, lease: u128, holds: &[Lock], waits: Option<&Lock>, who: &str) {
-    let holds = if holds.is_empty() { "-".into() } else { holds.join(",") };
-    let waits = waits.map_or("-", |lock| lock);
-    text.push_str(&format!("\nclient {client} {lease} {holds} {waits} {who}"));
+#[cfg(test)]
+mod tests {
+    use super::*;
+    use crate::desk::tests::connection;
+
+    /// Connections of these clients, whose other ends are kept.
+    fn talks(clients: &[Client]) -> (Talks, Vec<impl Sized>) {
+        let (mut talks, mut others) = (Talks::default(), Vec::new());
+        for &client in clients {
+            let (mut it, other) = connection(b"", Instant::now());
+            it.client = client;
+            talks.insert(it);
+            others.push(other);
+        }
+        (talks, others)
+    }
+
+    #[test]
+    fn each_is_written_to_once_a_round() {
+        let (mut talks, _others) = talks(&[1, 2]);
+        [2, 1, 2, 7].into_iter().for_each(|client| talks.touch(client));
+        assert_eq!(mem::take(&mut talks.dirty), [2, 1]);
+        talks.get_mut(1).unwrap().is_dirty = false;
+        talks.touch_all();
+        assert_eq!(talks.dirty, [1]); // the other one is to be written to already
+        assert!(talks.remove(1).is_some() && talks.remove(1).is_none() && talks.count() == 1);
+    }
+
+    #[test]
+    fn who_watches_is_told_of_the_next_change_once() {
+        let (mut talks, _others) = talks(&[1, 2]);
+        for client in [1, 2] {
+            talks.get_mut(client).unwrap().awaits_change_of = Some(4 + client);
+            talks.watch(client);
+        }
+        talks.watch(7); // is gone
+        talks.tell_changes(5);
+        assert_eq!((&*talks.watchers, &*talks.dirty), (&[1][..], &[2][..]));
+        talks.tell_changes(6);
+        assert_eq!((talks.watchers.len(), &*talks.dirty), (0, &[2, 1][..]));
+        talks.tell_changes(7);
+        assert_eq!(talks.dirty.len(), 2);
+    }
+
+    #[test]
+    fn whose_turn_it_is() {
+        let (mut talks, _others) = talks(&[]);
+        assert!(!talks.has_turns());
+        talks.fresh.push_back(1);
+        assert!(talks.has_turns() && !talks.has_backlog());
+        talks.backlog.push_back(1);
+        assert!(talks.has_backlog());
+    }
 }

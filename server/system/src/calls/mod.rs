@@ -1,10 +1,15 @@
 //! The calls of the system themselves: the only unsafe code of the workspace, each call inside a safe function that says why it is
 //! sound. What it means is said in the modules that use it.
-//!
-//! Every number, struct and function that is declared here is the system's own: `server/tests/test_declarations.py` compares them
-//! with its headers. They are those of the processors below; some others have other numbers.
 
-use std::ffi::{c_char, c_long, c_ulong, c_void, CStr, CString};
+mod declarations;
+
+pub use declarations::{Credentials, EpollEvent, Limit, LimitCount, SignalSet};
+pub use declarations::{EPOLLERR, EPOLLHUP, EPOLLIN, EPOLLOUT, EPOLL_CTL_ADD, EPOLL_CTL_DEL, EPOLL_CTL_MOD};
+pub use declarations::{FD_CLOEXEC, O_NONBLOCK, SI_KERNEL};
+pub use declarations::{SIGCHLD, SIGHUP, SIGINT, SIGKILL, SIGPIPE, SIGQUIT, SIGTERM, SIG_BLOCK, SIG_SETMASK};
+
+use declarations::*;
+use std::ffi::{c_char, c_long, CStr, CString};
 use std::io;
 use std::mem::{size_of, size_of_val, MaybeUninit};
 use std::os::fd::{AsRawFd, BorrowedFd, FromRawFd, OwnedFd};
@@ -13,197 +18,6 @@ use std::process::Command;
 use std::ptr;
 use std::sync::atomic::{AtomicBool, Ordering};
 use std::time::Duration;
-
-#[cfg(not(all(
-    target_os = "linux",
-    any(
-        target_arch = "x86_64",
-        target_arch = "x86",
-        target_arch = "aarch64",
-        target_arch = "arm",
-        target_arch = "riscv64",
-        target_arch = "s390x"
-    )
-)))]
-compile_error!("wozgirt-system has the numbers of Linux on x86-64, x86, ARM, RISC-V and s390x only");
-
-pub const EPOLLIN: u32 = 0x001;
-pub const EPOLLOUT: u32 = 0x004;
-pub const EPOLLERR: u32 = 0x008;
-pub const EPOLLHUP: u32 = 0x010;
-pub const EPOLL_CTL_ADD: i32 = 1;
-pub const EPOLL_CTL_DEL: i32 = 2;
-pub const EPOLL_CTL_MOD: i32 = 3;
-const EPOLL_CLOEXEC: i32 = 0o2_000_000;
-const POLLIN: i16 = 1;
-
-pub const SIGHUP: i32 = 1;
-pub const SIGINT: i32 = 2;
-pub const SIGQUIT: i32 = 3;
-pub const SIGKILL: i32 = 9;
-pub const SIGPIPE: i32 = 13;
-pub const SIGTERM: i32 = 15;
-pub const SIGCHLD: i32 = 17;
-/// The code of a signal that the kernel sent of its own accord, as it does for a key of the terminal.
-pub const SI_KERNEL: i32 = 0x80;
-pub const SIG_BLOCK: i32 = 0;
-pub const SIG_SETMASK: i32 = 2;
-const SIG_DFL: usize = 0;
-const SIG_IGN: usize = 1;
-const SIG_ERR: usize = usize::MAX;
-const SFD_CLOEXEC: i32 = 0o2_000_000;
-const SFD_NONBLOCK: i32 = 0o4_000;
-
-const ENFILE: i32 = 23;
-const EMFILE: i32 = 24;
-
-const F_GETFD: i32 = 1;
-const F_SETFD: i32 = 2;
-const F_GETFL: i32 = 3;
-const F_SETFL: i32 = 4;
-pub const FD_CLOEXEC: i32 = 1;
-pub const O_NONBLOCK: i32 = 0o4_000;
-const LOCK_EX: i32 = 2;
-const LOCK_NB: i32 = 4;
-const RLIMIT_NOFILE: i32 = 7;
-const ERANGE: i32 = 34;
-
-const AF_UNIX: u16 = 1;
-const SOCK_STREAM: i32 = 1;
-const SOCK_CLOEXEC: i32 = 0o2_000_000;
-const SOL_SOCKET: i32 = 1;
-const SO_PEERCRED: i32 = 17;
-const SO_PEERGROUPS: i32 = 59;
-
-/// `struct epoll_event`, which is packed on this one kind of processor.
-#[cfg_attr(target_arch = "x86_64", repr(C, packed))]
-#[cfg_attr(not(target_arch = "x86_64"), repr(C))]
-#[derive(Clone, Copy)]
-pub struct EpollEvent {
-    pub events: u32,
-    pub data: u64,
-}
-
-impl EpollEvent {
-    pub const NONE: EpollEvent = EpollEvent { events: 0, data: 0 };
-}
-
-/// `struct pollfd`.
-#[repr(C)]
-struct PollFile {
-    fd: i32,
-    events: i16,
-    revents: i16,
-}
-
-/// `struct timespec`.
-#[repr(C)]
-struct Time {
-    tv_sec: c_long,
-    tv_nsec: c_long,
-}
-
-/// `sigset_t`: 1,024 bits, in glibc and in musl.
-#[repr(C)]
-#[derive(Clone, Copy)]
-pub struct SignalSet {
-    bits: [c_ulong; 1024 / c_ulong::BITS as usize],
-}
-
-/// `struct ucred`.
-#[repr(C)]
-pub struct Credentials {
-    pub pid: i32,
-    pub uid: u32,
-    pub gid: u32,
-}
-
-/// `struct sockaddr_un`.
-#[repr(C)]
-struct UnixName {
-    sun_family: u16,
-    sun_path: [c_char; 108],
-}
-
-/// `struct passwd`.
-#[repr(C)]
-struct User {
-    pw_name: *mut c_char,
-    pw_passwd: *mut c_char,
-    pw_uid: u32,
-    pw_gid: u32,
-    pw_gecos: *mut c_char,
-    pw_dir: *mut c_char,
-    pw_shell: *mut c_char,
-}
-
-/// `struct group`.
-#[repr(C)]
-struct Group {
-    gr_name: *mut c_char,
-    gr_passwd: *mut c_char,
-    gr_gid: u32,
-    gr_mem: *mut *mut c_char,
-}
-
-/// `rlim_t`.
-#[cfg(not(target_env = "musl"))]
-pub type LimitCount = c_ulong;
-/// `rlim_t`.
-#[cfg(target_env = "musl")]
-pub type LimitCount = u64;
-
-/// `fsblkcnt_t`.
-#[cfg(not(target_env = "musl"))]
-type BlockCount = c_ulong;
-/// `fsblkcnt_t`.
-#[cfg(target_env = "musl")]
-type BlockCount = u64;
-
-/// `struct statvfs`: its beginning, and room for the rest, which no two libraries have alike.
-#[repr(C)]
-struct Disk {
-    f_bsize: c_ulong,
-    f_frsize: c_ulong,
-    f_blocks: BlockCount,
-    f_bfree: BlockCount,
-    f_bavail: BlockCount,
-    rest: [c_ulong; 32],
-}
-
-/// `struct rlimit`: the limit that holds, and how far the process may raise it.
-#[repr(C)]
-pub struct Limit {
-    pub rlim_cur: LimitCount,
-    pub rlim_max: LimitCount,
-}
-
-extern "C" {
-    fn epoll_create1(flags: i32) -> i32;
-    fn epoll_ctl(epoll: i32, operation: i32, file: i32, event: *mut EpollEvent) -> i32;
-    fn epoll_wait(epoll: i32, events: *mut EpollEvent, most: i32, milliseconds: i32) -> i32;
-    fn ppoll(files: *mut PollFile, count: c_ulong, time: *const Time, mask: *const SignalSet) -> i32;
-    fn sigemptyset(set: *mut SignalSet) -> i32;
-    fn sigfillset(set: *mut SignalSet) -> i32;
-    fn sigaddset(set: *mut SignalSet, signal: i32) -> i32;
-    fn pthread_sigmask(how: i32, set: *const SignalSet, old: *mut SignalSet) -> i32;
-    fn signalfd(file: i32, set: *const SignalSet, flags: i32) -> i32;
-    fn signal(signal: i32, handler: usize) -> usize;
-    fn raise(signal: i32) -> i32;
-    fn kill(process: i32, signal: i32) -> i32;
-    fn fcntl(file: i32, command: i32, ...) -> i32;
-    fn flock(file: i32, operation: i32) -> i32;
-    fn umask(without: u32) -> u32;
-    fn getrlimit(of: i32, limit: *mut Limit) -> i32;
-    fn setrlimit(of: i32, limit: *const Limit) -> i32;
-    fn getpwnam_r(name: *const c_char, it: *mut User, text: *mut c_char, size: usize, found: *mut *mut User) -> i32;
-    fn getpwuid_r(user: u32, it: *mut User, text: *mut c_char, size: usize, found: *mut *mut User) -> i32;
-    fn getgrnam_r(name: *const c_char, it: *mut Group, text: *mut c_char, size: usize, found: *mut *mut Group) -> i32;
-    fn statvfs(path: *const c_char, disk: *mut Disk) -> i32;
-    fn getsockopt(socket: i32, level: i32, name: i32, value: *mut c_void, length: *mut u32) -> i32;
-    fn socket(family: i32, kind: i32, protocol: i32) -> i32;
-    fn connect(socket: i32, address: *const UnixName, length: u32) -> i32;
-}
 
 /// The result of a call that answers -1 where it fails.
 fn checked(result: i32) -> io::Result<i32> {

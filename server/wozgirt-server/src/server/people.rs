@@ -1,0 +1,153 @@
+//! Who is who: what the system knows of those who come, and of those that the rules name.
+
+use super::opening::{read_file, read_rules};
+use super::Server;
+use crate::accounts::{Accounts, UserNames};
+use crate::board::Board;
+use crate::cluster::Who;
+use crate::connection::{Caller, Door};
+use crate::log::Event;
+use crate::rules::Rules;
+use crate::settings::Settings;
+use crate::shares::Guest;
+use crate::stream::Stream;
+use crate::CannotServe;
+use std::io;
+use std::net::SocketAddr;
+use std::rc::Rc;
+use std::sync::mpsc::Receiver;
+use wozgirt_system::peer_of;
+
+/// What is known of names.
+pub(super) struct People {
+    accounts: Accounts,
+    names: UserNames,
+    /// What the system will have answered about the names in the rules, which are then read again.
+    aside: Option<Receiver<Accounts>>,
+}
+
+impl People {
+    /// Nobody is known.
+    pub(super) fn start() -> io::Result<People> {
+        Ok(People { accounts: Accounts::default(), names: UserNames::start()?, aside: None })
+    }
+
+    /// Who has come in at this door, from this address if it is not a Unix socket.
+    pub(super) fn caller(&mut self, door: Door, stream: &Stream, from: Option<SocketAddr>) -> Caller {
+        if let Some(from) = from {
+            let (identity, guest) = (Who::at(from.ip()), Guest::at(from.ip()));
+            return Caller { door, peer: None, identity, guest, who: from.to_string() };
+        }
+        let Ok(peer) = peer_of(stream) else {
+            let (identity, guest) = (Who::Unknown, Guest::UNKNOWN);
+            return Caller { door, peer: None, identity, guest, who: "nobody knows who".into() };
+        };
+        let who = format!("{}, process {}", self.names.name(peer.user), peer.process);
+        let (identity, guest) = (Who::User(peer.user), Guest::User(Some(peer.user)));
+        Caller { door, peer: Some(peer), identity, guest, who }
+    }
+
+    /// Who it is on whose account a session is whose client is away.
+    pub(super) fn name(&mut self, guest: Guest) -> String {
+        match guest {
+            Guest::User(Some(user)) => self.names.name(user),
+            Guest::User(None) => "nobody knows who".into(),
+            Guest::Address(address) => address.to_string(),
+        }
+    }
+
+    /// Has the system asked anew about the names in this text of rules.
+    fn ask_again(&mut self, text: String) -> io::Result<()> {
+        self.aside = Some(Accounts::of_rules_aside(text)?);
+        Ok(())
+    }
+
+    /// Whether the system is being asked.
+    pub(super) fn is_asking(&self) -> bool {
+        self.aside.is_some()
+    }
+
+    /// Whether it has answered, once.
+    fn take_answers(&mut self) -> bool {
+        let Some(Ok(accounts)) = self.aside.as_ref().map(Receiver::try_recv) else { return false };
+        (self.accounts, self.aside) = (accounts, None);
+        true
+    }
+
+    /// The rules, for the locks of this board.
+    pub(super) fn read_rules(&mut self, settings: &Settings, board: &Board) -> Result<Rules, CannotServe> {
+        read_rules(settings, board, &mut self.accounts)
+    }
+}
+
+impl Server {
+    /// The rules are read again as soon as the system has answered about the names in them.
+    pub(super) fn read_rules_again(&mut self) {
+        self.people.names.forget();
+        let Some(path) = &self.desk.settings.rules else { return };
+        let text = read_file(path).unwrap_or_default(); // if it cannot be read, that is said then
+        if let Err(fault) = self.people.ask_again(text) {
+            self.desk.log.say(&Event::RulesBad { fault: &fault });
+        }
+        self.leases.look_at(self.desk.now);
+    }
+
+    /// Rules hold for what is asked from now on, and for who waits. If they are wrong, the old ones stay in force.
+    pub(super) fn take_rules(&mut self) {
+        if !self.people.take_answers() {
+            return;
+        }
+        match self.people.read_rules(&self.desk.settings, &self.desk.board) {
+            Ok(rules) => {
+                rules.unknown().iter().for_each(|who| self.desk.log.say(&Event::RulesUnknown { who }));
+                self.desk.rules = Rc::new(rules);
+                self.desk.log.say(&Event::RulesRead);
+                self.talks.all_mut().for_each(|connection| self.desk.withdraw(connection));
+            }
+            Err(fault) => self.desk.log.say(&Event::RulesBad { fault: &fault }),
+        }
+    }
+}
+
+#[cfg(test)]
+mod tests {
+    use super::*;
+    use std::os::unix::net::UnixStream;
+    use std::time::{Duration, Instant};
+
+    #[test]
+    fn who_comes() {
+        let mut people = People::start().unwrap();
+        let (one, _other) = UnixStream::pair().unwrap();
+        let stream = Stream::unix(one).unwrap();
+        let here = people.caller(Door::Operators, &stream, None);
+        let peer = here.peer.clone().unwrap();
+        assert_eq!((here.identity, here.guest), (Who::User(peer.user), Guest::User(Some(peer.user))));
+        assert!(here.who.ends_with(&format!(", process {}", std::process::id())) && here.is_operator());
+        let far = people.caller(Door::Network, &stream, Some("127.0.0.9:70".parse().unwrap()));
+        let address = "127.0.0.9".parse().unwrap();
+        assert_eq!((far.identity, far.guest), (Who::Address(address), Guest::at(address)));
+        assert_eq!((far.who.as_str(), far.peer.is_some(), far.is_operator()), ("127.0.0.9:70", false, false));
+    }
+
+    #[test]
+    fn who_is_away() {
+        let mut people = People::start().unwrap();
+        let names = [Guest::User(Some(4_000_000_000)), Guest::UNKNOWN, Guest::Address([10, 0, 0, 1].into())];
+        assert_eq!(names.map(|guest| people.name(guest)), ["4000000000", "nobody knows who", "10.0.0.1"]);
+    }
+
+    #[test]
+    fn the_system_answers_once() {
+        let mut people = People::start().unwrap();
+        assert!(!people.is_asking() && !people.take_answers());
+        people.ask_again("lock a: root".into()).unwrap();
+        let until = Instant::now() + Duration::from_secs(60);
+        while !people.take_answers() {
+            assert!(people.is_asking() && Instant::now() < until);
+            std::thread::yield_now();
+        }
+        assert!(!people.is_asking() && !people.take_answers());
+        assert_eq!(people.accounts.user("root"), Some(0));
+    }
+}
