@@ -2,209 +2,21 @@
 //! how many clients may wait.
 
 mod any;
+mod sight;
 #[cfg(test)]
 mod tests;
+mod waits;
 
 pub use any::Any;
+pub use sight::{Fault, Holder, Party, Sight, Waiter};
+pub use waits::{Waits, WAITS};
 
 use crate::log::Utc;
 use crate::names::{ByName, Names};
 use crate::shares::{Guest, Share};
-use std::collections::{HashMap, VecDeque};
-use std::time::{Duration, Instant};
+use std::collections::HashMap;
+use std::time::Instant;
 use wozgirt_engine::{Client, Input, Label, Lock, Stats, Token, NOBODY};
-
-/// A client, and on whose account what it has is.
-#[derive(Debug, Clone, Copy, PartialEq, Eq)]
-pub struct Party {
-    /// The client.
-    pub client: Client,
-    /// On whose account.
-    pub guest: Guest,
-}
-
-impl From<Client> for Party {
-    fn from(client: Client) -> Party {
-        Party { client, guest: Guest::UNKNOWN }
-    }
-}
-
-impl From<(Client, Guest)> for Party {
-    fn from((client, guest): (Client, Guest)) -> Party {
-        Party { client, guest }
-    }
-}
-
-/// The holder of a lock.
-#[derive(Debug, Clone, Copy, PartialEq, Eq)]
-pub struct Holder {
-    /// The client; [`NOBODY`] for a hold from before the engine's start.
-    pub client: Client,
-    /// The token.
-    pub token: Token,
-    /// The label, if it is known here.
-    pub label: Option<Label>,
-    /// Since when, as this server knows.
-    pub since: Instant,
-}
-
-/// A client that waits for a lock.
-#[derive(Debug, Clone, Copy, PartialEq, Eq)]
-pub struct Waiter {
-    /// The client.
-    pub client: Client,
-    /// The label for its hold.
-    pub label: Label,
-    /// Since when.
-    pub since: Instant,
-    /// On whose account it waits.
-    pub guest: Guest,
-}
-
-/// A fault that an operator wrote. The engine repairs it before it answers.
-#[derive(Debug, Clone, Copy, PartialEq, Eq)]
-pub struct Fault {
-    /// When it was answered.
-    pub at: Utc,
-    /// The machine.
-    pub machine: u64,
-    /// The value that was written, and the one before.
-    pub value: u64,
-    /// The value that was there.
-    pub old: u64,
-}
-
-/// One lock, as far as it is known here.
-#[derive(Debug)]
-pub struct Sight {
-    /// Its name.
-    pub lock: Lock,
-    /// How many machines its ring has, or 0 as long as the engine did not say.
-    pub machines: u64,
-    /// How many passes were granted, as far as the engine said.
-    pub passes: u64,
-    /// Its holder.
-    pub holder: Option<Holder>,
-    /// The clients that wait, in the order of the queue.
-    pub line: VecDeque<Waiter>,
-    /// How often it was granted since the server started.
-    pub grants: u64,
-    /// How long those who were granted it had waited, together and at most.
-    pub waited: Duration,
-    /// The longest of these waits.
-    pub longest_wait: Duration,
-    /// How many faults were written since the server started.
-    pub faults: u64,
-    /// The last of them.
-    pub last_fault: Option<Fault>,
-    /// How many acquires the engine has not answered yet; and, of a name that is not in the list, tries.
-    asked: usize,
-    tried: usize,
-    /// On whose account the name is: the holder's, or that of the client that asked for it first.
-    payer: Guest,
-    /// Whether it is of the list; the number of one of another name.
-    is_listed: bool,
-    number: u64,
-}
-
-impl Sight {
-    fn new(lock: Lock) -> Sight {
-        Sight {
-            lock,
-            machines: 0,
-            passes: 0,
-            holder: None,
-            line: VecDeque::new(),
-            grants: 0,
-            waited: Duration::ZERO,
-            longest_wait: Duration::ZERO,
-            faults: 0,
-            last_fault: None,
-            asked: 0,
-            tried: 0,
-            payer: Guest::UNKNOWN,
-            is_listed: true,
-            number: 0,
-        }
-    }
-
-    /// Of a name that is not in the list, with this many machines.
-    fn of_other(lock: Lock, machines: u64) -> Sight {
-        Sight { machines, is_listed: false, ..Sight::new(lock) }
-    }
-
-    /// Whether a client has something of it, or asks for it.
-    pub fn is_used(&self) -> bool {
-        self.holder.is_some() || !self.line.is_empty() || self.asked + self.tried > 0
-    }
-
-    /// Whether one more client might be too many in the queue. The first that asks for a free lock does not wait.
-    pub fn is_full(&self, most: usize) -> bool {
-        let waiting = self.line.len() + self.asked;
-        waiting >= most.saturating_add(usize::from(self.holder.is_none()))
-    }
-
-    /// No client has anything of it.
-    fn forget(&mut self) {
-        self.holder = None;
-        self.line.clear();
-        (self.asked, self.tried) = (0, 0);
-    }
-
-    /// The client holds it: how long that had waited.
-    fn grant(&mut self, party: Party, token: Token, label: Option<Label>, now: Instant) -> Duration {
-        let Party { client, guest } = party;
-        let waiter = self.take_waiter(client);
-        self.payer = waiter.map_or(guest, |waiter| waiter.guest);
-        let waited = waiter.map_or(Duration::ZERO, |waiter| now.saturating_duration_since(waiter.since));
-        self.hold(Holder { client, token, label: label.or(waiter.map(|it| it.label)), since: now });
-        self.grants += 1;
-        self.waited += waited;
-        self.longest_wait = self.longest_wait.max(waited);
-        waited
-    }
-
-    /// Its ring has had a pass: a token is the number of it, or, where the name is not of the list, only rises with it.
-    fn hold(&mut self, holder: Holder) {
-        self.passes = if self.is_listed { self.passes.max(holder.token) } else { self.passes + 1 };
-        self.holder = Some(holder);
-    }
-
-    /// How many acquires, or tries, the engine has not answered.
-    fn asked_of(&mut self, is_acquire: bool) -> &mut usize {
-        if is_acquire {
-            &mut self.asked
-        } else {
-            &mut self.tried
-        }
-    }
-
-    fn take_waiter(&mut self, client: Client) -> Option<Waiter> {
-        // the one that is granted is the first
-        let place = self.line.iter().position(|waiter| waiter.client == client)?;
-        self.line.remove(place)
-    }
-}
-
-/// The upper ends of the ranges in which waits for grants are counted, in seconds; above the last there is one more.
-pub const WAITS: [f64; 12] = [0.001, 0.003, 0.01, 0.03, 0.1, 0.3, 1.0, 3.0, 10.0, 30.0, 100.0, 300.0];
-
-/// How long those who were granted a lock had waited, of all locks since the server started.
-#[derive(Debug, Default)]
-pub struct Waits {
-    /// How many in each range, and above.
-    pub counts: [u64; WAITS.len() + 1],
-    /// All of them together.
-    pub sum: Duration,
-}
-
-impl Waits {
-    fn count(&mut self, waited: Duration) {
-        let range = WAITS.iter().position(|end| waited.as_secs_f64() <= *end).unwrap_or(WAITS.len());
-        self.counts[range] += 1;
-        self.sum += waited;
-    }
-}
 
 /// Where a reader of all locks is: those of the list come first, then others that are in use, and then the last that were.
 #[derive(Debug, Clone, Copy, PartialEq, Eq)]
@@ -410,15 +222,12 @@ impl Board {
 
     /// The hold ended without a release: whether there was one.
     pub fn left(&mut self, lock: &str, client: Client) -> bool {
-        self.show(lock, false, |sight| sight.holder.take_if_held_by(client)).unwrap_or(false)
+        self.show(lock, false, |sight| sight.end_hold(client)).unwrap_or(false)
     }
 
     /// A fault was written and repaired.
     pub fn fault(&mut self, lock: &str, machine: u64, value: u64, old: u64) {
-        self.show(lock, false, |sight| {
-            sight.faults += 1;
-            sight.last_fault = Some(Fault { at: Utc::now(), machine, value, old });
-        });
+        self.show(lock, false, |sight| sight.past.note_fault(Fault { at: Utc::now(), machine, value, old }));
     }
 
     /// The engine ended: nothing is known of holds and lines.
@@ -453,22 +262,6 @@ impl Board {
         self.note_stats(stats);
         if is_held {
             self.holds(stats.lock, NOBODY, stats.token, now);
-        }
-        is_held
-    }
-}
-
-/// A holder that may be taken away.
-trait TakeIfHeldBy {
-    /// Takes it away if it is this client: whether it was.
-    fn take_if_held_by(&mut self, client: Client) -> bool;
-}
-
-impl TakeIfHeldBy for Option<Holder> {
-    fn take_if_held_by(&mut self, client: Client) -> bool {
-        let is_held = self.is_some_and(|holder| holder.client == client);
-        if is_held {
-            *self = None;
         }
         is_held
     }

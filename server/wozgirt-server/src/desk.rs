@@ -146,9 +146,9 @@ impl Desk {
     pub fn first_lease(&self, door: Door) -> Option<Duration> {
         let has_one = match door {
             Door::Network => true,
-            Door::Clients => self.settings.is_lease_for_all || self.mode.gives_leases(),
+            Door::Clients => self.settings.limits.is_lease_for_all || self.mode.gives_leases(),
             Door::Operators => false,
         };
-        has_one.then_some(self.settings.longest_lease)
+        has_one.then_some(self.settings.limits.longest_lease)
     }
 }

@@ -1,28 +1,26 @@
 //! The engine's process, or another that speaks lines: started, asked, heard, and started again when it ended.
 
+mod answers;
+mod starts;
+
+use answers::Answers;
+pub use answers::{Unheard, ROOM};
+use starts::Starts;
+
 use crate::notify;
 use crate::outbox::Outbox;
 use crate::remarks::Remarks;
 use std::fmt;
 use std::fs::File;
-use std::io::{self, ErrorKind, Read};
+use std::io;
 use std::os::unix::process::CommandExt;
 use std::process::{Child, ChildStderr, ChildStdin, ChildStdout, Command, ExitStatus, Stdio};
 use std::time::{Duration, Instant};
 use wozgirt_system::{lacks_means, never_wait, Interest, Signals};
 
-/// How much is read of its lines at once, at first. No answer of the engine is longer.
-pub const ROOM: usize = 64 << 10;
-/// An engine that ends before it is ready, this many times in a row, is not started again.
-const MOST_FAILURES: u32 = 6;
-/// How long the next start waits after one that did not last; twice as long after each other one in a row, up to 32 times.
-const FIRST_PAUSE: Duration = Duration::from_millis(50);
-const MOST_DOUBLINGS: u32 = 5;
 /// How many files are kept for a start, which needs pipes and reads the journal; and how long it waits where the system has none.
 const SPARE: usize = 12;
 const LACK_PAUSE: Duration = Duration::from_secs(1);
-/// A start that lasts this long does not count.
-const LASTING: Duration = Duration::from_secs(1);
 /// How long the engine may take to end when its input has ended, or its output.
 const LONGEST_END: Duration = Duration::from_secs(10);
 /// How often is looked whether it has ended.
@@ -34,22 +32,13 @@ pub struct Engine {
     words: Vec<String>,
     state: State,
     inputs: Outbox,
+    /// Whether it is waited for that it takes more.
+    is_awaited: bool,
+    answers: Answers,
     /// What it says to people, and the last line of that.
     remarks: Option<Remarks>,
     last_remark: Option<String>,
-    /// Room for answers, which grows up to a size, and how much of it was read.
-    answers: Vec<u8>,
-    most_room: usize,
-    have: usize,
-    /// Whether it is waited for that it takes more.
-    is_awaited: bool,
-    /// How many starts in a row ended before the engine was ready, and how many did not last.
-    failures: u32,
-    short_starts: u32,
-    is_ready: bool,
-    started: Instant,
-    /// How often it was started.
-    pub starts: u64,
+    starts: Starts,
     /// Files that are kept for the next start, and what that lacked.
     spare: Vec<File>,
     lack: Option<io::Error>,
@@ -64,15 +53,6 @@ enum State {
     Ending(Child, Instant),
     /// It is not started any more.
     Over,
-}
-
-/// Why no answers are read any more.
-#[derive(Debug)]
-pub enum Unheard {
-    /// Its output ended.
-    Ended,
-    /// It said a line without an end.
-    Endless,
 }
 
 /// What became of an engine that was to end.
@@ -113,17 +93,11 @@ impl Engine {
             words,
             state: State::Away(now),
             inputs: Outbox::default(),
+            is_awaited: false,
+            answers: Answers::new(most_room),
             remarks: None,
             last_remark: None,
-            answers: vec![0; ROOM],
-            most_room,
-            have: 0,
-            is_awaited: false,
-            failures: 0,
-            short_starts: 0,
-            is_ready: false,
-            started: now,
-            starts: 0,
+            starts: Starts::new(now),
             spare: Vec::new(),
             lack: None,
         }
@@ -195,7 +169,12 @@ impl Engine {
 
     /// It has answered how all locks are.
     pub fn note_ready(&mut self) {
-        self.is_ready = true;
+        self.starts.is_ready = true;
+    }
+
+    /// How often it was started.
+    pub fn starts(&self) -> u64 {
+        self.starts.count
     }
 
     /// When something is to be done at it without an event.
@@ -225,7 +204,7 @@ impl Engine {
         Signals::hear_all(&mut command).map_err(CannotStart::Pipes)?;
         self.lend_files();
         let mut child = match command.spawn() {
-            Err(fault) if self.starts > 0 && lacks_means(&fault) => {
+            Err(fault) if self.starts.count > 0 && lacks_means(&fault) => {
                 self.postpone(fault, now);
                 return Ok(None);
             }
@@ -239,11 +218,9 @@ impl Engine {
         (self.remarks, self.last_remark) = (remarks.map(Remarks::new), None);
         self.state = State::Running(child, input, output);
         self.inputs.clear();
-        self.have = 0;
+        self.answers.clear();
         self.is_awaited = false;
-        self.is_ready = false;
-        self.started = now;
-        self.starts += 1;
+        self.starts.begin(now);
         self.spare.extend((0..SPARE).map_while(|_| File::open("/dev/null").ok()));
         Ok(Some(process))
     }
@@ -289,32 +266,14 @@ impl Engine {
     /// Reads the whole lines that are there.
     pub fn read(&mut self) -> Result<String, Unheard> {
         let State::Running(_, _, output) = &mut self.state else { return Ok(String::new()) };
-        if self.have == self.answers.len() {
-            if self.have >= self.most_room {
-                return Err(Unheard::Endless);
-            }
-            self.answers.resize(2 * self.have, 0);
-        }
-        match output.read(&mut self.answers[self.have..]) {
-            Ok(0) => return Err(Unheard::Ended),
-            Ok(count) => self.have += count,
-            Err(fault) if matches!(fault.kind(), ErrorKind::WouldBlock | ErrorKind::Interrupted) => {
-                return Ok(String::new())
-            }
-            Err(_) => return Err(Unheard::Ended),
-        }
-        let end = self.answers[..self.have].iter().rposition(|&b| b == b'\n').map_or(0, |i| i + 1);
-        let lines = String::from_utf8_lossy(&self.answers[..end]).into_owned();
-        self.answers.copy_within(end..self.have, 0);
-        self.have -= end;
-        Ok(lines)
+        self.answers.read(output)
     }
 
     /// Starts it without a pause, if it is to be started at all: it ended because it had to.
     pub fn start_at_once(&mut self, now: Instant) {
         if let State::Away(start) = &mut self.state {
             *start = now;
-            self.short_starts = 0;
+            self.starts.shorts = 0;
         }
     }
 
@@ -351,15 +310,12 @@ impl Engine {
             }
             return Ok(Outcome::NotYet);
         };
-        self.failures = if self.is_ready { 0 } else { self.failures + 1 };
-        let is_short = !self.is_ready || now.saturating_duration_since(self.started) < LASTING;
-        self.short_starts = if is_short { self.short_starts + 1 } else { 0 };
-        if is_stopping || self.failures == MOST_FAILURES {
+        let pause = self.starts.end(now);
+        let Some(pause) = pause.filter(|_| !is_stopping) else {
             self.state = State::Over;
             return Ok(Outcome::Over(status));
-        }
-        let doublings = self.short_starts.checked_sub(1).map(|count| count.min(MOST_DOUBLINGS));
-        self.state = State::Away(now + doublings.map_or(Duration::ZERO, |doublings| FIRST_PAUSE * 2u32.pow(doublings)));
+        };
+        self.state = State::Away(now + pause);
         Ok(Outcome::Again(status))
     }
 }

@@ -1,9 +1,11 @@
 //! The log: one line on standard error for each event that an operator wants to know of.
 
+mod ends;
 mod events;
 mod shares;
 
-pub use events::{some_of, End, Event, Of};
+pub use ends::{End, Of};
+pub use events::{some_of, Event};
 
 use crate::shares::Guest;
 use shares::LogShares;

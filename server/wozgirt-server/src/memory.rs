@@ -22,7 +22,7 @@ const USUAL: usize = 128;
 pub fn most_unread(settings: &Settings) -> Result<usize, usize> {
     let places = Places::count(settings);
     let needed = FIXED.saturating_add(places.saturating_mul(PLACE + 2 * LEAST_UNREAD)).div_ceil(MIB);
-    let memory = settings.memory.unwrap_or(USUAL.max(needed));
+    let memory = settings.limits.memory.unwrap_or(USUAL.max(needed));
     if memory < needed {
         return Err(needed);
     }

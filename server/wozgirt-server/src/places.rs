@@ -27,8 +27,8 @@ impl Places {
 
     /// How many connections there may be in all.
     pub fn count(settings: &Settings) -> usize {
-        let doors = 1 + usize::from(settings.tcp.is_some());
-        OPERATORS + doors * (settings.connections + extra(settings.connections))
+        let doors = 1 + usize::from(settings.sockets.tcp.is_some());
+        OPERATORS + doors * (settings.limits.connections + extra(settings.limits.connections))
     }
 
     fn at(&mut self, door: Door) -> &mut Counts {

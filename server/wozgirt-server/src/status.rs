@@ -154,7 +154,8 @@ fn put(text: &mut Vec<u8>, sight: &Sight, now: Instant) {
         }
     };
     let oldest = sight.line.front().map_or(0, |waiter| age(waiter.since));
-    let _ = writeln!(text, " {} {oldest} {} {}", sight.line.len(), sight.grants, sight.longest_wait.as_millis());
+    let _ =
+        writeln!(text, " {} {oldest} {} {}", sight.line.len(), sight.past.grants, sight.past.longest_wait.as_millis());
 }
 
 #[cfg(test)]

@@ -27,7 +27,7 @@ impl Desk {
             connection.tell_in_order(format_args!("refused {}", BadRequest::Rest(NotALine::Syntax)));
             return Then::Wait;
         }
-        let (who, lease) = (connection.identity(), connection.lease.unwrap_or(self.settings.longest_lease));
+        let (who, lease) = (connection.identity(), connection.lease.unwrap_or(self.settings.limits.longest_lease));
         let client = connection.client;
         let come = self.alone().map_or(Err(NoSession::Full), |alone| alone.come(key, who, lease, client));
         let (session, before) = match come {
@@ -85,7 +85,7 @@ impl Desk {
     /// The session of a client that says something, and the connection where it was, if it comes from there. One that has left
     /// begins anew, or continues where another connection has begun it since.
     fn session_of(&mut self, connection: &mut Connection) -> Option<(Client, Option<Client>)> {
-        let (who, lease) = (connection.identity(), connection.lease.unwrap_or(self.settings.longest_lease));
+        let (who, lease) = (connection.identity(), connection.lease.unwrap_or(self.settings.limits.longest_lease));
         let client = connection.client;
         let seat = connection.seat.as_mut()?;
         if let Some(session) = seat.session {
@@ -176,7 +176,7 @@ impl Desk {
 
     /// The connection of a session is gone: its client may come back, unless it has ended it. Returns what it held.
     pub(crate) fn leave_session(&mut self, connection: &mut Connection, end: End) -> String {
-        let (now, longest) = (self.now, self.settings.longest_lease);
+        let (now, longest) = (self.now, self.settings.limits.longest_lease);
         let Some(seat) = connection.seat.take() else { return String::new() };
         let Some((alone, number)) = self.alone().zip(seat.session) else { return String::new() };
         let Some(session) = alone.session_mut(number).filter(|it| it.at == At::Here(connection.client)) else {

@@ -46,10 +46,10 @@ impl Glance {
             sums: Sums {
                 held: usize::from(sight.holder.is_some()),
                 waiting: sight.line.len(),
-                grants: sight.grants,
-                waited: sight.waited,
-                longest_wait: sight.longest_wait,
-                faults: sight.faults,
+                grants: sight.past.grants,
+                waited: sight.past.waited,
+                longest_wait: sight.past.longest_wait,
+                faults: sight.past.faults,
             },
         }
     }
@@ -153,7 +153,7 @@ impl Any {
             sight.number = self.last;
             if after.is_used {
                 self.used.insert(self.last, lock.clone());
-            } else if sight.grants > 0 {
+            } else if sight.past.grants > 0 {
                 sight.passes = 0; // what the engine said of them says nothing of its next use
                 self.unused.insert(self.last, lock.clone());
             } else {
@@ -197,7 +197,7 @@ impl Any {
         (self.sums.held, self.sums.waiting) = (0, 0);
         for lock in std::mem::take(&mut self.used).into_values() {
             match self.sights.get_mut(&lock) {
-                Some(sight) if sight.grants > 0 => {
+                Some(sight) if sight.past.grants > 0 => {
                     sight.forget();
                     sight.passes = 0; // what the engine said of them says nothing of its next use
                     self.last += 1;
@@ -262,7 +262,7 @@ mod tests {
         assert!(board.left("x/1", 2));
         let (any, sight) = (board.any().unwrap(), board.lock("x/1").unwrap());
         assert_eq!((any.used(), any.sums().held, any.oldest_hold(), sight.passes), (0, 0, None, 0));
-        assert_eq!((sight.grants, sight.longest_wait), (2, Duration::from_secs(3)));
+        assert_eq!((sight.past.grants, sight.past.longest_wait), (2, Duration::from_secs(3)));
     }
 
     #[test]
@@ -280,7 +280,7 @@ mod tests {
         assert_eq!((&*names[0], &*names[1], &*names[100], names.len()), ("held", "n900", "n999", 101));
         board.granted("n950", 3, 1009, None, now);
         assert_eq!(found(&board)[1], "n950");
-        assert_eq!(board.lock("n950").unwrap().grants, 2);
+        assert_eq!(board.lock("n950").unwrap().past.grants, 2);
         board.holds("before", 0, 7, now);
         board.forget();
         assert_eq!((board.any().unwrap().used(), board.any().unwrap().count(), found(&board).len()), (0, 100, 100));

@@ -1,6 +1,7 @@
 //! Tests of the board.
 
 use super::*;
+use std::time::Duration;
 
 fn board() -> Board {
     Board::new(&Names::parse("a,b").unwrap())
@@ -25,7 +26,7 @@ fn a_hand_over() {
     let sight = &board.locks()[0];
     let holder = Holder { client: 2, token: 2, label: Some(78), since: start + Duration::from_millis(5) };
     assert_eq!(sight.holder, Some(holder));
-    assert_eq!((sight.grants, sight.longest_wait, sight.line.len()), (2, Duration::from_millis(5), 1));
+    assert_eq!((sight.past.grants, sight.past.longest_wait, sight.line.len()), (2, Duration::from_millis(5), 1));
     assert!(board.left("a", 2) && !board.left("a", 2) && !board.left("c", 2));
     assert_eq!(
         (board.all_waits().counts[0], board.all_waits().counts[2], board.all_waits().sum.as_millis()),
@@ -57,6 +58,6 @@ fn another_list() {
         board.take(&Names::parse(&list.join(",")).unwrap());
         assert_eq!(board.locks().iter().map(|sight| &*sight.lock).collect::<Vec<_>>(), list);
         assert!(list.iter().all(|name| board.lock(name).unwrap().lock == *name));
-        assert_eq!((board.lock("b").unwrap().grants, board.lock("d").is_none()), (1, true));
+        assert_eq!((board.lock("b").unwrap().past.grants, board.lock("d").is_none()), (1, true));
     }
 }

@@ -205,7 +205,7 @@ impl Desk {
                 cluster.put(Line::Gone(seat.key));
             }
         } else {
-            let until = self.now + connection.lease.unwrap_or(self.settings.longest_lease);
+            let until = self.now + connection.lease.unwrap_or(self.settings.limits.longest_lease);
             let until = if is_idle { until.min(seat.is_wanted_until()) } else { until };
             cluster.owns.await_client(seat.key, connection.client, until);
         }

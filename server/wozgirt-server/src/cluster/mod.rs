@@ -92,13 +92,13 @@ impl Cluster {
     /// Nothing is read and nobody is started.
     pub fn new(settings: &Settings, names: &Names, now: Instant) -> Result<Option<Cluster>, NoFolder> {
         let Some(words) = &settings.cluster else { return Ok(None) };
-        let segment = settings.segment.map_or("-".into(), |lines| lines.to_string());
-        let faults = u8::from(settings.permits_faults);
+        let segment = settings.engine.segment.map_or("-".into(), |lines| lines.to_string());
+        let faults = u8::from(settings.engine.permits_faults);
         let list = names.list();
         if list.len() > LONGEST_LIST {
             return Err(NoFolder::Locks);
         }
-        let most = names.any().map(|_| format!(" {}", settings.most_names.unwrap_or(MOST_NAMES)));
+        let most = names.any().map(|_| format!(" {}", settings.engine.most_names.unwrap_or(MOST_NAMES)));
         let most = most.unwrap_or_default();
         Ok(Some(Cluster {
             with: format!("{VERSION} {} {segment} {faults} {list}{most}", words.checkpoint),

@@ -66,7 +66,7 @@ impl Desk {
             Ok(Request::Cluster) => self.tell_cluster(connection),
             Ok(Request::Ping) => connection.tell_in_order("pong"),
             Ok(Request::Lease(asked)) => {
-                let longest = self.settings.longest_lease;
+                let longest = self.settings.limits.longest_lease;
                 let lease = if asked.is_zero() { longest } else { asked.min(longest) };
                 connection.lease = Some(lease);
                 if let (Mode::Alone(alone), Some(seat)) = (&mut self.mode, &connection.seat) {
@@ -157,7 +157,7 @@ impl Desk {
         if is_ruled && !connection.caller.is_operator() && !self.rules.permits(name, connection.caller.peer.as_ref()) {
             return Err("permission");
         }
-        if is_for_it && self.mode.has_enough(connection, name, self.settings.most_holds) {
+        if is_for_it && self.mode.has_enough(connection, name, self.settings.limits.most_holds) {
             return Err("many");
         }
         if is_for_it && !self.has_name_for(connection, name) {
@@ -165,7 +165,7 @@ impl Desk {
         }
         let input = match verb {
             Verb::Acquire(label) => {
-                if self.board.is_full(name, self.settings.waiters) && !self.mode.has(connection, name) {
+                if self.board.is_full(name, self.settings.limits.waiters) && !self.mode.has(connection, name) {
                     return Err("waiters");
                 }
                 Input::Acquire { lock, label }
@@ -174,7 +174,7 @@ impl Desk {
             Verb::Release(token) => Input::Release { lock, token },
             Verb::Cancel => Input::Cancel { lock },
             Verb::Stats => Input::Stats { lock },
-            Verb::Corrupt { .. } if !self.settings.permits_faults => return Err("off"),
+            Verb::Corrupt { .. } if !self.settings.engine.permits_faults => return Err("off"),
             Verb::Corrupt { machine, value } => Input::Corrupt { lock, machine, value },
             Verb::End(token) => Input::Release { lock, token },
         };

@@ -29,7 +29,7 @@ pub(crate) fn settings(locks: usize) -> Settings {
 /// A desk of the locks a1, a2 and so on, whose engine is not there.
 pub(crate) fn desk(locks: usize, now: Instant) -> Desk {
     let settings = settings(locks);
-    let listed = Names::parse(settings.locks.as_deref().unwrap()).unwrap();
+    let listed = Names::parse(settings.engine.locks.as_deref().unwrap()).unwrap();
     Desk {
         rules: Default::default(),
         engine: Engine::new("none".into(), Vec::new(), ROOM, now),

@@ -114,9 +114,13 @@ pub fn row(text: &mut String, sight: &Sight, now: Instant) {
     if sight.line.len() > NAMED {
         text.push_str("<br>..");
     }
-    let _ =
-        write!(text, "</td><td class=\"n\">{}</td><td class=\"n\">{}</td><td>", sight.grants, time(sight.longest_wait));
-    if let Some(fault) = sight.last_fault {
+    let _ = write!(
+        text,
+        "</td><td class=\"n\">{}</td><td class=\"n\">{}</td><td>",
+        sight.past.grants,
+        time(sight.past.longest_wait)
+    );
+    if let Some(fault) = sight.past.last_fault {
         let _ = write!(
             text,
             "{}: machine {}, {} over {}; repaired before it was answered",

@@ -57,7 +57,8 @@ impl Server {
         let (list, most_names) = (list(settings), most_names(settings));
         let desk = &mut self.desk;
         let Some(cluster) = desk.mode.in_log_mut() else { return Ok(()) };
-        if list == cluster.list && desk.settings.locks.is_some() && desk.settings.most_names == most_names {
+        if list == cluster.list && desk.settings.engine.locks.is_some() && desk.settings.engine.most_names == most_names
+        {
             return Ok(());
         }
         let is_longer = list.len() > cluster.list.len();
@@ -72,7 +73,7 @@ impl Server {
             }
         }
         desk.rules = Rc::new(Rules::clone(&desk.rules).of(&desk.board));
-        (desk.settings.locks, desk.settings.most_names) = (Some(list.into()), most_names);
+        (desk.settings.engine.locks, desk.settings.engine.most_names) = (Some(list.into()), most_names);
         desk.engine.set_words(desk.settings.engine_words());
         if count > own {
             desk.log.say(&Event::MoreLocks { count, own, list });

@@ -75,7 +75,7 @@ impl Server {
         let Some(process) = desk.engine.start(desk.now).map_err(CannotServe::Engine)? else { return Ok(()) };
         let Some(cluster) = desk.mode.in_log_mut() else { return Ok(()) };
         if !cluster.replica.is_restored {
-            desk.log.say(&Event::EngineStarted { process, grace: desk.settings.grace });
+            desk.log.say(&Event::EngineStarted { process, grace: desk.settings.limits.grace });
         }
         poll_process(&self.poller, &desk.engine, ENGINE, ENGINE_INPUT)?;
         for sight in desk.board.locks() {
@@ -338,7 +338,7 @@ impl Server {
 
     /// The session has come here. A client may have come twice, and gets what it has where it came last.
     fn opened(&mut self, key: Key, effect: Effect<'_>) -> Result<(), CannotServe> {
-        let (now, lease) = (self.desk.now, self.desk.settings.longest_lease);
+        let (now, lease) = (self.desk.now, self.desk.settings.limits.longest_lease);
         let Some(cluster) = self.desk.mode.in_log_mut() else { return Ok(()) };
         let (Some(client), Effect::Here(_, session)) = (cluster.owns.opening.pop_front(), effect) else {
             return Ok(());

@@ -51,7 +51,7 @@ pub(super) struct EngineSide {
 impl EngineSide {
     /// Before its first start.
     pub(super) fn start(settings: &Settings, now: Instant) -> io::Result<EngineSide> {
-        let kept = settings.keep_segments;
+        let kept = settings.engine.keep_segments;
         let removals = kept.map(|kept| retention::start(settings.engine_journal(), kept)).transpose()?;
         Ok(EngineSide { removals, ..EngineSide::new(now) })
     }
@@ -208,7 +208,7 @@ impl Server {
         if self.desk.mode.in_log().is_some() || self.stopping.is_some() || !self.desk.engine.is_running() {
             return;
         }
-        let patience = self.desk.settings.engine_patience;
+        let patience = self.desk.settings.engine.patience;
         if !self.engine.is_begun {
             // it reads its journal first
             return self.end_engine_after(TIMES_AT_START * patience, self.engine.since, seen);
@@ -299,14 +299,14 @@ impl Server {
         }
         self.desk.engine.lend_files();
         match self.prepare_engine() {
-            Err(CannotServe::Sessions(fault)) if self.desk.engine.starts > 0 && lacks_means(&fault) => {
+            Err(CannotServe::Sessions(fault)) if self.desk.engine.starts() > 0 && lacks_means(&fault) => {
                 self.desk.engine.postpone(fault, now);
                 return Ok(());
             }
             other => other?,
         }
         let Some(process) = self.desk.engine.start(now).map_err(CannotServe::Engine)? else { return Ok(()) };
-        let grace = self.desk.settings.grace;
+        let grace = self.desk.settings.limits.grace;
         self.desk.log.say(&Event::EngineStarted { process, grace });
         poll_process(&self.poller, &self.desk.engine, ENGINE, ENGINE_INPUT)?;
         self.engine.begin(now, grace);

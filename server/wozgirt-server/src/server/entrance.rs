@@ -44,17 +44,18 @@ struct Doors {
 impl Doors {
     fn open(settings: &Settings, poller: &Poller, log: &mut Log) -> Result<Doors, CannotServe> {
         let mut accounts = Accounts::default();
-        let clients = UnixDoor::open(&settings.clients, &mut accounts)?;
+        let clients = UnixDoor::open(&settings.sockets.clients, &mut accounts)?;
         poller.add(&clients.listener, CLIENTS, Interest::READS)?;
-        log.say(&Event::Listening { what: "clients", place: &settings.clients.path.display() });
+        log.say(&Event::Listening { what: "clients", place: &settings.sockets.clients.path.display() });
         let mut doors = Doors { clients: Some(clients), ..Doors::default() };
-        if let Some(named) = &settings.operators {
+        if let Some(named) = &settings.sockets.operators {
             let door = UnixDoor::open(named, &mut accounts)?;
             poller.add(&door.listener, OPERATORS, Interest::READS)?;
             log.say(&Event::Listening { what: "operators", place: &named.path.display() });
             doors.operators = Some(door);
         }
-        for (what, address, key) in [("clients", settings.tcp, NETWORK), ("page", settings.page, PAGE)] {
+        for (what, address, key) in [("clients", settings.sockets.tcp, NETWORK), ("page", settings.sockets.page, PAGE)]
+        {
             let Some(address) = address else { continue };
             let listener = open_tcp(address)?;
             poller.add(&listener, key, Interest::READS)?;
@@ -113,7 +114,7 @@ impl Entrance {
         poller: &Poller,
         log: &mut Log,
     ) -> Result<Entrance, CannotServe> {
-        let (doors, places) = (Doors::open(settings, poller, log)?, Places::new(settings.connections));
+        let (doors, places) = (Doors::open(settings, poller, log)?, Places::new(settings.limits.connections));
         Ok(Entrance { doors, places, most_unread, shut_until: None, keeps_out: false })
     }
 

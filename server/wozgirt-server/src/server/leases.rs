@@ -53,9 +53,9 @@ impl Leases {
         now: Instant,
         buffer: &mut [u8; SHARE],
     ) -> Vec<(Client, End)> {
-        let deaf = settings.deaf;
+        let deaf = settings.limits.deaf;
         let host_lease = settings.cluster.as_ref().map_or(deaf, |words| words.host_lease);
-        let shortest = settings.longest_lease.min(deaf).min(host_lease);
+        let shortest = settings.limits.longest_lease.min(deaf).min(host_lease);
         self.next = now + (shortest / 20).clamp(LEAST_PAUSE, LONGEST_PAUSE);
         let mut gone = Vec::new();
         for connection in talks.all_mut() {
@@ -108,7 +108,7 @@ impl Server {
 
     /// A connection has a deadline that may be earlier than the next look at all.
     pub(super) fn note_deadline(&mut self, client: Client) {
-        let deaf = self.desk.settings.deaf;
+        let deaf = self.desk.settings.limits.deaf;
         let deadline = self.talks.get(client).and_then(|connection| connection.deadline(deaf));
         deadline.into_iter().for_each(|deadline| self.leases.note(deadline));
     }

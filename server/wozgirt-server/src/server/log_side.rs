@@ -131,7 +131,7 @@ impl Server {
 
     /// What time brings to one of several servers.
     pub(super) fn sweep_cluster(&mut self) {
-        let (now, grace) = (self.desk.now, self.desk.settings.grace);
+        let (now, grace) = (self.desk.now, self.desk.settings.limits.grace);
         self.desk.end_late_sessions();
         if let (Some(cluster), Some(words)) = (self.desk.mode.in_log_mut(), &self.desk.settings.cluster) {
             cluster.declare(grace, now);

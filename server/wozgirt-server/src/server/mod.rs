@@ -111,8 +111,8 @@ impl Server {
         let rules = Rc::new(people.read_rules(&settings, &board)?);
         check_files(&settings)?;
         let most_unread = most_unread(&settings).map_err(CannotServe::Memory)?;
-        let engine_version = EngineVersion::of(&settings.engine);
-        let (journal, socket) = (settings.journal.display(), settings.clients.path.display());
+        let engine_version = EngineVersion::of(&settings.engine.program);
+        let (journal, socket) = (settings.journal.display(), settings.sockets.clients.path.display());
         log.say(&Event::Started {
             locks: board.locks().len(),
             has_others: board.any().is_some(),
@@ -123,7 +123,7 @@ impl Server {
         let poller = Poller::new()?;
         poller.add(&signals, SIGNALS, Interest::READS)?;
         let entrance = Entrance::open(&settings, most_unread, &poller, &mut log)?;
-        let engine = Engine::new(settings.engine.clone(), settings.engine_words(), ROOM, now);
+        let engine = Engine::new(settings.engine.program.clone(), settings.engine_words(), ROOM, now);
         let cluster = Cluster::new(&settings, &names, now)
             .map_err(|fault| CannotServe::Folder(settings.journal.clone(), fault))?;
         let mode = match cluster {

@@ -224,11 +224,11 @@ impl From<CannotListen> for CannotServe {
 /// The locks that are named, or those of the journal. A new one of the user's own folder has locks of any name.
 pub(super) fn read_names(settings: &mut Settings) -> Result<Names, CannotServe> {
     let path = settings.engine_journal().join("locks");
-    let list = match (&settings.locks, fs::read_to_string(&path)) {
+    let list = match (&settings.engine.locks, fs::read_to_string(&path)) {
         (Some(list), _) => list.clone(),
         (None, Ok(list)) => list,
         (None, Err(fault)) if settings.is_own && fault.kind() == ErrorKind::NotFound => {
-            settings.locks.insert("*".into()).clone()
+            settings.engine.locks.insert("*".into()).clone()
         }
         (None, Err(fault)) => return Err(CannotServe::Locks(path, fault)),
     };

@@ -104,7 +104,7 @@ impl Server {
     fn view_of_engine(&self) -> EngineView<'_> {
         EngineView {
             version: &self.shows.engine_version,
-            starts: self.desk.engine.starts,
+            starts: self.desk.engine.starts(),
             is_ready: self.is_engine_ready(),
             silence: self.desk.engine_silence(),
             is_silent: self.is_engine_silent(),

@@ -14,11 +14,14 @@ fn read(words: &str) -> Result<Settings, BadWords> {
 fn few_words() {
     let settings = read("--journal /j").unwrap();
     assert_eq!(settings.engine_words(), ["locks", "--journal", "/j", "--sync"]);
-    assert_eq!(settings.engine, "ring_tool");
-    assert_eq!(settings.clients, Named { path: "/run/wozgirt/lock.sock".into(), mode: 0o600, group: None });
-    assert_eq!((settings.operators, settings.tcp, settings.page), (None, None, None));
-    assert_eq!((settings.longest_lease, settings.grace), (Duration::from_secs(30), Duration::from_secs(30)));
-    assert_eq!(read("--journal=/j --grace=31").unwrap().grace, Duration::from_secs(31));
+    assert_eq!(settings.engine.program, "ring_tool");
+    assert_eq!(settings.sockets.clients, Named { path: "/run/wozgirt/lock.sock".into(), mode: 0o600, group: None });
+    assert_eq!((settings.sockets.operators, settings.sockets.tcp, settings.sockets.page), (None, None, None));
+    assert_eq!(
+        (settings.limits.longest_lease, settings.limits.grace),
+        (Duration::from_secs(30), Duration::from_secs(30))
+    );
+    assert_eq!(read("--journal=/j --grace=31").unwrap().limits.grace, Duration::from_secs(31));
 }
 
 #[test]
@@ -44,22 +47,27 @@ fn all_words() {
     assert_eq!([settings.session_bytes, few.session_bytes], [5, 1 << 24]);
     let words = ["locks", "--journal", "j", "--locks", "a,b:3", "--segment", "9", "--no-sync", "--faults"];
     assert_eq!(settings.engine_words(), words);
-    assert_eq!(settings.clients, Named { path: "s".into(), mode: 0o660, group: Some("g".into()) });
-    assert_eq!(settings.operators, Some(Named { path: "o".into(), mode: 0o640, group: Some("h".into()) }));
-    assert_eq!(settings.tcp, Some("127.0.0.1:1".parse().unwrap()));
-    assert_eq!(settings.page, Some("[::1]:2".parse().unwrap()));
-    assert_eq!((settings.longest_lease, settings.grace), (Duration::from_millis(500), Duration::from_secs(2)));
-    assert_eq!((settings.connections, settings.waiters, settings.deaf.as_secs()), (7, 8, 9));
-    assert_eq!((settings.most_holds, read("--journal j").unwrap().most_holds), (6, 1024));
-    assert_eq!((settings.memory, settings.engine_patience.as_secs()), (Some(64), 3));
-    assert!(settings.is_lease_for_all && settings.logs_connections);
+    assert_eq!(settings.sockets.clients, Named { path: "s".into(), mode: 0o660, group: Some("g".into()) });
+    assert_eq!(settings.sockets.operators, Some(Named { path: "o".into(), mode: 0o640, group: Some("h".into()) }));
+    assert_eq!(settings.sockets.tcp, Some("127.0.0.1:1".parse().unwrap()));
+    assert_eq!(settings.sockets.page, Some("[::1]:2".parse().unwrap()));
+    assert_eq!(
+        (settings.limits.longest_lease, settings.limits.grace),
+        (Duration::from_millis(500), Duration::from_secs(2))
+    );
+    assert_eq!((settings.limits.connections, settings.limits.waiters, settings.limits.deaf.as_secs()), (7, 8, 9));
+    assert_eq!((settings.limits.most_holds, read("--journal j").unwrap().limits.most_holds), (6, 1024));
+    assert_eq!((settings.limits.memory, settings.engine.patience.as_secs()), (Some(64), 3));
+    assert!(settings.limits.is_lease_for_all && settings.logs_connections);
 }
 
 #[test]
 fn a_server_of_ones_own() {
     let own = OwnFolder::of(|_| Some("/state".into()));
     let read = |words: &str| match parse(words.split_whitespace(), own.clone()) {
-        Ok(Words::Run(settings)) => (settings.is_own, settings.journal, settings.clients.path, settings.operators),
+        Ok(Words::Run(settings)) => {
+            (settings.is_own, settings.journal, settings.sockets.clients.path, settings.sockets.operators)
+        }
         other => panic!("{other:?}"),
     };
     let folder = PathBuf::from("/state/wozgirt");
