@@ -17,8 +17,8 @@
  *
  * A session holds one lock at a time, and has a lease, which each call renews if a server answers. Call `wozgirt_session_check` at
  * least each eighth of it: if a server is silent, it continues with another one. A session that is not renewed is lost. A comma
- * separates servers if `tcp:`, `/` or `./` follows. Threads that share a session hold a mutex around each call. With -std=c11
- * include this header before the system's.
+ * separates servers if `tcp:`, `/` or `./` follows. For a server that speaks TLS, name the socket of wozgirt-tunnel@.service. Threads
+ * that share a session hold a mutex around each call. With -std=c11 include this header before the system's.
  *
  * Each call ends within 0.2 s of its deadline. If no server answers, a call without one ends when the lease is over, or, where the
  * session holds a lock, when half of it is. Hosts are looked up by getaddrinfo(), which takes its own time for names: give addresses

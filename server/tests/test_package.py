@@ -68,6 +68,15 @@ class Contents(unittest.TestCase):
         self.assertEqual(self.names(packages.control(True)), every)
         self.assertEqual(self.names(packages.control(False)), ["wozgirt", "wozgirt-server", "python3-wozgirt"])
 
+    def test_units_are_where_debhelper_looks_for_them(self):
+        """It writes what an upgrade does only of those in lib/systemd/system."""
+        for name, units in (("wozgirt-server", ["wozgirt-server.service", "wozgirt-tls.service"]), ("wozgirt", ["wozgirt-tunnel@.service"])):
+            with open(os.path.join(self.FOLDER, f"{name}.install"), encoding="utf-8") as file:
+                found = [line.split() for line in file if "systemd/system" in line]
+            self.assertEqual(found, [[f"usr/lib/systemd/system/{it}", "lib/systemd/system"] for it in units])
+        with open(os.path.join(self.FOLDER, "rules"), encoding="utf-8") as file:
+            self.assertIn("dh_installsystemd -pwozgirt-server --no-enable --no-start --restart-after-upgrade wozgirt-server.service\n", file.read())
+
     def test_each_file_is_in_one_package(self):
         files = collections.Counter()
         for name in self.names(packages.control(True)):

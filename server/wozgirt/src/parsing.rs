@@ -1,7 +1,7 @@
 //! The reading of the command line.
 
 use crate::options::{Name, OrderName, Verb, COMMANDS, ORDERS};
-use crate::places::{places, Place};
+use crate::places::{places, NoPlace, Place};
 use crate::words::{BadWords, Hold, Load, Look, Order, Patience, Words};
 use std::ffi::{OsStr, OsString};
 use std::os::unix::ffi::OsStrExt;
@@ -131,7 +131,10 @@ impl Reading {
     }
 
     fn places(&self) -> Result<Vec<Place>, BadWords> {
-        places(&self.socket).ok_or_else(|| BadWords::Value("--socket".into(), text(self.socket.clone())))
+        places(&self.socket).map_err(|why| match why {
+            NoPlace::NoText => BadWords::Value("--socket".into(), text(self.socket.clone())),
+            NoPlace::Tls(place) => BadWords::Tls(place),
+        })
     }
 
     fn look(&self, every: Option<Duration>, prefix: Option<OsString>) -> Result<Look, BadWords> {
@@ -303,6 +306,9 @@ mod tests {
         }
         assert!(matches!(words(&[b"lock", b"--wait=\xff", b"a", b"--", b"true"]), Err(BadWords::Value(..))));
         assert!(matches!(words(&[b"status", b"--socket", b"tcp:\xff:1"]), Err(BadWords::Value(..))));
+        assert!(
+            matches!(words(&[b"status", b"--socket", b"/a,tls:h:1"]), Err(BadWords::Tls(place)) if place == "tls:h:1")
+        );
         assert!(matches!(words(&[b"\xff"]), Err(BadWords::Command(_))));
     }
 

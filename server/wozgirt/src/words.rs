@@ -126,6 +126,8 @@ pub enum BadWords {
     NoValue(String),
     /// This is not a value of it.
     Value(String, String),
+    /// This server speaks TLS.
+    Tls(String),
     /// No lock is named.
     NoName,
     /// No lock can have this name.
@@ -148,6 +150,9 @@ impl fmt::Display for BadWords {
             BadWords::Unknown(word) => write!(f, "`{word}` has no place here"),
             BadWords::NoValue(word) => write!(f, "{word} needs a value"),
             BadWords::Value(word, value) => write!(f, "{word}: bad value `{value}`"),
+            BadWords::Tls(place) => {
+                write!(f, "{place}: wozgirt speaks no TLS: name the socket of wozgirt-tunnel@.service, which does")
+            }
             BadWords::NoName => f.write_str("NAME is missing"),
             BadWords::NoCommand => f.write_str("COMMAND is missing"),
             BadWords::Name(name) => {

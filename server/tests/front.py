@@ -1,0 +1,110 @@
+"""HAProxy as the units of release/tls start it, with another place for each of its files: before a server, and as a tunnel to it."""
+
+import contextlib
+import os
+import re
+import shutil
+import signal
+import socket
+import subprocess
+import unittest
+
+from harness import PATIENCE, TOP, wait_until
+
+PARTS = os.path.join(TOP, "release", "tls")
+needs_haproxy = unittest.skipUnless(shutil.which("haproxy"), "haproxy is not installed")
+
+
+def text_of(name):
+    with open(os.path.join(PARTS, name), encoding="utf-8") as file:
+        return file.read()
+
+
+def words_of(unit, order="ExecStart"):
+    """The commands that the unit has for this, each in words."""
+    return [line.split() for line in re.findall(f"^{order}=(.*)$", text_of(unit), re.MULTILINE)]
+
+
+class Proxy:
+    """HAProxy with a configuration of release/tls, or a text that was made of it; a context manager that ends it."""
+
+    def __init__(self, folder, unit, text=None, before=(), **variables):
+        self.unit, self.log = unit, os.path.join(folder, f"{unit}.log")
+        (start,) = words_of(unit)
+        self.path = os.path.join(PARTS, os.path.basename(start[-1]))
+        if text is not None:
+            self.path = os.path.join(folder, os.path.basename(start[-1]))
+            with open(self.path, "w", encoding="utf-8") as file:
+                file.write(text)
+        self.variables = dict(os.environ, **variables)
+        with open(self.log, "wb") as log:
+            self.process = subprocess.Popen([*before, *self.words(start)], env=self.variables, stdout=log, stderr=log, start_new_session=True)
+
+    def words(self, words):
+        """The unit's words, here."""
+        return [shutil.which("haproxy") if it.endswith("/haproxy") else self.path if it.endswith(".cfg") else it for it in words]
+
+    def wait_for(self, condition):
+        """RuntimeError if it ends before that."""
+        try:
+            wait_until(lambda: condition() or self.process.poll() is not None)
+            if self.process.poll() is not None:
+                raise RuntimeError(self.text_of_log())
+        except BaseException:
+            self.stop()
+            raise
+
+    def reload(self):
+        """As the unit does it."""
+        check, send = words_of(self.unit, "ExecReload")
+        subprocess.run(self.words(check), env=self.variables, check=True, capture_output=True)
+        assert send == ["/bin/kill", "-USR2", "$MAINPID"], send
+        self.process.send_signal(signal.SIGUSR2)
+
+    def text_of_log(self):
+        with open(self.log, encoding="utf-8", errors="replace") as file:
+            return file.read()
+
+    def wait_for_log(self, text):
+        wait_until(lambda: text in self.text_of_log())
+
+    def stop(self):
+        with contextlib.suppress(ProcessLookupError):
+            os.killpg(self.process.pid, signal.SIGTERM)
+        try:
+            self.process.wait(PATIENCE)
+        finally:
+            with contextlib.suppress(ProcessLookupError):
+                os.killpg(self.process.pid, signal.SIGKILL)
+
+    def __enter__(self):
+        return self
+
+    def __exit__(self, *_):
+        self.stop()
+
+
+class Front(Proxy):
+    """Clients reach it by `place`."""
+
+    def __init__(self, folder, server, certificate, authority, port, text=None):
+        super().__init__(folder, "wozgirt-tls.service", text, WOZGIRT_TLS_LISTEN=f"127.0.0.1:{port}", WOZGIRT_TLS_CERT=certificate,
+                         WOZGIRT_TLS_CA=authority, WOZGIRT_TLS_SERVER=server)
+        self.port, self.place = port, f"tls:127.0.0.1:{port}"
+        self.wait_for(self._listens)
+
+    def _listens(self):
+        with contextlib.suppress(OSError):
+            socket.create_connection(("127.0.0.1", self.port), 5).close()
+            return True
+        return False
+
+
+class Tunnel(Proxy):
+    """Clients reach it by its `socket`."""
+
+    def __init__(self, folder, host, port, certificate, authority):
+        self.socket = os.path.join(folder, "tunnel.sock")
+        super().__init__(folder, "wozgirt-tunnel@.service", WOZGIRT_TUNNEL_HOST=host, WOZGIRT_TUNNEL_PORT=str(port),
+                         WOZGIRT_TUNNEL_SOCKET=self.socket, WOZGIRT_TUNNEL_CERT=certificate, WOZGIRT_TUNNEL_CA=authority)
+        self.wait_for(lambda: os.path.exists(self.socket))
