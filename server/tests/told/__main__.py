@@ -1,6 +1,8 @@
 #!/usr/bin/env python3
-"""told [SECONDS [SEED]] [--restarts COUNT] [--any-name] [--engine PROGRAM] [--server PROGRAM]: clients with sessions and without take and release locks
-while the engine and the server are ended and started, and a model of who was told what says whether they were told anything wrong.
+"""told [SECONDS [SEED]] [--restarts COUNT] [--between PART] [--any-name] [--engine PROGRAM] [--server PROGRAM]: clients with sessions and
+without take and release locks while the engine and the server are ended and started, and a model of who was told what says whether they
+were told anything wrong. With --between 0.2 they are ended sooner, after a fifth of the time, so that more restarts are made. SIGINT to
+this process ends it early, and all is judged.
 
 What happens is drawn by a seed: kills and ends in good order of the engine, of the server, of both; an engine that cannot start; a disk
 that is full; clients that never come back; a file of sessions that is written anew after each few lines, or never. Answers may be on their
@@ -161,7 +163,7 @@ class Scene:
 
     def end_engine(self, name):
         self.kill(self.server.engine_number(), name)
-        self.pump(self.draw.uniform(0, 0.1))
+        self.pump(self.words.between * self.draw.uniform(0, 0.1))
 
     def end_both(self, name):
         """The server, and an engine that has not ended by itself."""
@@ -201,14 +203,16 @@ class Scene:
                 client.vanish()
         self.start()
 
-    def run(self, count, end):
-        """So many restarts, or until then; what was done, and what is wrong."""
+    def run(self, count):
+        """So many restarts, or until the end; what was done, and what is wrong."""
         done = {}
         self.ended = time.monotonic()
         self.start()
         try:
-            while self.model.counts["restarts"] < count and time.monotonic() < end:
-                self.pump(self.draw.choice((0.01, 0.03, 0.05, 0.1, 1.5 * LEASE if self.draw.random() < 0.2 else 0.02)))
+            while self.model.counts["restarts"] < count and time.monotonic() < self.words.end:
+                self.pump(self.words.between * self.draw.choice((0.01, 0.03, 0.05, 0.1, 0.02)))
+                if self.draw.random() < 0.04 * self.words.between:
+                    self.pump(1.5 * LEASE)
                 self.forget_some()
                 what = self.disturb()
                 done[what] = done.get(what, 0) + 1
@@ -251,6 +255,7 @@ def parsed():
     parser.add_argument("seconds", nargs="?", type=float, default=30)
     parser.add_argument("seed", nargs="?", type=int, default=random.randrange(1 << 32))
     parser.add_argument("--restarts", type=int, default=1 << 30)
+    parser.add_argument("--between", type=float, default=1.0)
     parser.add_argument("--any-name", action="store_true")
     parser.add_argument("--engine", default=ENGINE)
     parser.add_argument("--server", default=SERVER)
@@ -259,15 +264,17 @@ def parsed():
 
 def main():
     words, begun = parsed(), time.monotonic()
+    words.end = begun + words.seconds
+    signal.signal(signal.SIGINT, lambda *_: setattr(words, "end", 0))
     harness.SERVER = words.server
     sums, done, wrong, folders = Counter(), Counter(), [], 0
     with room("told") as top:
         full = made_full(top)
-        while not wrong and time.monotonic() < begun + words.seconds and sums["restarts"] < words.restarts:
+        while not wrong and time.monotonic() < words.end and sums["restarts"] < words.restarts:
             folder = os.path.join(top, str(folders))
             os.mkdir(folder)
             scene = Scene(folder, f"{words.seed} {folders}", words, full)
-            was_done, wrong = scene.run(min(EACH, words.restarts - sums["restarts"]), begun + words.seconds)
+            was_done, wrong = scene.run(min(EACH, words.restarts - sums["restarts"]))
             done.update(was_done)
             sums.update(scene.model.counts)
             folders += 1
