@@ -92,12 +92,12 @@ impl Talks {
         !self.backlog.is_empty()
     }
 
-    /// It is told when the locks change.
+    /// It gets a line when the locks change.
     fn watch(&mut self, client: Client) {
         self.watchers.push(client);
     }
 
-    /// Tells each who waits for that, once, that the locks have changed.
+    /// Reports to each who waits for that, once, that the locks have changed.
     fn tell_changes(&mut self, changes: u64) {
         for client in mem::take(&mut self.watchers) {
             let Some(connection) = self.connections.get_mut(&client) else { continue };
