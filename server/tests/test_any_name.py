@@ -395,7 +395,7 @@ class OfSeveral(OfCluster):
         # (a server knows a list of the log as soon as it has read it)
         wait_until(lambda: say(self.raw(b), "try x 1\n") == ["busy x"])
         self.assertEqual(say(self.raw(b), "try x 1\ntry a 1\n", 2), ["busy x", "busy a"])
-        self.assertIn("\twith 2 60 - 1 a:8:8,b:8:8,*:2:2 1000", "\n".join(self.log.texts()))
+        self.assertIn("\twith 3 60 - 1 a:8:8,b:8:8,*:2:2 1000", "\n".join(self.log.texts()))
         for words in (("--locks", "a,b,*"), ("--locks", "a,b,c,*", "--most-names", "1000"), ("--locks", "a,b,*", "--most-names", "999")):
             it = subprocess.run([*self.words_of("c"), *words], capture_output=True, text=True, timeout=PATIENCE, check=False)
             self.assertEqual(it.returncode, 78, it.stderr)

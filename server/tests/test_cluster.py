@@ -305,12 +305,12 @@ class Ends(Trial):
         RUNNING.remove(b)
         before = self.files(b.journal)
         self.assertIn(os.path.join(b.journal, "journal", "locks"), before)
-        for more, here in ((["--checkpoint", "7"], "`2 7 - 1 a:8:8,b:8:8,c:8:8`"), (["--segment", "9"], "`2 100000 9 1 a:8:8,b:8:8,c:8:8`"),
-                           (["--locks", "a,c,b"], "`2 100000 - 1 a:8:8,c:8:8,b:8:8`"), (["--locks", "a,b:9,c,d"], "`2 100000 - 1 a:8:8,b:9:9,c:8:8,d:8:8`")):
+        for more, here in ((["--checkpoint", "7"], "`3 7 - 1 a:8:8,b:8:8,c:8:8`"), (["--segment", "9"], "`3 100000 9 1 a:8:8,b:8:8,c:8:8`"),
+                           (["--locks", "a,c,b"], "`3 100000 - 1 a:8:8,c:8:8,b:8:8`"), (["--locks", "a,b:9,c,d"], "`3 100000 - 1 a:8:8,b:9:9,c:8:8,d:8:8`")):
             with self.subTest(more):
                 it = subprocess.run(self.words("b", "--journal", b.journal, *more), capture_output=True, text=True, timeout=PATIENCE)
                 self.assertEqual(it.returncode, 78)
-                self.assertIn(f"are the same for all servers; in the log they are `2 100000 - 1 a:8:8,b:8:8,c:8:8`, here {here}", it.stderr)
+                self.assertIn(f"are the same for all servers; in the log they are `3 100000 - 1 a:8:8,b:8:8,c:8:8`, here {here}", it.stderr)
                 self.assertEqual(self.files(b.journal), before)
         self.hand_over(self.server("b"))
 
@@ -320,7 +320,7 @@ class Ends(Trial):
         it = subprocess.run(self.words("b"), capture_output=True, text=True, timeout=PATIENCE)
         self.assertEqual(it.returncode, 78)
         self.assertIn("the version of entries, --checkpoint, --segment, --faults and --locks are the same for all servers; "
-                      "in the log they are `100000 - 1 a:8:8,b:8:8,c:8:8`, here `2 100000 - 1 a:8:8,b:8:8,c:8:8`", it.stderr)
+                      "in the log they are `100000 - 1 a:8:8,b:8:8,c:8:8`, here `3 100000 - 1 a:8:8,b:8:8,c:8:8`", it.stderr)
         with open(os.path.join(self.folder, "b", "CHECKPOINT"), "w", encoding="ascii") as file:
             file.write("wozgirt checkpoint 2\n")
         it = subprocess.run(self.words("b"), capture_output=True, text=True, timeout=PATIENCE)

@@ -71,7 +71,7 @@ def zsh(program, *words):
     lines = offered(["zsh", "-f", "-c", script, "zsh", program, *words])
     found = set()
     for line in lines:
-        found |= set(re.findall(r"^(?:\([^)]*\))?(--?[A-Za-z][\w-]*)(?=\[)", line)) | set(re.findall(r"^(\w+)[\[:]", line))
+        found |= set(re.findall(r"^(?:\([^)]*\)|\*)?(--?[A-Za-z][\w-]*)(?=\[)", line)) | set(re.findall(r"^(\w+)[\[:]", line))
     return found
 
 
@@ -86,7 +86,7 @@ def takes_value(shell, program, *words):
         return bool(re.search(rf"^complete .*{name} .*-(x|rF) ", read(COMPLETIONS, "fish", f"{program}.fish"), re.MULTILINE))
     script = f'_arguments() {{ print -rl -- $@ }}; _values() {{ }}; words=("$@"); CURRENT=$#; source {COMPLETIONS}/zsh/_{program}'
     it = subprocess.run(["zsh", "-f", "-c", script, "zsh", program, *words, "-"], capture_output=True, text=True, timeout=60, check=True)
-    return bool(re.search(rf"^(?:\([^)]*\))?{option}=?-?\+?\[[^]]*\]:", it.stdout, re.MULTILINE))
+    return bool(re.search(rf"^(?:\([^)]*\)|\*)?{option}=?-?\+?\[[^]]*\]:", it.stdout, re.MULTILINE))
 
 
 def offered(words):

@@ -149,7 +149,7 @@ impl Board {
     }
 
     /// An input goes to the engine.
-    pub fn asked(&mut self, input: &Input, guest: Guest) {
+    pub fn asked(&mut self, input: &Input, guest: &Guest) {
         let (lock, is_acquire) = match input {
             Input::Acquire { lock, .. } => (lock, true),
             Input::Try { lock, .. } if !self.is_listed(lock) => (lock, false),
@@ -157,7 +157,7 @@ impl Board {
         };
         self.change(lock, true, |sight| {
             if !sight.is_used() {
-                sight.payer = guest;
+                sight.payer = guest.clone();
             }
             *sight.asked_of(is_acquire) += 1;
         });
@@ -178,7 +178,7 @@ impl Board {
 
     /// Whether this guest may have something of the lock: it is in the list, or in use, or of the names that may be in use there is one
     /// left for this guest.
-    pub fn has_name_for(&self, lock: &str, guest: Guest, share: Share) -> bool {
+    pub fn has_name_for(&self, lock: &str, guest: &Guest, share: Share) -> bool {
         let Some(any) = self.any.as_ref().filter(|_| !self.is_listed(lock)) else { return true };
         any.lock(lock).is_some_and(Sight::is_used) || share.permits(any.payers(), guest)
     }
@@ -188,7 +188,7 @@ impl Board {
         let Party { client, guest } = party.into();
         self.show(lock, true, |sight| {
             if !sight.is_used() {
-                sight.payer = guest;
+                sight.payer = guest.clone();
             }
             sight.line.push_back(Waiter { client, label, since: now, guest });
         });

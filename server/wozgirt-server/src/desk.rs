@@ -123,10 +123,10 @@ impl Desk {
 
     /// Sends more of the list of all locks, until this time.
     pub fn tell_listing(&mut self, connection: &mut Connection, until: Instant) {
-        let peer = connection.caller.peer.take();
-        let view = Locks { board: &self.board, peer: peer.as_ref(), now: self.now };
+        let known = std::mem::take(&mut connection.caller.known);
+        let view = Locks { board: &self.board, known: &known, now: self.now };
         connection.tell_listing(|listing, text, most| listing.go_on(text, &view, most, until));
-        connection.caller.peer = peer;
+        connection.caller.known = known;
     }
 
     pub(crate) fn note_asked(&mut self, connection: &mut Connection, pending: Pending) {
@@ -145,7 +145,7 @@ impl Desk {
     /// The lease of a new connection.
     pub fn first_lease(&self, door: Door) -> Option<Duration> {
         let has_one = match door {
-            Door::Network => true,
+            Door::Network | Door::Proxied => true,
             Door::Clients => self.settings.limits.is_lease_for_all || self.mode.gives_leases(),
             Door::Operators => false,
         };

@@ -61,7 +61,7 @@ impl Log {
     }
 
     /// Logs an event about a client, unless its user or address has had its part of the log: then it is counted.
-    pub fn say_of(&mut self, guest: Guest, now: Instant, event: &Event<'_>) {
+    pub fn say_of(&mut self, guest: &Guest, now: Instant, event: &Event<'_>) {
         match self.shares.take(guest, now) {
             None => {}
             Some(0) => self.say(event),

@@ -68,7 +68,7 @@ impl Mode {
                     left: it.left(now),
                     holds: it.held(),
                     waits: it.waits.as_ref().map(|place| place.lock.clone()),
-                    guest: it.guest,
+                    guest: it.guest.clone(),
                 });
                 away.collect()
             }

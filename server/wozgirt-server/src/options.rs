@@ -22,6 +22,9 @@ pub enum Name {
     Operators,
     OperatorsMode,
     OperatorsGroup,
+    Proxied,
+    ProxiedMode,
+    ProxiedGroup,
     Tcp,
     Page,
     ListenAnywhere,
@@ -34,6 +37,7 @@ pub enum Name {
     Waiters,
     MostHolds,
     Deaf,
+    WatchCertificate,
     LogConnections,
     /// One of a server that is one of several.
     OverEtcd(EtcdName),
@@ -125,6 +129,14 @@ pub static SECTIONS: [Section; 5] = [
             valued(Name::Operators, "--operators", "PATH", "for operators; without it there is none"),
             valued(Name::OperatorsMode, "--operators-mode", "OCTAL", "its mode [600]"),
             valued(Name::OperatorsGroup, "--operators-group", "NAME", "its group"),
+            valued(
+                Name::Proxied,
+                "--proxied",
+                "PATH",
+                "for a proxy that ends TLS, and says who its clients are by the PROXY protocol, version 2",
+            ),
+            valued(Name::ProxiedMode, "--proxied-mode", "OCTAL", "its mode [600]"),
+            valued(Name::ProxiedGroup, "--proxied-group", "NAME", "its group"),
             valued(Name::Tcp, "--tcp", "ADDRESS:PORT", "for clients; not authenticated"),
             valued(Name::Page, "--page", "ADDRESS:PORT", "`GET /` is a page, `GET /metrics` is for Prometheus"),
             flag(
@@ -186,7 +198,7 @@ pub static SECTIONS: [Section; 5] = [
                 Name::Connections,
                 "--connections",
                 "COUNT",
-                "how many clients at once on the Unix socket, and as many over TCP [1000]",
+                "how many clients at once on the Unix socket, as many over TCP, and as many of a proxy [1000]",
             ),
             valued(
                 Name::Memory,
@@ -206,11 +218,15 @@ pub static SECTIONS: [Section; 5] = [
     },
     Section {
         title: "Other:",
-        options: &[flag(
-            Name::LogConnections,
-            "--log-connections",
-            "a line in the log for each client that comes and goes",
-        )],
+        options: &[
+            valued(
+                Name::WatchCertificate,
+                "--watch-certificate",
+                "FILE",
+                "certificates in PEM: one that ends within a week is in the log, and its end in the metrics; may be repeated",
+            ),
+            flag(Name::LogConnections, "--log-connections", "a line in the log for each client that comes and goes"),
+        ],
     },
 ];
 

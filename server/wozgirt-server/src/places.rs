@@ -1,4 +1,4 @@
-//! The places: each door has places of its own, and the last of them are for users, or addresses, that have few.
+//! The places: each door has places of its own, and the last of them are for users, addresses or certificates that have few.
 
 use crate::connection::Door;
 use crate::settings::Settings;
@@ -16,18 +16,20 @@ pub struct Places {
     most: usize,
     clients: Counts,
     network: Counts,
+    proxied: Counts,
     operators: Counts,
 }
 
 impl Places {
     /// This many for clients at each door, all of them free.
     pub fn new(most: usize) -> Places {
-        Places { most, clients: Counts::default(), network: Counts::default(), operators: Counts::default() }
+        let [clients, network, proxied, operators] = [(); 4].map(|()| Counts::default());
+        Places { most, clients, network, proxied, operators }
     }
 
     /// How many connections there may be in all.
     pub fn count(settings: &Settings) -> usize {
-        let doors = 1 + usize::from(settings.sockets.tcp.is_some());
+        let doors = 1 + usize::from(settings.sockets.tcp.is_some()) + usize::from(settings.sockets.proxied.is_some());
         OPERATORS + doors * (settings.limits.connections + extra(settings.limits.connections))
     }
 
@@ -35,28 +37,29 @@ impl Places {
         match door {
             Door::Clients => &mut self.clients,
             Door::Network => &mut self.network,
+            Door::Proxied => &mut self.proxied,
             Door::Operators => &mut self.operators,
         }
     }
 
     /// Takes a place, if there is one for this guest.
-    pub fn take(&mut self, door: Door, guest: Guest) -> bool {
+    pub fn take(&mut self, door: Door, guest: &Guest) -> bool {
         let share = match door {
             Door::Operators => Share::new(OPERATORS, 0, 0),
-            Door::Clients | Door::Network => {
+            Door::Clients | Door::Network | Door::Proxied => {
                 Share::new(self.most, extra(self.most), (self.most / 8).clamp(1, MOST_FEW))
             }
         };
         let at = self.at(door);
         let is_let_in = share.permits(at, guest);
         if is_let_in {
-            at.add(guest);
+            at.add(guest.clone());
         }
         is_let_in
     }
 
     /// Gives back a place that was taken.
-    pub fn give_back(&mut self, door: Door, guest: Guest) {
+    pub fn give_back(&mut self, door: Door, guest: &Guest) {
         self.at(door).remove(guest);
     }
 }
@@ -75,7 +78,7 @@ mod tests {
 
     /// How many of this many tries succeed.
     fn taken(places: &mut Places, door: Door, guest: Guest, tries: usize) -> usize {
-        (0..tries).filter(|_| places.take(door, guest)).count()
+        (0..tries).filter(|_| places.take(door, &guest)).count()
     }
 
     #[test]
@@ -89,9 +92,9 @@ mod tests {
         for other in 100..200 {
             taken(&mut places, Door::Clients, user(other), 5000);
         }
-        assert!(!places.take(Door::Clients, user(300)));
-        (0..MOST_EXTRA).for_each(|_| places.give_back(Door::Clients, user(7)));
-        assert!(places.take(Door::Clients, user(300)));
+        assert!(!places.take(Door::Clients, &user(300)));
+        (0..MOST_EXTRA).for_each(|_| places.give_back(Door::Clients, &user(7)));
+        assert!(places.take(Door::Clients, &user(300)));
     }
 
     #[test]
@@ -99,7 +102,7 @@ mod tests {
         let mut places = Places::new(3);
         for _ in 0..10 {
             assert_eq!(taken(&mut places, Door::Clients, user(7), 9), 3);
-            (0..3).for_each(|_| places.give_back(Door::Clients, user(7)));
+            (0..3).for_each(|_| places.give_back(Door::Clients, &user(7)));
         }
         assert_eq!(places.clients.all(), 0);
     }

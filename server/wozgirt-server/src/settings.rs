@@ -54,6 +54,8 @@ pub struct Sockets {
     pub clients: Named,
     /// The socket of operators.
     pub operators: Option<Named>,
+    /// The socket of a proxy.
+    pub proxied: Option<Named>,
     /// The address of clients over TCP.
     pub tcp: Option<SocketAddr>,
     /// The address of the page.
@@ -100,6 +102,8 @@ pub struct Settings {
     pub rules: Option<PathBuf>,
     /// The limits.
     pub limits: Limits,
+    /// Files with certificates whose ends are watched.
+    pub certificates: Vec<PathBuf>,
     /// Whether connections are logged.
     pub logs_connections: bool,
     /// The log that this server has with others.

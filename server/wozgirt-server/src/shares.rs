@@ -1,5 +1,6 @@
-//! The part of each user, and of each address over TCP, of what is bounded: the last of it is for those that have little.
+//! The part of each user, of each address over TCP, and of each certificate, of what is bounded: the last of it is for those that have little.
 
+use crate::certificate_name::CertificateName;
 use crate::cluster::Who;
 use std::collections::HashMap;
 use std::net::{IpAddr, Ipv4Addr, Ipv6Addr};
@@ -8,12 +9,14 @@ use std::net::{IpAddr, Ipv4Addr, Ipv6Addr};
 const MOST_FEW: usize = 64;
 
 /// On whose account something is.
-#[derive(Debug, Clone, Copy, PartialEq, Eq, Hash)]
+#[derive(Debug, Clone, PartialEq, Eq, Hash)]
 pub enum Guest {
     /// A user of this machine, or nobody knows who.
     User(Option<u32>),
     /// An address; those of the loopback are one, and so are the IPv6 addresses of one network.
     Address(IpAddr),
+    /// Whoever has a certificate of this name, wherever it comes from.
+    Certificate(CertificateName),
 }
 
 impl Guest {
@@ -34,11 +37,22 @@ impl Guest {
     }
 }
 
+impl Guest {
+    /// The name of its certificate, if that is who it is.
+    pub fn certificate(&self) -> Option<&CertificateName> {
+        match self {
+            Guest::Certificate(name) => Some(name),
+            _ => None,
+        }
+    }
+}
+
 impl From<Who> for Guest {
     fn from(who: Who) -> Guest {
         match who {
             Who::User(user) => Guest::User(Some(user)),
             Who::Address(address) => Guest::at(address),
+            Who::Certificate(name) => Guest::Certificate(name),
             Who::Unknown => Guest::UNKNOWN,
         }
     }
@@ -58,8 +72,8 @@ impl Counts {
     }
 
     /// How many this one has.
-    pub fn of(&self, guest: Guest) -> usize {
-        self.by.get(&guest).copied().unwrap_or(0)
+    pub fn of(&self, guest: &Guest) -> usize {
+        self.by.get(guest).copied().unwrap_or(0)
     }
 
     /// It has one more.
@@ -69,12 +83,12 @@ impl Counts {
     }
 
     /// It has one less.
-    pub fn remove(&mut self, guest: Guest) {
-        let Some(count) = self.by.get_mut(&guest) else { return };
+    pub fn remove(&mut self, guest: &Guest) {
+        let Some(count) = self.by.get_mut(guest) else { return };
         self.all -= 1;
         *count -= 1;
         if *count == 0 {
-            self.by.remove(&guest);
+            self.by.remove(guest);
         }
     }
 }
@@ -107,7 +121,7 @@ impl Share {
     }
 
     /// Whether the guest may have one more.
-    pub fn permits(&self, counts: &Counts, guest: Guest) -> bool {
+    pub fn permits(&self, counts: &Counts, guest: &Guest) -> bool {
         counts.all < self.most || counts.of(guest) < self.few && counts.all < self.most + self.extra
     }
 }
@@ -118,13 +132,13 @@ mod tests {
 
     /// How many the guest gets, of more than there may be.
     fn taken(share: Share, counts: &mut Counts, guest: Guest) -> usize {
-        let before = counts.of(guest);
+        let before = counts.of(&guest);
         for _ in 0..2 * (share.most + share.extra) {
-            if share.permits(counts, guest) {
-                counts.add(guest);
+            if share.permits(counts, &guest) {
+                counts.add(guest.clone());
             }
         }
-        counts.of(guest) - before
+        counts.of(&guest) - before
     }
 
     #[test]
@@ -139,12 +153,12 @@ mod tests {
             (Share::new(9, 3, 2), [9, 2, 1]),
         ] {
             let mut counts = Counts::default();
-            assert_eq!([one, two, three].map(|guest| taken(share, &mut counts, guest)), parts, "{share:?}");
-            assert_eq!((counts.all(), counts.of(one)), (parts.iter().sum(), parts[0]));
-            (0..parts[0]).for_each(|_| counts.remove(one));
-            counts.remove(one);
+            assert_eq!([&one, &two, &three].map(|guest| taken(share, &mut counts, guest.clone())), parts, "{share:?}");
+            assert_eq!((counts.all(), counts.of(&one)), (parts.iter().sum(), parts[0]));
+            (0..parts[0]).for_each(|_| counts.remove(&one));
+            counts.remove(&one);
             assert_eq!((counts.all(), counts.by.contains_key(&one)), (parts[1] + parts[2], false));
-            assert!(share.permits(&counts, one));
+            assert!(share.permits(&counts, &one));
         }
     }
 
@@ -157,5 +171,7 @@ mod tests {
         assert_ne!(guest("2001:db8::1"), guest("2001:db8:0:1::1"));
         assert_ne!(guest("10.0.0.1"), guest("10.0.0.2"));
         assert_eq!(Guest::from(Who::User(7)), Guest::User(Some(7)));
+        let name = CertificateName::new(b"a").unwrap();
+        assert_eq!(Guest::from(Who::Certificate(name.clone())).certificate(), Some(&name));
     }
 }

@@ -6,12 +6,12 @@
 //! gone: such a line has `*` for NAME.
 
 use crate::board::{Board, Place, Sight};
+use crate::connection::Known;
 use crate::rules::Rules;
 use std::io::Write;
 use std::rc::Rc;
 use std::time::Instant;
 use wozgirt_engine::NOBODY;
-use wozgirt_system::Peer;
 
 /// After this many locks the server looks whether time or room is over.
 const STEP: usize = 32;
@@ -82,9 +82,9 @@ impl Listing {
         match &self.rules {
             Some(rules) if any.is_some() => {
                 self.next = Place::Used(0);
-                self.stage = Stage::Counting(rules.count(listed, view.peer));
+                self.stage = Stage::Counting(rules.count(listed, view.known));
             }
-            Some(rules) => self.begin_telling(rules.count(listed, view.peer), text),
+            Some(rules) => self.begin_telling(rules.count(listed, view.known), text),
             None => self.begin_telling(listed + any.map_or(0, |any| any.count()), text),
         }
     }
@@ -128,7 +128,7 @@ impl Listing {
     }
 
     fn shows(&self, sight: &Sight, view: &Locks<'_>) -> bool {
-        self.rules.as_ref().map_or(true, |rules| rules.permits(&sight.lock, view.peer))
+        self.rules.as_ref().map_or(true, |rules| rules.permits(&sight.lock, view.known))
     }
 }
 
@@ -136,8 +136,8 @@ impl Listing {
 pub struct Locks<'a> {
     /// What is known of the locks.
     pub board: &'a Board,
-    /// The process that asks, if the system knows it.
-    pub peer: Option<&'a Peer>,
+    /// What the rules know of the client that asks.
+    pub known: &'a Known,
     /// The time.
     pub now: Instant,
 }
@@ -189,7 +189,7 @@ mod tests {
         board.granted("deploy", 7, 12, Some(77), start);
         board.waits("deploy", 8, 1, start + Duration::from_millis(10));
         let rules = Rules::parse("lock db:", &board, &mut Accounts::default()).unwrap();
-        let view = Locks { board: &board, peer: None, now: start + Duration::from_millis(25) };
+        let view = Locks { board: &board, known: &Known::Nobody, now: start + Duration::from_millis(25) };
         let text = "status 2\nlock deploy held 7 77 12 25 1 15 1 0\nlock gpu free - - - - 0 0 0 0\n";
         assert_eq!(told(&view, Some(rules), 1000), (text.into(), 1));
         assert!(told(&view, None, 1000).0.starts_with("status 3\n"));
@@ -198,7 +198,7 @@ mod tests {
     #[test]
     fn a_list_in_parts_is_the_same_list() {
         let board = board(&(0..100).map(|i| format!("n{i}")).collect::<Vec<_>>().join(","));
-        let view = Locks { board: &board, peer: None, now: Instant::now() };
+        let view = Locks { board: &board, known: &Known::Nobody, now: Instant::now() };
         let (whole, parts) = told(&view, None, 1 << 20);
         assert_eq!((whole.lines().count(), parts), (101, 1));
         assert_eq!(told(&view, None, 1), (whole, 100usize.div_ceil(STEP)));
@@ -211,7 +211,7 @@ mod tests {
         board.granted("x/1", 8, 813, Some(78), start);
         board.released("x/2", 7);
         board.waits("y", 9, 1, start);
-        let view = Locks { board: &board, peer: None, now: start };
+        let view = Locks { board: &board, known: &Known::Nobody, now: start };
         let lines = [
             "status 4",
             "lock deploy free - - - - 0 0 0 0",
@@ -233,10 +233,10 @@ mod tests {
         };
         hold(&mut board, 0, 300);
         let (mut listing, mut text) = (Listing::new(None), Vec::new());
-        assert!(!listing.go_on(&mut text, &Locks { board: &board, peer: None, now }, 1, now));
+        assert!(!listing.go_on(&mut text, &Locks { board: &board, known: &Known::Nobody, now }, 1, now));
         (200..300).for_each(|i| board.released(&format!("n{i}"), 1));
         hold(&mut board, 300, 400);
-        while !listing.go_on(&mut text, &Locks { board: &board, peer: None, now }, 1, now) {}
+        while !listing.go_on(&mut text, &Locks { board: &board, known: &Known::Nobody, now }, 1, now) {}
         let text = String::from_utf8(text).unwrap();
         let names: Vec<&str> = text.lines().filter_map(|line| line.strip_prefix("lock ")?.split(' ').next()).collect();
         assert_eq!((text.lines().next(), names.len()), (Some("status 300"), 300));

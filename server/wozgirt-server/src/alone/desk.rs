@@ -48,7 +48,7 @@ impl Desk {
         match why {
             NoSession::Others => {
                 let event = Event::SessionRefused { who: &connection.caller.who };
-                self.log.say_of(connection.caller.guest, self.now, &event);
+                self.log.say_of(&connection.caller.guest, self.now, &event);
             }
             NoSession::Full => self.note_part(connection, Of::Sessions),
             NoSession::Unkept => {}
@@ -282,7 +282,7 @@ impl Desk {
 
     /// A session, and on whose account it is.
     fn party(&mut self, session: Client) -> Party {
-        let guest = self.alone().and_then(|alone| alone.session(session)).map(|it| it.guest);
+        let guest = self.alone().and_then(|alone| alone.session(session)).map(|it| it.guest.clone());
         Party { client: session, guest: guest.unwrap_or(Guest::UNKNOWN) }
     }
 

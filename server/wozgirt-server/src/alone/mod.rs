@@ -137,14 +137,14 @@ impl Alone {
     }
 
     fn insert(&mut self, number: Client, session: Session) {
-        self.counts.add(session.guest);
+        self.counts.add(session.guest.clone());
         self.keys.insert(session.key, number);
         self.sessions.insert(number, session);
     }
 
     fn remove(&mut self, number: Client) -> Option<Session> {
         let session = self.sessions.remove(&number)?;
-        self.counts.remove(session.guest);
+        self.counts.remove(&session.guest);
         if self.keys.get(&session.key) == Some(&number) {
             self.keys.remove(&session.key);
         }
@@ -179,22 +179,22 @@ impl Alone {
         if let Some((number, session)) =
             self.keys.get(&key).and_then(|number| Some((number, self.sessions.get_mut(number)?)))
         {
-            if !session.owner.admits(who) {
+            if !session.owner.admits(&who) {
                 return Err(NoSession::Others);
             }
             let before = std::mem::replace(&mut session.at, At::Here(client));
             self.changed.insert(*number);
             return Ok((*number, if let At::Here(before) = before { Some(before) } else { None }));
         }
-        if !self.share.permits(&self.counts, who.into()) {
+        if !self.share.permits(&self.counts, &who.clone().into()) {
             return Err(NoSession::Full);
         }
         let mut owner = Owner::default();
-        owner.admits(who);
+        owner.admits(&who);
         // not that of its connection: an answer to what another session of that asked may be on its way
         self.last += 1;
         let number = self.last;
-        store.put(&Line::Session(number, key, lease, owner));
+        store.put(&Line::Session(number, key, lease, owner.clone()));
         self.insert(number, Session::new(key, owner, lease, At::Here(client)));
         Ok((number, None))
     }
@@ -272,7 +272,7 @@ impl Alone {
     pub fn write(&mut self) -> io::Result<()> {
         for number in std::mem::take(&mut self.changed) {
             if let Some(it) = self.sessions.get(&number).filter(|it| !it.is_left) {
-                let line = Line::Session(number, it.key, it.lease, it.owner);
+                let line = Line::Session(number, it.key, it.lease, it.owner.clone());
                 self.put(&line);
             }
         }
@@ -295,7 +295,7 @@ impl Alone {
         let waits =
             waits.into_iter().map(|(client, Place { lock, label, .. })| StateLine::Wait { client, lock, label });
         let kept = || self.sessions.iter().filter(|(_, session)| !session.is_left);
-        let sessions = kept().map(|(number, it)| Line::Session(*number, it.key, it.lease, it.owner));
+        let sessions = kept().map(|(number, it)| Line::Session(*number, it.key, it.lease, it.owner.clone()));
         let has = kept().flat_map(|(number, session)| session.all(*number));
         [Line::Last(self.last)].into_iter().chain(sessions).chain(has).chain(waits.map(Line::Has)).collect()
     }

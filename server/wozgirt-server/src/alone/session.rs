@@ -108,8 +108,8 @@ impl Session {
     pub fn new(key: Key, owner: Owner, lease: Duration, at: At) -> Session {
         Session {
             key,
-            owner,
             guest: owner.guest(),
+            owner,
             lease,
             at,
             last_asked: None,

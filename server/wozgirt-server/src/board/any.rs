@@ -40,7 +40,7 @@ impl Glance {
     fn of(sight: &Sight) -> Glance {
         Glance {
             is_used: sight.is_used(),
-            payer: sight.is_used().then_some(sight.payer),
+            payer: sight.is_used().then(|| sight.payer.clone()),
             held_since: sight.holder.map(|holder| holder.since),
             waits_since: sight.line.front().map(|waiter| waiter.since),
             sums: Sums {
@@ -164,7 +164,7 @@ impl Any {
         move_time(&mut self.fronts, &lock, before.waits_since, after.waits_since);
         self.count_change(&before.sums, &after.sums);
         if before.payer != after.payer {
-            before.payer.into_iter().for_each(|guest| self.payers.remove(guest));
+            before.payer.into_iter().for_each(|guest| self.payers.remove(&guest));
             after.payer.into_iter().for_each(|guest| self.payers.add(guest));
         }
         self.forget_old();
@@ -243,7 +243,7 @@ mod tests {
         let (mut board, start) = (board("b,*:3"), Instant::now());
         assert!(board.name("x/1").is_some() && board.name("x 1").is_none() && board.lock("x/1").is_none());
         let acquire = "acquire x/1 1".parse().unwrap();
-        board.asked(&acquire, crate::shares::Guest::UNKNOWN);
+        board.asked(&acquire, &crate::shares::Guest::UNKNOWN);
         board.asked_no_longer(&acquire);
         assert_eq!((found(&board), board.any().unwrap().count()), (vec!["b".to_string()], 0));
         board.granted("x/1", 1, 812, Some(7), start);

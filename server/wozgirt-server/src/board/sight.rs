@@ -1,5 +1,6 @@
 //! One lock, as far as it is known.
 
+use crate::certificate_name::CertificateName;
 use crate::log::Utc;
 use crate::shares::Guest;
 use std::collections::VecDeque;
@@ -7,7 +8,7 @@ use std::time::{Duration, Instant};
 use wozgirt_engine::{Client, Label, Lock, Token};
 
 /// A client, and on whose account what it has is.
-#[derive(Debug, Clone, Copy, PartialEq, Eq)]
+#[derive(Debug, Clone, PartialEq, Eq)]
 pub struct Party {
     /// The client.
     pub client: Client,
@@ -41,7 +42,7 @@ pub struct Holder {
 }
 
 /// A client that waits for a lock.
-#[derive(Debug, Clone, Copy, PartialEq, Eq)]
+#[derive(Debug, Clone, PartialEq, Eq)]
 pub struct Waiter {
     /// The client.
     pub client: Client,
@@ -141,6 +142,11 @@ impl Sight {
         Sight { machines, is_listed: false, ..Sight::new(lock) }
     }
 
+    /// The name of its holder's certificate, if the holder has one.
+    pub fn certificate(&self) -> Option<&CertificateName> {
+        self.holder.and_then(|_| self.payer.certificate())
+    }
+
     /// Whether a client has something of it, or asks for it.
     pub fn is_used(&self) -> bool {
         self.holder.is_some() || !self.line.is_empty() || self.asked + self.tried > 0
@@ -163,9 +169,10 @@ impl Sight {
     pub(super) fn grant(&mut self, party: Party, token: Token, label: Option<Label>, now: Instant) -> Duration {
         let Party { client, guest } = party;
         let waiter = self.take_waiter(client);
+        let waited = waiter.as_ref().map_or(Duration::ZERO, |waiter| now.saturating_duration_since(waiter.since));
+        let label = label.or(waiter.as_ref().map(|it| it.label));
         self.payer = waiter.map_or(guest, |waiter| waiter.guest);
-        let waited = waiter.map_or(Duration::ZERO, |waiter| now.saturating_duration_since(waiter.since));
-        self.hold(Holder { client, token, label: label.or(waiter.map(|it| it.label)), since: now });
+        self.hold(Holder { client, token, label, since: now });
         self.past.note_grant(waited);
         waited
     }

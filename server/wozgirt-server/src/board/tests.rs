@@ -12,7 +12,7 @@ fn a_hand_over() {
     let (mut board, start) = (board(), Instant::now());
     board.granted("a", 1, 1, Some(77), start);
     let acquire = "acquire a 1".parse().unwrap();
-    board.asked(&acquire, Guest::UNKNOWN);
+    board.asked(&acquire, &Guest::UNKNOWN);
     assert!(board.locks()[0].is_full(1) && !board.locks()[0].is_full(2));
     assert!(!board.locks()[1].is_full(0));
     board.asked_no_longer(&acquire);

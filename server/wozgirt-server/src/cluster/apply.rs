@@ -170,7 +170,7 @@ impl Applied {
         match line {
             Line::With(_) => {}
             Line::Here(key, who) => {
-                let session = self.come(*key, *who, writer, step);
+                let session = self.come(*key, who, writer, step);
                 step.given.push(session.map_or(Given::Closed(*key), |session| Given::Here(*key, session)));
             }
             Line::Do(key, number, input) => {
@@ -199,7 +199,7 @@ impl Applied {
     }
 
     /// The session is the writer's from here on, unless it belongs to another user.
-    fn come(&mut self, key: Key, who: Who, writer: &Server, step: &mut Step) -> Option<Session> {
+    fn come(&mut self, key: Key, who: &Who, writer: &Server, step: &mut Step) -> Option<Session> {
         let last = &mut self.last_session;
         let known = self.sessions.entry(key).or_insert_with(|| {
             *last += 1;

@@ -34,9 +34,9 @@ impl Desk {
         connection.seat = Some(Seat::keyed(key, None, false, self.now));
         connection.pending.push_back(Pending::Opening);
         let who = connection.identity();
-        cluster.put(Line::Here(key, who));
+        cluster.put(Line::Here(key, who.clone()));
         cluster.owns.opening.push_back(connection.client);
-        if !cluster.owns.admits(key, who) {
+        if !cluster.owns.admits(key, &who) {
             return Then::Wait; // the log says whose it is
         }
         cluster.owns.come(key, who, connection.client).map_or(Then::Wait, Then::Moved)
@@ -47,15 +47,15 @@ impl Desk {
     fn key(&mut self, connection: &mut Connection) -> Option<Key> {
         let now = self.now;
         let cluster = self.mode.in_log_mut()?;
-        let who = connection.identity();
         if connection.seat.is_none() {
             let key = cluster.draw().ok()?;
             connection.seat = Some(Seat::drawn(key, now));
-            cluster.owns.come(key, who, connection.client);
+            cluster.owns.come(key, connection.identity(), connection.client);
         }
+        let who = &connection.caller.identity;
         let seat = connection.seat.as_mut()?;
         if std::mem::take(&mut seat.has_left) {
-            cluster.put(Line::Here(seat.key, who));
+            cluster.put(Line::Here(seat.key, who.clone()));
             cluster.owns.opening.push_back(connection.client);
         }
         Some(seat.key)
@@ -85,7 +85,7 @@ impl Desk {
     /// Whether one more session of this user or address may be in the log: as many may be there as of a single server.
     fn may_begin(&mut self, connection: &Connection) -> bool {
         let share = Share::beyond(self.settings.most_sessions());
-        let may = self.mode.in_log().map_or(true, |it| share.permits(it.mirror.parties(), connection.caller.guest));
+        let may = self.mode.in_log().map_or(true, |it| share.permits(it.mirror.parties(), &connection.caller.guest));
         if !may {
             self.sums.refused("session");
             self.note_part(connection, Of::Sessions);
@@ -176,7 +176,7 @@ impl Desk {
             connection.seat = None;
             self.sums.refused("session");
             let event = Event::SessionRefused { who: &connection.caller.who };
-            self.log.say_of(connection.caller.guest, self.now, &event);
+            self.log.say_of(&connection.caller.guest, self.now, &event);
             connection.tell("refused session");
             connection.tell_what_waited();
         }

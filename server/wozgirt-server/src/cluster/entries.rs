@@ -17,9 +17,10 @@ use std::rc::Rc;
 use std::str::FromStr;
 use wozgirt_engine::{decimal, Client, Input};
 
-/// The version of these lines. In those of the first, whose SETTINGS begin without a version, an INPUT had the number of its lock. A
-/// server begins in no log whose SETTINGS are others, so no engine gets an input that means something else to another one.
-pub const VERSION: u64 = 2;
+/// The version of these lines. In those of the first, whose SETTINGS begin without a version, an INPUT had the number of its lock; in
+/// those of the second no WHO is a certificate, so a server that reads only them would take such an entry for none. A server begins in no
+/// log whose SETTINGS are others, so no engine gets an input that means something else to another one.
+pub const VERSION: u64 = 3;
 
 /// The number of a session, which the log gives: the engine's client, and the key of its inputs. All may know it.
 pub type Session = Client;
@@ -169,11 +170,11 @@ mod tests {
     fn an_entry_is_written_and_read() {
         let zeros = "0".repeat(64);
         let text = format!(
-            "by a 3 1 0 {zeros}\twith 2 100 - 0 a:8:8\there 7 u0\t7 1 acquire a 5\t7 2 release a 1\tgone 7\tserver b.c-d 2"
+            "by a 3 1 0 {zeros}\twith 3 100 - 0 a:8:8\there 7 u0\there 8 cRen%C3%A9\t7 1 acquire a 5\t7 2 release a 1\tgone 7\tserver b.c-d 2"
         );
         let entry: Entry = text.parse().unwrap();
         assert_eq!((&*entry.writer.name, entry.writer.incarnation, entry.serial), ("a", 3, 1));
-        assert_eq!(entry.lines[2], Line::Do(7, 1, Input::Acquire { lock: "a".parse().unwrap(), label: 5 }));
+        assert_eq!(entry.lines[3], Line::Do(7, 1, Input::Acquire { lock: "a".parse().unwrap(), label: 5 }));
         assert_eq!(entry.to_string(), text);
         let empty = format!("by a 3 2 9 {zeros}");
         assert_eq!(empty.parse::<Entry>().unwrap().to_string(), empty);
@@ -199,6 +200,9 @@ mod tests {
             "here 1",
             "here 1 x",
             "here 1 u0 u0",
+            "here 1 c",
+            "here 1 ca b",
+            "here 1 c%41",
             "gone 1 2",
             "server a",
             "server a b",

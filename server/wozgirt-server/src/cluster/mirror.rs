@@ -102,7 +102,7 @@ impl Mirror {
 
     /// The session is in the log, on this one's account.
     pub fn begins(&mut self, session: Session, guest: Guest) {
-        if self.guests.insert(session, guest).is_none() {
+        if self.guests.insert(session, guest.clone()).is_none() {
             self.counts.add(guest);
         }
     }
@@ -114,7 +114,7 @@ impl Mirror {
 
     /// The session, and on whose account it is.
     pub fn party(&self, session: Session) -> Party {
-        Party { client: session, guest: self.guests.get(&session).copied().unwrap_or(Guest::UNKNOWN) }
+        Party { client: session, guest: self.guests.get(&session).cloned().unwrap_or(Guest::UNKNOWN) }
     }
 
     /// What a session has.
@@ -205,7 +205,7 @@ impl Mirror {
 
     fn leave(&mut self, session: Session, board: &mut Board) -> Standing {
         if let Some(guest) = self.guests.remove(&session) {
-            self.counts.remove(guest);
+            self.counts.remove(&guest);
         }
         let standing = self.standing.remove(&session).unwrap_or_default();
         if let Some(lock) = &standing.waits {

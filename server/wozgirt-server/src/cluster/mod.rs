@@ -228,7 +228,7 @@ impl Cluster {
     /// on its way to this one.
     pub fn give(&mut self, given: Given, is_own: bool) {
         if let Given::Here(key, session) = given {
-            let owner = self.applied.sessions.get(&key).map(|known| known.owner);
+            let owner = self.applied.sessions.get(&key).map(|known| known.owner.clone());
             self.mirror.begins(session, owner.unwrap_or_default().guest());
         }
         match given {

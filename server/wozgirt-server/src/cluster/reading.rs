@@ -59,7 +59,7 @@ impl Reading {
         self.unread.pop_front()
     }
 
-    /// Whether more is read of the log from now on, while so many bytes wait for the engine; nothing if that is as before.
+    /// Whether more is read of the log from now on, while this number of bytes waits for the engine; nothing if that is as before.
     pub fn change(&mut self, for_engine: usize) -> Option<bool> {
         let is_shut = self.unread.len() >= MOST_UNREAD || for_engine >= MOST_FOR_ENGINE;
         (std::mem::replace(&mut self.is_shut, is_shut) != is_shut).then_some(!is_shut)

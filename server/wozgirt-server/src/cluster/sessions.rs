@@ -39,8 +39,8 @@ pub struct Owns {
 
 impl Owns {
     /// Whether no other client has come here with this key.
-    pub fn admits(&self, key: Key, who: Who) -> bool {
-        !self.all.contains_key(&key) || self.whos.get(&key) == Some(&who)
+    pub fn admits(&self, key: Key, who: &Who) -> bool {
+        !self.all.contains_key(&key) || self.whos.get(&key) == Some(who)
     }
 
     /// The client is at this connection: the one where it was before.
@@ -155,10 +155,10 @@ mod tests {
     #[test]
     fn a_client_comes_and_goes() {
         let (mut owns, start) = (Owns::default(), Instant::now());
-        assert!(owns.admits(7, Who::Unknown));
+        assert!(owns.admits(7, &Who::Unknown));
         let second = std::time::Duration::from_secs(1);
         assert_eq!((owns.come(7, Who::User(0), 1), owns.client(7), owns.client(8)), (None, Some(1), None));
-        assert!(owns.admits(7, Who::User(0)) && !owns.admits(7, Who::User(1)));
+        assert!(owns.admits(7, &Who::User(0)) && !owns.admits(7, &Who::User(1)));
         owns.await_client(7, 1, start + second);
         assert_eq!((owns.client(7), owns.take_late(start)), (None, vec![]));
         assert_eq!(owns.away().collect::<Vec<_>>(), [(7, start + second)]);

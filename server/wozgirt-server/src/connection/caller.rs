@@ -1,5 +1,6 @@
-//! Who is at the other end of a connection.
+//! The client at the other end of a connection.
 
+use crate::certificate_name::CertificateName;
 use crate::cluster::Who;
 use crate::shares::Guest;
 use wozgirt_system::Peer;
@@ -13,6 +14,20 @@ pub enum Door {
     Operators,
     /// TCP.
     Network,
+    /// The socket of a proxy, which says who its clients are.
+    Proxied,
+}
+
+/// A client, as far as rules name it.
+#[derive(Debug, Default, PartialEq, Eq)]
+pub enum Known {
+    /// Nobody says.
+    #[default]
+    Nobody,
+    /// A process of this machine, as the system says.
+    Process(Peer),
+    /// Whoever has a certificate of this name, as the proxy says.
+    Certificate(CertificateName),
 }
 
 /// The client at the other end.
@@ -20,8 +35,8 @@ pub enum Door {
 pub struct Caller {
     /// Its door.
     pub door: Door,
-    /// The process at the other end, if the system knows it.
-    pub peer: Option<Peer>,
+    /// What the rules know of it.
+    pub known: Known,
     /// Whose a session is that it begins.
     pub identity: Who,
     /// On whose account it is.
@@ -34,5 +49,10 @@ impl Caller {
     /// Whether it is an operator, for whom no rule and no limit of clients is.
     pub fn is_operator(&self) -> bool {
         self.door == Door::Operators
+    }
+
+    /// Whether it is the proxy itself, which looks whether the server is there.
+    pub fn is_proxy(&self) -> bool {
+        self.door == Door::Proxied && matches!(self.known, Known::Process(_))
     }
 }

@@ -6,7 +6,7 @@ mod seat;
 mod told;
 mod wire;
 
-pub use caller::{Caller, Door};
+pub use caller::{Caller, Door, Known};
 pub use pending::Pending;
 pub use seat::Seat;
 pub use wire::Reading;
@@ -56,7 +56,7 @@ pub struct Asking {
 pub struct Connection {
     /// Its number.
     pub client: Client,
-    /// Who is at the other end.
+    /// The client at the other end.
     pub caller: Caller,
     /// Lines without an answer, the oldest first.
     pub pending: VecDeque<Pending>,
@@ -104,7 +104,7 @@ impl Connection {
 
     /// Whose a session is that it begins.
     pub fn identity(&self) -> Who {
-        self.caller.identity
+        self.caller.identity.clone()
     }
 
     /// Its socket.

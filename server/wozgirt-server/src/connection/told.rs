@@ -1,4 +1,4 @@
-//! What a connection is told: answers that it has not read yet, and those that wait for others before them.
+//! Answers to a connection: those that it has not read yet, and those that wait for others before them.
 
 use super::Pending;
 use crate::outbox::Outbox;

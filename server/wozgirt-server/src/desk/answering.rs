@@ -55,7 +55,7 @@ impl Desk {
     fn note(&mut self, connection: &mut Connection, input: &Input, answer: &Answer<'_>) -> Result<(), Unasked> {
         let client = connection.client;
         self.board.asked_no_longer(input);
-        let party = (client, connection.caller.guest);
+        let party = (client, connection.caller.guest.clone());
         match (input, answer) {
             (Input::Acquire { lock, label } | Input::Try { lock, label }, Answer::Granted { lock: l, token })
                 if lock == l =>

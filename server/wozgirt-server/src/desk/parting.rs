@@ -25,12 +25,13 @@ impl Desk {
         self.questions.askers -= usize::from(connection.asking.asked > 0);
         self.sums.ended(end);
         let is_wanted = !held.is_empty() || !matches!(end, End::Closed | End::Stop);
-        if is_wanted || self.settings.logs_connections {
+        let logs_all = self.settings.logs_connections && !connection.caller.is_proxy();
+        if is_wanted || logs_all {
             let event = Event::Went { client: connection.client, who: &connection.caller.who, end, held: &held };
-            if self.settings.logs_connections {
+            if logs_all {
                 self.log.say(&event); // each is wanted
             } else {
-                self.log.say_of(connection.caller.guest, self.now, &event);
+                self.log.say_of(&connection.caller.guest, self.now, &event);
             }
         }
     }

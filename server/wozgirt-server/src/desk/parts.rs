@@ -20,15 +20,15 @@ pub struct Parts {
 
 impl Parts {
     /// Whether the log says it now.
-    fn is_news(&mut self, guest: Guest, of: Of, now: Instant) -> bool {
+    fn is_news(&mut self, guest: &Guest, of: Of, now: Instant) -> bool {
         if self.said.len() >= MOST_SAID {
             self.said.retain(|_, said| now.saturating_duration_since(*said) < PAUSE);
         }
-        match self.said.get(&(guest, of)) {
+        match self.said.get(&(guest.clone(), of)) {
             Some(said) if now.saturating_duration_since(*said) < PAUSE => false,
             None if self.said.len() >= MOST_SAID => false,
             _ => {
-                self.said.insert((guest, of), now);
+                self.said.insert((guest.clone(), of), now);
                 true
             }
         }
@@ -39,7 +39,7 @@ impl Desk {
     /// Whether this client may bring the name into use, or the lock is in use already, or in the list.
     pub(super) fn has_name_for(&mut self, connection: &Connection, name: &str) -> bool {
         let share = Share::within(self.settings.most_names());
-        let has = connection.caller.is_operator() || self.board.has_name_for(name, connection.caller.guest, share);
+        let has = connection.caller.is_operator() || self.board.has_name_for(name, &connection.caller.guest, share);
         if !has {
             self.note_part(connection, Of::Names);
         }
@@ -48,7 +48,7 @@ impl Desk {
 
     /// The client was refused one more, since its user or address has its part, or all have theirs.
     pub(crate) fn note_part(&mut self, connection: &Connection, of: Of) {
-        let guest = connection.caller.guest;
+        let guest = &connection.caller.guest;
         let (has, all) = match of {
             Of::Sessions => self.mode.sessions().map_or((0, 0), |it| (it.of(guest), it.all())),
             Of::Names => self.board.any().map_or((0, 0), |it| (it.payers().of(guest), it.payers().all())),
@@ -68,11 +68,12 @@ mod tests {
     fn it_is_said_once_a_minute_of_each() {
         let (mut parts, now) = (Parts::default(), Instant::now());
         let user = |number| Guest::User(Some(number));
-        assert!(parts.is_news(user(1), Of::Names, now) && parts.is_news(user(1), Of::Sessions, now));
-        assert!(!parts.is_news(user(1), Of::Names, now + PAUSE / 2) && parts.is_news(user(2), Of::Names, now));
-        assert!(parts.is_news(user(1), Of::Names, now + PAUSE));
-        let said = (0..2 * MOST_SAID as u32).filter(|number| parts.is_news(user(100 + number), Of::Names, now + PAUSE));
+        assert!(parts.is_news(&user(1), Of::Names, now) && parts.is_news(&user(1), Of::Sessions, now));
+        assert!(!parts.is_news(&user(1), Of::Names, now + PAUSE / 2) && parts.is_news(&user(2), Of::Names, now));
+        assert!(parts.is_news(&user(1), Of::Names, now + PAUSE));
+        let said =
+            (0..2 * MOST_SAID as u32).filter(|number| parts.is_news(&user(100 + number), Of::Names, now + PAUSE));
         assert_eq!(said.count(), MOST_SAID - 1);
-        assert!(parts.is_news(user(9), Of::Names, now + 3 * PAUSE));
+        assert!(parts.is_news(&user(9), Of::Names, now + 3 * PAUSE));
     }
 }

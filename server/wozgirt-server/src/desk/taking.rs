@@ -2,6 +2,7 @@
 
 use super::{Desk, Order, Then};
 use crate::connection::{Connection, Pending};
+use crate::header;
 use crate::log::End;
 use crate::mode::Mode;
 use crate::requests::{numbered, parse, BadRequest, Request, Verb, LONGEST_LINE};
@@ -23,7 +24,7 @@ impl Desk {
                 break;
             }
             let Some(length) = input[taken..].iter().take(LONGEST_LINE).position(|&b| b == b'\n') else { break };
-            let before = self.questions.asked();
+            let (before, start) = (self.questions.asked(), taken);
             then = match std::str::from_utf8(&input[taken..taken + length]) {
                 Ok(line) => self.take(connection, line),
                 Err(_) => self.refuse(connection, &BadRequest::Word),
@@ -31,6 +32,9 @@ impl Desk {
             let cost = self.questions.asked() - before;
             connection.asking.tag = self.questions.turns.charge(connection.asking.tag, cost);
             taken += length + 1;
+            if then == Then::End(End::Syntax) && header::is_one(&input[start..]) {
+                then = Then::End(End::Header);
+            }
         }
         if taken > 0 {
             self.step_out(connection); // it was in the queue for the lines that were taken
@@ -154,7 +158,7 @@ impl Desk {
         let is_for_it = matches!(verb, Verb::Acquire(_) | Verb::Try(_));
         // what a client has it may give back, whatever the rules say by now
         let is_ruled = is_for_it || matches!(verb, Verb::Stats);
-        if is_ruled && !connection.caller.is_operator() && !self.rules.permits(name, connection.caller.peer.as_ref()) {
+        if is_ruled && !connection.caller.is_operator() && !self.rules.permits(name, &connection.caller.known) {
             return Err("permission");
         }
         if is_for_it && self.mode.has_enough(connection, name, self.settings.limits.most_holds) {
@@ -178,7 +182,7 @@ impl Desk {
             Verb::Corrupt { machine, value } => Input::Corrupt { lock, machine, value },
             Verb::End(token) => Input::Release { lock, token },
         };
-        self.board.asked(&input, connection.caller.guest);
+        self.board.asked(&input, &connection.caller.guest);
         Ok(input)
     }
 

@@ -4,7 +4,7 @@ use super::Desk;
 use crate::alone::Alone;
 use crate::board::Board;
 use crate::cluster::Who;
-use crate::connection::{Caller, Connection, Door, SHARE};
+use crate::connection::{Caller, Connection, Door, Known, SHARE};
 use crate::engine::{Engine, ROOM};
 use crate::log::Log;
 use crate::mode::Mode;
@@ -49,7 +49,7 @@ pub(crate) fn desk(locks: usize, now: Instant) -> Desk {
 pub(crate) fn connection(lines: &[u8], now: Instant) -> (Connection, UnixStream) {
     let (stream, mut other) = UnixStream::pair().unwrap();
     let (identity, guest, who) = (Who::Unknown, Guest::UNKNOWN, String::new());
-    let caller = Caller { door: Door::Clients, peer: None, identity, guest, who };
+    let caller = Caller { door: Door::Clients, known: Known::Nobody, identity, guest, who };
     let mut connection = Connection::new(1, caller, Stream::unix(stream).unwrap(), 1 << 16, now);
     other.write_all(lines).unwrap();
     connection.read(&mut [0; SHARE], now).unwrap();

@@ -51,8 +51,8 @@ impl Desk {
     }
 
     fn forbidden<'a>(&self, connection: &Connection, locks: impl Iterator<Item = &'a Lock>) -> Vec<Lock> {
-        let peer = connection.caller.peer.as_ref();
-        locks.filter(|lock| !self.rules.permits(lock, peer)).cloned().collect()
+        let known = &connection.caller.known;
+        locks.filter(|lock| !self.rules.permits(lock, known)).cloned().collect()
     }
 
     fn withdraw_for_session(&mut self, session: Client, client: Client, lock: Lock) {

@@ -11,6 +11,8 @@ pub enum End {
     Deaf,
     /// It said what no client says.
     Syntax,
+    /// It said who it is as a proxy does, where that is not asked.
+    Header,
     /// It sent a line that is too long.
     Line,
     /// The engine ended, and with it all that was held.
@@ -27,11 +29,12 @@ pub enum End {
 
 impl End {
     /// Each of them.
-    pub const ALL: [End; 10] = [
+    pub const ALL: [End; 11] = [
         End::Closed,
         End::Lease,
         End::Deaf,
         End::Syntax,
+        End::Header,
         End::Line,
         End::Engine,
         End::Stop,
@@ -47,6 +50,7 @@ impl End {
             End::Lease => "lease",
             End::Deaf => "deaf",
             End::Syntax => "syntax",
+            End::Header => "header",
             End::Line => "line",
             End::Engine => "engine",
             End::Stop => "stop",

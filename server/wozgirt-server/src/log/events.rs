@@ -2,6 +2,7 @@
 
 use super::{End, Of};
 use crate::engine_version::EngineVersion;
+use crate::header::BadHeader;
 use std::fmt;
 use std::time::Duration;
 use wozgirt_engine::{Client, Lock, NotALine, Token};
@@ -94,6 +95,21 @@ pub enum Event<'a> {
     },
     TooMany {
         who: &'a str,
+    },
+    HeaderRefused {
+        who: &'a str,
+        fault: BadHeader,
+    },
+    ClientsUnknown {
+        place: &'a dyn fmt::Display,
+    },
+    CertificateEnds {
+        file: &'a dyn fmt::Display,
+        left: Option<Duration>,
+    },
+    CertificateUnread {
+        file: &'a dyn fmt::Display,
+        why: &'a dyn fmt::Display,
     },
     LeftOut {
         count: u64,
@@ -209,6 +225,10 @@ impl Event<'_> {
             Event::Came { .. } => "client-came",
             Event::Went { .. } => "client-went",
             Event::TooMany { .. } => "client-refused",
+            Event::HeaderRefused { .. } => "header-refused",
+            Event::ClientsUnknown { .. } => "clients-unknown",
+            Event::CertificateEnds { .. } => "certificate-ends",
+            Event::CertificateUnread { .. } => "certificate-unread",
             Event::PartFull { .. } => "part-full",
             Event::Fault { .. } => "fault",
             Event::LeftOut { .. } => "lines-left-out",
@@ -283,6 +303,18 @@ impl fmt::Display for Event<'_> {
                     write!(f, "; it held {held}")
                 }
             }
+            Event::HeaderRefused { who, fault } => write!(f, "refused, {fault}: {who}"),
+            Event::ClientsUnknown { place } => {
+                write!(
+                    f,
+                    "clients over TCP at {place} are not known, and what they say is not encrypted: see --proxied"
+                )
+            }
+            Event::CertificateEnds { file, left: None } => write!(f, "the certificate in {file} HAS ENDED"),
+            Event::CertificateEnds { file, left: Some(left) } => {
+                write!(f, "the certificate in {file} ends in {:.1} days", left.as_secs_f64() / 86_400.0)
+            }
+            Event::CertificateUnread { file, why } => write!(f, "certificate {file}: {why}"),
             Event::TooMany { who } => write!(f, "refused, too many connections: {who}"),
             Event::PartFull { who, of, has, all } => {
                 write!(f, "refused, one more of {}: {who}; {has} of {all} are this user's, or address's", of.word())

@@ -1,4 +1,4 @@
-//! How much of the log lines about one user, or one address over TCP, may take.
+//! How much of the log lines about one user, one address over TCP, or one certificate, may take.
 
 use crate::shares::Guest;
 use std::collections::HashMap;
@@ -44,15 +44,16 @@ pub struct LogShares {
 
 impl LogShares {
     /// How many lines about this guest were left out before the one that may be written now; nothing if that is left out too.
-    pub fn take(&mut self, guest: Guest, now: Instant) -> Option<u64> {
-        if self.parts.len() >= MOST_GUESTS && !self.parts.contains_key(&guest) {
+    pub fn take(&mut self, guest: &Guest, now: Instant) -> Option<u64> {
+        if self.parts.len() >= MOST_GUESTS && !self.parts.contains_key(guest) {
             self.parts.retain(|_, part| {
                 part.refill(now);
                 !part.is_whole()
             });
         }
-        let is_known = self.parts.len() < MOST_GUESTS || self.parts.contains_key(&guest);
-        let part = self.parts.entry(if is_known { guest } else { Guest::UNKNOWN }).or_insert_with(|| Part::new(now));
+        let is_known = self.parts.len() < MOST_GUESTS || self.parts.contains_key(guest);
+        let part =
+            self.parts.entry(if is_known { guest.clone() } else { Guest::UNKNOWN }).or_insert_with(|| Part::new(now));
         part.refill(now);
         if part.left == 0 {
             part.left_out += 1;
@@ -74,20 +75,20 @@ mod tests {
     #[test]
     fn each_has_its_part() {
         let (mut shares, now) = (LogShares::default(), Instant::now());
-        assert_eq!((0..1000).filter(|_| shares.take(user(1), now).is_some()).count(), MOST as usize);
-        assert_eq!((shares.take(user(2), now), shares.take(user(1), now)), (Some(0), None));
-        assert_eq!(shares.take(user(1), now + EACH * 3), Some(901));
-        assert_eq!((0..9).filter(|_| shares.take(user(1), now + EACH * 3).is_some()).count(), 2);
-        assert_eq!((0..999).filter(|_| shares.take(user(1), now + EACH * 9999).is_some()).count(), MOST as usize);
+        assert_eq!((0..1000).filter(|_| shares.take(&user(1), now).is_some()).count(), MOST as usize);
+        assert_eq!((shares.take(&user(2), now), shares.take(&user(1), now)), (Some(0), None));
+        assert_eq!(shares.take(&user(1), now + EACH * 3), Some(901));
+        assert_eq!((0..9).filter(|_| shares.take(&user(1), now + EACH * 3).is_some()).count(), 2);
+        assert_eq!((0..999).filter(|_| shares.take(&user(1), now + EACH * 9999).is_some()).count(), MOST as usize);
     }
 
     #[test]
     fn not_all_are_known() {
         let (mut shares, now) = (LogShares::default(), Instant::now());
-        let count = (0..3 * MOST_GUESTS as u32).filter(|number| shares.take(user(*number), now).is_some()).count();
+        let count = (0..3 * MOST_GUESTS as u32).filter(|number| shares.take(&user(*number), now).is_some()).count();
         assert_eq!(count, MOST_GUESTS + MOST as usize);
         assert_eq!(shares.parts.len(), MOST_GUESTS + 1);
-        assert_eq!(shares.take(user(9999), now + EACH * 2), Some(0));
+        assert_eq!(shares.take(&user(9999), now + EACH * 2), Some(0));
         assert_eq!(shares.parts.len(), 2);
     }
 }

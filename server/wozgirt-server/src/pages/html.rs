@@ -2,6 +2,7 @@
 
 use super::{InLog, View};
 use crate::board::{Holder, Sight};
+use crate::certificate_name::CertificateName;
 use std::fmt::Write;
 use std::time::{Duration, Instant};
 use wozgirt_engine::NOBODY;
@@ -99,14 +100,15 @@ pub fn row(text: &mut String, sight: &Sight, now: Instant) {
     let _ = write!(text, "<tr><td>{}</td>", sight.lock);
     match sight.holder {
         None => text.push_str("<td class=\"free\">free</td><td></td><td></td><td></td>"),
-        Some(holder) => held(text, &holder, now),
+        Some(holder) => held(text, &holder, sight.certificate(), now),
     }
     let _ = write!(text, "<td>{}", sight.line.len());
     for waiter in sight.line.iter().take(NAMED) {
         let _ = write!(
             text,
-            "<br>client {} label {} for {}",
+            "<br>client {}{} label {} for {}",
             waiter.client,
+            named(waiter.guest.certificate()),
             waiter.label,
             time(now.saturating_duration_since(waiter.since))
         );
@@ -137,15 +139,20 @@ pub fn more(text: &mut String, count: usize) {
     }
 }
 
-fn held(text: &mut String, holder: &Holder, now: Instant) {
+fn held(text: &mut String, holder: &Holder, certificate: Option<&CertificateName>, now: Instant) {
     if holder.client == NOBODY {
         text.push_str("<td class=\"before\">a client of before</td>");
     } else {
-        let _ = write!(text, "<td class=\"held\">client {}</td>", holder.client);
+        let _ = write!(text, "<td class=\"held\">client {}{}</td>", holder.client, named(certificate));
     }
     let label = holder.label.map(|label| label.to_string()).unwrap_or_default();
     let age = time(now.saturating_duration_since(holder.since));
     let _ = write!(text, "<td class=\"n\">{label}</td><td class=\"n\">{}</td><td class=\"n\">{age}</td>", holder.token);
+}
+
+/// Whose certificate it is, where one is known; it is written without what a page would need escapes for.
+fn named(certificate: Option<&CertificateName>) -> String {
+    certificate.map(|name| format!(" (cert:{name})")).unwrap_or_default()
 }
 
 fn time(time: Duration) -> String {
@@ -224,6 +231,7 @@ mod tests {
             }),
             journal: &JournalSize { bytes: 99, segments: 1, last: "0000000001.ring".into() },
             figures: &figures,
+            certificates: &[],
             started,
             now: started + Duration::from_secs(3),
         };

@@ -2,6 +2,7 @@
 
 use super::{InLog, View};
 use crate::board::{Any, Sight, Waits, WAITS};
+use crate::certificates::Watched;
 use crate::engine_version::EngineVersion;
 use crate::figures::Figures;
 use crate::log::{End, Of};
@@ -40,6 +41,7 @@ pub fn head(text: &mut String, view: &View<'_>) {
     server(text, view);
     process(text, view.figures);
     waits(text, view.board.all_waits());
+    certificates(text, view.certificates);
     view.in_log.iter().for_each(|it| log(text, it));
 }
 
@@ -71,6 +73,20 @@ fn process(text: &mut String, it: &Figures) {
     for (name, kind, help, value) in values {
         Family::new(text, name, kind, help).value(value);
     }
+}
+
+/// Of a file that cannot be read the time is 0, so that one rule of an alert is for both.
+fn certificates(text: &mut String, files: &[Watched]) {
+    let help = "When the first certificate in a file that is watched ends, since 1970; 0 if that is not known.";
+    let mut family = Family::new(text, "wozgirt_certificate_end_time_seconds", "gauge", help);
+    for file in files {
+        family.labelled("file", &label(&file.path().to_string_lossy()), file.ends().unwrap_or(0));
+    }
+}
+
+/// A text as the value of a label.
+fn label(text: &str) -> String {
+    text.replace('\\', "\\\\").replace('"', "\\\"").replace('\n', "\\n")
 }
 
 fn waits(text: &mut String, waits: &Waits) {
@@ -123,7 +139,7 @@ fn server(text: &mut String, view: &View<'_>) {
         text,
         "wozgirt_part_refusals_total",
         "counter",
-        "Refusals of one more, since a user or address has its part of this, or all have theirs.",
+        "Refusals of one more, since a user, address or certificate has its part of this, or all have theirs.",
     );
     for of in Of::ALL {
         parts.labelled("of", of.word(), view.sums.parts(of));

@@ -10,6 +10,7 @@ use telling::Telling;
 pub use visitor::{Next, Visitor};
 
 use crate::board::Board;
+use crate::certificates::Watched;
 use crate::engine_version::EngineVersion;
 use crate::figures::Figures;
 use crate::journal::JournalSize;
@@ -66,6 +67,8 @@ pub struct View<'a> {
     pub journal: &'a JournalSize,
     /// What the system says of the process.
     pub figures: &'a Figures,
+    /// The certificates that are watched.
+    pub certificates: &'a [Watched],
     /// When the server started.
     pub started: Instant,
     /// The time.

@@ -376,6 +376,6 @@ mod tests {
         assert_eq!((side.since, side.grace_until), (begun + SILENCE, Some(begun + 2 * SILENCE)));
         side.forget();
         assert_eq!((side.is_begun, side.grace_until, side.held_before.len()), (false, None, 0));
-        assert!(side.says_unkept); // that is no matter of one start
+        assert!(side.says_unkept); // that lasts beyond one start
     }
 }

@@ -1,8 +1,8 @@
-//! Who comes in: the sockets that are listened to, and the places for those who come.
+//! Arrivals: the sockets that are listened to, and the places for clients that come.
 
-use super::{Server, CLIENTS, CONNECTIONS, MOST_COMERS, NETWORK, OPERATORS, PAGE, TURNS};
+use super::{Server, CLIENTS, CONNECTIONS, MOST_COMERS, NETWORK, OPERATORS, PAGE, PROXIED, TURNS};
 use crate::accounts::Accounts;
-use crate::connection::{Connection, Door};
+use crate::connection::{Caller, Connection, Door, SHARE};
 use crate::doors::{open_tcp, UnixDoor};
 use crate::log::{Event, Log};
 use crate::places::Places;
@@ -13,6 +13,7 @@ use crate::CannotServe;
 use std::io;
 use std::net::{SocketAddr, TcpListener};
 use std::time::{Duration, Instant};
+use wozgirt_engine::Client;
 use wozgirt_system::{Interest, Poller};
 
 /// How long a door is shut when the system has no place for a connection.
@@ -28,6 +29,7 @@ fn door_of(key: u64) -> Option<Door> {
         CLIENTS => Some(Door::Clients),
         OPERATORS => Some(Door::Operators),
         NETWORK => Some(Door::Network),
+        PROXIED => Some(Door::Proxied),
         _ => None,
     }
 }
@@ -37,6 +39,7 @@ fn door_of(key: u64) -> Option<Door> {
 struct Doors {
     clients: Option<UnixDoor>,
     operators: Option<UnixDoor>,
+    proxied: Option<UnixDoor>,
     tcp: Option<TcpListener>,
     page: Option<TcpListener>,
 }
@@ -48,18 +51,27 @@ impl Doors {
         poller.add(&clients.listener, CLIENTS, Interest::READS)?;
         log.say(&Event::Listening { what: "clients", place: &settings.sockets.clients.path.display() });
         let mut doors = Doors { clients: Some(clients), ..Doors::default() };
-        if let Some(named) = &settings.sockets.operators {
+        let others = [
+            ("operators", &settings.sockets.operators, OPERATORS),
+            ("clients of a proxy", &settings.sockets.proxied, PROXIED),
+        ];
+        for (what, named, key) in others {
+            let Some(named) = named else { continue };
             let door = UnixDoor::open(named, &mut accounts)?;
-            poller.add(&door.listener, OPERATORS, Interest::READS)?;
-            log.say(&Event::Listening { what: "operators", place: &named.path.display() });
-            doors.operators = Some(door);
+            poller.add(&door.listener, key, Interest::READS)?;
+            log.say(&Event::Listening { what, place: &named.path.display() });
+            *(if key == OPERATORS { &mut doors.operators } else { &mut doors.proxied }) = Some(door);
         }
         for (what, address, key) in [("clients", settings.sockets.tcp, NETWORK), ("page", settings.sockets.page, PAGE)]
         {
             let Some(address) = address else { continue };
             let listener = open_tcp(address)?;
             poller.add(&listener, key, Interest::READS)?;
-            log.say(&Event::Listening { what, place: &listener.local_addr()? });
+            let place = listener.local_addr()?;
+            log.say(&Event::Listening { what, place: &place });
+            if key == NETWORK && !place.ip().is_loopback() {
+                log.say(&Event::ClientsUnknown { place: &place });
+            }
             *(if key == NETWORK { &mut doors.tcp } else { &mut doors.page }) = Some(listener);
         }
         Ok(doors)
@@ -73,6 +85,7 @@ impl Doors {
         match key {
             CLIENTS => unix(&self.clients),
             OPERATORS => unix(&self.operators),
+            PROXIED => unix(&self.proxied),
             _ => match if key == NETWORK { &self.tcp } else { &self.page } {
                 None => Ok(None),
                 Some(listener) => {
@@ -84,7 +97,7 @@ impl Doors {
 
     /// Has each of them waited for as `interest` says of its key.
     fn wait_for(&self, poller: &Poller, interest: impl Fn(u64) -> Interest) {
-        let unix = [(&self.clients, CLIENTS), (&self.operators, OPERATORS)];
+        let unix = [(&self.clients, CLIENTS), (&self.operators, OPERATORS), (&self.proxied, PROXIED)];
         for (door, key) in unix.into_iter().filter_map(|(door, key)| Some((door.as_ref()?, key))) {
             let _ = poller.change(&door.listener, key, interest(key)); // it was added, and is open
         }
@@ -133,13 +146,18 @@ impl Entrance {
         }
     }
 
+    /// A new connection.
+    pub(super) fn connection(&self, client: Client, caller: Caller, stream: Stream, now: Instant) -> Connection {
+        Connection::new(client, caller, stream, self.most_unread, now)
+    }
+
     /// Takes a place, if there is one for this guest.
-    fn take(&mut self, door: Door, guest: Guest) -> bool {
+    fn take(&mut self, door: Door, guest: &Guest) -> bool {
         self.places.take(door, guest)
     }
 
     /// Gives back a place that was taken.
-    pub(super) fn give_back(&mut self, door: Door, guest: Guest) {
+    pub(super) fn give_back(&mut self, door: Door, guest: &Guest) {
         self.places.give_back(door, guest);
     }
 
@@ -176,7 +194,7 @@ impl Entrance {
 
     /// Whether somebody may come in at this door now.
     fn is_open(&self, key: u64) -> bool {
-        let is_of_clients = matches!(door_of(key), Some(Door::Clients | Door::Network));
+        let is_of_clients = matches!(door_of(key), Some(Door::Clients | Door::Network | Door::Proxied));
         self.shut_until.is_none() && !(is_of_clients && self.keeps_out)
     }
 
@@ -187,7 +205,7 @@ impl Entrance {
 }
 
 impl Server {
-    pub(super) fn let_in(&mut self, key: u64) {
+    pub(super) fn let_in(&mut self, key: u64, buffer: &mut [u8; SHARE]) {
         let Some(door) = door_of(key) else { return };
         let until = Instant::now() + TURNS;
         for _ in 0..MOST_COMERS {
@@ -196,33 +214,37 @@ impl Server {
                 Ok(None) => return,
                 Err(fault) => return self.shut_doors(&fault),
             };
-            let caller = self.people.caller(door, &stream, from);
-            let client = self.desk.mode.next_client();
-            let mut connection = Connection::new(client, caller, stream, self.entrance.most_unread, self.desk.now);
-            connection.lease = self.desk.first_lease(door);
-            self.welcome(connection);
+            if door == Door::Proxied {
+                self.meet(stream, buffer);
+            } else {
+                let caller = self.people.caller(door, &stream, from);
+                let client = self.desk.mode.next_client();
+                let mut connection = self.entrance.connection(client, caller, stream, self.desk.now);
+                connection.lease = self.desk.first_lease(door);
+                self.welcome(connection);
+            }
             if Instant::now() >= until {
                 return;
             }
         }
     }
 
-    fn welcome(&mut self, mut connection: Connection) {
-        let (door, guest) = (connection.caller.door, connection.caller.guest);
-        if self.stopping.is_some() || !self.entrance.take(door, guest) {
+    pub(super) fn welcome(&mut self, mut connection: Connection) {
+        let (door, guest) = (connection.caller.door, connection.caller.guest.clone());
+        if self.stopping.is_some() || !self.entrance.take(door, &guest) {
             connection.tell("refused connections");
             let _ = connection.write(self.desk.now); // it gets that if it takes it at once
             self.desk.sums.turned_away += 1;
-            self.desk.log.say_of(guest, self.desk.now, &Event::TooMany { who: &connection.caller.who });
+            self.desk.log.say_of(&guest, self.desk.now, &Event::TooMany { who: &connection.caller.who });
             return;
         }
         let client = connection.client;
         connection.asking.tag = self.desk.questions.turns.newcomer();
         if self.poller.add(connection.stream(), CONNECTIONS + client, Interest::READS).is_err() {
-            return self.entrance.give_back(door, guest); // no memory: the connection is closed
+            return self.entrance.give_back(door, &guest); // no memory: the connection is closed
         }
         self.desk.sums.connections += 1;
-        if self.desk.settings.logs_connections {
+        if self.desk.settings.logs_connections && !connection.caller.is_proxy() {
             self.desk.log.say(&Event::Came { client, who: &connection.caller.who });
         }
         self.talks.insert(connection);
@@ -246,32 +268,34 @@ mod tests {
         Entrance { doors, places, most_unread: 1, shut_until: None, keeps_out: false }
     }
 
-    fn open(entrance: &Entrance) -> [bool; 4] {
-        [CLIENTS, OPERATORS, NETWORK, PAGE].map(|key| entrance.is_open(key))
+    fn open(entrance: &Entrance) -> [bool; 5] {
+        [CLIENTS, OPERATORS, NETWORK, PROXIED, PAGE].map(|key| entrance.is_open(key))
     }
 
     #[test]
     fn without_a_place_of_the_system_all_doors_are_shut_for_a_while() {
         let (mut entrance, poller, now) = (entrance(), Poller::new().unwrap(), Instant::now());
-        assert_eq!((open(&entrance), entrance.opens()), ([true; 4], None));
+        assert_eq!((open(&entrance), entrance.opens()), ([true; 5], None));
         entrance.shut(&poller, now);
         entrance.open_again(&poller, now + SHUT / 2);
-        assert_eq!((open(&entrance), entrance.opens()), ([false; 4], Some(now + SHUT)));
+        assert_eq!((open(&entrance), entrance.opens()), ([false; 5], Some(now + SHUT)));
         entrance.open_again(&poller, now + SHUT);
-        assert_eq!((open(&entrance), entrance.opens()), ([true; 4], None));
+        assert_eq!((open(&entrance), entrance.opens()), ([true; 5], None));
     }
 
     #[test]
     fn operators_and_visitors_come_in_when_clients_are_kept_out() {
         let (mut entrance, poller) = (entrance(), Poller::new().unwrap());
         entrance.keep_out(true, &poller);
-        assert_eq!((open(&entrance), entrance.keeps_out()), ([false, true, false, true], true));
+        assert_eq!((open(&entrance), entrance.keeps_out()), ([false, true, false, false, true], true));
         entrance.keep_out(false, &poller);
-        assert_eq!(open(&entrance), [true; 4]);
+        assert_eq!(open(&entrance), [true; 5]);
     }
 
     #[test]
     fn each_door_has_a_key() {
-        assert!([CLIENTS, OPERATORS, NETWORK].into_iter().all(is_door) && !is_door(PAGE) && !is_door(CONNECTIONS));
+        assert!(
+            [CLIENTS, OPERATORS, NETWORK, PROXIED].into_iter().all(is_door) && !is_door(PAGE) && !is_door(CONNECTIONS)
+        );
     }
 }

@@ -2,11 +2,11 @@
 //!
 //! | Module | Subject |
 //! |---|---|
-//! | `entrance` | who comes in |
-//! | `people` | who is who |
+//! | `entrance`, `porch` | clients that come in, and those of a proxy whose header is not whole |
+//! | `people` | identities: which user, address or certificate a client is |
 //! | `talks`, `operators` | what is asked, and what operators have done |
-//! | `leases` | who is silent, or deaf |
-//! | `shows` | what visitors of the page are told |
+//! | `leases` | clients that are silent, or deaf |
+//! | `shows` | what visitors of the page see |
 //! | `engine_side`, `session_side` | the engine of a server, and the sessions of a single one |
 //! | `cluster_side`, `log_side`, `checkpoints` | the engine of one of several, their log, and where it begins |
 
@@ -19,6 +19,7 @@ mod log_side;
 mod opening;
 mod operators;
 mod people;
+mod porch;
 mod session_side;
 mod shows;
 mod talks;
@@ -27,6 +28,7 @@ pub use opening::CannotServe;
 
 use crate::awake::{Awake, For};
 use crate::board::Board;
+use crate::certificates::Certificates;
 use crate::cluster::Cluster;
 use crate::connection::SHARE;
 use crate::desk::{Desk, Parts};
@@ -44,6 +46,7 @@ use entrance::{is_door, Entrance};
 use leases::Leases;
 use opening::{check_files, check_list, make_journal, open_sessions, read_names};
 use people::People;
+use porch::Porch;
 use shows::Shows;
 use std::io;
 use std::rc::Rc;
@@ -51,7 +54,7 @@ use std::time::{Duration, Instant};
 use talks::Talks;
 use wozgirt_system::{Event as Ready, Interest, Poller, Signal, Signals};
 
-/// Keys of the poller: what is there once, then connections, then visitors.
+/// Keys of the poller: what is there once, then connections, those who have not said who they are, and visitors.
 const SIGNALS: u64 = 0;
 const ENGINE: u64 = 1;
 const ENGINE_INPUT: u64 = 6;
@@ -62,7 +65,9 @@ const CLIENTS: u64 = 2;
 const OPERATORS: u64 = 3;
 const NETWORK: u64 = 4;
 const PAGE: u64 = 5;
+const PROXIED: u64 = 10;
 const CONNECTIONS: u64 = 16;
+const PORCH: u64 = 1 << 62;
 const VISITORS: u64 = 1 << 63;
 
 /// How many come in at one door in one round.
@@ -80,19 +85,25 @@ const LONGEST_TURN: Duration = Duration::from_micros(500);
 /// How often is looked whether the system has answered about names.
 const LOOK_FOR_ACCOUNTS: Duration = Duration::from_millis(10);
 
+/// What the system has the server do, and hears of it.
+struct Manager {
+    signals: Signals,
+    notify: Notify,
+}
+
 /// The server.
 pub struct Server {
     desk: Desk,
     poller: Poller,
     awake: Awake,
-    signals: Signals,
     entrance: Entrance,
+    porch: Porch,
     people: People,
     talks: Talks,
     leases: Leases,
     shows: Shows,
     engine: EngineSide,
-    notify: Notify,
+    manager: Manager,
     /// Until when an end in good order has to be done.
     stopping: Option<Instant>,
 }
@@ -131,6 +142,7 @@ impl Server {
             None => Mode::Alone(open_sessions(&settings)?),
         };
         let engine_side = EngineSide::start(&settings, now)?;
+        let certificates = Certificates::watch(&settings.certificates)?;
         let (questions, sums, parts, is_full) = (Questions::new(now), Sums::default(), Parts::default(), false);
         rules.unknown().iter().for_each(|who| log.say(&Event::RulesUnknown { who }));
         let desk = Desk { settings, rules, engine, questions, is_full, board, sums, parts, log, mode, now };
@@ -138,14 +150,14 @@ impl Server {
             desk,
             poller,
             awake: Awake::new(),
-            signals,
             entrance,
+            porch: Porch::default(),
             people,
             talks: Talks::default(),
             leases: Leases::new(now),
-            shows: Shows::new(engine_version, now),
+            shows: Shows::new(engine_version, certificates, now),
             engine: engine_side,
-            notify: Notify::from_environment(now),
+            manager: Manager { signals, notify: Notify::from_environment(now) },
             stopping: None,
         })
     }
@@ -168,7 +180,7 @@ impl Server {
             self.take_turns();
             if !comers.is_empty() || self.talks.has_backlog() {
                 self.write_all(&mut buffer)?; // nobody waits for those who come, or who say much
-                comers.into_iter().for_each(|event| self.let_in(event.key));
+                comers.into_iter().for_each(|event| self.let_in(event.key, &mut buffer));
                 self.take_backlog();
             }
             self.pass_time(is_all.then_some(before), &mut buffer)?;
@@ -195,7 +207,7 @@ impl Server {
     fn happened(&mut self, event: &Ready, buffer: &mut [u8; SHARE]) -> Result<(), CannotServe> {
         match event.key {
             SIGNALS => {
-                while let Some(signal) = self.signals.next_signal() {
+                while let Some(signal) = self.manager.signals.next_signal() {
                     self.hear(signal);
                 }
             }
@@ -205,6 +217,7 @@ impl Server {
             ENGINE_INPUT | LOG_INPUT => {} // what they take is written at the end of each round
             PAGE => self.let_visitors_in(),
             key if key >= VISITORS => self.visit(key),
+            key if key >= PORCH => self.hear_more(key, buffer),
             key => self.read(key - CONNECTIONS, event, buffer),
         }
         Ok(())
@@ -249,9 +262,9 @@ impl Server {
         self.entrance.open_again(&self.poller, now);
         self.watch_engine(seen);
         if self.is_engine_ready() {
-            self.notify.note_ready();
+            self.manager.notify.note_ready();
         }
-        self.notify.note_round(now);
+        self.manager.notify.note_round(now);
         if let Some(seen) = seen.filter(|_| self.leases.is_due(now)) {
             self.sweep(seen, buffer);
         }
@@ -259,13 +272,15 @@ impl Server {
         Ok(())
     }
 
-    /// What is looked at from time to time, besides connections.
+    /// What is looked at from time to time, after the connections.
     fn sweep_rest(&mut self, now: Instant) {
         self.log_removals();
+        self.log_certificates();
         self.take_rules();
         if self.people.is_asking() {
             self.leases.look_at(now + LOOK_FOR_ACCOUNTS);
         }
+        self.sweep_porch();
         self.sweep_cluster();
         if self.is_engine_ready() {
             self.desk.end_absent_sessions();
@@ -287,9 +302,10 @@ impl Server {
             return;
         }
         self.desk.log.say(&Event::Stopping { why });
-        self.notify.note_stopping();
+        self.manager.notify.note_stopping();
         self.stopping = Some(self.desk.now + LONGEST_STOP);
         self.entrance.close();
+        self.porch.clear();
         self.talks.touch_all();
         if !self.desk.engine.is_running() && self.desk.mode.in_log().is_none() {
             self.part_all(End::Stop);

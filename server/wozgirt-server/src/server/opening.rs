@@ -1,5 +1,6 @@
 //! What is read and checked before the server serves.
 
+use super::porch::MOST_ARRIVALS;
 use super::shows::MOST_VISITORS;
 use super::OTHER_FILES;
 use crate::accounts::Accounts;
@@ -301,7 +302,8 @@ pub(super) fn open_sessions(settings: &Settings) -> Result<Alone, CannotServe> {
 
 /// The system's limit of open files, which the server raises to the hard limit at its start.
 pub(super) fn check_files(settings: &Settings) -> Result<(), CannotServe> {
-    let needed = (Places::count(settings) + MOST_VISITORS + OTHER_FILES) as u64;
+    let arrivals = if settings.sockets.proxied.is_some() { MOST_ARRIVALS } else { 0 };
+    let needed = (Places::count(settings) + MOST_VISITORS + arrivals + OTHER_FILES) as u64;
     let limit = permit_files(needed)?;
     if limit < needed {
         return Err(CannotServe::Files { limit, needed });

@@ -1,4 +1,4 @@
-//! What operators have done: who is there, who has to go, which hold ends.
+//! What operators have done: the list of clients, one that has to go, a hold that ends.
 
 use super::Server;
 use crate::connection::Connection;
@@ -36,7 +36,7 @@ impl Server {
             put_client(&mut text, self.desk.mode.number(it), lease, &holds, waits.as_ref(), &it.caller.who);
         }
         for it in away {
-            let who = format!("away, {}", self.people.name(it.guest));
+            let who = format!("away, {}", self.people.name(&it.guest));
             put_client(&mut text, it.number, it.left.as_millis(), &it.holds, it.waits.as_ref(), &who);
         }
         text

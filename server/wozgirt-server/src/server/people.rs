@@ -1,11 +1,12 @@
-//! Who is who: what the system knows of those who come, and of those that the rules name.
+//! Identities: what the system, or a proxy, knows of clients that come, and of those that the rules name.
 
 use super::opening::{read_file, read_rules};
 use super::Server;
 use crate::accounts::{Accounts, UserNames};
 use crate::board::Board;
 use crate::cluster::Who;
-use crate::connection::{Caller, Door};
+use crate::connection::{Caller, Door, Known};
+use crate::header::Header;
 use crate::log::Event;
 use crate::rules::Rules;
 use crate::settings::Settings;
@@ -32,27 +33,47 @@ impl People {
         Ok(People { accounts: Accounts::default(), names: UserNames::start()?, aside: None })
     }
 
-    /// Who has come in at this door, from this address if it is not a Unix socket.
+    /// The client that has come in at this door, from this address if it is not a Unix socket.
     pub(super) fn caller(&mut self, door: Door, stream: &Stream, from: Option<SocketAddr>) -> Caller {
         if let Some(from) = from {
             let (identity, guest) = (Who::at(from.ip()), Guest::at(from.ip()));
-            return Caller { door, peer: None, identity, guest, who: from.to_string() };
+            return Caller { door, known: Known::Nobody, identity, guest, who: from.to_string() };
         }
         let Ok(peer) = peer_of(stream) else {
             let (identity, guest) = (Who::Unknown, Guest::UNKNOWN);
-            return Caller { door, peer: None, identity, guest, who: "nobody knows who".into() };
+            return Caller { door, known: Known::Nobody, identity, guest, who: "nobody knows who".into() };
         };
         let who = format!("{}, process {}", self.names.name(peer.user), peer.process);
         let (identity, guest) = (Who::User(peer.user), Guest::User(Some(peer.user)));
-        Caller { door, peer: Some(peer), identity, guest, who }
+        Caller { door, known: Known::Process(peer), identity, guest, who }
     }
 
-    /// Who it is on whose account a session is whose client is away.
-    pub(super) fn name(&mut self, guest: Guest) -> String {
+    /// The client that this header is about, or the proxy itself.
+    pub(super) fn caller_of_proxy(&mut self, stream: &Stream, header: Header) -> Caller {
+        let door = Door::Proxied;
+        match header {
+            Header::Local => self.caller(door, stream, None),
+            Header::Client { address, name: Some(name) } => {
+                let from = address.map_or("from somewhere".into(), |address| address.to_string());
+                let who = format!("cert:{name}, {from}");
+                let (identity, guest) = (Who::Certificate(name.clone()), Guest::Certificate(name.clone()));
+                Caller { door, known: Known::Certificate(name), identity, guest, who }
+            }
+            Header::Client { address: Some(address), name: None } => self.caller(door, stream, Some(address)),
+            Header::Client { address: None, name: None } => {
+                let (identity, guest) = (Who::Unknown, Guest::UNKNOWN);
+                Caller { door, known: Known::Nobody, identity, guest, who: "nobody knows who".into() }
+            }
+        }
+    }
+
+    /// The name of a client that is away, by the account on which its session is.
+    pub(super) fn name(&mut self, guest: &Guest) -> String {
         match guest {
-            Guest::User(Some(user)) => self.names.name(user),
+            Guest::User(Some(user)) => self.names.name(*user),
             Guest::User(None) => "nobody knows who".into(),
             Guest::Address(address) => address.to_string(),
+            Guest::Certificate(name) => format!("cert:{name}"),
         }
     }
 
@@ -112,6 +133,7 @@ impl Server {
 #[cfg(test)]
 mod tests {
     use super::*;
+    use crate::certificate_name::CertificateName;
     use std::os::unix::net::UnixStream;
     use std::time::{Duration, Instant};
 
@@ -121,20 +143,47 @@ mod tests {
         let (one, _other) = UnixStream::pair().unwrap();
         let stream = Stream::unix(one).unwrap();
         let here = people.caller(Door::Operators, &stream, None);
-        let peer = here.peer.clone().unwrap();
-        assert_eq!((here.identity, here.guest), (Who::User(peer.user), Guest::User(Some(peer.user))));
+        let Known::Process(peer) = &here.known else { panic!() };
+        assert_eq!((&here.identity, &here.guest), (&Who::User(peer.user), &Guest::User(Some(peer.user))));
         assert!(here.who.ends_with(&format!(", process {}", std::process::id())) && here.is_operator());
         let far = people.caller(Door::Network, &stream, Some("127.0.0.9:70".parse().unwrap()));
         let address = "127.0.0.9".parse().unwrap();
         assert_eq!((far.identity, far.guest), (Who::Address(address), Guest::at(address)));
-        assert_eq!((far.who.as_str(), far.peer.is_some(), far.is_operator()), ("127.0.0.9:70", false, false));
+        assert_eq!((far.who.as_str(), far.known, far.door), ("127.0.0.9:70", Known::Nobody, Door::Network));
+    }
+
+    #[test]
+    fn who_comes_by_a_proxy() {
+        let mut people = People::start().unwrap();
+        let (one, _other) = UnixStream::pair().unwrap();
+        let stream = Stream::unix(one).unwrap();
+        let (address, name) = ("10.0.0.7:70".parse().unwrap(), CertificateName::new(b"a b").unwrap());
+        let named = Header::Client { address: Some(address), name: Some(name.clone()) };
+        let it = people.caller_of_proxy(&stream, named);
+        assert_eq!((it.identity, it.guest), (Who::Certificate(name.clone()), Guest::Certificate(name.clone())));
+        assert_eq!(
+            (it.who.as_str(), it.known, it.door),
+            ("cert:a%20b, 10.0.0.7:70", Known::Certificate(name), Door::Proxied)
+        );
+        let it = people.caller_of_proxy(&stream, Header::Client { address: Some(address), name: None });
+        assert_eq!((&it.identity, &it.guest), (&Who::at(address.ip()), &Guest::at(address.ip())));
+        assert_eq!((it.who.as_str(), &it.known, it.is_proxy()), ("10.0.0.7:70", &Known::Nobody, false));
+        let it = people.caller_of_proxy(&stream, Header::Client { address: None, name: None });
+        assert_eq!((it.identity, it.guest, it.known), (Who::Unknown, Guest::UNKNOWN, Known::Nobody));
+        let it = people.caller_of_proxy(&stream, Header::Local);
+        assert!(it.is_proxy() && matches!(it.identity, Who::User(_)) && it.who.contains(", process "));
     }
 
     #[test]
     fn who_is_away() {
         let mut people = People::start().unwrap();
-        let names = [Guest::User(Some(4_000_000_000)), Guest::UNKNOWN, Guest::Address([10, 0, 0, 1].into())];
-        assert_eq!(names.map(|guest| people.name(guest)), ["4000000000", "nobody knows who", "10.0.0.1"]);
+        let name = CertificateName::new("René".as_bytes()).unwrap();
+        let address = Guest::Address([10, 0, 0, 1].into());
+        let names = [Guest::User(Some(4_000_000_000)), Guest::UNKNOWN, address, Guest::Certificate(name)];
+        assert_eq!(
+            names.map(|guest| people.name(&guest)),
+            ["4000000000", "nobody knows who", "10.0.0.1", "cert:Ren%C3%A9"]
+        );
     }
 
     #[test]

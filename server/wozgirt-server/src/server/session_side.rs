@@ -138,7 +138,7 @@ impl Server {
         if let Mode::Alone(alone) = &mut self.desk.mode {
             if alone.start == Start::Serving {
                 for (session, lock, token) in alone.holds() {
-                    let guest = alone.session(session).map_or(Guest::UNKNOWN, |it| it.guest);
+                    let guest = alone.session(session).map_or(Guest::UNKNOWN, |it| it.guest.clone());
                     self.desk.board.holds(lock, (session, guest), token, now);
                 }
                 for line in alone.lines() {

@@ -1,9 +1,11 @@
-//! What is told: to visitors of the page, of what the server is and does.
+//! What visitors of the page see of what the server is and does.
 
 use super::{Server, PAGE, SHORTEST_TURN, VISITORS};
+use crate::certificates::{Certificates, News};
 use crate::engine_version::EngineVersion;
 use crate::figures::Figures;
 use crate::journal::Journal;
+use crate::log::Event;
 use crate::pages::{EngineView, Next, View, Visitor};
 use crate::stream::Stream;
 use std::collections::HashMap;
@@ -20,14 +22,15 @@ pub(super) struct Shows {
     journal: Journal,
     figures: Figures,
     engine_version: EngineVersion,
+    certificates: Certificates,
     started: Instant,
 }
 
 impl Shows {
     /// Nobody visits.
-    pub(super) fn new(engine_version: EngineVersion, now: Instant) -> Shows {
+    pub(super) fn new(engine_version: EngineVersion, certificates: Certificates, now: Instant) -> Shows {
         let (journal, figures) = (Journal::new(now), Figures::new());
-        Shows { visitors: HashMap::new(), last: 0, journal, figures, engine_version, started: now }
+        Shows { visitors: HashMap::new(), last: 0, journal, figures, engine_version, certificates, started: now }
     }
 
     /// A visitor has come: its key, and by when it has to be gone.
@@ -86,6 +89,17 @@ impl Server {
         }
     }
 
+    /// Puts into the log which certificates end soon.
+    pub(super) fn log_certificates(&mut self) {
+        for (path, news) in self.shows.certificates.news(self.desk.now) {
+            let file = &path.display();
+            match news {
+                News::Ends(left) => self.desk.log.say(&Event::CertificateEnds { file, left }),
+                News::Unread(why) => self.desk.log.say(&Event::CertificateUnread { file, why: &why }),
+            }
+        }
+    }
+
     fn view(&self) -> View<'_> {
         View {
             board: &self.desk.board,
@@ -96,6 +110,7 @@ impl Server {
             in_log: self.desk.mode.view(),
             journal: self.shows.journal.size(),
             figures: &self.shows.figures,
+            certificates: self.shows.certificates.files(),
             started: self.shows.started,
             now: self.desk.now,
         }
@@ -127,7 +142,7 @@ mod tests {
     #[test]
     fn there_are_no_more_visitors_than_that_and_none_stays() {
         let (begun, poller) = (Instant::now(), Poller::new().unwrap());
-        let mut shows = Shows::new(EngineVersion::of("/nonexistent"), begun);
+        let mut shows = Shows::new(EngineVersion::of("/nonexistent"), Certificates::watch(&[]).unwrap(), begun);
         let mut others = Vec::new();
         let mut come = |shows: &mut Shows, after: u64| {
             let (come, other) = come(shows, &poller, begun + Duration::from_millis(after));

@@ -268,7 +268,7 @@ impl Server {
 
     pub(super) fn part(&mut self, client: Client, end: End) {
         if let Some(mut connection) = self.talks.remove(client) {
-            self.entrance.give_back(connection.caller.door, connection.caller.guest);
+            self.entrance.give_back(connection.caller.door, &connection.caller.guest);
             for (operator, lock, token) in connection.ended() {
                 // it leaves all
                 self.tell_ended(operator, client, &lock, token, &Answer::Released { lock: &lock });

@@ -18,6 +18,7 @@ pub(super) struct Reading {
     sockets: ReadingSockets,
     rules: Option<PathBuf>,
     limits: ReadingLimits,
+    certificates: Vec<PathBuf>,
     logs_connections: bool,
     cluster: ReadingOverEtcd,
 }
@@ -45,6 +46,7 @@ struct ReadingNamed {
 struct ReadingSockets {
     clients: ReadingNamed,
     operators: ReadingNamed,
+    proxied: ReadingNamed,
     tcp: Option<SocketAddr>,
     page: Option<SocketAddr>,
     listens_anywhere: bool,
@@ -84,6 +86,9 @@ impl Reading {
             Name::Operators => sockets.operators.path = Some(value.into()),
             Name::OperatorsMode => sockets.operators.mode = Some(mode(value)?),
             Name::OperatorsGroup => sockets.operators.group = Some(value.into()),
+            Name::Proxied => sockets.proxied.path = Some(value.into()),
+            Name::ProxiedMode => sockets.proxied.mode = Some(mode(value)?),
+            Name::ProxiedGroup => sockets.proxied.group = Some(value.into()),
             Name::Tcp => sockets.tcp = Some(value.parse().ok()?),
             Name::Page => sockets.page = Some(value.parse().ok()?),
             Name::ListenAnywhere => sockets.listens_anywhere = true,
@@ -96,6 +101,7 @@ impl Reading {
             Name::Waiters => limits.waiters = Some(value.parse().ok()?),
             Name::MostHolds => limits.most_holds = Some(count(value)?),
             Name::Deaf => limits.deaf = Some(some_seconds(value)?),
+            Name::WatchCertificate => self.certificates.push(value.into()),
             Name::LogConnections => self.logs_connections = true,
             Name::OverEtcd(name) => self.cluster.put(name, value)?,
         }
@@ -126,6 +132,7 @@ impl Reading {
             sockets,
             rules: self.rules,
             limits,
+            certificates: self.certificates,
             logs_connections: self.logs_connections,
             cluster,
         })
@@ -166,6 +173,7 @@ impl ReadingSockets {
         Ok(Sockets {
             clients: self.clients.at(clients),
             operators: operators.map(|path| self.operators.at(path)),
+            proxied: self.proxied.path.clone().map(|path| self.proxied.at(path)),
             tcp: self.tcp,
             page: self.page,
         })
