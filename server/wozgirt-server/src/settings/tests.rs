@@ -37,7 +37,8 @@ fn words_that_are_no_text() {
 fn all_words() {
     let settings = read(
         "--engine e --journal j --locks a,b:3 --segment 9 --no-sync --faults --engine-patience 3 --socket s --mode 660 --group g \
-         --operators o --operators-mode 640 --operators-group h --tcp 127.0.0.1:1 --page [::1]:2 --rules r \
+         --operators o --operators-mode 640 --operators-group h --proxied x --proxied-mode 640 --proxied-group i --watch-certificate c \
+         --watch-certificate d --tcp 127.0.0.1:1 --page [::1]:2 --rules r \
          --longest-lease 0.5 --lease-for-all --grace 2 --connections 7 --memory 64 --waiters 8 --most-holds 6 --deaf 9 \
          --log-connections --no-sessions --session-bytes 5",
     )
@@ -49,6 +50,8 @@ fn all_words() {
     assert_eq!(settings.engine_words(), words);
     assert_eq!(settings.sockets.clients, Named { path: "s".into(), mode: 0o660, group: Some("g".into()) });
     assert_eq!(settings.sockets.operators, Some(Named { path: "o".into(), mode: 0o640, group: Some("h".into()) }));
+    assert_eq!(settings.sockets.proxied, Some(Named { path: "x".into(), mode: 0o640, group: Some("i".into()) }));
+    assert_eq!((few.sockets.proxied, settings.certificates), (None, vec!["c".into(), "d".into()]));
     assert_eq!(settings.sockets.tcp, Some("127.0.0.1:1".parse().unwrap()));
     assert_eq!(settings.sockets.page, Some("[::1]:2".parse().unwrap()));
     assert_eq!(
