@@ -20,9 +20,9 @@ class Authority:
         self.folder, self.path, self.key = folder, os.path.join(folder, f"{name}.pem"), os.path.join(folder, f"{name}.key")
         run("req", "-x509", *KIND, "-subj", f"/CN={name}", "-out", self.path, "-keyout", self.key, "-days", "2")
 
-    def of_server(self, name="server", hosts="IP:127.0.0.1", days=1):
+    def of_server(self, name="server", hosts="IP:127.0.0.1", days=1, usage="serverAuth"):
         """A certificate and its key in one file, as HAProxy wants it; with less than 1 for `days` it is over."""
-        return self._signed(name, name, days, f"subjectAltName={hosts}", "extendedKeyUsage=serverAuth")
+        return self._signed(name, name, days, f"subjectAltName={hosts}", f"extendedKeyUsage={usage}")
 
     def of_client(self, name, file=None):
         """A certificate with this name, and its key in the same file."""

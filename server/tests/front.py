@@ -26,9 +26,12 @@ def words_of(unit, order="ExecStart"):
 
 
 class Proxy:
-    """HAProxy with a configuration of release/tls, or a text that was made of it; a context manager that ends it."""
+    """HAProxy with a configuration of release/tls, or a text that was made of it; a context manager that ends it. `before` are words
+    that have it run in another place."""
 
-    def __init__(self, folder, unit, text=None, before=(), **variables):
+    before = []
+
+    def __init__(self, folder, unit, text=None, **variables):
         self.unit, self.log = unit, os.path.join(folder, f"{unit}.log")
         (start,) = words_of(unit)
         self.path = os.path.join(PARTS, os.path.basename(start[-1]))
@@ -38,7 +41,7 @@ class Proxy:
                 file.write(text)
         self.variables = dict(os.environ, **variables)
         with open(self.log, "wb") as log:
-            self.process = subprocess.Popen([*before, *self.words(start)], env=self.variables, stdout=log, stderr=log, start_new_session=True)
+            self.process = subprocess.Popen([*self.before, *self.words(start)], env=self.variables, stdout=log, stderr=log, start_new_session=True)
 
     def words(self, words):
         """The unit's words, here."""
@@ -87,24 +90,17 @@ class Proxy:
 class Front(Proxy):
     """Clients reach it by `place`."""
 
-    def __init__(self, folder, server, certificate, authority, port, text=None):
-        super().__init__(folder, "wozgirt-tls.service", text, WOZGIRT_TLS_LISTEN=f"127.0.0.1:{port}", WOZGIRT_TLS_CERT=certificate,
-                         WOZGIRT_TLS_CA=authority, WOZGIRT_TLS_SERVER=server)
-        self.port, self.place = port, f"tls:127.0.0.1:{port}"
-        self.wait_for(self._listens)
-
-    def _listens(self):
-        with contextlib.suppress(OSError):
-            socket.create_connection(("127.0.0.1", self.port), 5).close()
-            return True
-        return False
+    def __init__(self, folder, port, text=None, host="127.0.0.1", **variables):
+        super().__init__(folder, "wozgirt-tls.service", text, WOZGIRT_TLS_LISTEN=f"{host}:{port}", **variables)
+        self.port, self.place = port, f"tls:{host}:{port}"
+        self.wait_for(lambda: "Loading success" in self.text_of_log())
 
 
 class Tunnel(Proxy):
     """Clients reach it by its `socket`."""
 
-    def __init__(self, folder, host, port, certificate, authority):
+    def __init__(self, folder, host, port, text=None, **variables):
         self.socket = os.path.join(folder, "tunnel.sock")
-        super().__init__(folder, "wozgirt-tunnel@.service", WOZGIRT_TUNNEL_HOST=host, WOZGIRT_TUNNEL_PORT=str(port),
-                         WOZGIRT_TUNNEL_SOCKET=self.socket, WOZGIRT_TUNNEL_CERT=certificate, WOZGIRT_TUNNEL_CA=authority)
+        super().__init__(folder, "wozgirt-tunnel@.service", text, WOZGIRT_TUNNEL_HOST=host, WOZGIRT_TUNNEL_PORT=str(port),
+                         WOZGIRT_TUNNEL_SOCKET=self.socket, **variables)
         self.wait_for(lambda: os.path.exists(self.socket))

@@ -13,7 +13,9 @@ import sys
 import tempfile
 import unittest
 
-from harness import FOLDER, PATIENCE, SERVER, TOP, Server, needs_programs, say
+from certificates import needs_openssl
+from front import Front, Tunnel, needs_haproxy, text_of
+from harness import (COMMAND, FOLDER, PATIENCE, SERVER, TOP, Server, a_port, engine_of_any_name, needs_programs, say)
 
 sys.path.insert(0, os.path.join(TOP, "tools"))
 
@@ -21,13 +23,16 @@ from page import Page  # noqa: E402
 
 JOURNAL = "/var/lib/wozgirt/journal"
 #: what the commands of the system are in a test
-STUBS = {"systemctl": "", "chown": "", "install": 'for last; do :; done; mkdir -m 700 "$last"', "scp": 'for it in "${@:1:$#-1}"; do cp ${it/h2:/$OTHER} "${!#}"; done'}
+STUBS = {"systemctl": 'echo "$*" >>systemctl', "chown": "", "apt-get": "", "usermod": "",
+         "install": 'a=("$@"); for i in "${!a[@]}"; do case ${a[i]} in -o | -g) unset "a[i]" "a[i+1]" ;; esac; done; /usr/bin/install "${a[@]}"',
+         "scp": 'for it in "${@:1:$#-1}"; do cp ${it/h2:/$OTHER} "${!#}"; done'}
 
 
 #: those that are played here: each by its section and words of it
 PLAYED = [("## The journal", "xargs"), ("### Replace a host", "scp"), ("### etcd was lost or restored", "install"), ("### Certificates", "openssl"),
           ("## Four questions", "journalctl"), ("## Four questions", "curl"), ("## What to watch", "scrape_configs:"),
-          ("### etcd and the server", "WOZGIRT_OPTIONS="), ("### etcd and the server", "ETCD_NAME="), ("## Who may connect", "lock deploy:")]
+          ("### etcd and the server", "WOZGIRT_OPTIONS="), ("### etcd and the server", "ETCD_NAME="), ("## Who may connect", "lock deploy:"),
+          *(("### Clients over TLS", words) for words in ("openssl", "--proxied", "Tls(", "client.pem", "WOZGIRT_SOCKET"))]
 #: those that another test plays, though no mark says so
 ELSEWHERE = {"./build\n": "the first page's test", "i=0\n": "server/tests/cluster/page.py", "from wozgirt import Lock": "test_documents.InPython"}
 
@@ -52,15 +57,20 @@ class Blocks(unittest.TestCase):
         self.addCleanup(shutil.rmtree, self.folder)
 
     def paste(self, text):
-        """Pastes a block; `# ` before a command is the prompt of root."""
+        """Pastes a block, and returns what it prints; `# ` before a command is the prompt of root."""
         for name, does in STUBS.items():
             write(f"{self.folder}/bin/{name}", f"#!/bin/bash\n{does}\n")
             os.chmod(f"{self.folder}/bin/{name}", 0o700)
-        text = re.sub(r"(?<!h2:)(?=/(?:var/lib|srv)/)", self.folder, re.sub(r"^# ", "", text, flags=re.M))
+        text = self.here(re.sub(r"^[#$] ", "", text, flags=re.M))
         env = dict(os.environ, PATH=f"{self.folder}/bin:{os.environ['PATH']}", OTHER=f"{self.folder}/other")
         done = subprocess.run(["bash", "--norc", "-e"], input=text, cwd=self.folder, env=env, capture_output=True, text=True, timeout=PATIENCE,
                               check=False)
         self.assertEqual(done.returncode, 0, done.stderr)
+        return done.stdout
+
+    def here(self, text):
+        """The text with the system's folders below that of the test."""
+        return re.sub(r"(?<!h2:)(?=/(?:var/lib|srv|etc|run)/)", self.folder, text)
 
     def names(self, folder):
         return sorted(os.path.relpath(it, self.folder + folder) for it in glob.glob(f"{self.folder}{folder}/**", recursive=True) if os.path.isfile(it))
@@ -83,7 +93,7 @@ class Blocks(unittest.TestCase):
         self.assertEqual(self.names(JOURNAL), sorted(set(parts) - {"PLACE", "holders"}))
         self.assertEqual(self.names(JOURNAL + ".before"), ["PLACE"])
 
-    @unittest.skipUnless(shutil.which("openssl"), "openssl is not installed")
+    @needs_openssl
     def test_certificates(self):
         self.paste(block("### Certificates", "openssl"))
         for words in (["verify", "-CAfile", "ca.pem", "10.0.0.1.pem"], ["x509", "-in", "10.0.0.1.pem", "-noout", "-checkip", "10.0.0.1"]):
@@ -93,7 +103,7 @@ class Blocks(unittest.TestCase):
                               check=True).stdout
         self.assertRegex(text, r"Basic Constraints: critical\n\s*CA:FALSE")
 
-    @unittest.skipUnless(shutil.which("openssl"), "openssl is not installed")
+    @needs_openssl
     def test_a_host_signs_for_no_other(self):
         """A certificate that is made with a host's key, for another address, is refused by who trusts the one that signs."""
         made = block("### Certificates", "openssl")
@@ -106,6 +116,71 @@ class Blocks(unittest.TestCase):
                               capture_output=True, text=True, check=False)
         self.assertNotEqual(done.returncode, 0)
         self.assertIn("invalid CA certificate", done.stderr)
+
+    def certificates_of_locks(self):
+        """Those of the page, for the host that is here."""
+        made = block("### Clients over TLS", "openssl").replace("locks.example", "localhost")
+        self.paste(made)
+        return made
+
+    def verified(self, purpose, *words):
+        done = subprocess.run(["openssl", "verify", "-CAfile", "ca.pem", "-purpose", purpose, *words], cwd=self.folder, capture_output=True,
+                              text=True, check=False)
+        return "good" if done.returncode == 0 else done.stderr
+
+    @needs_openssl
+    def test_certificates_of_locks(self):
+        """None is an authority, and none is good for what it is not made for."""
+        made = self.certificates_of_locks()
+        self.assertEqual((self.verified("sslserver", "server.pem"), self.verified("sslclient", "build-1.pem")), ("good", "good"))
+        self.assertRegex(self.verified("sslclient", "server.pem"), "(unsuitable|unsupported) certificate purpose")
+        self.assertRegex(self.verified("sslserver", "build-1.pem"), "(unsuitable|unsupported) certificate purpose")
+        last = "openssl req" + made.split("openssl req")[3].split("cat ")[0]
+        for signs in ("server", "build-1"):
+            self.paste(last.replace("-CA ca.pem -CAkey ca.key", f"-CA {signs}.pem -CAkey {signs}.key").replace("build-1.key -out build-1", "x.key -out x"))
+            self.assertIn("invalid CA certificate", self.verified("sslclient", "-untrusted", f"{signs}.pem", "x.pem"))
+
+    def systemctl(self):
+        """What systemctl was told."""
+        with open(f"{self.folder}/systemctl", encoding="ascii") as file:
+            return file.read().splitlines()
+
+    def server_of_page(self):
+        """The server with the options that the page has it get, and HAProxy before it, by its configuration."""
+        write(f"{self.folder}/etc/wozgirt/settings", "WOZGIRT_LOCKS=*\nWOZGIRT_OPTIONS=\n")
+        os.makedirs(f"{self.folder}/run/wozgirt")
+        self.paste(block("### Clients over TLS", "--proxied"))
+        self.assertEqual(self.systemctl(), ["restart wozgirt-server", "enable --now wozgirt-tls"])
+        self.assertEqual(os.stat(f"{self.folder}/etc/wozgirt/tls/server.pem").st_mode & 0o777, 0o640)
+        with open(f"{self.folder}/etc/wozgirt/settings", encoding="ascii") as file:
+            settings = dict(line.rstrip("\n").split("=", 1) for line in file)
+        words = settings["WOZGIRT_OPTIONS"].split()
+        at = words.index("--proxied-group") + 1
+        self.assertEqual(words[at], "wozgirt-tls")
+        words[at] = grp.getgrgid(os.getgid()).gr_name
+        server = Server(*words, locks="deploy,*", engine=engine_of_any_name())
+        self.addCleanup(server.__exit__)
+        front = Front(self.folder, a_port(self), self.here(text_of("tls.cfg")))
+        self.addCleanup(front.stop)
+        return front
+
+    @needs_programs
+    @needs_openssl
+    @needs_haproxy
+    def test_clients_over_tls(self):
+        self.certificates_of_locks()
+        front = self.server_of_page()
+        self.paste(block("### Clients over TLS", "client.pem"))
+        self.assertEqual(self.systemctl()[2:], ["enable --now wozgirt-tunnel@locks.example"])
+        tunnel = Tunnel(self.folder, "localhost", front.port, self.here(text_of("tunnel.cfg")))
+        self.addCleanup(tunnel.stop)
+        commands, told = block("### Clients over TLS", "WOZGIRT_SOCKET").split("\ntoken")
+        here = commands.replace("/run/wozgirt-tunnel/locks.example/lock.sock", tunnel.socket).replace("wozgirt lock", f"{COMMAND} lock")
+        self.assertEqual(self.paste(here), "token" + told)
+        program = block("### Clients over TLS", "Tls(").replace("locks.example:7001", f"localhost:{front.port}").replace("...", "print(token)")
+        done = subprocess.run([sys.executable, "-c", program], cwd=self.folder, capture_output=True, text=True, timeout=PATIENCE, check=False,
+                              env=dict(os.environ, PYTHONPATH=os.path.join(TOP, "clients", "python")))
+        self.assertEqual((done.stdout, done.stderr), ("2\n", ""))
 
     def test_every_block_is_played(self):
         """By a script that it names, pasted by test_documents, as a program in Python, or here."""

@@ -14,12 +14,13 @@ from typing import Any, Deque, NamedTuple, NoReturn, Optional, Tuple, Type, Unio
 
 from . import lines, nesting
 from .aio_session import Session
+from .aio_tls import TlsReader
 from .client import INTERRUPTED, PART, PING, STATUS, WITHDRAW
 from .lines import Inherited, LockError, LockLost, LockStatus, NotInTime, NotWaiter, Place, Places, Question, Refused, TlsPlace
 from .lock import Default, Function, Settings, is_too_late, left, to_connect, until
 from .process import OfOneProcess
 from .tls import Tls, Tunnel
-from .wire import ABSENT, AGAIN, CONNECT, ROOM, START, TRY
+from .wire import ABSENT, AGAIN, CONNECT, START, TRY
 
 __all__ = ["Client", "Lock", "Session"]
 
@@ -31,40 +32,6 @@ class _Call(NamedTuple):
     outcome: "asyncio.Future[Question]"
 
 
-class _TlsReader:
-    """Lines that come over TLS, as a StreamReader has them."""
-
-    def __init__(self, reader: asyncio.StreamReader, writer: asyncio.StreamWriter, tunnel: Tunnel):
-        self._reader, self._writer, self._tunnel, self._bytes = reader, writer, tunnel, b""
-
-    async def shake(self, deadline: float) -> None:
-        """The handshake, or an OSError."""
-        came = b""
-        while not self._tunnel.is_shaken(came):
-            self._writer.write(self._tunnel.leaving())
-            try:
-                came = await asyncio.wait_for(self._reader.read(ROOM), left(deadline))
-            except asyncio.TimeoutError:
-                raise TimeoutError(errno.ETIMEDOUT, "the server does not answer") from None
-            if not came:
-                raise ConnectionResetError(errno.ECONNRESET, "the server closed the connection")
-        self._writer.write(self._tunnel.leaving())
-        self._bytes = self._tunnel.open(b"")
-
-    async def readline(self) -> bytes:
-        """The next line with its end; nothing when the connection is over."""
-        while b"\n" not in self._bytes:
-            if len(self._bytes) > ROOM:
-                raise LockLost("the server sent a line without an end")
-            came = b"" if self._tunnel.is_over else await self._reader.read(ROOM)
-            if not came:
-                return b""
-            self._bytes += self._tunnel.open(came)
-            self._writer.write(self._tunnel.leaving())
-        line, end, self._bytes = self._bytes.partition(b"\n")
-        return line + end
-
-
 class Client(OfOneProcess):
     """A connection, made by `await Client.connect(place)`. Tasks may share it; it waits for one lock at a time. What a
     lease is, and what a child may do with it, the client for threads says.
@@ -72,14 +39,14 @@ class Client(OfOneProcess):
     A task that is cancelled leaves nothing that waits or that is held. Its cancellation takes WITHDRAW seconds at most: a server that
     takes longer gets it in the background, and if it does not answer within a second, the connection is closed."""
 
-    def __init__(self, reader: Union[asyncio.StreamReader, _TlsReader], writer: asyncio.StreamWriter,
+    def __init__(self, reader: Union[asyncio.StreamReader, TlsReader], writer: asyncio.StreamWriter,
                  sock: Optional[socket.socket] = None, servers: Tuple[Any, ...] = (), tunnel: Optional[Tunnel] = None):
         super().__init__()
         self._reader, self._writer, self._sock, self.servers, self._tunnel = reader, writer, sock, list(servers), tunnel
         self._calls: Deque[_Call] = collections.deque()  # answers come in the order of the calls
         self._wait: Optional[_Call] = None
         self._lost: Optional[str] = None
-        self._lease = 0.0
+        self._lease, self._is_ended = 0.0, False  # whether the other end has ended the connection
         self._spoken = self._said = time.monotonic()  # the server has heard this client by then, or later; the last line was sent
         self._tasks = [asyncio.create_task(self._read())]
         self._undoing: set[asyncio.Task[None]] = set()
@@ -87,11 +54,21 @@ class Client(OfOneProcess):
     @classmethod
     async def connect(cls, place: Place, *, lease: Optional[float] = None, timeout: float = CONNECT, tls: Tls = Tls()) -> Client:
         """Connects within `timeout` seconds, of which a server that starts may take 5 to be there."""
-        deadline = time.monotonic() + timeout
+        now = time.monotonic()
+        deadline, started = now + timeout, now + min(START, timeout)
         server = lines.place(place)
         asked = lines.lease_of(lease, server)
+        while True:
+            client = await cls._met(server, tls, asked, deadline, started)
+            if client is not None:
+                return client
+            await asyncio.sleep(TRY)
+
+    @classmethod
+    async def _met(cls, server: Union[str, Tuple[str, int]], tls: Tls, asked: bytes, deadline: float, started: float) -> Optional[Client]:
+        """A client that has its lease. Until `started` it is None if the connection ends before an answer, as that for threads says."""
         tunnel = Tunnel(server, tls) if isinstance(server, TlsPlace) else None
-        sock = await _connected(server, deadline, time.monotonic() + min(START, timeout))
+        sock = await _connected(server, deadline, started)
         try:
             client = await cls._over(sock, server, tunnel, deadline)
         except BaseException:
@@ -103,17 +80,19 @@ class Client(OfOneProcess):
             await client.close()
             if isinstance(fault, LockLost) and time.monotonic() >= deadline:
                 raise TimeoutError(errno.ETIMEDOUT, "the server does not answer") from None
+            if isinstance(fault, LockLost) and client._is_ended and time.monotonic() < started:
+                return None
             raise
         if client._lease:
             client._tasks.append(asyncio.create_task(client._speak()))
         return client
 
     @classmethod
-    async def _over(cls, sock: socket.socket, server: Place, tunnel: Optional[Tunnel], deadline: float) -> Client:
+    async def _over(cls, sock: socket.socket, server: Union[str, Tuple[str, int]], tunnel: Optional[Tunnel], deadline: float) -> Client:
         reader, writer = await (asyncio.open_connection if isinstance(server, tuple) else asyncio.open_unix_connection)(sock=sock)
         if tunnel is None:
             return cls(reader, writer, sock, (server,))
-        opened = _TlsReader(reader, writer, tunnel)
+        opened = TlsReader(reader, writer, tunnel)
         try:
             await opened.shake(deadline)
         except BaseException:
@@ -285,8 +264,10 @@ class Client(OfOneProcess):
         try:
             while line := await self._reader.readline():
                 self._hear(lines.words_of(line))
+            self._is_ended = True
             self._drop("the server closed the connection")
         except (OSError, ValueError, LockError) as fault:
+            self._is_ended = isinstance(fault, ConnectionResetError)
             self._drop(str(fault))
 
     def _hear(self, words: list[str]) -> None:

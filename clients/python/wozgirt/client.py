@@ -13,7 +13,7 @@ from . import lines
 from .lines import LockError, LockLost, LockStatus, NotHolder, NotInTime, NotWaiter, Place, Question, Refused
 from .tls import Tls
 from .turns import Turns
-from .wire import CONNECT, START, Late, Wire, connected, wire_to
+from .wire import CONNECT, START, TRY, Late, Wire, connected, wire_to
 
 __all__ = ["CONNECT", "Client", "connected"]
 
@@ -45,18 +45,29 @@ class Client(Turns):
 
     def __init__(self, place: Place, *, lease: Optional[float] = None, timeout: float = CONNECT, tls: Tls = Tls()):
         server = lines.place(place)
-        until = time.monotonic() + timeout
+        now = time.monotonic()
+        until, started = now + timeout, now + min(START, timeout)
         asked = lines.lease_of(lease, server)
-        self._prepare([server], wire_to(server, tls, timeout, START))
+        while not self._is_met(server, tls, asked, until, started):
+            time.sleep(TRY)
+        if self._lease:
+            self._start_keeper()
+
+    def _is_met(self, server: Place, tls: Tls, asked: bytes, until: float, started: float) -> bool:
+        """Connects, and asks for the lease. Until `started` it is false if the connection ends before an answer, as of a server that is
+        started again, or that a proxy does not find yet."""
+        now = time.monotonic()
+        self._prepare([server], wire_to(server, tls, max(0.0, until - now), max(0.0, started - now)))
         try:
             self._lease = self._in_turn(lambda: self._granted_lease(asked, until))
+            return True
         except BaseException as fault:
             self.close()
             if isinstance(fault, LockLost) and time.monotonic() >= until:
                 raise TimeoutError(errno.ETIMEDOUT, "the server does not answer") from None
+            if isinstance(fault, LockLost) and self._is_ended and time.monotonic() < started:
+                return False
             raise
-        if self._lease:
-            self._start_keeper()
 
     def _granted_lease(self, line: bytes, until: float) -> float:
         try:
@@ -75,7 +86,7 @@ class Client(Turns):
         self._held: Dict[str, int] = {}
         self._unclaimed: Dict[str, int] = {}  # holds whose holder never learned of them, or gave up
         self._is_closed, self._wake = False, threading.Event()
-        self._lease = 0.0
+        self._lease, self._is_ended = 0.0, False  # whether the other end has ended the connection
         self._spoken = self._said = time.monotonic()  # the server has heard this client by then, or later; the last line was sent
 
     def acquire(self, name: str, *, label: lines.Label = 0, wait: Optional[float] = None) -> int:
@@ -305,6 +316,7 @@ class Client(Turns):
         """The connection is over, unless a signal handler raised this."""
         if not lines.is_own(fault):
             raise fault
+        self._is_ended = isinstance(fault, ConnectionResetError)
         self._cut(str(fault))
 
     def _pump(self, until: Optional[float]) -> None:
@@ -345,6 +357,7 @@ class Client(Turns):
             self._lose(str(fault))
         self._wire.is_torn = False
         if not is_open:
+            self._is_ended = True
             self._cut("the server closed the connection")
 
     def _heard(self, line: bytes) -> None:

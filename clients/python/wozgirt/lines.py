@@ -135,7 +135,7 @@ def place(given: Place) -> Union[str, Tuple[str, int]]:
     if not host or not port.isdigit() or not 0 < int(port) < 65536:
         raise ValueError(f"no server: {given!r}")
     found = TlsPlace(host.strip("[]"), int(port))
-    return found if given.startswith("tls:") else tuple(found)
+    return found if given.startswith("tls:") else (found.host, found.port)
 
 
 def places(given: Places) -> List[Union[str, Tuple[str, int]]]:

@@ -340,6 +340,10 @@ mod tests {
         assert_eq!(read("status --socket /a,tcp:h:1"), Ok(look(&["/a", "tcp:h:1"], None)));
         let of_some = Look { prefix: "order/".into(), is_json: true, ..a_look(&["/s"], None) };
         assert_eq!(read("status order/ --json"), Ok(Words::Status(of_some)));
+        assert_eq!(
+            read("status --socket /a,tls:h:1").unwrap_err().to_string(),
+            "tls:h:1: wozgirt speaks no TLS: name the socket of wozgirt-tunnel@.service, which does"
+        );
         assert_eq!(read("watch --every 2 --socket=tcp:h:1"), Ok(look(&["tcp:h:1"], Some(Duration::from_secs(2)))));
         let load = Load { clients: 8, locks: 2, time: Duration::from_secs(1) };
         assert_eq!(read("bench 8 2 1"), Ok(Words::Bench(Place::Path("/s".into()), load)));
