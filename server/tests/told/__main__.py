@@ -5,8 +5,8 @@ were told anything wrong. With --between 0.2 they are ended sooner, after a fift
 this process ends it early, and all is judged.
 
 What happens is drawn by a seed: kills and ends in good order of the engine, of the server, of both; an engine that cannot start; a disk
-that is full; clients that never come back; a file of sessions that is written anew after each few lines, or never. Answers may be on their
-way at any of these. Each folder serves for a while; then its journal is judged, by `ring_tool check` and `holds` too where the engine is
+that is full; clients that never come back; a file of sessions that is written anew after each few lines, or never; a journal of short
+segments, or of one. Answers may be on their way at any of these. Each folder serves for a while; then its journal is judged, by `ring_tool check` and `holds` too where the engine is
 there. The last line says what was done, and what is wrong."""
 
 import argparse
@@ -48,7 +48,7 @@ class Scene:
     def __init__(self, folder, seed, words, full):
         self.folder, self.draw, self.words, self.full = folder, random.Random(seed), words, full
         self.model, self.server = Model(LEASE), None
-        self.bytes = self.draw.choice((200, 2000, 1 << 24))
+        self.bytes, self.segment = self.draw.choice((200, 2000, 1 << 24)), self.draw.choice((100, 1 << 16))
         self.names = [*LISTED[:8], *OTHERS] if words.any_name else list(LISTED)
         self.locks = ",".join(f"{name}:3" for name in self.names if name in LISTED) + (",*" if words.any_name else "")
         path = os.path.join(folder, "lock.sock")
@@ -68,7 +68,7 @@ class Scene:
         for tried in range(8):
             try:
                 with mock.patch.dict(os.environ, of_disk):
-                    self.server = Server("--session-bytes", str(self.bytes), folder=self.folder, locks=self.locks,
+                    self.server = Server("--session-bytes", str(self.bytes), "--segment", str(self.segment), folder=self.folder, locks=self.locks,
                                          lease=str(LEASE), faults=False, engine=self.engine)
                 return
             except RuntimeError:
