@@ -71,7 +71,8 @@ class Proxied(unittest.TestCase):
 
     def assert_refused(self, said, why, server):
         """The connection ends, and the log says why."""
-        sock, before = self.raw(said), server.text_of_log().count(why)
+        before = server.text_of_log().count(why)
+        sock = self.raw(said)
         self.assertEqual(read_lines(sock, 9), ["refused header"])
         wait_until(lambda: server.text_of_log().count(why) == before + 1)
         self.assertRegex(server.text_of_log(), rf"header-refused refused, {re.escape(why)}: \S+, process {os.getpid()}\n")
@@ -264,6 +265,13 @@ class Proxied(unittest.TestCase):
             with urllib.request.urlopen(f"http://127.0.0.1:{server.port('page')}/metrics", timeout=PATIENCE) as page:
                 self.assertIn('wozgirt_connections_ended_total{reason="header"} 3\n', page.read().decode())
             self.assertEqual(server.operate("stats a").split()[5:], ["0", "0"])  # nobody got it
+            for said in (header("build-1"), b"PROXY TCP4 10.0.0.7 10.0.0.1 1 2\r\n\r\n"):
+                visitor = socket.create_connection(("127.0.0.1", server.port("page")), PATIENCE)
+                with contextlib.closing(visitor):
+                    visitor.sendall(said)
+                    self.assertTrue(visitor.recv(99).startswith(b"HTTP/1.1 400 "))
+            line = "header-refused refused, a header of the PROXY protocol, at a socket that takes none: a visitor of the page\n"
+            wait_until(lambda: server.text_of_log().count(line) == 2)
 
     def test_the_proxys_own_check_is_answered_and_not_logged(self):
         with self.server("--log-connections") as server:

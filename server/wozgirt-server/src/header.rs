@@ -63,6 +63,8 @@ pub enum BadHeader {
     Twice,
     /// The name of the certificate is not one.
     Name(NotAName),
+    /// It is at a socket that is not the proxy's.
+    Place,
     /// It ends before it is whole.
     Cut,
     /// It did not come in time.
@@ -80,6 +82,7 @@ impl fmt::Display for BadHeader {
             BadHeader::Part => f.write_str("a header with a part that does not fit"),
             BadHeader::Twice => f.write_str("a header with a part that comes twice"),
             BadHeader::Name(fault) => write!(f, "a certificate whose name {fault}"),
+            BadHeader::Place => f.write_str("a header of the PROXY protocol, at a socket that takes none"),
             BadHeader::Cut => f.write_str("a header that is cut"),
             BadHeader::Late => f.write_str("no whole header in 3 s"),
         }

@@ -2,6 +2,7 @@
 
 use super::http::{head, health, part, refusal, request, Asked, Wanted};
 use super::{Telling, View};
+use crate::header;
 use crate::outbox::Outbox;
 use crate::stream::Stream;
 use std::io::{self, ErrorKind, Read};
@@ -29,6 +30,8 @@ pub struct Visitor {
     /// It was refused, and may say more, as the body of a request; and it has this answer by now.
     is_refused: bool,
     is_done: bool,
+    /// It began as a proxy does, which is to be logged.
+    has_header: bool,
 }
 
 /// What is to be done with a visitor.
@@ -53,12 +56,18 @@ impl Visitor {
             stuck: None,
             is_refused: false,
             is_done: false,
+            has_header: false,
         }
     }
 
     /// Its socket.
     pub fn stream(&self) -> &Stream {
         &self.stream
+    }
+
+    /// Whether it has said who it is as a proxy does, where that is not asked: once.
+    pub fn take_header(&mut self) -> bool {
+        std::mem::take(&mut self.has_header)
     }
 
     /// When it has taken too long.
@@ -115,6 +124,7 @@ impl Visitor {
         }
         let Some(request) = request(&self.input) else { return Ok(false) };
         self.has_asked = true;
+        self.has_header = header::is_one(&self.input);
         self.input = Vec::new();
         let text = match request {
             Ok(Asked { wanted: Wanted::Health, has_body, .. }) => health(view.is_well(), has_body),

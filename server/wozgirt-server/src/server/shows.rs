@@ -4,9 +4,11 @@ use super::{Server, PAGE, SHORTEST_TURN, VISITORS};
 use crate::certificates::{Certificates, News};
 use crate::engine_version::EngineVersion;
 use crate::figures::Figures;
+use crate::header::BadHeader;
 use crate::journal::Journal;
 use crate::log::Event;
 use crate::pages::{EngineView, Next, View, Visitor};
+use crate::shares::Guest;
 use crate::stream::Stream;
 use std::collections::HashMap;
 use std::time::Instant;
@@ -82,7 +84,12 @@ impl Server {
         self.shows.journal.look(&journal, self.desk.now);
         self.shows.figures.look(&journal, self.desk.now);
         let until = Instant::now() + SHORTEST_TURN;
-        if let Next::Wait(interest) = visitor.go_on(&self.view(), until) {
+        let next = visitor.go_on(&self.view(), until);
+        if visitor.take_header() {
+            let event = Event::HeaderRefused { who: "a visitor of the page", fault: BadHeader::Place };
+            self.desk.log.say_of(&Guest::UNKNOWN, self.desk.now, &event);
+        }
+        if let Next::Wait(interest) = next {
             if self.poller.change(visitor.stream(), key, interest).is_ok() {
                 self.shows.visitors.insert(key, visitor);
             }
