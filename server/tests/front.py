@@ -9,7 +9,7 @@ import socket
 import subprocess
 import unittest
 
-from harness import PATIENCE, TOP, wait_until
+from harness import GROUPS, PATIENCE, TOP, wait_until
 
 PARTS = os.path.join(TOP, "release", "tls")
 needs_haproxy = unittest.skipUnless(shutil.which("haproxy"), "haproxy is not installed")
@@ -42,6 +42,7 @@ class Proxy:
         self.variables = dict(os.environ, **variables)
         with open(self.log, "wb") as log:
             self.process = subprocess.Popen([*self.before, *self.words(start)], env=self.variables, stdout=log, stderr=log, start_new_session=True)
+        GROUPS.append(self.process.pid)
 
     def words(self, words):
         """The unit's words, here."""
@@ -72,6 +73,8 @@ class Proxy:
         wait_until(lambda: text in self.text_of_log())
 
     def stop(self):
+        if self.process.pid not in GROUPS:
+            return
         with contextlib.suppress(ProcessLookupError):
             os.killpg(self.process.pid, signal.SIGTERM)
         try:
@@ -79,6 +82,7 @@ class Proxy:
         finally:
             with contextlib.suppress(ProcessLookupError):
                 os.killpg(self.process.pid, signal.SIGKILL)
+            GROUPS.remove(self.process.pid)
 
     def __enter__(self):
         return self

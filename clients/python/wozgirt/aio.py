@@ -198,7 +198,11 @@ class Client(OfOneProcess):
         """Sends it. It does not report that the server has closed the connection: `_read` gets first what it said before. (A transport
         whose write fails reads nothing more.) If the system refuses it for another reason, no answer would ever come."""
         if self._tunnel is not None:
-            line = self._tunnel.seal(line)
+            try:
+                line = self._tunnel.seal(line)
+            except OSError as fault:
+                self._drop(str(fault))
+                return
         if self._sock is not None and not self._writer.transport.get_write_buffer_size():
             try:
                 line = line[self._sock.send(line):]
