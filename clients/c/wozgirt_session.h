@@ -61,8 +61,8 @@ struct wozgirt_session {
 };
 
 /* Begins a session at one of these servers, with a lease of this many milliseconds. It tries all of them for 10 s at most: with
- * WOZGIRT_LOCK_LOST none of them is there. WOZGIRT_LOCK_NAME if the text is empty or has 1,024 bytes or more, or the lease is below
- * 8. */
+ * WOZGIRT_LOCK_LOST none of them is there, or each refuses it a session, as one does that keeps none. WOZGIRT_LOCK_NAME if the text
+ * is empty or has 1,024 bytes or more, or the lease is below 8. */
 WOZGIRT_SESSION_FUNCTION int wozgirt_session_open(struct wozgirt_session *session, const char *servers, int64_t lease);
 
 /* Asks for a lock, and waits for it this many milliseconds (0: not at all; negative: for ever). With WOZGIRT_LOCK_DONE it is held,
