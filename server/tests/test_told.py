@@ -47,8 +47,7 @@ class Returns(unittest.TestCase):
         """The client of a session with this lock is away until that is another's."""
         other = self.plain("who gets it")
         self.ask(other, "acquire", held, "90")
-        client.close()
-        self.model.away[client.name] = time.monotonic() - LEASE
+        client.end_late(time.monotonic() - LEASE / 2)
         self.hear(other, lambda: held in self.model.claimed(other.name))
 
     def test_one_that_is_late_does_not_ask_again_for_what_was_answered(self):
@@ -119,14 +118,14 @@ class Returns(unittest.TestCase):
 
 
 class Claims(unittest.TestCase):
-    def test_a_lock_is_another_s_when_half_of_a_lease_is_over(self):
+    def test_a_lock_is_another_s_when_a_lease_is_over(self):
         for since in ("away", "said"):
             model = Model(LEASE)
             model.tell("session 1", "a", 1, 5, 100)
             getattr(model, since)["session 1"] = 100
             with self.assertRaisesRegex(Wrong, "^plain is told a 2 while session 1 has it by 1$"):
-                model.tell("plain", "a", 2, 6, 100 + LEASE / 2)
-            model.tell("plain", "a", 2, 6, 101 + LEASE / 2)
+                model.tell("plain", "a", 2, 6, 100 + LEASE)
+            model.tell("plain", "a", 2, 6, 101 + LEASE)
             self.assertEqual(model.claims, {"a": ("plain", 2)})
 
 

@@ -1,5 +1,6 @@
 """Clients of the model: each sends one line at a time, and says what it was told."""
 
+import math
 import socket
 import time
 
@@ -128,12 +129,15 @@ class Client:
         now = time.monotonic()
         seen, self.seen = self.seen, now
         if now - seen > self.lease / 2:
-            self.model.away.setdefault(self.name, min(seen, self.said))
-            self.close()
+            self.end_late(min(seen, self.said))
             return True
         for line in self.line.lines():
             self.take(line.split(" "))
         return not self.line.is_over
+
+    def end_late(self, since):
+        """It closes its connection, since it has been silent since then."""
+        self.close()
 
     def may_have_given(self, lock):
         """Whether what has no answer may have ended its hold of the lock."""
@@ -247,6 +251,11 @@ class Session(Client):
         self.line = self.again = self.opening = None
         self.model.away.setdefault(self.name, self.said)
 
+    def end_late(self, since):
+        # a session that is attached is over then
+        self.model.away[self.name] = -math.inf if self.is_attached else min(since, self.model.away.get(self.name, since))
+        self.close()
+
     def is_ready(self):
         return self.asked is None and self.opening is None
 
@@ -283,7 +292,7 @@ class Session(Client):
             return
         told, self.opening = self.opening[1:], None
         begun = self.model.away.pop(self.name, None)
-        is_late = begun is not None and time.monotonic() - begun > self.lease / 2
+        is_late = begun is not None and time.monotonic() - begun > self.lease
         self.model.counts["returns"] += 1
         self.model.counts["late"] += is_late
         if is_late:

@@ -31,7 +31,7 @@ class Model:
         self.guards = {}
         #: the holds that their clients are giving up: which of them and which locks
         self.given = set()
-        #: since when clients are away, and when those with a lease said something last: they have stopped when half of the lease is over
+        #: since when clients are away, and when those with a lease said something last: others get what they hold when that is over
         self.away, self.said, self.lease = {}, {}, lease
         self.counts = dict.fromkeys(("told", "returns", "late", "lost", "restarts", "again"), 0)
 
@@ -45,7 +45,7 @@ class Model:
         """The client is told that it holds the lock."""
         self.note(client, lock, token, label)
         claim = self.claims.get(lock)
-        if claim and (self.has_stopped(claim[0], now) or claim[0] != client and (claim[0], lock) in self.given):
+        if claim and (self.may_be_over(claim[0], now) or claim[0] != client and (claim[0], lock) in self.given):
             claim = None
         if claim and claim[0] != client:
             raise Wrong(f"{client} is told {lock} {token} while {claim[0]} has it by {claim[1]}")
@@ -59,9 +59,9 @@ class Model:
             self.given.discard((client, lock))
         self.claims[lock] = client, token
 
-    def has_stopped(self, client, now):
-        """Whether the client does not believe any more that it holds anything."""
-        return now - self.away.get(client, self.said.get(client, now)) > self.lease / 2
+    def may_be_over(self, client, now):
+        """Whether the client's lease may be over."""
+        return now - self.away.get(client, self.said.get(client, now)) > self.lease
 
     def give(self, client, words):
         """The client asks to give up a hold, or all."""
