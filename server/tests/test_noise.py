@@ -1,19 +1,23 @@
-"""Drawn input: lines that are nearly right, bytes that are nothing, connections that come and go, requests to the page, each with the
-seed of the test. WOZGIRT_NOISE_SECONDS says how long it lasts at least: `WOZGIRT_NOISE_SECONDS=300 python3 test_noise.py`."""
+"""Drawn input: lines that are nearly right, bytes that are nothing, connections that come and go, headers of a proxy, requests to the
+page, each with the seed of the test. WOZGIRT_NOISE_SECONDS says how long it lasts at least:
+`WOZGIRT_NOISE_SECONDS=300 python3 test_noise.py`."""
 
 import contextlib
 import os
 import random
+import shutil
 import socket
+import tempfile
 import time
 import unittest
 import urllib.request
 from concurrent.futures import ThreadPoolExecutor
 
-from harness import PATIENCE, Server, granted, has_loopback, needs_programs
+from harness import FOLDER, PATIENCE, Server, granted, has_loopback, needs_programs
 
 import journals
 from crash import judge_holds
+from proxy_header import LOCAL, header
 
 WORDS = ["acquire", "try", "release", "cancel", "leave", "ping", "lease", "stats", "status", "corrupt", "clients", "a", "b", "c", "q", "",
          "0", "1", "7", "01", "-1", "18446744073709551615", "18446744073709551616", "x" * 300, "\u00e9", "\0", "\t", "%s%n"]
@@ -82,14 +86,36 @@ def visit(seed, until, port):
                 sock.recv(1 << 16)
 
 
+def head(draw):
+    """A header, or something that is nearly one."""
+    text = bytearray(draw.choice([LOCAL, header(), header("build-1"), header("\u00e9 *" * draw.randrange(90)), header("x", verify=1)]))
+    for _ in range(draw.choice([0, 0, 1, 3])):
+        text[draw.randrange(len(text))] = draw.randrange(256)
+    return bytes(text[:draw.randrange(len(text))] if draw.random() < 0.2 else text)
+
+
+def come_by_a_proxy(path, seed, until):
+    draw = random.Random(seed)
+    for _ in goes_on(until):
+        with socket.socket(socket.AF_UNIX) as sock, contextlib.suppress(OSError):
+            sock.settimeout(0.05)
+            sock.connect(path)
+            send_in_pieces(draw, sock, head(draw))
+            for _ in range(draw.randrange(9)):
+                send_in_pieces(draw, sock, line(draw) + b"\n")
+            if draw.random() < 0.7:
+                sock.recv(1 << 16)
+
+
 @needs_programs
 class Noise(unittest.TestCase):
     def make_noise(self, server):
         """Of all kinds, at once. What goes wrong on the side of who makes it is raised."""
         until = time.monotonic() + SECONDS
         over_tcp, page = (server.port(of) if IS_REACHED else None for of in ("clients", "page"))
-        with ThreadPoolExecutor(len(SEEDS) + 1) as pool:
+        with ThreadPoolExecutor(len(SEEDS) + 2) as pool:
             made = [pool.submit(make_noise, server, seed, until, over_tcp) for seed in SEEDS]
+            made.append(pool.submit(come_by_a_proxy, self.proxied, len(SEEDS) + 1, until))
             if page is not None:
                 made.append(pool.submit(visit, len(SEEDS), until, page))
         for it in made:
@@ -97,7 +123,11 @@ class Noise(unittest.TestCase):
 
     def test_the_server_goes_on_and_the_journal_is_right(self):
         """Over TCP and at the page too, where 127.0.0.1 can be reached."""
-        with Server(*(("--tcp", "127.0.0.1:0", "--page", "127.0.0.1:0") if IS_REACHED else ()), locks="a,b") as server:
+        folder = tempfile.mkdtemp(prefix="wozgirt-", dir=FOLDER)
+        self.addCleanup(shutil.rmtree, folder, ignore_errors=True)
+        self.proxied = os.path.join(folder, "proxied.sock")
+        words = ("--tcp", "127.0.0.1:0", "--page", "127.0.0.1:0") if IS_REACHED else ()
+        with Server("--proxied", self.proxied, *words, locks="a,b") as server:
             self.make_noise(server)
             self.assertIsNone(server.process.poll())
             log = server.text_of_log()
