@@ -5,7 +5,6 @@ import os
 import re
 import shutil
 import signal
-import socket
 import subprocess
 import unittest
 
@@ -43,15 +42,16 @@ class Proxy:
         with open(self.log, "wb") as log:
             self.process = subprocess.Popen([*self.before, *self.words(start)], env=self.variables, stdout=log, stderr=log, start_new_session=True)
         GROUPS.append(self.process.pid)
+        self.wait_until_it_listens()
 
     def words(self, words):
         """The unit's words, here."""
         return [shutil.which("haproxy") if it.endswith("/haproxy") else self.path if it.endswith(".cfg") else it for it in words]
 
-    def wait_for(self, condition):
+    def wait_until_it_listens(self):
         """RuntimeError if it ends before that."""
         try:
-            wait_until(lambda: condition() or self.process.poll() is not None)
+            wait_until(lambda: "Loading success" in self.text_of_log() or self.process.poll() is not None)
             if self.process.poll() is not None:
                 raise RuntimeError(self.text_of_log())
         except BaseException:
@@ -97,7 +97,6 @@ class Front(Proxy):
     def __init__(self, folder, port, text=None, host="127.0.0.1", **variables):
         super().__init__(folder, "wozgirt-tls.service", text, WOZGIRT_TLS_LISTEN=f"{host}:{port}", **variables)
         self.port, self.place = port, f"tls:{host}:{port}"
-        self.wait_for(lambda: "Loading success" in self.text_of_log())
 
 
 class Tunnel(Proxy):
@@ -107,4 +106,3 @@ class Tunnel(Proxy):
         self.socket = os.path.join(folder, "tunnel.sock")
         super().__init__(folder, "wozgirt-tunnel@.service", text, WOZGIRT_TUNNEL_HOST=host, WOZGIRT_TUNNEL_PORT=str(port),
                          WOZGIRT_TUNNEL_SOCKET=self.socket, **variables)
-        self.wait_for(lambda: os.path.exists(self.socket))

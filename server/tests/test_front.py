@@ -5,7 +5,6 @@ import os
 import re
 import shutil
 import socket
-import ssl
 import stat
 import subprocess
 import tempfile
@@ -15,7 +14,7 @@ from concurrent.futures import ThreadPoolExecutor
 
 from certificates import Authority, needs_openssl
 from front import PARTS, Front, Tunnel, needs_haproxy, text_of, words_of
-from harness import (COMMAND, FOLDER, PATIENCE, Server, a_port, at_least, by_the_clock, needs_loopback, needs_programs, read_lines, say,
+from harness import (COMMAND, FOLDER, PATIENCE, Server, a_port, at_least, by_the_clock, needs_loopback, needs_programs, say,
                      wait_until)
 from wozgirt import Client, Lock, LockLost, NotPermitted, Session, Tls, aio
 
@@ -34,7 +33,7 @@ class Made:
         os.mkdir(self.folder + "/other")
         authority = Authority(self.folder)
         self.cacert, self.server = authority.path, authority.of_server(hosts="IP:127.0.0.1,DNS:localhost")
-        self.next_server = authority.of_server("next")
+        self.next_server, self.posing = authority.of_server("next"), authority.of_client("localhost")
         self.nobody, self.alice, self.bob = (Tls(self.cacert, it) for it in (None, authority.of_client("alice"), authority.of_client("bob")))
         self.mallory = Tls(self.cacert, Authority(self.folder + "/other").of_client("alice"))
 
@@ -66,6 +65,10 @@ class Configuration(unittest.TestCase):
             times = {kind: seconds(text) for _, kind, text in TIMEOUT.findall(text_of(name))}
             self.assertGreaterEqual({*times}, {"client", "server", "connect", "client-fin", "server-fin"})
             self.assertGreater(min(times[it] for it in lasting), 24 * HOUR)
+
+    def test_nothing_ends_the_connections_of_a_process_whose_certificates_are_old(self):
+        for name in ("tls.cfg", "tunnel.cfg"):
+            self.assertNotIn("hard-stop-after", text_of(name))
 
     def test_what_the_units_start_is_in_the_package(self):
         for unit, package in (("wozgirt-tls.service", "wozgirt-server"), ("wozgirt-tunnel@.service", "wozgirt")):
@@ -141,6 +144,10 @@ class Fronts(unittest.TestCase):
                 self.assertEqual(say(self.raw(front, files), line), ["refused session"])
             session.release("b", token)
         self.assertEqual(say(self.raw(front, self.made.alice), line)[0].split()[:2], line.split())
+
+    def test_each_client_has_a_lease(self):
+        with self.raw(self.front(), self.made.nobody) as sock:
+            self.assertEqual(say(sock, "lease\n"), ["lease 30000"])
 
     @by_the_clock
     def test_a_silent_client_keeps_its_lock(self, longer):
@@ -236,13 +243,15 @@ class Fronts(unittest.TestCase):
         self.assertEqual((done.returncode, done.stderr), (76, "wozgirt: refused: permission c\n"))
 
     def test_a_tunnel_to_another_server(self):
-        """One that the certificate is not for: the way ends there."""
-        shutil.copyfile(self.made.next_server, self.certificate)
-        tunnel = self.tunnel(self.front())
-        with socket.socket(socket.AF_UNIX) as sock:
-            sock.settimeout(PATIENCE)
-            sock.connect(tunnel.socket)
-            self.assertEqual(read_lines(sock, 1), [])
+        """One that the certificate is not for, and one with the right name that is a client: the way ends there."""
+        for certificate in (self.made.next_server, self.made.posing):
+            shutil.copyfile(certificate, self.certificate)
+            tunnel = self.tunnel(self.front())
+            with socket.socket(socket.AF_UNIX) as sock:
+                sock.settimeout(PATIENCE)
+                sock.connect(tunnel.socket)
+                self.assertEqual(say(sock, "ping\n"), [])
+            tunnel.stop()
 
 
 if __name__ == "__main__":
