@@ -174,6 +174,13 @@ def room(name):
         shutil.rmtree(folder, ignore_errors=True)
 
 
+def children(process):
+    """The numbers of its children, as far as the system has a list of them, and then those of all processes."""
+    with contextlib.suppress(OSError), open(f"/proc/{process}/task/{process}/children", encoding="ascii") as file:
+        yield from file.read().split()
+    yield from filter(str.isdigit, os.listdir("/proc"))
+
+
 class Server:
     """A server that runs; a context manager that ends it and removes its folder."""
 
@@ -257,7 +264,7 @@ class Server:
 
     def engine_number(self):
         """The number of the engine's process, or None."""
-        for number in filter(str.isdigit, os.listdir("/proc")):
+        for number in children(self.process.pid):
             try:
                 with open(f"/proc/{number}/stat", encoding="utf-8", errors="replace") as file:
                     state, parent = file.read().rpartition(")")[2].split()[:2]
