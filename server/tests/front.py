@@ -11,7 +11,9 @@ import unittest
 from harness import GROUPS, PATIENCE, TOP, wait_until
 
 PARTS = os.path.join(TOP, "release", "tls")
-needs_haproxy = unittest.skipUnless(shutil.which("haproxy"), "haproxy is not installed")
+#: where it is, which is not in the PATH of each user
+HAPROXY = shutil.which("haproxy", path=os.environ.get("PATH", "") + ":/usr/sbin")
+needs_haproxy = unittest.skipUnless(HAPROXY, "haproxy is not installed")
 
 
 def text_of(name):
@@ -46,7 +48,7 @@ class Proxy:
 
     def words(self, words):
         """The unit's words, here."""
-        return [shutil.which("haproxy") if it.endswith("/haproxy") else self.path if it.endswith(".cfg") else it for it in words]
+        return [HAPROXY if it.endswith("/haproxy") else self.path if it.endswith(".cfg") else it for it in words]
 
     def wait_until_it_listens(self):
         """RuntimeError if it ends before that."""

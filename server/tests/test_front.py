@@ -13,7 +13,7 @@ import unittest
 from concurrent.futures import ThreadPoolExecutor
 
 from certificates import Authority, needs_openssl
-from front import PARTS, Front, Tunnel, needs_haproxy, text_of, words_of
+from front import HAPROXY, PARTS, Front, Tunnel, needs_haproxy, text_of, words_of
 from harness import (COMMAND, FOLDER, PATIENCE, Server, a_port, at_least, by_the_clock, needs_loopback, needs_programs, say,
                      wait_until)
 from wozgirt import Client, Lock, LockLost, NotPermitted, Session, Tls, aio
@@ -39,7 +39,7 @@ class Made:
 
 
 def setUpModule():
-    if shutil.which("openssl") and shutil.which("haproxy"):
+    if shutil.which("openssl") and HAPROXY:
         MADE.append(Made())
 
 

@@ -11,7 +11,7 @@ import sys
 
 import harness
 from certificates import Authority
-from front import Front, Tunnel
+from front import HAPROXY, Front, Tunnel
 from harness import BIN, COMMAND, PATIENCE, TOP, Server, engine_of_any_name, room, wait_until
 
 NEAR, FAR = f"wozgirt-near-{os.getpid()}", f"wozgirt-far-{os.getpid()}"
@@ -55,8 +55,8 @@ def run(*words):
 def why_not():
     if os.getuid() != 0:
         return "this is not root"
-    for it in ("ip", "openssl", "haproxy"):
-        if not shutil.which(it):
+    for it, path in (("ip", shutil.which("ip")), ("openssl", shutil.which("openssl")), ("haproxy", HAPROXY)):
+        if not path:
             return f"there is no {it}"
     return harness.why_not()
 
