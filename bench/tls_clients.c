@@ -190,6 +190,7 @@ int main(int count, char **words)
     if (count == 7) {
         context = SSL_CTX_new(TLS_client_method());
         SSL_CTX_set_verify(context, SSL_VERIFY_PEER, NULL);
+        SSL_CTX_set_read_ahead(context, 1); /* a record in one read */
         if (!SSL_CTX_load_verify_locations(context, words[5], NULL) || SSL_CTX_use_certificate_file(context, words[6], SSL_FILETYPE_PEM) != 1 ||
             SSL_CTX_use_PrivateKey_file(context, words[6], SSL_FILETYPE_PEM) != 1)
             fail("a wrong certificate");
