@@ -1,0 +1,5 @@
+use Rattle.ring_repairs.proofs.Choices.{Repairs}
+use Rattle.ring_repairs.proofs.repairing.repair.Given as goal
+
+abbrev pub invariant-loop : goal.invariant-loop
+invariant-loop l = Repairs l.daemon l.most l.passes l.initial.memory l.memory l.initial.ring l.ring l.counter

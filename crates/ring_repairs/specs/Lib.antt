@@ -1,0 +1,7 @@
+pub mod Draws
+pub mod Daemons
+pub mod Starts
+pub mod Limits
+pub mod Histograms
+pub mod Studies
+pub mod TrialLaws

@@ -1,0 +1,39 @@
+-- The laws of trials.
+use Rattle.std.specs.Prelude.{◌≡◌, ℕ, ◌<◌, ◌≤◌, true, false, length, take}
+use Rattle.ring_model.specs.Ring.{IsRing, is_settled, bound}
+use Rattle.ring_model.specs.Runs.{after_passes, granted_passes}
+use Rattle.ring_model.specs.RepairLaws.{longest_repair}
+use Rattle.ring_repairs.specs.Studies.{StudyData, IsStudy, trial_ring, trial_choices, trial_passes}
+
+-- each trial starts with a ring of the study's size
+abbrev pub TrialsStart : Type 0
+TrialsStart =
+    (s : StudyData) (t : ℕ) → IsStudy s
+    → IsRing (trial_ring s t)
+    × ((trial_ring s t).k ≡ s.size.k)
+    × (length (trial_ring s t).values ≡ s.size.n)
+
+-- the choices of a trial settle its ring
+abbrev pub TrialsSettle : Type 0
+TrialsSettle =
+    (s : StudyData) (t : ℕ) → IsStudy s
+    → is_settled (after_passes (trial_ring s t) (trial_choices s t)).values ≡ true
+
+-- fewer of them do not: the number of a trial is that until its ring is first settled
+abbrev pub TrialsSettleFirst : Type 0
+TrialsSettleFirst =
+    (s : StudyData) (t p : ℕ) → p < length (trial_choices s t)
+    → is_settled (after_passes (trial_ring s t) (take p (trial_choices s t))).values ≡ false
+
+-- each choice is granted, so that the number of a trial is that of its choices
+abbrev pub TrialsAreGranted : Type 0
+TrialsAreGranted =
+    (s : StudyData) (t : ℕ) → IsStudy s
+    → (granted_passes (trial_ring s t) (trial_choices s t) ≡ trial_choices s t)
+    × (trial_passes s t ≡ length (trial_choices s t))
+
+-- no trial has more passes than the longest repair, nor more than the bound
+abbrev pub TrialsAreBounded : Type 0
+TrialsAreBounded =
+    (s : StudyData) (t : ℕ) → IsStudy s
+    → (trial_passes s t ≤ longest_repair s.size.n) × (trial_passes s t ≤ bound s.size.n)

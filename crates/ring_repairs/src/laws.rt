@@ -1,0 +1,17 @@
+//! The laws of trials. Each is the contract of a function that does nothing; the statements are in `specs/TrialLaws.antt`.
+
+ghost use Rattle.ring_repairs.specs.TrialLaws.{TrialsStart, TrialsSettle, TrialsSettleFirst, TrialsAreGranted, TrialsAreBounded};
+
+/// Each trial starts with a ring of its study's size, and its choices settle it: no fewer of them do.
+pub fn trials_settle()
+    ensures start { TrialsStart }
+    ensures settle { TrialsSettle }
+    ensures first { TrialsSettleFirst }
+{}
+
+/// Each choice of a trial is granted, so that its number is that of the choices; it is no more than the longest repair has, nor
+/// than the bound.
+pub fn trials_are_bounded()
+    ensures granted { TrialsAreGranted }
+    ensures bounded { TrialsAreBounded }
+{}

@@ -1,0 +1,20 @@
+//! Many repairs of rings, each from a drawn start, under a daemon, and how many passes they took.
+#![tactic(auto)]
+
+mod daemons;
+mod draws;
+mod histograms;
+pub mod laws;
+pub mod limits;
+mod repairing;
+mod repairs;
+mod starts;
+mod studies;
+mod trials;
+
+pub use daemons::Daemon;
+pub use histograms::Histogram;
+pub use repairs::Repairs;
+pub use starts::Start;
+pub use studies::{Study, StudyError};
+pub use trials::longest_repair;

@@ -1,0 +1,26 @@
+//! The passes of one ring until it is settled.
+ghost use Rattle.std.specs.Prelude.{◌≡◌, ◌≤◌, length};
+ghost use Rattle.ring_repairs.specs.Daemons.{passes};
+
+use crate::daemons::{Daemon, Memory};
+use ring_state::RingState;
+
+/// Lets the machines pass that the daemon chooses until the ring is settled, at most `most` of them, and answers how many passed.
+pub(crate) fn repair(daemon: Daemon, most: u64, memory: &mut Memory, ring: &mut RingState) -> u64
+    ensures passes { result ≡ passes daemon most memory.old ring.old }
+    ensures most { result ≤ most }
+    ensures size { length ring.new.values ≡ length ring.old.values }
+    ensures same { ring.new.k ≡ ring.old.k }
+{
+    ring.params(); // says: it is a ring
+    let mut passes = 0;
+    for _ in 0..most {
+        if ring.privileged() == 1 {
+            break;
+        }
+        let machine = daemon.choose(memory, ring);
+        ring.move_machine(machine);
+        passes += 1;
+    }
+    passes
+}

@@ -1,0 +1,63 @@
+//! Trials, one after the other.
+ghost use Rattle.std.specs.Prelude.{◌≡◌, ◌≤◌, ◌<◌, ◌+◌, length};
+ghost use Rattle.ring_model.specs.Limits.{machine_limit};
+ghost use Rattle.ring_model.specs.RepairLaws.{longest_repair};
+ghost use Rattle.ring_state.specs.Sizes.{size_of};
+ghost use Rattle.ring_repairs.specs.Studies.{trial_passes, IsCounted};
+ghost use Rattle.ring_repairs.specs.Limits.{number_limit};
+
+use crate::daemons::Memory;
+use crate::draws::generator;
+use crate::histograms::Histogram;
+use crate::repairing::repair;
+use crate::starts::write_start;
+use crate::studies::Study;
+use ring_state::RingState;
+
+/// How many granted passes the longest repair of `n` machines has, for `n` of at least 4; no repair of two or three machines has
+/// more than this. `n` is 2 to 1,024.
+pub fn longest_repair(n: u32) -> u64
+    requires few { 2 ≤ n }
+    requires many { n ≤ machine_limit }
+    ensures is { result ≡ longest_repair n }
+    ensures few { result < number_limit }
+{
+    (n as u64 - 2) * (3 * n as u64 + 1) / 2
+}
+
+/// How many passes the trial of this number takes, with the ring as the place for it.
+pub(crate) fn try_one(study: &Study, trial: u64, ring: &mut RingState) -> u64
+    requires { size_of ring.old ≡ study.now.size }
+    ensures passes { result ≡ trial_passes study.now trial }
+    ensures few { result ≤ longest_repair study.now.size.n }
+    ensures size { size_of ring.new ≡ study.now.size }
+{
+    let most = longest_repair(study.size().n());
+    let mut words = generator(study.seed(), trial);
+    write_start(study.start(), &mut words, ring);
+    let mut memory = Memory { words };
+    repair(study.daemon(), most, &mut memory, ring)
+}
+
+/// Counts the trials from `first` on, `trials` of them, with the ring as the place for them.
+pub(crate) fn count_trials(
+    study: &Study,
+    first: u64,
+    trials: u64,
+    ring: &mut RingState,
+    passes: &mut Histogram,
+)
+    requires all { first + trials ≤ study.now.trials }
+    requires size { size_of ring.old ≡ study.now.size }
+    requires numbers { length passes.old ≡ longest_repair study.now.size.n + 1 }
+    requires counted { IsCounted (trial_passes study.now) first passes.old }
+    ensures size { size_of ring.new ≡ study.now.size }
+    ensures numbers { length passes.new ≡ longest_repair study.now.size.n + 1 }
+    ensures counted { IsCounted (trial_passes study.now) (first + trials) passes.new }
+{
+    study.trials(); // says: they are within the limit
+    for trial in first..first + trials {
+        let number = try_one(study, trial, ring);
+        passes.add(number as usize);
+    }
+}
