@@ -1,6 +1,8 @@
 """Blocks of docs/OPERATING.md that are for hosts of their own, each pasted as a whole into a shell: the folders of the system are folders
 of the test there, `scp` copies from another one, and what only root may do is left out. Of what is no command: its words are known."""
 
+import contextlib
+import datetime
 import glob
 import grp
 import json
@@ -15,7 +17,8 @@ import unittest
 
 from certificates import needs_openssl
 from front import Front, Tunnel, needs_haproxy, text_of
-from harness import (COMMAND, FOLDER, PATIENCE, SERVER, TOP, Server, a_port, engine_of_any_name, needs_programs, say)
+from harness import (COMMAND, ENGINE, FOLDER, PATIENCE, SERVER, TOP, Server, a_port, engine_of_any_name, needs_programs, read_lines, say,
+                     wait_until)
 
 sys.path.insert(0, os.path.join(TOP, "tools"))
 
@@ -30,6 +33,7 @@ STUBS = {"systemctl": 'echo "$*" >>systemctl', "chown": "", "apt-get": "", "user
 
 #: those that are played here: each by its section and words of it
 PLAYED = [("## The journal", "xargs"), ("### Replace a host", "scp"), ("### etcd was lost or restored", "install"), ("### Certificates", "openssl"),
+          *(("## Who held what, and when", words) for words in ("xargs", "wozgirt log", "WOZGIRT_OPTIONS")),
           ("## Four questions", "journalctl"), ("## Four questions", "curl"), ("## What to watch", "scrape_configs:"),
           ("### etcd and the server", "WOZGIRT_OPTIONS="), ("### etcd and the server", "ETCD_NAME="), ("## Who may connect", "lock deploy:"),
           *(("### Clients over TLS", words) for words in ("openssl", "--proxied", "Tls(", "client.pem", "WOZGIRT_SOCKET"))]
@@ -49,6 +53,11 @@ def write(path, text=""):
     os.makedirs(os.path.dirname(path), exist_ok=True)
     with open(path, "w", encoding="utf-8") as file:
         file.write(text)
+
+
+def read(path):
+    with open(path, encoding="utf-8") as file:
+        return file.read()
 
 
 class Blocks(unittest.TestCase):
@@ -83,6 +92,67 @@ class Blocks(unittest.TestCase):
         self.paste(block("## The journal", "xargs"))
         self.assertEqual(self.names("/srv/old-locks"), [f"000000000{it}.ring" for it in (1, 2, 3)])
         self.assertEqual(self.names(JOURNAL), ["0000000004.ring", "0000000005.ring", "locks"])
+
+    def test_old_records_are_removed(self):
+        for number in range(1, 33):
+            write(f"{self.folder}{JOURNAL}.grants.{number:010d}")
+        write(f"{self.folder}{JOURNAL}.grants")
+        self.paste(block("## Who held what, and when", "xargs"))
+        self.assertEqual(self.names("/var/lib/wozgirt"), ["journal.grants"] + [f"journal.grants.{number:010d}" for number in range(3, 33)])
+
+    @needs_programs
+    def test_who_held_it_on_tuesday(self):
+        """Over a kill of the server and a restart. The page has the times of a Tuesday, a user and processes: those of the record become
+        these, line by line, and the last Tuesday is the page's."""
+        command, shown = block("## Who held what, and when", "wozgirt log").removeprefix("# ").split("\n", 1)
+        rows = [line.split() for line in shown.splitlines()[1:]]
+        labels = [row[2] for row in rows]
+        with self.recorded() as server, server.raw() as one:
+            say(one, "acquire deploy 1\nrelease deploy 1\nacquire deploy %s\n" % labels[0], 3)
+            with server.raw() as two:
+                say(two, "acquire deploy %s\n" % labels[1])
+                say(one, "release deploy 2\n")
+                self.assertEqual(read_lines(two, 1), ["granted deploy 3"])
+                server.process.kill()
+                server.process.wait()
+        grants = f"{self.folder}{JOURNAL}.grants"
+        with self.recorded() as server:
+            wait_until(lambda: "grace" in read(grants))
+            with server.raw() as three:
+                say(three, "acquire deploy %s\n" % labels[2])
+                tuesday = self.on_the_page(grants, rows)
+                env = dict(os.environ, PATH=f"{self.folder}/bin:{os.environ['PATH']}", WOZGIRT_JOURNAL=self.folder + JOURNAL)
+                done = subprocess.run(["bash", "-c", command], env=env, capture_output=True, text=True, timeout=PATIENCE, check=False)
+                self.assertEqual((done.stderr, done.stdout), ("", shown.replace("2026-11-24", tuesday).rstrip("\n") + "\n"))
+                write(grants, read(grants).replace("label=8", "label=77"))
+                done = subprocess.run(["bash", "-c", command], env=env, capture_output=True, text=True, timeout=PATIENCE, check=False)
+                self.assertEqual((done.returncode, done.stdout), (65, ""))
+                self.assertRegex(done.stderr, r"line \d+: in the journal the hold of deploy with token 3 has the label 8$")
+
+    def recorded(self):
+        """A server with the option of the page, whose journal is at the page's place."""
+        option = block("## Who held what, and when", "WOZGIRT_OPTIONS").strip().removeprefix("WOZGIRT_OPTIONS=")
+        words = re.sub("(?=/var/)", self.folder, option).split()
+        os.makedirs(f"{self.folder}/bin", exist_ok=True)
+        for name, program in (("ring_tool", ENGINE), ("wozgirt", COMMAND)):
+            with contextlib.suppress(FileExistsError):
+                os.symlink(program, f"{self.folder}/bin/{name}")
+        os.makedirs(f"{self.folder}/var/lib/wozgirt", exist_ok=True)
+        return Server("--journal", self.folder + JOURNAL, *words, locks="deploy", lease="0.2", folder=self.folder)
+
+    def on_the_page(self, path, rows):
+        """Gives the record the page's times, users and processes; the day of last Tuesday, in UTC."""
+        now = datetime.datetime.now(datetime.timezone.utc)
+        tuesday = (now - datetime.timedelta(days=(now.weekday() - 1) % 7)).date().isoformat()
+        lines = read(path).splitlines()
+        for i, line in enumerate(lines):
+            row = next((row for row in rows if f" deploy {row[1]} " in f"{line} "), None)
+            at = row[3 if " granted " in line else 4] if row else "2026-11-24T14:00:00.000000Z"
+            user, process = (row[5], row[7]) if row else ("root", 1)
+            line = re.sub(r"^\S+Z ", at.replace("2026-11-24", tuesday) + " ", line)
+            lines[i] = re.sub(r"user=\S+ process=\d+", f"user={user} process={process}", line)
+        write(path, "\n".join(lines) + "\n")
+        return tuesday
 
     def test_a_host_is_replaced(self):
         parts = ["CHECKPOINT", "PLACE", "SEGMENT-9", "SEGMENT-17", "holders", "journal/0000000001.ring", "journal/0000000002.ring", "journal/locks"]

@@ -45,6 +45,8 @@ complete -c wozgirt-server -l waiters -x -d "How many clients may wait for one l
 complete -c wozgirt-server -l most-holds -x -d "How many locks one client may hold at once, with the one that it waits for"
 complete -c wozgirt-server -l deaf -x -d "How long a client may leave answers unread, in seconds"
 complete -c wozgirt-server -l watch-certificate -rF -d "Certificates that are watched until they end"
+complete -c wozgirt-server -l grants -rF -d "Where each grant and each end of a hold gets a line"
+complete -c wozgirt-server -l grants-bytes -x -d "How long that may be before it gets another name"
 complete -c wozgirt-server -l log-connections -d "Log each client that comes and goes"
 complete -c wozgirt-server -l help -d "Print the help"
 complete -c wozgirt-server -l version -d "Print the version"

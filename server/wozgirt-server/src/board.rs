@@ -2,18 +2,21 @@
 //! how many clients may wait.
 
 mod any;
+mod news;
 mod sight;
 #[cfg(test)]
 mod tests;
 mod waits;
 
 pub use any::Any;
+pub use news::{Change, News, Why};
 pub use sight::{Fault, Holder, Party, Sight, Waiter};
 pub use waits::{Waits, WAITS};
 
 use crate::log::Utc;
 use crate::names::{ByName, Names};
 use crate::shares::{Guest, Share};
+use news::Unread;
 use std::collections::HashMap;
 use std::time::Instant;
 use wozgirt_engine::{Client, Input, Label, Lock, Stats, Token, NOBODY};
@@ -45,6 +48,8 @@ pub struct Board {
     waits: Waits,
     /// How often a hold, a queue, or the list has changed, or a fault was written.
     changes: u64,
+    /// What has happened to holds.
+    news: Unread,
 }
 
 impl Board {
@@ -58,6 +63,21 @@ impl Board {
     /// A number that is another one after each change of what `status` shows, except the time.
     pub fn changes(&self) -> u64 {
         self.changes
+    }
+
+    /// What happens to holds is wanted from now on.
+    pub fn keep_news(&mut self) {
+        self.news.keep();
+    }
+
+    /// Whether something has happened to holds since that was taken.
+    pub fn has_news(&self) -> bool {
+        self.news.are_any()
+    }
+
+    /// What has happened to holds, once.
+    pub fn take_news(&mut self) -> Vec<News> {
+        self.news.take()
     }
 
     /// How long grants were waited for.
@@ -201,9 +221,16 @@ impl Board {
 
     /// The client holds the lock. The label of one that waited is known.
     pub fn granted(&mut self, lock: &str, party: impl Into<Party>, token: Token, label: Option<Label>, now: Instant) {
-        let party = party.into();
-        let waited = self.show(lock, true, |sight| sight.grant(party, token, label, now));
-        waited.into_iter().for_each(|waited| self.waits.count(waited));
+        let party: Party = party.into();
+        let client = party.client;
+        let granted = self.show(lock, true, |sight| {
+            let waited = sight.grant(party, token, label, now);
+            (waited, sight.lock.clone(), sight.holder.and_then(|holder| holder.label))
+        });
+        if let Some((waited, lock, label)) = granted {
+            self.waits.count(waited);
+            self.news.add(&lock, token, client, Change::Granted(label));
+        }
     }
 
     /// The client holds the lock since before this server started.
@@ -215,14 +242,22 @@ impl Board {
         });
     }
 
-    /// The client's hold ended.
-    pub fn released(&mut self, lock: &str, client: Client) {
-        self.left(lock, client);
+    /// The client has come back to its hold.
+    pub fn kept(&mut self, lock: &Lock, token: Token, client: Client) {
+        self.news.add(lock, token, client, Change::Kept);
     }
 
-    /// The hold ended without a release: whether there was one.
-    pub fn left(&mut self, lock: &str, client: Client) -> bool {
-        self.show(lock, false, |sight| sight.end_hold(client)).unwrap_or(false)
+    /// The client released its hold.
+    pub fn released(&mut self, lock: &str, client: Client) {
+        self.left(lock, client, Why::Released);
+    }
+
+    /// The client's hold ended: whether there was one.
+    pub fn left(&mut self, lock: &str, client: Client, why: Why) -> bool {
+        let ended = self.show(lock, false, |sight| Some((sight.lock.clone(), sight.end_hold(client)?))).flatten();
+        let Some((lock, token)) = ended else { return false };
+        self.news.add(&lock, token, client, Change::Ended(why));
+        true
     }
 
     /// A fault was written and repaired.

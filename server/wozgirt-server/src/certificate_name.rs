@@ -56,6 +56,11 @@ impl CertificateName {
         (*name.0 == *word).then_some(name).ok_or(NotAName::Syntax)
     }
 
+    /// The name itself, which may have any character.
+    pub fn text(&self) -> String {
+        bytes_of(&self.0).and_then(|bytes| String::from_utf8(bytes).ok()).unwrap_or_default()
+    }
+
     /// As it is written.
     pub fn as_str(&self) -> &str {
         &self.0
@@ -110,7 +115,7 @@ mod tests {
             ("alice@example.org/1:2+3=5~_", "alice@example.org/1:2+3=5~_"),
         ] {
             let name = name(text);
-            assert_eq!((name.as_str(), name.to_string()), (word, word.to_string()));
+            assert_eq!((name.as_str(), name.to_string(), name.text()), (word, word.to_string(), text.into()));
             assert_eq!((CertificateName::parse(word), bytes_of(word)), (Ok(name), Some(text.into())));
         }
         assert_ne!(name("a b"), name("a%20b"));

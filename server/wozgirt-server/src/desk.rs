@@ -16,6 +16,7 @@ pub(crate) use withdrawing::NotPermitted;
 use crate::board::Board;
 use crate::connection::{Connection, Door, Pending};
 use crate::engine::Engine;
+use crate::grants::Grants;
 use crate::log::{End, Log};
 use crate::mode::Mode;
 use crate::questions::Questions;
@@ -80,6 +81,8 @@ pub struct Desk {
     pub parts: Parts,
     /// The log.
     pub log: Log,
+    /// The record of grants, if there is one.
+    pub grants: Option<Grants>,
     /// A single server, or one of several.
     pub mode: Mode,
     /// The time of this round.

@@ -12,6 +12,11 @@ pub fn beside(folder: &Path, end: &str) -> io::Result<PathBuf> {
     Ok(folder.with_file_name(name))
 }
 
+/// The folder with the file of this path.
+pub fn parent(path: &Path) -> &Path {
+    path.parent().filter(|folder| *folder != Path::new("")).unwrap_or(Path::new("."))
+}
+
 /// An error if it is a link: what that leads to may be anybody's.
 pub fn refuse_link(path: &Path) -> io::Result<()> {
     match fs::symlink_metadata(path) {
@@ -41,7 +46,7 @@ pub fn replace(path: &Path, part: &Path, create: impl Fn(&Path) -> io::Result<Fi
     file.write_all(text)?;
     file.sync_all()?;
     fs::rename(part, path)?;
-    File::open(path.parent().filter(|folder| *folder != Path::new("")).unwrap_or(Path::new(".")))?.sync_all()?;
+    File::open(parent(path))?.sync_all()?;
     Ok(file)
 }
 

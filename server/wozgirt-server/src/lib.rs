@@ -18,6 +18,7 @@ mod engine;
 mod engine_version;
 mod figures;
 mod files;
+mod grants;
 mod header;
 mod journal;
 pub mod log;

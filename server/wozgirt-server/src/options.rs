@@ -39,6 +39,8 @@ pub enum Name {
     Deaf,
     WatchCertificate,
     LogConnections,
+    Grants,
+    GrantsBytes,
     /// One of a server that is one of several.
     OverEtcd(EtcdName),
 }
@@ -224,6 +226,18 @@ pub static SECTIONS: [Section; 5] = [
                 "--watch-certificate",
                 "FILE",
                 "certificates in PEM: one that ends within a week is in the log, and its end in the metrics; may be repeated",
+            ),
+            valued(
+                Name::Grants,
+                "--grants",
+                "FILE",
+                "a line there for each grant and each end of a hold, which `wozgirt log` reads",
+            ),
+            valued(
+                Name::GrantsBytes,
+                "--grants-bytes",
+                "BYTES",
+                "how long that may be before it gets another name [67108864]",
             ),
             flag(Name::LogConnections, "--log-connections", "a line in the log for each client that comes and goes"),
         ],

@@ -6,7 +6,8 @@ use std::io::{self, ErrorKind, Write};
 use std::os::unix::fs::{DirBuilderExt, OpenOptionsExt, PermissionsExt};
 use std::path::Path;
 
-const FILE: u32 = 0o600;
+/// The mode of such a file.
+pub const FILE: u32 = 0o600;
 const FOLDER: u32 = 0o700;
 
 /// Makes the folder, and those above it, if they are missing.

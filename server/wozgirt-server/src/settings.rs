@@ -62,6 +62,15 @@ pub struct Sockets {
     pub page: Option<SocketAddr>,
 }
 
+/// The record of grants.
+#[derive(Debug, Clone, PartialEq, Eq)]
+pub struct GrantsSettings {
+    /// Its file.
+    pub path: PathBuf,
+    /// How long it may be before it gets another name.
+    pub most_bytes: u64,
+}
+
 /// What is bounded, and how.
 #[derive(Debug, Clone, PartialEq, Eq)]
 pub struct Limits {
@@ -104,6 +113,8 @@ pub struct Settings {
     pub limits: Limits,
     /// Files with certificates whose ends are watched.
     pub certificates: Vec<PathBuf>,
+    /// The record of grants, if there is one.
+    pub grants: Option<GrantsSettings>,
     /// Whether connections are logged.
     pub logs_connections: bool,
     /// The log that this server has with others.
@@ -142,6 +153,8 @@ pub enum BadWords {
     Alone(&'static str),
     /// This word is not for several servers.
     NotAlone(&'static str),
+    /// This word says nothing without `--grants`.
+    NoGrants(&'static str),
 }
 
 impl fmt::Display for BadWords {
@@ -157,6 +170,7 @@ impl fmt::Display for BadWords {
             }
             BadWords::Grace => f.write_str("--grace is shorter than --longest-lease"),
             BadWords::NotAlone(word) => write!(f, "{word} is for a single server, without --etcd"),
+            BadWords::NoGrants(word) => write!(f, "{word} says nothing without --grants"),
             BadWords::Alone(word) => write!(f, "{word} is for several servers: see --etcd"),
         }
     }

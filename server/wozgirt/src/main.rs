@@ -1,4 +1,4 @@
-//! The command `wozgirt`: a lock around another command, and looks at the server. See `--help`.
+//! The command `wozgirt`: a lock around another command, looks at the server, and who held what. See `--help`.
 
 mod admin;
 mod alone;
@@ -8,6 +8,7 @@ mod client;
 mod connecting;
 mod finding;
 mod lock;
+mod log;
 mod options;
 mod output;
 mod parsing;
@@ -31,10 +32,13 @@ use wozgirt_words::OwnFolder;
 
 const SOCKET: &str = "/run/wozgirt/lock.sock";
 const OPERATORS: &str = "/run/wozgirt/operators.sock";
+const JOURNAL: &str = "/var/lib/wozgirt/journal";
 /// Standard output cannot be written; `flock(1)` has this status too.
 const NOT_WRITTEN: u8 = 1;
 // statuses as `sysexits.h` has them
 const USAGE: u8 = 64;
+const DATA: u8 = 65;
+const NO_INPUT: u8 = 66;
 const UNAVAILABLE: u8 = 69;
 const SYSTEM: u8 = 71;
 const LOST: u8 = 75;
@@ -85,6 +89,8 @@ fn usual() -> Usual {
     Usual {
         socket: place("WOZGIRT_SOCKET", OwnFolder::socket, SOCKET),
         operators: place("WOZGIRT_OPERATORS", OwnFolder::operators, OPERATORS),
+        journal: place("WOZGIRT_JOURNAL", OwnFolder::journal, JOURNAL),
+        grants: var_os("WOZGIRT_GRANTS"),
     }
 }
 
@@ -103,6 +109,10 @@ fn main() -> ExitCode {
         Ok(Words::Bench(place, load)) => match bench::run(&place, &load) {
             Ok(text) => done(print(&text).map_err(CannotDo::Output)),
             Err(wrong) => say(wrong, 1),
+        },
+        Ok(Words::Log(inquiry)) => match log::run(&inquiry) {
+            Ok(()) => 0,
+            Err(fault) => say(&fault, status_of_inquiry(&fault)),
         },
         Ok(Words::Help) => done(print(&options::help()).map_err(CannotDo::Output)),
         Ok(Words::Version) => {
@@ -136,6 +146,15 @@ fn status_of(fault: &NotRun) -> u8 {
         NotRun::Server(fault) => status_of_fault(fault),
         NotRun::Command(..) | NotRun::System(_) => UNAVAILABLE,
         NotRun::Fork(_) => SYSTEM,
+    }
+}
+
+fn status_of_inquiry(fault: &log::Unknown) -> u8 {
+    match fault.kind() {
+        log::Kind::Files => NO_INPUT,
+        log::Kind::Program => UNAVAILABLE,
+        log::Kind::Data => DATA,
+        log::Kind::Output => NOT_WRITTEN,
     }
 }
 

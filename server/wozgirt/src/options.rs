@@ -10,6 +10,7 @@ pub enum Verb {
     Try,
     Status,
     Watch,
+    Log,
     Bench,
     Admin,
 }
@@ -81,6 +82,11 @@ pub enum Name {
     Group,
     Every,
     Json,
+    Journal,
+    Grants,
+    Engine,
+    Since,
+    Until,
 }
 
 static OF_A_LOCK: [Name; 11] = [
@@ -98,7 +104,7 @@ static OF_A_LOCK: [Name; 11] = [
 ];
 
 /// All commands.
-pub static COMMANDS: [CommandWord; 6] = [
+pub static COMMANDS: [CommandWord; 7] = [
     CommandWord {
         verb: Verb::Lock,
         name: "lock",
@@ -126,6 +132,13 @@ pub static COMMANDS: [CommandWord; 6] = [
         operands: " [PREFIX] [--every SECONDS] [--json]",
         help: "prints that each time that it has changed",
         options: &[Name::Socket, Name::ServerWait, Name::Every, Name::Json],
+    },
+    CommandWord {
+        verb: Verb::Log,
+        name: "log",
+        operands: " [NAME] [--since WHEN] [--until WHEN] [--json]",
+        help: "prints who held each lock, or this one, and when, on the machine of a server with --grants",
+        options: &[Name::Journal, Name::Grants, Name::Engine, Name::Since, Name::Until, Name::Json],
     },
     CommandWord {
         verb: Verb::Bench,
@@ -174,7 +187,7 @@ pub static ORDERS: [OrderWord; 6] = [
 ];
 
 /// All options.
-pub static OPTIONS: [OptionWord<Name>; 14] = [
+pub static OPTIONS: [OptionWord<Name>; 19] = [
     OptionWord::valued(
         Name::Socket,
         "--socket",
@@ -239,14 +252,36 @@ pub static OPTIONS: [OptionWord<Name>; 14] = [
     OptionWord::flag(
         Name::Json,
         "--json",
-        "`status` and `watch` print JSON: an array, with times in milliseconds, on one line",
+        "`status` and `watch` print JSON: an array, with times in milliseconds, on one line;\n\
+         `log` prints an object a line",
     ),
+    OptionWord::valued(
+        Name::Journal,
+        "--journal",
+        "FOLDER",
+        "the server's --journal [WOZGIRT_JOURNAL, or that of a server of your own,\n\
+         or /var/lib/wozgirt/journal]",
+    ),
+    OptionWord::valued(
+        Name::Grants,
+        "--grants",
+        "FILE",
+        "the server's --grants; of several servers one after the other\n[WOZGIRT_GRANTS, or FOLDER.grants]",
+    ),
+    OptionWord::valued(Name::Engine, "--engine", "PROGRAM", "what reads the journal, by `PROGRAM holds FOLDER` [ring_tool]"),
+    OptionWord::valued(
+        Name::Since,
+        "--since",
+        "WHEN",
+        "only holds that had not ended then: 2h, 2026-11-24, tuesday, 14:10,\n'tuesday 14:10', 2026-11-24T14:10:08; in UTC",
+    ),
+    OptionWord::valued(Name::Until, "--until", "WHEN", "only holds that began before that"),
 ];
 
 const STATUSES: &str = "\
 Exit status: COMMAND's; 128 and its signal; 1 timed out waiting for the lock, or standard output cannot be written;
-64 usage error; 69 no server answers, or COMMAND cannot be run; 75 the lock was lost while COMMAND ran; 76 the server
-refused.
+64 usage error; 65 record and journal contradict each other, or one is damaged; 66 one of them cannot be read; 69 no
+server answers, or a program cannot be run; 75 the lock was lost while COMMAND ran; 76 the server refused.
 ";
 
 /// The text of `--help`.

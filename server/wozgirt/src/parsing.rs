@@ -1,11 +1,14 @@
 //! The reading of the command line.
 
+use crate::log::moment;
 use crate::options::{Name, OrderName, Verb, COMMANDS, ORDERS};
 use crate::places::{places, NoPlace, Place};
-use crate::words::{BadWords, Hold, Load, Look, Order, Patience, Words};
+use crate::words::{BadWords, Hold, Inquiry, Load, Look, Order, Patience, Words};
 use std::ffi::{OsStr, OsString};
 use std::os::unix::ffi::OsStrExt;
+use std::path::PathBuf;
 use std::time::Duration;
+use wozgirt_grants::Moment;
 use wozgirt_words::{next_word, Word};
 
 /// Where servers are, if no word says it.
@@ -15,6 +18,10 @@ pub struct Usual {
     pub socket: OsString,
     /// The socket of operators.
     pub operators: OsString,
+    /// The folder of the journal.
+    pub journal: OsString,
+    /// The record of grants, if it is not beside the journal.
+    pub grants: Option<OsString>,
 }
 
 /// What was read of the options.
@@ -33,6 +40,12 @@ struct Reading {
     is_group: bool,
     every: Duration,
     is_json: bool,
+    journal: OsString,
+    usual_grants: Option<OsString>,
+    grants: Vec<PathBuf>,
+    engine: String,
+    since: Option<Moment>,
+    until: Option<Moment>,
     others: Vec<OsString>,
     command: Vec<OsString>,
 }
@@ -57,6 +70,9 @@ pub fn parse(words: impl IntoIterator<Item = OsString>, usual: Usual) -> Result<
             Word::Version => return Ok(Words::Version),
             Word::End if is_lock => reading.command = words.by_ref().collect(),
             Word::End => return Err(BadWords::Unknown("--".into())),
+            Word::Option(name @ (Name::Since | Name::Until), written, value) => {
+                reading.put(name, &value).ok_or_else(|| BadWords::Moment(written, text(value)))?;
+            }
             Word::Option(name, written, value) => {
                 reading.put(name, &value).ok_or_else(|| BadWords::Value(written, text(value)))?;
             }
@@ -92,6 +108,12 @@ impl Reading {
             is_group: false,
             every: Duration::from_secs(10),
             is_json: false,
+            journal: usual.journal,
+            usual_grants: usual.grants,
+            grants: Vec::new(),
+            engine: "ring_tool".into(),
+            since: None,
+            until: None,
             others: Vec::new(),
             command: Vec::new(),
         }
@@ -114,6 +136,11 @@ impl Reading {
             Name::Close => self.closes = true,
             Name::CommandOnly => self.is_of_command_only = true,
             Name::Group => self.is_group = true,
+            Name::Journal => self.journal = value.into(),
+            Name::Grants => self.grants.push(value.into()),
+            Name::Engine => self.engine = value.to_str()?.into(),
+            Name::Since => self.since = Some(moment(value.to_str()?, Moment::now())?),
+            Name::Until => self.until = Some(moment(value.to_str()?, Moment::now())?),
         }
         Some(())
     }
@@ -125,6 +152,7 @@ impl Reading {
             Verb::Admin => Words::Admin(self.operators.into(), order(&mut others)?),
             Verb::Status => Words::Status(self.look(None, others.next())?),
             Verb::Watch => Words::Status(self.look(Some(self.every), others.next())?),
+            Verb::Log => Words::Log(self.inquiry(others.next())?),
             Verb::Lock | Verb::Try => Words::Lock(self.places()?, self.hold(others.next())?),
         };
         others.next().map_or(Ok(words), |word| Err(BadWords::Unknown(text(word))))
@@ -140,6 +168,20 @@ impl Reading {
     fn look(&self, every: Option<Duration>, prefix: Option<OsString>) -> Result<Look, BadWords> {
         let prefix = prefix.map_or_else(String::new, text);
         Ok(Look { places: self.places()?, server_wait: self.server_wait, every, prefix, is_json: self.is_json })
+    }
+
+    fn inquiry(&self, lock: Option<OsString>) -> Result<Inquiry, BadWords> {
+        let beside = || {
+            // the folder's own name, without what may follow it
+            let mut name = PathBuf::from(&self.journal).components().as_path().as_os_str().to_owned();
+            name.push(".grants");
+            name
+        };
+        let usual = || vec![self.usual_grants.clone().unwrap_or_else(beside).into()];
+        let records = if self.grants.is_empty() { usual() } else { self.grants.clone() };
+        let (journal, program) = (self.journal.clone().into(), self.engine.clone());
+        let (since, until, is_json) = (self.since, self.until, self.is_json);
+        Ok(Inquiry { journal, records, program, name: lock.map(name).transpose()?, since, until, is_json })
     }
 
     fn bench(&self, others: &mut impl Iterator<Item = OsString>) -> Result<Words, BadWords> {
@@ -236,7 +278,7 @@ mod tests {
     use std::os::unix::ffi::OsStringExt;
 
     fn usual() -> Usual {
-        Usual { socket: "/s".into(), operators: "/o".into() }
+        Usual { socket: "/s".into(), operators: "/o".into(), journal: "/j".into(), grants: None }
     }
 
     fn read(words: &str) -> Result<Words, BadWords> {
@@ -353,11 +395,35 @@ mod tests {
         assert_eq!(read("lock deploy --version"), Ok(Words::Version));
     }
 
+    fn inquiry(words: &str) -> Inquiry {
+        match read(words) {
+            Ok(Words::Log(inquiry)) => inquiry,
+            other => panic!("{other:?}"),
+        }
+    }
+
+    #[test]
+    fn an_inquiry() {
+        let it = inquiry("log");
+        assert_eq!((it.journal, it.records, it.program.as_str()), ("/j".into(), vec!["/j.grants".into()], "ring_tool"));
+        assert_eq!((it.name, it.since, it.until, it.is_json), (None, None, None, false));
+        let it =
+            inquiry("log deploy --journal /k/./ --engine e --since 2026-11-24 --until 2026-11-24T14:10:08.5Z --json");
+        assert_eq!((it.journal, it.records, it.program.as_str()), ("/k/./".into(), vec!["/k.grants".into()], "e"));
+        let time = |text: &str| text.parse().ok();
+        assert_eq!((it.name.as_deref(), it.is_json), (Some("deploy"), true));
+        assert_eq!((it.since, it.until), (time("2026-11-24T00:00:00.000000Z"), time("2026-11-24T14:10:08.500000Z")));
+        assert_eq!(inquiry("log --grants /a --grants=/b").records, [PathBuf::from("/a"), "/b".into()]);
+        let usual = Usual { grants: Some("/g".into()), ..usual() };
+        let Ok(Words::Log(it)) = parse(["log".into()], usual) else { panic!() };
+        assert_eq!(it.records, [PathBuf::from("/g")]);
+    }
+
     #[test]
     fn refusals() {
         for (words, why) in [
-            ("", "lock, try, status, watch, bench or admin is wanted"),
-            ("lcok", "`lcok` is not a command: lock, try, status, watch, bench or admin is wanted"),
+            ("", "lock, try, status, watch, log, bench or admin is wanted"),
+            ("lcok", "`lcok` is not a command: lock, try, status, watch, log, bench or admin is wanted"),
             ("-w 1 lock deploy -- true", "`-w` has no place here"),
             ("-- lock deploy true", "`--` has no place here"),
             ("status --", "`--` has no place here"),
@@ -374,6 +440,10 @@ mod tests {
             ("bench --server-wait 1", "`--server-wait` has no place here"),
             ("lock --every 1 deploy -- true", "`--every` has no place here"),
             ("status -n", "`-n` has no place here"),
+            ("status --since 2h", "`--since` has no place here"),
+            ("log --socket /s", "`--socket` has no place here"),
+            ("log a b", "`b` has no place here"),
+            ("log --since", "--since needs a value"),
             ("status all more", "`more` has no place here"),
             ("bench 0", "bench: bad value `0`"),
             ("bench 1 1 1 1", "`1` has no place here"),
@@ -381,5 +451,10 @@ mod tests {
         ] {
             assert_eq!(read(words).unwrap_err().to_string(), why, "{words}");
         }
+        let why = read("log --until soon").unwrap_err().to_string();
+        assert!(
+            why.starts_with("--until: bad moment `soon`: a moment is one as 90s, ") && why.ends_with("; in UTC"),
+            "{why}"
+        );
     }
 }

@@ -1,11 +1,13 @@
 //! What the words of the command line ask for.
 
+use crate::log::FORMS;
 use crate::options::{COMMANDS, ORDERS};
 use crate::places::Place;
 use std::ffi::OsString;
 use std::fmt;
 use std::path::PathBuf;
 use std::time::Duration;
+use wozgirt_grants::Moment;
 use wozgirt_words::BadWord;
 
 /// What is to be done.
@@ -19,6 +21,8 @@ pub enum Words {
     Bench(Place, Load),
     /// To send a server an order, over the socket of operators.
     Admin(PathBuf, Order),
+    /// To print who held which lock.
+    Log(Inquiry),
     /// To print the help.
     Help,
     /// To print the version.
@@ -102,6 +106,25 @@ pub enum Order {
     Stop,
 }
 
+/// Which holds are asked for, and where they are written.
+#[derive(Debug, Clone, PartialEq, Eq)]
+pub struct Inquiry {
+    /// The folder of the journal.
+    pub journal: PathBuf,
+    /// The files to which servers write grants.
+    pub records: Vec<PathBuf>,
+    /// The program that reads the journal.
+    pub program: String,
+    /// The lock, if one is named.
+    pub name: Option<String>,
+    /// From when on.
+    pub since: Option<Moment>,
+    /// Until when.
+    pub until: Option<Moment>,
+    /// Whether that is for a program.
+    pub is_json: bool,
+}
+
 /// What is measured.
 #[derive(Debug, Clone, PartialEq, Eq)]
 pub struct Load {
@@ -128,6 +151,8 @@ pub enum BadWords {
     Value(String, String),
     /// This server speaks TLS.
     Tls(String),
+    /// This is not a moment.
+    Moment(String, String),
     /// No lock is named.
     NoName,
     /// No lock can have this name.
@@ -152,6 +177,9 @@ impl fmt::Display for BadWords {
             BadWords::Value(word, value) => write!(f, "{word}: bad value `{value}`"),
             BadWords::Tls(place) => {
                 write!(f, "{place}: wozgirt speaks no TLS: name the socket of wozgirt-tunnel@.service, which does")
+            }
+            BadWords::Moment(word, value) => {
+                write!(f, "{word}: bad moment `{value}`: a moment is one as {FORMS}; in UTC")
             }
             BadWords::NoName => f.write_str("NAME is missing"),
             BadWords::NoCommand => f.write_str("COMMAND is missing"),

@@ -173,6 +173,15 @@ fn list_of(locks: &Locks) -> String {
     listed + &locks.pool.as_ref().map_or(String::new(), |pool| format!("* {} {}\n", pool.n, pool.k))
 }
 
+/// The segments that are there, the oldest first.
+pub fn segments(folder: &Path) -> io::Result<Vec<PathBuf>> {
+    let files = fs::read_dir(folder)?.map(|it| it.map(|it| it.path())).collect::<io::Result<Vec<_>>>()?;
+    let mut found: Vec<PathBuf> =
+        files.into_iter().filter(|it| it.extension().is_some_and(|end| end == "ring")).collect();
+    found.sort();
+    Ok(found)
+}
+
 fn path(folder: &Path, number: u64) -> PathBuf {
     folder.join(format!("{number:010}.ring"))
 }

@@ -3,9 +3,11 @@
 //!
 //!     engine-double locks --journal FOLDER --locks NAME[:N[:K]],..[,*] [--most-names COUNT] [--segment LINES] [--faults]
 //!                         [--sync | --no-sync] [--strict] [--holders FILE]
+//!     engine-double holds FOLDER
 
 #![allow(missing_docs)]
 
+mod holds;
 mod journal;
 mod keys;
 mod locks;
@@ -16,7 +18,7 @@ use journal::Journal;
 use keys::Keyed;
 use locks::Locks;
 use std::io::{self, Read, Write};
-use std::path::PathBuf;
+use std::path::{Path, PathBuf};
 use wozgirt_engine::decimal;
 
 struct Settings {
@@ -122,7 +124,26 @@ fn run(settings: &Settings) -> io::Result<()> {
     }
 }
 
+/// `holds FOLDER`: the folder.
+fn folder_of_holds() -> Option<PathBuf> {
+    let mut words = std::env::args().skip(1);
+    words.next().filter(|word| word == "holds")?;
+    words.next().filter(|_| words.next().is_none()).map(PathBuf::from)
+}
+
+/// Prints the holds of a folder.
+fn print_holds(folder: &Path) -> io::Result<()> {
+    io::stdout().lock().write_all(holds::of(folder)?.as_bytes())
+}
+
 fn main() {
+    if let Some(folder) = folder_of_holds() {
+        if let Err(fault) = print_holds(&folder) {
+            eprintln!("engine-double: {fault}");
+            std::process::exit(1);
+        }
+        return;
+    }
     let Some(settings) = settings(std::env::args().skip(1)) else {
         eprintln!(
             "engine-double locks --journal FOLDER --locks NAME[:N[:K]],..[,*] [--most-names COUNT] [--segment LINES] [--faults] \

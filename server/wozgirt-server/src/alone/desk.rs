@@ -1,7 +1,7 @@
 //! Between the connections and the engine: what the client of a session says, and what it is answered.
 
 use super::{Alone, Ask, At, NoSession, What};
-use crate::board::Party;
+use crate::board::{Party, Why};
 use crate::cluster::{Key, Line};
 use crate::connection::{Connection, Pending, Seat};
 use crate::desk::{Desk, Then, Unasked};
@@ -74,6 +74,7 @@ impl Desk {
         }
         for (lock, token) in session.holds.iter() {
             let _ = write!(text, "\nholds {lock} {token}");
+            seat.session.into_iter().for_each(|number| self.board.kept(lock, *token, number));
         }
         if let Some(place) = &session.waits {
             let _ = write!(text, "\nwaits {}", place.lock);
@@ -150,7 +151,7 @@ impl Desk {
 
     /// The session is over: its locks are free as soon as the engine has heard that, when it is the turn of one with this tag. Returns
     /// what it held, as a list of names.
-    fn end_session(&mut self, session: Client, tag: u64) -> String {
+    fn end_session(&mut self, session: Client, tag: u64, why: Why) -> String {
         // of one that has nothing the engine knows nothing
         if self.alone().and_then(|alone| alone.session(session)).is_some_and(|it| !it.is_blank()) {
             let last = self.last_asked(session);
@@ -159,17 +160,17 @@ impl Desk {
         if let Some(alone) = self.alone() {
             alone.end(session);
         }
-        self.forget_session(session)
+        self.forget_session(session, why)
     }
 
     /// Nothing is known of the session any more. Returns what it held.
-    pub(crate) fn forget_session(&mut self, session: Client) -> String {
+    pub(crate) fn forget_session(&mut self, session: Client, why: Why) -> String {
         let Some(it) = self.alone().and_then(|alone| alone.forget(session)) else { return String::new() };
         if let Some(place) = &it.waits {
             self.board.waits_no_longer(&place.lock, session);
         }
         for (lock, _) in it.holds.iter() {
-            self.board.left(lock, session);
+            self.board.left(lock, session, why);
         }
         some_of(&it.held())
     }
@@ -185,12 +186,12 @@ impl Desk {
         let is_engine_gone = matches!(end, End::Engine | End::Stop);
         let is_over = matches!(end, End::Lease | End::Kicked) || seat.is_attached || session.is_blank();
         if is_over && !is_engine_gone {
-            return self.end_session(number, connection.asking.tag);
+            return self.end_session(number, connection.asking.tag, Why::Parted(end));
         }
         let until = now + connection.lease.unwrap_or(longest);
         let until = if session.is_idle() { until.min(seat.is_wanted_until()) } else { until };
         if until <= now && !is_engine_gone {
-            return self.end_session(number, connection.asking.tag);
+            return self.end_session(number, connection.asking.tag, Why::Parted(end));
         }
         session.at = At::Away(Some(until).filter(|_| !is_engine_gone));
         some_of(&session.held())
@@ -201,11 +202,12 @@ impl Desk {
         match &mut self.mode {
             Mode::Alone(alone) => {
                 alone.session(number).filter(|it| matches!(it.at, At::Away(Some(_))) && !it.is_left)?;
-                Some(self.end_session(number, FIRST_TAG))
+                Some(self.end_session(number, FIRST_TAG, Why::Parted(End::Kicked)))
             }
             Mode::InLog(cluster) => {
                 let (key, _) = cluster.owns.away().find(|(key, _)| cluster.owns.session(*key) == Some(number))?;
                 let held = some_of(&cluster.standing(key).held());
+                cluster.owns.note_end(key, Why::Parted(End::Kicked));
                 cluster.owns.end_away(key);
                 cluster.put(Line::Gone(key));
                 Some(held)
@@ -217,7 +219,7 @@ impl Desk {
     pub(crate) fn end_absent_sessions(&mut self) {
         let now = self.now;
         for session in self.alone().map(|alone| alone.late(now)).unwrap_or_default() {
-            let held = self.end_session(session, FIRST_TAG);
+            let held = self.end_session(session, FIRST_TAG, Why::Session);
             self.log.say(&Event::SessionOver { session, held: if held.is_empty() { "nothing" } else { &held } });
         }
     }

@@ -259,7 +259,7 @@ mod tests {
             (any.sums().waited, any.sums().longest_wait, any.oldest_wait()),
             (Duration::from_secs(3), Duration::from_secs(3), None)
         );
-        assert!(board.left("x/1", 2));
+        assert!(board.left("x/1", 2, crate::board::Why::Left));
         let (any, sight) = (board.any().unwrap(), board.lock("x/1").unwrap());
         assert_eq!((any.used(), any.sums().held, any.oldest_hold(), sight.passes), (0, 0, None, 0));
         assert_eq!((sight.past.grants, sight.past.longest_wait), (2, Duration::from_secs(3)));

@@ -198,12 +198,10 @@ impl Sight {
         self.line.remove(place)
     }
 
-    /// The hold ended, if it was this client's: whether it was.
-    pub(super) fn end_hold(&mut self, client: Client) -> bool {
-        let is_held = self.holder.is_some_and(|holder| holder.client == client);
-        if is_held {
-            self.holder = None;
-        }
-        is_held
+    /// The hold ended, if it was this client's: its token.
+    pub(super) fn end_hold(&mut self, client: Client) -> Option<Token> {
+        let holder = self.holder.filter(|holder| holder.client == client)?;
+        self.holder = None;
+        Some(holder.token)
     }
 }

@@ -143,6 +143,12 @@ impl Applied {
         self.over.get(&server.name).is_some_and(|&last| server.incarnation <= last)
     }
 
+    /// The sessions of a server's clients.
+    pub fn sessions_of<'a>(&'a self, server: &'a Server) -> impl Iterator<Item = Session> + 'a {
+        let is_its = |home: &Server| home.name == server.name && home.incarnation <= server.incarnation;
+        self.sessions.values().filter(move |known| is_its(&known.home)).map(|known| known.session)
+    }
+
     fn is_taken(&mut self, entry: &Entry, step: &mut Step) -> bool {
         if self.is_over(&entry.writer) {
             return false;

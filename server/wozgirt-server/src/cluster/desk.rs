@@ -1,6 +1,7 @@
 //! Between the connections and the log: what a client says becomes a line of the next entry.
 
 use super::{Key, Line, Session, Standing};
+use crate::board::Why;
 use crate::connection::{Connection, Pending, Seat};
 use crate::desk::{Desk, Then};
 use crate::log::{some_of, End, Event, Of};
@@ -99,6 +100,7 @@ impl Desk {
         let Some(key) = self.key(connection) else { return };
         connection.pending.push_back(Pending::Leaving(number.unwrap_or(0)));
         if let Some(cluster) = self.mode.in_log_mut() {
+            cluster.owns.note_end(key, Why::Left);
             cluster.put(Line::Gone(key));
         }
         if let Some(seat) = &mut connection.seat {
@@ -150,7 +152,7 @@ impl Desk {
     }
 
     /// The session is here: what it holds and waits for.
-    pub(crate) fn tell_here(&self, connection: &mut Connection, session: Session) {
+    pub(crate) fn tell_here(&mut self, connection: &mut Connection, session: Session) {
         let (Some(cluster), Some(seat)) = (self.mode.in_log(), &connection.seat) else { return };
         if !matches!(connection.pending.front(), Some(Pending::Opening)) {
             return;
@@ -162,6 +164,7 @@ impl Desk {
         connection.tell(format_args!("session {key} {count}"));
         for (lock, token) in standing.holds {
             connection.tell(format_args!("holds {lock} {token}"));
+            self.board.kept(&lock, token, session);
         }
         if let Some(lock) = standing.waits {
             connection.tell(format_args!("waits {lock}"));
@@ -202,6 +205,7 @@ impl Desk {
         let is_over = !seat.is_keyed && !matches!(end, End::Engine | End::Stop | End::Log | End::Moved);
         if is_over || matches!(end, End::Lease | End::Kicked) || seat.has_left {
             if cluster.owns.go(seat.key, connection.client) && !seat.has_left {
+                cluster.owns.note_end(seat.key, Why::Parted(end));
                 cluster.put(Line::Gone(seat.key));
             }
         } else {
@@ -217,6 +221,7 @@ impl Desk {
         let Some(cluster) = self.mode.in_log_mut() else { return };
         for key in cluster.owns.take_late(self.now) {
             let held = some_of(&cluster.standing(key).held());
+            cluster.owns.note_end(key, Why::Session);
             cluster.put(Line::Gone(key));
             let session = cluster.owns.session(key).unwrap_or(0);
             self.log.say(&Event::SessionOver { session, held: if held.is_empty() { "nothing" } else { &held } });

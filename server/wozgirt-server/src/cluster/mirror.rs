@@ -5,7 +5,7 @@
 
 use super::apply::Given;
 use super::entries::{is_digest, Key, Session};
-use crate::board::{Board, Party};
+use crate::board::{Board, Party, Why};
 use crate::shares::{Counts, Guest};
 use std::collections::{BTreeMap, HashMap, VecDeque};
 use std::time::Instant;
@@ -212,7 +212,7 @@ impl Mirror {
             board.waits_no_longer(lock, session);
         }
         for (lock, _) in &standing.holds {
-            board.left(lock, session);
+            board.left(lock, session, Why::Left); // its server knows better
             self.expect_next(lock, board);
         }
         standing

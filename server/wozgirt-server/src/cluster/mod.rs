@@ -239,6 +239,13 @@ impl Cluster {
         self.mirror.give(given);
     }
 
+    /// The sessions of servers that are over by this entry.
+    pub fn sessions_lost_by<'a>(&'a self, entry: &'a Entry) -> impl Iterator<Item = Session> + 'a {
+        let over =
+            entry.lines.iter().filter_map(|line| if let Line::Server(server) = line { Some(server) } else { None });
+        over.flat_map(|server| self.applied.sessions_of(server))
+    }
+
     /// When the next entry is due, if one waits.
     pub fn entry_due(&self) -> Option<Instant> {
         self.writer.due()

@@ -2,6 +2,7 @@
 
 use super::entries::{Key, Session};
 use super::owner::Who;
+use crate::board::Why;
 use std::collections::{HashMap, VecDeque};
 use std::fs::File;
 use std::io::{self, Read};
@@ -33,6 +34,8 @@ pub struct Owns {
     /// The number of the client's last session, as soon as the log has given it.
     sessions: HashMap<Key, Session>,
     keys: HashMap<Session, Key>,
+    /// Why sessions end of whom the log has not said that yet.
+    ends: HashMap<Session, Why>,
     /// The connections where sessions have begun, until the log says so.
     pub opening: VecDeque<Client>,
 }
@@ -60,11 +63,34 @@ impl Owns {
 
     /// The session is over.
     pub fn forget(&mut self, session: Session) {
+        self.ends.remove(&session);
         if let Some(key) = self.keys.remove(&session) {
             if self.sessions.get(&key) == Some(&session) {
                 self.sessions.remove(&key);
             }
         }
+    }
+
+    /// The client's session ends as soon as the log says so.
+    pub fn note_end(&mut self, key: Key, why: Why) {
+        if let Some(session) = self.sessions.get(&key) {
+            self.ends.insert(*session, why);
+        }
+    }
+
+    /// So does one of a server that is over.
+    pub fn note_end_with_server(&mut self, session: Session) {
+        self.ends.insert(session, Why::Server);
+    }
+
+    /// Why the session ends, if this server has to say so.
+    pub fn end_of(&self, session: Session) -> Option<Why> {
+        self.ends.get(&session).copied()
+    }
+
+    /// Whether the session's client is this server's.
+    pub fn has(&self, session: Session) -> bool {
+        self.keys.get(&session).is_some_and(|key| self.all.contains_key(key))
     }
 
     /// The number of the client's session.
@@ -108,6 +134,7 @@ impl Owns {
 
     /// The client has come to another server: the connection where it was.
     pub fn moved(&mut self, key: Key) -> Option<Client> {
+        self.sessions.get(&key).and_then(|session| self.ends.remove(session));
         match self.remove(key) {
             Some(Own::Here(client)) => Some(client),
             _ => None,
@@ -186,9 +213,15 @@ mod tests {
         owns.name(70, 5);
         owns.name(70, 6); // it has left, and said more
         assert_eq!((owns.client_of(5), owns.client_of(6), owns.session(70)), (Some(1), Some(1), Some(6)));
+        owns.note_end(70, Why::Left);
+        owns.note_end(71, Why::Left); // of whom nothing is known
+        owns.note_end_with_server(9);
+        assert_eq!([5, 6, 9].map(|session| owns.end_of(session)), [None, Some(Why::Left), Some(Why::Server)]);
+        assert!(owns.has(6) && !owns.has(9));
         owns.forget(5);
         assert_eq!((owns.client_of(5), owns.session(70)), (None, Some(6)));
         owns.forget(6);
+        assert_eq!((owns.end_of(6), owns.has(6)), (None, false));
         assert_eq!((owns.client_of(6), owns.session(70)), (None, None));
         let mut random = File::open("/dev/urandom").unwrap();
         assert_ne!(draw(&mut random).unwrap(), draw(&mut random).unwrap());

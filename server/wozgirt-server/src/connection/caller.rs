@@ -3,6 +3,7 @@
 use crate::certificate_name::CertificateName;
 use crate::cluster::Who;
 use crate::shares::Guest;
+use std::net::SocketAddr;
 use wozgirt_system::Peer;
 
 /// The door through which a connection came.
@@ -37,6 +38,8 @@ pub struct Caller {
     pub door: Door,
     /// What the rules know of it.
     pub known: Known,
+    /// Where it has come from, if it came over a network.
+    pub address: Option<SocketAddr>,
     /// Whose a session is that it begins.
     pub identity: Who,
     /// On whose account it is.

@@ -12,6 +12,7 @@ pub use seat::Seat;
 pub use wire::Reading;
 
 use crate::cluster::Who;
+use crate::grants::Ticket;
 use crate::log::End;
 use crate::status::Listing;
 use crate::stream::Stream;
@@ -253,8 +254,22 @@ impl Connection {
         self.told.tell_what_waited(&mut self.pending);
     }
 
+    /// Its answers wait until this block of the record of grants is on the disk.
+    pub fn await_block(&mut self, ticket: Ticket) {
+        self.told.awaits = Some(ticket);
+    }
+
+    /// The record is on the disk up to this block: whether more may be sent to it.
+    pub fn is_free(&mut self, done: Ticket) -> bool {
+        self.told.awaits = self.told.awaits.filter(|awaited| *awaited > done);
+        self.told.awaits.is_none()
+    }
+
     /// Writes what it takes.
     pub fn write(&mut self, now: Instant) -> io::Result<()> {
+        if self.told.awaits.is_some() {
+            return Ok(());
+        }
         if self.wire.is_gone {
             self.told.outbox.clear();
             return Ok(());

@@ -1,6 +1,7 @@
 //! Answers to a connection: those that it has not read yet, and those that wait for others before them.
 
 use super::Pending;
+use crate::grants::Ticket;
 use crate::outbox::Outbox;
 use crate::status::Listing;
 use std::collections::VecDeque;
@@ -20,11 +21,21 @@ pub(super) struct Told {
     late: Vec<u8>,
     /// Since when it takes nothing of what is sent to it.
     pub(super) stuck: Option<Instant>,
+    /// Up to which block of the record of grants the disk has to be, before more is sent.
+    pub(super) awaits: Option<Ticket>,
 }
 
 impl Told {
     pub(super) fn new(most_unread: usize) -> Told {
-        Told { outbox: Outbox::default(), most_unread, untold: 0, has_listing: false, late: Vec::new(), stuck: None }
+        Told {
+            outbox: Outbox::default(),
+            most_unread,
+            untold: 0,
+            has_listing: false,
+            late: Vec::new(),
+            stuck: None,
+            awaits: None,
+        }
     }
 
     pub(super) fn has_room(&self) -> bool {

@@ -1,6 +1,7 @@
 //! What the engine answers a connection, and what that changes.
 
 use super::{Desk, NotPermitted, Unasked};
+use crate::board::Why;
 use crate::connection::{Connection, Pending};
 use crate::log::{some_of, Event};
 use wozgirt_engine::{Answer, Client, Input, Lock, Token};
@@ -26,7 +27,7 @@ impl Desk {
         let mut ended = None;
         match (pending, answer) {
             (Pending::Ended(operator, lock, token), _) => {
-                self.note(connection, &Input::Release { lock: lock.clone(), token }, answer)?;
+                self.note(connection, &Input::Release { lock: lock.clone(), token }, Why::Operator, answer)?;
                 ended = Some((operator, lock, token));
             }
             (Pending::Withdrawn(lock), Answer::Cancelled { .. } | Answer::Refused { .. }) => {
@@ -36,13 +37,13 @@ impl Desk {
                 }
             }
             (Pending::Left, Answer::Stats(_)) => {
-                self.forget(connection);
+                self.forget(connection, Why::Left);
                 connection.tell("left");
             }
             // an engine that refuses every line for a while has not done the leave either
             (Pending::Left, Answer::Refused { .. }) => connection.tell(answer),
             (Pending::Asked(input), _) => {
-                self.note(connection, &input, answer)?;
+                self.note(connection, &input, Why::Released, answer)?;
                 connection.tell(answer);
             }
             _ => return Err(Unasked),
@@ -51,8 +52,14 @@ impl Desk {
         Ok(ended)
     }
 
-    /// What the answer to an input changes on the board and at the connection.
-    fn note(&mut self, connection: &mut Connection, input: &Input, answer: &Answer<'_>) -> Result<(), Unasked> {
+    /// What the answer to an input changes on the board and at the connection. `why`: why a hold ends that this releases.
+    fn note(
+        &mut self,
+        connection: &mut Connection,
+        input: &Input,
+        why: Why,
+        answer: &Answer<'_>,
+    ) -> Result<(), Unasked> {
         let client = connection.client;
         self.board.asked_no_longer(input);
         let party = (client, connection.caller.guest.clone());
@@ -69,7 +76,7 @@ impl Desk {
             }
             (Input::Release { lock, .. }, Answer::Released { lock: l }) if lock == l => {
                 connection.has.holds.retain(|held| held != lock);
-                self.board.released(lock, client);
+                self.board.left(lock, client, why);
             }
             (Input::Cancel { lock }, Answer::Cancelled { lock: l }) if lock == l => {
                 connection.has.waits_for = None;
@@ -81,20 +88,20 @@ impl Desk {
             }
             (Input::Try { lock, .. }, Answer::Busy { lock: l }) if lock == l => {}
             (Input::Stats { lock }, Answer::Stats(stats)) if *lock == stats.lock => {}
-            (_, Answer::Refused { why, .. }) => self.sums.refused(why.word()),
+            (_, Answer::Refused { why: word, .. }) => self.sums.refused(word.word()),
             _ => return Err(Unasked),
         }
         Ok(())
     }
 
     /// The client holds nothing and waits for nothing. Returns what it held, as a list of names.
-    pub(super) fn forget(&mut self, connection: &mut Connection) -> String {
+    pub(super) fn forget(&mut self, connection: &mut Connection, why: Why) -> String {
         let client = connection.client;
         if let Some(lock) = connection.has.waits_for.take() {
             self.board.waits_no_longer(&lock, client);
         }
         let mut held = std::mem::take(&mut connection.has.holds);
-        held.retain(|lock| self.board.left(lock, client));
+        held.retain(|lock| self.board.left(lock, client, why));
         some_of(&held)
     }
 }

@@ -1,6 +1,7 @@
 //! A connection is gone: what it had, and what the engine hears of that.
 
 use super::Desk;
+use crate::board::Why;
 use crate::connection::{Connection, Pending};
 use crate::log::{End, Event};
 use crate::mode::Mode;
@@ -45,7 +46,7 @@ impl Desk {
         if connection.asking.has_asked && !matches!(end, End::Engine | End::Stop) {
             self.say_gone(connection.client, connection.asking.tag, None);
         }
-        self.forget(connection)
+        self.forget(connection, Why::Parted(end))
     }
 
     /// A client or a session with this tag is gone: the engine hears that now, or when its turn comes.

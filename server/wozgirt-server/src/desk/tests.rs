@@ -39,6 +39,7 @@ pub(crate) fn desk(locks: usize, now: Instant) -> Desk {
         sums: Default::default(),
         parts: Default::default(),
         log: Log::start().unwrap(),
+        grants: None,
         mode: Mode::Alone(Alone::new(None, 9).unwrap()),
         now,
         settings,
@@ -49,7 +50,7 @@ pub(crate) fn desk(locks: usize, now: Instant) -> Desk {
 pub(crate) fn connection(lines: &[u8], now: Instant) -> (Connection, UnixStream) {
     let (stream, mut other) = UnixStream::pair().unwrap();
     let (identity, guest, who) = (Who::Unknown, Guest::UNKNOWN, String::new());
-    let caller = Caller { door: Door::Clients, known: Known::Nobody, identity, guest, who };
+    let caller = Caller { door: Door::Clients, known: Known::Nobody, address: None, identity, guest, who };
     let mut connection = Connection::new(1, caller, Stream::unix(stream).unwrap(), 1 << 16, now);
     other.write_all(lines).unwrap();
     connection.read(&mut [0; SHARE], now).unwrap();

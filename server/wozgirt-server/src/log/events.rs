@@ -187,6 +187,12 @@ pub enum Event<'a> {
     SessionsUnkept {
         fault: &'a std::io::Error,
     },
+    GrantsUnwritten {
+        fault: &'a str,
+    },
+    GrantsWritten {
+        lost: u64,
+    },
     Contradiction {
         name: &'a str,
         position: u64,
@@ -250,6 +256,8 @@ impl Event<'_> {
             Event::SessionEnded { .. } => "session-ended",
             Event::SessionsKept { .. } => "sessions-kept",
             Event::SessionsUnkept { .. } => "sessions-unkept",
+            Event::GrantsUnwritten { .. } => "grants-unwritten",
+            Event::GrantsWritten { .. } => "grants-written",
             Event::Contradiction { .. } => "contradiction",
             Event::HostAway { .. } => "host-away",
             Event::Checkpoint { .. } => "checkpoint",
@@ -350,6 +358,12 @@ impl fmt::Display for Event<'_> {
             }
             Event::SessionsUnkept { fault } => {
                 write!(f, "sessions cannot be kept beside the journal, and do not outlive this server: {fault}")
+            }
+            Event::GrantsUnwritten { fault } => {
+                write!(f, "the record of grants cannot be written, and locks are granted without it: {fault}")
+            }
+            Event::GrantsWritten { lost } => {
+                write!(f, "the record of grants is written again; {lost} lines are missing")
             }
             Event::SessionEnded { by, session, held } => {
                 write!(f, "session {session}, whose client is away, ended by an operator ({by}); it held {held}")

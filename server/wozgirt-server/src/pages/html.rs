@@ -229,6 +229,7 @@ mod tests {
                 alive: 3,
                 contradictions: 1,
             }),
+            grants: None,
             journal: &JournalSize { bytes: 99, segments: 1, last: "0000000001.ring".into() },
             figures: &figures,
             certificates: &[],

@@ -5,6 +5,7 @@ use crate::board::{Any, Sight, Waits, WAITS};
 use crate::certificates::Watched;
 use crate::engine_version::EngineVersion;
 use crate::figures::Figures;
+use crate::grants::Grants;
 use crate::log::{End, Of};
 use std::fmt::{Display, Write};
 use std::time::{Duration, Instant};
@@ -43,6 +44,7 @@ pub fn head(text: &mut String, view: &View<'_>) {
     waits(text, view.board.all_waits());
     certificates(text, view.certificates);
     view.in_log.iter().for_each(|it| log(text, it));
+    view.grants.iter().for_each(|it| grants(text, it));
 }
 
 /// Which server and engine these are. The engine's name has no byte that would need an escape.
@@ -159,6 +161,19 @@ fn log(text: &mut String, it: &InLog) {
         ("wozgirt_checkpoint_position", "gauge", "The entry of the last checkpoint.", &it.checkpoint),
         ("wozgirt_servers_alive", "gauge", "Servers whose lease in etcd is valid.", &it.alive),
         ("wozgirt_contradictions_total", "counter", "How often another server had other answers.", &it.contradictions),
+    ];
+    for (name, kind, help, value) in values {
+        Family::new(text, name, kind, help).value(value);
+    }
+}
+
+/// The record of grants.
+fn grants(text: &mut String, it: &Grants) {
+    let (is_written, sums) = (u8::from(it.is_well()), it.sums());
+    let values: [(&str, &str, &str, &dyn Display); 3] = [
+        ("wozgirt_grants_written", "gauge", "1 if the record of grants can be written.", &is_written),
+        ("wozgirt_grants_lines_total", "counter", "Lines that were written to the record of grants.", &sums.written),
+        ("wozgirt_grants_lines_lost_total", "counter", "Lines that are not there, or not for sure.", &sums.lost),
     ];
     for (name, kind, help, value) in values {
         Family::new(text, name, kind, help).value(value);

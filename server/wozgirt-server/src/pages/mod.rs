@@ -13,6 +13,7 @@ use crate::board::Board;
 use crate::certificates::Watched;
 use crate::engine_version::EngineVersion;
 use crate::figures::Figures;
+use crate::grants::Grants;
 use crate::journal::JournalSize;
 use crate::sums::Sums;
 use std::time::{Duration, Instant};
@@ -63,6 +64,8 @@ pub struct View<'a> {
     pub engine: EngineView<'a>,
     /// The log that the server has with others, if it has one.
     pub in_log: Option<InLog>,
+    /// The record of grants, if there is one.
+    pub grants: Option<&'a Grants>,
     /// The engine's journal.
     pub journal: &'a JournalSize,
     /// What the system says of the process.

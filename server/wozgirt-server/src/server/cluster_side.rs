@@ -237,6 +237,7 @@ impl Server {
         let Some(cluster) = desk.mode.in_log_mut() else { return Ok(()) };
         let Read { position, revision, entry } = read;
         let is_first = cluster.applied.settings.is_none();
+        let lost = entry.iter().flat_map(|entry| cluster.sessions_lost_by(entry)).collect::<Vec<_>>();
         let step = cluster.applied.apply(position, revision, entry.as_ref());
         if let (true, Some(settings)) = (step.has_more_locks, &cluster.applied.settings) {
             check_settings(cluster, settings)?; // one that begins with others is not heard
@@ -248,6 +249,9 @@ impl Server {
                 self.lose_engine_of_cluster(false); // it begins again, with the list of the log
                 return Ok(());
             }
+        }
+        if step.is_taken {
+            lost.into_iter().for_each(|session| cluster.owns.note_end_with_server(session));
         }
         let is_own = entry.as_ref().is_some_and(|entry| Some(&entry.writer) == cluster.member.me.as_ref());
         for given in step.given {
@@ -290,6 +294,7 @@ impl Server {
 
     /// Sends the answers of the engine to those that they concern.
     fn tell_effect(&mut self, effect: Effect<'_>) -> Result<(), CannotServe> {
+        self.note_news(); // as long as it is known whose they are
         let (desk, talks) = (&mut self.desk, &mut self.talks);
         let Some(cluster) = desk.mode.in_log_mut() else { return Ok(()) };
         let client = match &effect {

@@ -2,6 +2,7 @@
 
 use super::{Server, ENGINE, ENGINE_INPUT, REMARKS};
 use crate::alone::Start;
+use crate::board::Why;
 use crate::desk::Unasked;
 use crate::engine::{Engine, Outcome, Unheard};
 use crate::log::{End, Event};
@@ -101,6 +102,7 @@ impl Server {
         match self.desk.mode {
             Mode::Alone(_) => {
                 self.hear_engine_alone();
+                self.note_news(); // as long as those are there who were granted something
                 self.write_sessions();
                 Ok(())
             }
@@ -157,7 +159,7 @@ impl Server {
         if let Own::End(operator, lock, token, _) = own {
             if matches!(answer, Answer::Released { .. }) {
                 self.engine.held_before.retain(|held| *held != lock);
-                self.desk.board.released(&lock, NOBODY);
+                self.desk.board.left(&lock, NOBODY, Why::Operator);
             }
             self.tell_ended(operator, NOBODY, &lock, token, answer);
         } else if let (Own::Begin(lock), Answer::Stats(stats)) = (own, answer) {
@@ -346,7 +348,7 @@ impl Server {
         self.engine.grace_until = None;
         self.desk.ask_engine(NOBODY, &Input::Leave);
         for lock in std::mem::take(&mut self.engine.held_before) {
-            self.desk.board.left(&lock, NOBODY);
+            self.desk.board.left(&lock, NOBODY, Why::Grace);
         }
         self.desk.log.say(&Event::GraceOver);
     }

@@ -7,6 +7,7 @@
 //! | `talks`, `operators` | what is asked, and what operators have done |
 //! | `leases` | clients that are silent, or deaf |
 //! | `shows` | what visitors of the page see |
+//! | `record` | the record of grants |
 //! | `engine_side`, `session_side` | the engine of a server, and the sessions of a single one |
 //! | `cluster_side`, `log_side`, `checkpoints` | the engine of one of several, their log, and where it begins |
 
@@ -20,6 +21,7 @@ mod opening;
 mod operators;
 mod people;
 mod porch;
+mod record;
 mod session_side;
 mod shows;
 mod talks;
@@ -34,6 +36,7 @@ use crate::connection::SHARE;
 use crate::desk::{Desk, Parts};
 use crate::engine::{Engine, ROOM};
 use crate::engine_version::EngineVersion;
+use crate::grants::Grants;
 use crate::log::{End, Event, Log};
 use crate::memory::most_unread;
 use crate::mode::Mode;
@@ -44,7 +47,7 @@ use crate::sums::Sums;
 use engine_side::EngineSide;
 use entrance::{is_door, Entrance};
 use leases::Leases;
-use opening::{check_files, check_list, make_journal, open_sessions, read_names};
+use opening::{check_files, check_list, make_journal, open_grants, open_sessions, read_names};
 use people::People;
 use porch::Porch;
 use shows::Shows;
@@ -61,6 +64,7 @@ const ENGINE_INPUT: u64 = 6;
 const LOG: u64 = 7;
 const LOG_INPUT: u64 = 8;
 const REMARKS: u64 = 9;
+const GRANTS: u64 = 11;
 const CLIENTS: u64 = 2;
 const OPERATORS: u64 = 3;
 const NETWORK: u64 = 4;
@@ -118,10 +122,11 @@ impl Server {
         let names = Rc::new(read_names(&mut settings)?);
         make_journal(&settings)?;
         check_list(&settings, &names)?;
-        let board = Board::new(&names);
+        let mut board = Board::new(&names);
         let rules = Rc::new(people.read_rules(&settings, &board)?);
         check_files(&settings)?;
         let most_unread = most_unread(&settings).map_err(CannotServe::Memory)?;
+        let grants = open_grants(&settings, &mut board, now)?;
         let engine_version = EngineVersion::of(&settings.engine.program);
         let (journal, socket) = (settings.journal.display(), settings.sockets.clients.path.display());
         log.say(&Event::Started {
@@ -133,6 +138,7 @@ impl Server {
         });
         let poller = Poller::new()?;
         poller.add(&signals, SIGNALS, Interest::READS)?;
+        grants.iter().filter_map(Grants::bell).try_for_each(|bell| poller.add(bell, GRANTS, Interest::READS))?;
         let entrance = Entrance::open(&settings, most_unread, &poller, &mut log)?;
         let engine = Engine::new(settings.engine.program.clone(), settings.engine_words(), ROOM, now);
         let cluster = Cluster::new(&settings, &names, now)
@@ -145,7 +151,7 @@ impl Server {
         let certificates = Certificates::watch(&settings.certificates)?;
         let (questions, sums, parts, is_full) = (Questions::new(now), Sums::default(), Parts::default(), false);
         rules.unknown().iter().for_each(|who| log.say(&Event::RulesUnknown { who }));
-        let desk = Desk { settings, rules, engine, questions, is_full, board, sums, parts, log, mode, now };
+        let desk = Desk { settings, rules, engine, questions, is_full, board, sums, parts, log, grants, mode, now };
         Ok(Server {
             desk,
             poller,
@@ -214,6 +220,7 @@ impl Server {
             ENGINE => self.hear_engine()?,
             LOG => self.hear_log()?,
             REMARKS => self.log_remarks(),
+            GRANTS => self.hear_record(),
             ENGINE_INPUT | LOG_INPUT => {} // what they take is written at the end of each round
             PAGE => self.let_visitors_in(),
             key if key >= VISITORS => self.visit(key),
@@ -245,7 +252,8 @@ impl Server {
         let now = self.desk.now;
         let grace = self.engine.grace_until.filter(|_| self.is_engine_ready());
         let [log, entry] = self.desk.mode.next_times(now);
-        let times = [self.desk.engine.next_look(now), log, entry, grace, self.entrance.opens(), self.stopping];
+        let disk = self.desk.grants.as_ref().and_then(Grants::patience);
+        let times = [self.desk.engine.next_look(now), log, entry, grace, self.entrance.opens(), self.stopping, disk];
         let next = times.into_iter().flatten().fold(self.leases.next(), Instant::min);
         next.saturating_duration_since(now)
     }
@@ -261,6 +269,7 @@ impl Server {
         }
         self.entrance.open_again(&self.poller, now);
         self.watch_engine(seen);
+        self.desk.grants.iter_mut().for_each(|grants| grants.pass_time(now));
         if self.is_engine_ready() {
             self.manager.notify.note_ready();
         }
@@ -292,7 +301,10 @@ impl Server {
         match signal {
             Signal::Terminate => self.stop("SIGTERM"),
             Signal::Interrupt => self.stop("SIGINT"),
-            _ => self.read_rules_again(),
+            _ => {
+                self.read_rules_again();
+                self.look_at_record();
+            }
         }
     }
 

@@ -9,16 +9,18 @@ use crate::board::Board;
 use crate::cluster::{NoFolder, Other, LONGEST_LIST};
 use crate::doors::CannotListen;
 use crate::engine::CannotStart;
+use crate::grants::Grants;
 use crate::names::{BadNames, Names};
 use crate::places::Places;
 use crate::rules::{BadRule, Rules};
-use crate::settings::Settings;
+use crate::settings::{GrantsSettings, Settings};
 use std::fmt;
 use std::fs::{self, DirBuilder, File};
 use std::io::{self, ErrorKind, Read};
 use std::os::unix::fs::DirBuilderExt;
 use std::path::{Path, PathBuf};
 use std::process::ExitStatus;
+use std::time::Instant;
 use wozgirt_system::{open_at_once, permit_files};
 
 /// A list of locks that does not continue that of the journal.
@@ -80,6 +82,8 @@ pub enum CannotServe {
     EngineEnds(ExitStatus, Option<String>),
     /// What is kept of sessions cannot be read or written.
     Sessions(io::Error),
+    /// The record of grants cannot be written there.
+    Grants(PathBuf, io::Error),
     /// The folder cannot be had.
     Folder(PathBuf, NoFolder),
     /// There is no process that speaks to etcd.
@@ -132,6 +136,7 @@ impl fmt::Display for CannotServe {
             CannotServe::Listen(fault) => fault.fmt(f),
             CannotServe::Engine(fault) => fault.fmt(f),
             CannotServe::Sessions(fault) => write!(f, "what is kept of sessions, beside the journal: {fault} (--no-sessions serves without)"),
+            CannotServe::Grants(path, fault) => write!(f, "--grants: {}: {fault}", path.display()),
             CannotServe::Folder(path, NoFolder::InUse) => write!(f, "{}: another server has this folder", path.display()),
             CannotServe::Folder(path, NoFolder::Alone) => write!(
                 f,
@@ -196,6 +201,7 @@ impl CannotServe {
             | CannotServe::Rule(..)
             | CannotServe::Files { .. }
             | CannotServe::Memory(_)
+            | CannotServe::Grants(..)
             | CannotServe::Settings { .. } => 78,
             CannotServe::Restored | CannotServe::Contradicted(_) => 3,
             CannotServe::OtherLog(_) | CannotServe::LogGone(_) | CannotServe::LogLost => 4,
@@ -298,6 +304,15 @@ pub(super) fn open_sessions(settings: &Settings) -> Result<Alone, CannotServe> {
         fault => CannotServe::Folder(settings.journal.clone(), fault),
     })?;
     Alone::new(store, settings.most_sessions()).map_err(CannotServe::Sessions)
+}
+
+/// The record of grants, if there is to be one: what happens to holds goes there from now on.
+pub(super) fn open_grants(settings: &Settings, board: &mut Board, now: Instant) -> Result<Option<Grants>, CannotServe> {
+    let Some(GrantsSettings { path, most_bytes }) = &settings.grants else { return Ok(None) };
+    board.keep_news();
+    let server = settings.cluster.as_ref().map(|words| words.name.clone());
+    let opened = Grants::open(path, *most_bytes, server, settings.engine.is_synced, now);
+    opened.map(Some).map_err(|fault| CannotServe::Grants(path.clone(), fault))
 }
 
 /// The system's limit of open files, which the server raises to the hard limit at its start.

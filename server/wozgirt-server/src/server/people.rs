@@ -37,15 +37,22 @@ impl People {
     pub(super) fn caller(&mut self, door: Door, stream: &Stream, from: Option<SocketAddr>) -> Caller {
         if let Some(from) = from {
             let (identity, guest) = (Who::at(from.ip()), Guest::at(from.ip()));
-            return Caller { door, known: Known::Nobody, identity, guest, who: from.to_string() };
+            return Caller { door, known: Known::Nobody, address: Some(from), identity, guest, who: from.to_string() };
         }
         let Ok(peer) = peer_of(stream) else {
             let (identity, guest) = (Who::Unknown, Guest::UNKNOWN);
-            return Caller { door, known: Known::Nobody, identity, guest, who: "nobody knows who".into() };
+            return Caller {
+                door,
+                known: Known::Nobody,
+                address: None,
+                identity,
+                guest,
+                who: "nobody knows who".into(),
+            };
         };
         let who = format!("{}, process {}", self.names.name(peer.user), peer.process);
         let (identity, guest) = (Who::User(peer.user), Guest::User(Some(peer.user)));
-        Caller { door, known: Known::Process(peer), identity, guest, who }
+        Caller { door, known: Known::Process(peer), address: None, identity, guest, who }
     }
 
     /// The client that this header is about, or the proxy itself.
@@ -57,12 +64,12 @@ impl People {
                 let from = address.map_or("from somewhere".into(), |address| address.to_string());
                 let who = format!("cert:{name}, {from}");
                 let (identity, guest) = (Who::Certificate(name.clone()), Guest::Certificate(name.clone()));
-                Caller { door, known: Known::Certificate(name), identity, guest, who }
+                Caller { door, known: Known::Certificate(name), address, identity, guest, who }
             }
             Header::Client { address: Some(address), name: None } => self.caller(door, stream, Some(address)),
             Header::Client { address: None, name: None } => {
                 let (identity, guest) = (Who::Unknown, Guest::UNKNOWN);
-                Caller { door, known: Known::Nobody, identity, guest, who: "nobody knows who".into() }
+                Caller { door, known: Known::Nobody, address: None, identity, guest, who: "nobody knows who".into() }
             }
         }
     }

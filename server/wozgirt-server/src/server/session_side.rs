@@ -2,6 +2,7 @@
 
 use super::Server;
 use crate::alone::{Ask, At, Start, What};
+use crate::board::Why;
 use crate::desk::{NotPermitted, Unasked};
 use crate::log::Event;
 use crate::mode::Mode;
@@ -40,7 +41,7 @@ impl Server {
             What::End(operator, lock, token) => self.ended_for_session(number, operator, lock, token, answer),
             What::Withdraw(lock) => self.withdrawn_for_session(number, client, lock, answer),
             What::Leave(leave) => {
-                self.desk.forget_session(number);
+                self.desk.forget_session(number, Why::Left);
                 if let Some(connection) = self.talks.get_mut(client) {
                     self.desk.tell_session_left(connection, leave);
                 }
@@ -77,7 +78,7 @@ impl Server {
 
     fn ended_for_session(&mut self, session: Client, operator: Client, lock: Lock, token: Token, answer: &Answer<'_>) {
         if matches!(answer, Answer::Released { .. }) {
-            self.desk.board.released(&lock, session);
+            self.desk.board.left(&lock, session, Why::Operator);
             if let Some(alone) = self.desk.alone() {
                 alone.free(session, lock.clone());
             }

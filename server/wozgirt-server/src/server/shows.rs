@@ -115,6 +115,7 @@ impl Server {
             sessions: self.desk.mode.sessions().map_or(0, |counts| counts.all()),
             engine: self.view_of_engine(),
             in_log: self.desk.mode.view(),
+            grants: self.desk.grants.as_ref(),
             journal: self.shows.journal.size(),
             figures: &self.shows.figures,
             certificates: self.shows.certificates.files(),

@@ -1,5 +1,6 @@
 //! What is asked: the connections, whose turn it is, and what is written to them.
 
+use super::record::Held;
 use super::{Server, CONNECTIONS, ENGINE_INPUT, LONGEST_TURN, SHORTEST_TURN, TURNS};
 use crate::connection::{Connection, Door, Reading, SHARE};
 use crate::desk::Then;
@@ -23,6 +24,8 @@ pub(super) struct Talks {
     /// Those that have just spoken, and those that have said more than was taken in their turn.
     fresh: VecDeque<Client>,
     backlog: VecDeque<Client>,
+    /// Those whose answers wait for the record of grants.
+    pub(super) held: Held,
     /// Whether clients were not heard in the last round, since the engine has enough to do.
     was_full: bool,
 }
@@ -267,6 +270,7 @@ impl Server {
     }
 
     pub(super) fn part(&mut self, client: Client, end: End) {
+        self.note_news(); // as long as it is there
         if let Some(mut connection) = self.talks.remove(client) {
             self.entrance.give_back(connection.caller.door, &connection.caller.guest);
             for (operator, lock, token) in connection.ended() {
@@ -284,11 +288,18 @@ impl Server {
     pub(super) fn write_all(&mut self, buffer: &mut [u8; SHARE]) -> Result<(), CannotServe> {
         self.note_full();
         self.write_sessions();
+        let block = self.write_record();
         self.talks.tell_changes(self.desk.board.changes());
         // it works while the clients get their answers
         self.desk.engine.write();
         // mostly the last one was granted what the one before it gave back: others wait for that
         for client in mem::take(&mut self.talks.dirty).into_iter().rev() {
+            match block {
+                Some(block) => self.hold(client, block),
+                None => self.write(client, buffer),
+            }
+        }
+        for client in self.free_again() {
             self.write(client, buffer);
         }
         self.desk.engine.write(); // those who have left

@@ -1,12 +1,15 @@
 //! What was read of the command line so far, and what is meant where nothing is said.
 
-use super::{BadWords, EngineSettings, Limits, Named, Settings, Sockets};
+use super::{BadWords, EngineSettings, GrantsSettings, Limits, Named, Settings, Sockets};
 use crate::cluster::ReadingOverEtcd;
 use crate::options::Name;
 use std::net::SocketAddr;
 use std::path::PathBuf;
 use std::time::Duration;
 use wozgirt_words::OwnFolder;
+
+/// How long the record of grants may be before it gets another name, if nothing is said.
+const GRANTS_BYTES: u64 = 64 << 20;
 
 /// What was read so far.
 #[derive(Default)]
@@ -19,6 +22,8 @@ pub(super) struct Reading {
     rules: Option<PathBuf>,
     limits: ReadingLimits,
     certificates: Vec<PathBuf>,
+    grants: Option<PathBuf>,
+    grants_bytes: Option<u64>,
     logs_connections: bool,
     cluster: ReadingOverEtcd,
 }
@@ -102,6 +107,8 @@ impl Reading {
             Name::MostHolds => limits.most_holds = Some(count(value)?),
             Name::Deaf => limits.deaf = Some(some_seconds(value)?),
             Name::WatchCertificate => self.certificates.push(value.into()),
+            Name::Grants => self.grants = Some(value.into()),
+            Name::GrantsBytes => self.grants_bytes = Some(value.parse().ok().filter(|&bytes| bytes > 0)?),
             Name::LogConnections => self.logs_connections = true,
             Name::OverEtcd(name) => self.cluster.put(name, value)?,
         }
@@ -120,6 +127,11 @@ impl Reading {
         if let Some((name, _)) = of_one.iter().find(|(_, is_given)| cluster.is_some() && *is_given) {
             return Err(BadWords::NotAlone(name));
         }
+        let most_bytes = self.grants_bytes.unwrap_or(GRANTS_BYTES);
+        let grants = self.grants.map(|path| GrantsSettings { path, most_bytes });
+        if grants.is_none() && self.grants_bytes.is_some() {
+            return Err(BadWords::NoGrants("--grants-bytes"));
+        }
         let limits = self.limits.settings()?;
         let sockets = self.sockets.settings(own.as_ref())?;
         let journal = self.journal.or_else(|| own.as_ref().map(OwnFolder::journal));
@@ -133,6 +145,7 @@ impl Reading {
             rules: self.rules,
             limits,
             certificates: self.certificates,
+            grants,
             logs_connections: self.logs_connections,
             cluster,
         })
