@@ -59,9 +59,13 @@ def draw(index, k, start, events, frm, count, surveys=0):
     corrupted = sum(e[0] == "c" for e in events)
     highest = max(rest(at(c)[0], k) for c in range(columns))
     height = highest if 0 < highest < bound // 4 else bound
-    s = f'''<svg xmlns="http://www.w3.org/2000/svg" viewBox="0 0 1000 640" font-family="sans-serif" font-size="15">
-<style>rect,path,polyline{{vector-effect:non-scaling-stroke}}</style>
-<rect width="1000" height="640" rx="8" fill="#fff"/>
+    # in hundredths of a unit of the page: a column's left end and its middle, a machine's row, and a number over the lower edge
+    x = lambda c: 90000 * c // columns
+    middle = lambda c: 45000 * (2 * c + 1) // columns
+    y = lambda i: 30000 * i // n
+    up = lambda number: 16000 * min(number, 2 * height) // height
+    s = f'''<svg xmlns="http://www.w3.org/2000/svg" viewBox="0 0 1000 680" font-family="sans-serif" font-size="15">
+<rect width="1000" height="680" rx="8" fill="#fff"/>
 <text x="70" y="36" font-size="22">ring {index}: n {n}, K {k}</text>
 <text x="70" y="62">events {frm} to {frm + count} of {len(events)}, granted {granted}, corrupted {corrupted}, surveys {surveys}</text>
 <path d="M70 380v5M295 380v5M520 380v5M745 380v5M970 380v5" stroke="#555"/>
@@ -74,27 +78,29 @@ def draw(index, k, start, events, frm, count, surveys=0):
 <text x="62" y="436" text-anchor="end">{height}</text>
 <text x="62" y="590" text-anchor="end">0</text>
 <rect x="70" y="80" width="900" height="300" fill="#f3f3f3"/>
-<svg x="70" y="80" width="900" height="300" viewBox="0 0 {columns} {4 * n}" preserveAspectRatio="none" fill="{BLUE}" stroke="{BLUE}">
+<svg x="70" y="80" width="900" height="300" viewBox="0 0 90000 30000" fill="{BLUE}" stroke="{BLUE}" stroke-width="100">
 '''
     for i in range(n):
         for begin, end in stretches([c for c in range(columns) if priv(at(c)[0], i)]):
-            s += f'<rect x="{begin}" y="{4 * i}" width="{end - begin}" height="3"/>\n'
+            s += f'<rect x="{x(begin)}" y="{y(i)}" width="{x(end) - x(begin)}" height="{22500 // n}"/>\n'
     drawn = [(c + 1, frm + c) for c in range(count) if frm + c < len(events)]
-    s += f'<path stroke="{GREY}" stroke-width="1.5" stroke-linecap="square" d="'
-    s += "".join(f"M{x} {4 * events[p][1] + 1}v1" for x, p in drawn if events[p][0] == "p" and not passed[p])
-    s += f'"/>\n<path stroke="{ORANGE}" stroke-width="5" stroke-linecap="round" d="'
-    s += "".join(f"M{x} {4 * events[p][1]}v3" for x, p in drawn if events[p][0] == "c")
+    s += f'<path stroke="{GREY}" stroke-width="150" stroke-linecap="square" d="'
+    s += "".join(
+        f"M{x(c)} {y(events[p][1]) + 7500 // n}v{7500 // n}" for c, p in drawn if events[p][0] == "p" and not passed[p]
+    )
+    s += f'"/>\n<path stroke="{ORANGE}" stroke-width="500" stroke-linecap="round" d="'
+    s += "".join(f"M{x(c)} {y(events[p][1])}v{22500 // n}" for c, p in drawn if events[p][0] == "c")
     s += f'''"/>
 </svg>
 <rect x="70" y="430" width="900" height="160" fill="#f3f3f3"/>
 <text x="970" y="424" text-anchor="end">bound {bound}</text>
-<svg x="70" y="430" width="900" height="160" viewBox="0 0 {columns} {height}" preserveAspectRatio="none" fill="none">
-<g transform="translate(.5 {height}) scale(1 -1)">
-<path d="M0 {bound}h{columns}" stroke="#555" stroke-width="1.5" stroke-dasharray="2 3"/>
-<polyline stroke="{BLACK}" stroke-width="2.5" points="'''
-    s += "".join(f"{c},{rest(at(c)[0], k)} " for c in range(columns))
-    s += f'"/>\n<polyline stroke="{GREEN}" stroke-width="1.5" stroke-dasharray="5 3" points="'
-    s += "".join(f"{c},{at(c)[1]} " for c in range(columns))
+<svg x="70" y="430" width="900" height="160" viewBox="0 0 90000 16000" fill="none">
+<g transform="translate(0 16000) scale(1 -1)">
+<path d="M0 {up(bound)}h90000" stroke="#555" stroke-width="150" stroke-dasharray="200 300"/>
+<polyline stroke="{BLACK}" stroke-width="250" points="'''
+    s += "".join(f"{middle(c)},{up(rest(at(c)[0], k))} " for c in range(columns))
+    s += f'"/>\n<polyline stroke="{GREEN}" stroke-width="150" stroke-dasharray="500 300" points="'
+    s += "".join(f"{middle(c)},{up(at(c)[1])} " for c in range(columns))
     return s + f'''"/>
 </g>
 </svg>
@@ -111,6 +117,8 @@ def draw(index, k, start, events, frm, count, surveys=0):
 <text x="588" y="618">calm, cut off at the top</text>
 <path d="M776 613h24" stroke="#555" stroke-width="1.5" stroke-dasharray="2 3"/>
 <text x="808" y="618">bound</text>
+<text x="70" y="644">rest: at most so many granted passes are left until one machine alone is privileged</text>
+<text x="70" y="664">calm: so many passes were granted since the last corruption, or since the start</text>
 </g>
 </svg>
 '''

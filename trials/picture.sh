@@ -19,7 +19,7 @@ shown() {
     drawn=$((drawn - $4 < $5 ? drawn - $4 : $5))
     [ "$(wc -c <"$out/$1.svg")" -le $((4096 + 64 * n + 200 * drawn)) ] || { echo "$1.svg is too large"; exit 1; }
     if command -v chromium >/dev/null; then
-        timeout 120 chromium --headless --no-sandbox --disable-gpu --hide-scrollbars --window-size=1000,640 \
+        timeout 120 chromium --headless --no-sandbox --disable-gpu --hide-scrollbars --window-size=1000,680 \
             --screenshot="$out/$1.png" "file://$out/$1.svg" >/dev/null 2>&1
     fi
 }

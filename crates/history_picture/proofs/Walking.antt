@@ -1,51 +1,20 @@
 -- Means for the walk over the columns.
 use Rattle.std.proofs.Common.{◌≡◌, ℕ, zero, suc, ◌+◌, ◌<◌, ◌≤◌, Bool, true, false, cond, List, [], ◌∷◌, ◌++◌, length, get_or, take, map, Option, Some, None, refl, sym, ap, subst, ◌∙◌, inl, inr, arith}
 use Rattle.std.specs.List.{flat_map, slice_get}
-use Rattle.std.proofs.lemmas.List.{length-set, take_more, take_all, map-append, append-nil}
+use Rattle.std.proofs.lemmas.List.{take_more, take_all, map-append, append-nil}
 use Rattle.std.proofs.lemmas.List.Concat.{flat_map-append}
 use Rattle.std.proofs.lemmas.Option.{slice_get-get_or, slice_get_cases}
-use Rattle.ring_model.specs.Runs.{passed}
-use Rattle.ring_model.specs.declared.events.Op.{Op}
-use Rattle.ring_model.specs.declared.events.Op.TheVariants.{Pass, Member, Corrupt}
-use Rattle.ring_model.specs.Ring.{Ring, ring_with, is_privileged, moved, moved_value}
+use Rattle.ring_model.specs.Ring.{Ring, ring_with, is_privileged}
 use Rattle.saved_history.specs.declared.saved.SavedRing.{SavedRing}
 use Rattle.saved_history.specs.Content.{Block}
 use Rattle.ring_check.specs.declared.gauge.Gauge.{Gauge}
 use Rattle.ring_check.specs.Gauges.{ring_of, IsGauge}
 use Rattle.history_picture.specs.declared.stretches.Run.{Run}
 use Rattle.history_picture.specs.declared.stretches.Row.{Row}
+use Rattle.history_steps.specs.Steps.{HasRing}
 use Rattle.history_picture.specs.Stretches.{Stretch, begin_after, ended_from, run_from, run_begin, runs_ended, stretches, pieces}
-use Rattle.history_picture.specs.Picture.{next_ring, privileged_in, rectangle, row_text, rows_text}
-use Rattle.history_picture.specs.Walks.{HasRing, stretch_of, IsLooked, AreLooked, IsRow, AreNew, AreRows, stretches_to, row_to, rows_to}
-
-passed_k : (r : Ring) (i : ℕ) → (passed r i).k ≡ r.k
-passed_k r i = elim (is_privileged r.values i) as (λ p. (cond p (moved r i) r).k ≡ r.k) [ true ↦ refl | false ↦ refl ]
-
-passed_machines : (r : Ring) (i : ℕ) → length (passed r i).values ≡ length r.values
-passed_machines r i = elim (is_privileged r.values i) as (λ p. length (cond p (moved r i) r).values ≡ length r.values) [ true ↦ length-set r.values i (moved_value r i) | false ↦ refl ]
-
-next_k : (r : Ring) (o : Op) → (next_ring r o).k ≡ r.k
-next_k r (Pass i order) = passed_k r i
-next_k r (Member i order left) = passed_k r i
-next_k r (Corrupt i v) = refl
-
-next_machines : (r : Ring) (o : Op) → length (next_ring r o).values ≡ length r.values
-next_machines r (Pass i order) = passed_machines r i
-next_machines r (Member i order left) = passed_machines r i
-next_machines r (Corrupt i v) = length-set r.values i v
-
--- the same ring by another name
-pub named : (ring : SavedRing) (r t : Ring) (g : Gauge) → r ≡ t → HasRing ring r g → HasRing ring t g
-named ring r t g e h = subst (λ (x : Ring). HasRing ring x g) e h
-
--- a gauge that made a step
-pub stepped : (ring : SavedRing) (r t : Ring) (g h : Gauge) (o : Op) → HasRing ring r g → IsGauge h → ring_of h ≡ next_ring (ring_of g) o → ring_of h ≡ t → HasRing ring t h
-stepped ring r t g h o has is step e = record {
-  gauge = is;
-  k = ap (λ (x : Ring). x.k) step ∙ next_k (ring_of g) o ∙ has.k;
-  machines = ap (λ (x : Ring). length x.values) step ∙ next_machines (ring_of g) o ∙ has.machines;
-  same = e;
-}
+use Rattle.history_picture.specs.Picture.{privileged_in, rectangle, row_text, rows_text}
+use Rattle.history_picture.specs.Walks.{stretch_of, IsLooked, AreLooked, IsRow, AreNew, AreRows, stretches_to, row_to, rows_to}
 
 -- a gauge that went over to other values
 pub followed : (ring : SavedRing) (q r : Ring) (g h : Gauge) (base : List ℕ) → HasRing ring q g → IsGauge h → ring_of h ≡ ring_with (ring_of g).k base → ring_with ring.k base ≡ r → length base ≡ ring.n → HasRing ring r h
@@ -82,20 +51,20 @@ pub rows_more : (b : Block) (from c : ℕ) (values : List ℕ) (before behind : 
 rows_more b from c values before behind n e h l = λ i d lt. row_more (privileged_in b from i) c (is_privileged values i) (get_or before i d) (get_or behind i d) (e i) (h i d (omega arith)) (l i d (omega arith))
 
 -- the text of a row whose columns were all walked
-row_is : (p : ℕ → Bool) (columns machine : ℕ) (row : Row) → IsRow p columns row → flat_map (rectangle machine) (stretches_to columns row) ≡ flat_map (rectangle machine) (stretches p columns)
-row_is p columns machine row h = ap (λ (x : List Stretch). flat_map (rectangle machine) (x ++ run_from row.begin columns)) h.ended ∙ ap (λ (x : ℕ). flat_map (rectangle machine) (runs_ended p columns ++ run_from x columns)) h.begin
+row_is : (p : ℕ → Bool) (n columns machine : ℕ) (row : Row) → IsRow p columns row → flat_map (rectangle n columns machine) (stretches_to columns row) ≡ flat_map (rectangle n columns machine) (stretches p columns)
+row_is p n columns machine row h = ap (λ (x : List Stretch). flat_map (rectangle n columns machine) (x ++ run_from row.begin columns)) h.ended ∙ ap (λ (x : ℕ). flat_map (rectangle n columns machine) (runs_ended p columns ++ run_from x columns)) h.begin
 
-row_at : (b : Block) (from columns : ℕ) (rows : List Row) (d : Row) (i : ℕ) → AreRows b from columns rows → i < length rows → row_to columns i (slice_get rows i) ≡ row_text b from columns i
-row_at b from columns rows d i h lt = ap (row_to columns i) (slice_get-get_or rows i d lt) ∙ row_is (privileged_in b from i) columns i (get_or rows i d) (h i d lt)
+row_at : (b : Block) (from columns : ℕ) (rows : List Row) (d : Row) (i : ℕ) → AreRows b from columns rows → i < length rows → row_to b.n columns i (slice_get rows i) ≡ row_text b from columns i
+row_at b from columns rows d i h lt = ap (row_to b.n columns i) (slice_get-get_or rows i d lt) ∙ row_is (privileged_in b from i) b.n columns i (get_or rows i d) (h i d lt)
 
 pieces_same : (f g : ℕ → List ℕ) (m : ℕ) → ((i : ℕ) → i < m → f i ≡ g i) → pieces f m ≡ pieces g m
 pieces_same f g zero e = refl
 pieces_same f g (suc m) e = ap (λ (x : List ℕ). x ++ f m) (pieces_same f g m (λ i lt. e i (omega arith))) ∙ ap (λ (x : List ℕ). pieces g m ++ x) (e m (omega arith))
 
-pub rows_are : (b : Block) (from columns : ℕ) (rows : List Row) → length rows ≡ b.n → AreRows b from columns rows → rows_to columns rows ≡ rows_text b from columns
+pub rows_are : (b : Block) (from columns : ℕ) (rows : List Row) → length rows ≡ b.n → AreRows b from columns rows → rows_to b.n columns rows ≡ rows_text b from columns
 rows_are b from columns [] n h = ap (pieces (row_text b from columns)) n
 rows_are b from columns (row ∷ rows) n h =
-    pieces_same (λ i. row_to columns i (slice_get (row ∷ rows) i)) (row_text b from columns) (length (row ∷ rows)) (λ i lt. row_at b from columns (row ∷ rows) row i h lt)
+    pieces_same (λ i. row_to b.n columns i (slice_get (row ∷ rows) i)) (row_text b from columns) (length (row ∷ rows)) (λ i lt. row_at b from columns (row ∷ rows) row i h lt)
     ∙ ap (pieces (row_text b from columns)) n
 
 -- the runs of a row, written one after the other

@@ -1,35 +1,15 @@
 -- The picture of a ring's history, as a plain function of a block (this project's own).
-use Rattle.std.specs.Prelude.{ℕ, zero, suc, ◌+◌, ◌-◌, ◌*◌, ◌/◌, max, nat_lt, ◌&&◌, Bool, true, false, cond, List, [], ◌++◌, Option, Some, None, map, take, length, slice_get, codes, decimal}
+use Rattle.std.specs.Prelude.{ℕ, zero, suc, ◌+◌, ◌-◌, ◌*◌, ◌/◌, max, min, nat_lt, ◌&&◌, Bool, true, false, cond, List, [], ◌++◌, Option, Some, None, take, length, slice_get, codes, decimal}
 use Rattle.std.specs.List.{flat_map}
-use Rattle.ring_model.specs.Ring.{Ring, ring_with, is_privileged, written, rest, bound}
-use Rattle.ring_model.specs.Runs.{passed}
-use Rattle.ring_model.specs.declared.events.Op.{Op}
-use Rattle.ring_model.specs.declared.events.Op.TheVariants.{Pass, Member, Corrupt}
+use Rattle.ring_model.specs.Ring.{Ring, is_privileged, rest, bound}
 use Rattle.ring_model.specs.Groups.{left_after}
-use Rattle.ring_model.specs.History.{after}
-use Rattle.ring_model.specs.Resources.{till}
-use Rattle.ring_model.specs.Surveys.{calm, granted_count, corrupted_count}
+use Rattle.ring_model.specs.Surveys.{granted_count, corrupted_count}
 use Rattle.saved_history.specs.declared.saved.SavedEvent.{SavedEvent}
 use Rattle.saved_history.specs.declared.saved.SavedEvent.TheVariants as saved
 use Rattle.saved_history.specs.Content.{Block}
 use Rattle.ring_check.specs.Legal.{history}
-use Rattle.ring_check.specs.Table.{event_of, first_state}
+use Rattle.history_steps.specs.Steps.{ring_at, calm_at}
 use Rattle.history_picture.specs.Stretches.{Stretch, stretches, pieces}
-
--- the ring after a call
-abbrev pub next_ring : Ring → Op → Ring
-next_ring r (Pass i order) = passed r i
-next_ring r (Member i order left) = passed r i
-next_ring r (Corrupt i v) = written r i v
-
--- the ring after the first n events of a block, by the definition
-abbrev pub ring_at : Block → ℕ → Ring
-ring_at b place =
-    (after till (first_state (ring_with b.k b.start)) (map event_of (take place b.events))).ring
-
--- the calm there
-abbrev pub calm_at : Block → ℕ → ℕ
-calm_at b place = calm (map event_of (take place b.events))
 
 -- the place that is shown for a place: itself, or, where that is inside a group's block, the place
 -- before the block, since a group moves at once
@@ -57,18 +37,47 @@ rest_in b from column = rest (ring_shown b (from + column))
 abbrev pub calm_in : Block → ℕ → ℕ → ℕ
 calm_in b from column = calm_shown b (from + column)
 
--- ---- the machines: each has a row of 4 units
+-- ---- where columns and machines are: in hundredths of a unit of the page, so that no part of it is
+-- stretched and each line is as thick as it says, in every viewer
 
--- a rectangle over the columns of a stretch, in the row of a machine
-abbrev pub rectangle : ℕ → Stretch → List ℕ
-rectangle machine s =
-    codes "<rect x=\"" ++ (decimal s.begin ++ (codes "\" y=\"" ++ (decimal (4 * machine)
-    ++ (codes "\" width=\"" ++ (decimal (s.end - s.begin) ++ codes "\" height=\"3\"/>\n")))))
+-- where a column begins: 90,000 hundredths have all of them
+abbrev pub across : ℕ → ℕ → ℕ
+across columns column = 90000 * column / columns
+
+-- the middle of a column
+abbrev pub middle : ℕ → ℕ → ℕ
+middle columns column = 45000 * (2 * column + 1) / columns
+
+-- where the row of a machine begins: 30,000 hundredths have all n of them
+abbrev pub down : ℕ → ℕ → ℕ
+down n machine = 30000 * machine / n
+
+-- three quarters of a row, which what is drawn in it fills, and one quarter
+abbrev pub filled : ℕ → ℕ
+filled n = 22500 / n
+
+abbrev pub quarter : ℕ → ℕ
+quarter n = 7500 / n
+
+-- how high a number is over the curves' lower edge, where 16,000 hundredths are the number `height`;
+-- what is more than twice as high is drawn there, which is cut off too
+abbrev pub up : ℕ → ℕ → ℕ
+up height number = 16000 * min number (2 * height) / max height 1
+
+-- ---- the machines: each has a row
+
+-- a rectangle over some of the columns, in the row of one of n machines
+abbrev pub rectangle : ℕ → ℕ → ℕ → Stretch → List ℕ
+rectangle n columns machine s =
+    codes "<rect x=\"" ++ (decimal (across columns s.begin) ++ (codes "\" y=\"" ++ (decimal
+    (down n machine) ++ (codes "\" width=\"" ++ (decimal
+    (across columns s.end - across columns s.begin) ++ (codes "\" height=\"" ++ (decimal (filled n)
+    ++ codes "\"/>\n")))))))
 
 -- one rectangle for each stretch of columns in which a machine is privileged
 abbrev pub row_text : Block → ℕ → ℕ → ℕ → List ℕ
 row_text b from columns machine =
-    flat_map (rectangle machine) (stretches (privileged_in b from machine) columns)
+    flat_map (rectangle b.n columns machine) (stretches (privileged_in b from machine) columns)
 
 -- the rows of all machines
 abbrev pub rows_text : Block → ℕ → ℕ → List ℕ
@@ -86,40 +95,31 @@ marked corruptions (saved.Corrupted seat machine value old) = cond corruptions (
 
 -- a mark between two columns, in the row of a machine: as high as the row for a corruption, and
 -- shorter for a refused pass
-abbrev pub mark : Bool → ℕ → ℕ → List ℕ
-mark true x machine =
-    codes "M" ++ (decimal x ++ (codes " " ++ (decimal (4 * machine) ++ codes "v3")))
-mark false x machine =
-    codes "M" ++ (decimal x ++ (codes " " ++ (decimal (4 * machine + 1) ++ codes "v1")))
+abbrev pub mark : ℕ → Bool → ℕ → ℕ → List ℕ
+mark n true x machine =
+    codes "M" ++ (decimal x ++ (codes " " ++ (decimal (down n machine) ++ (codes "v" ++ decimal
+    (filled n)))))
+mark n false x machine =
+    codes "M" ++ (decimal x ++ (codes " " ++ (decimal (down n machine + quarter n) ++ (codes "v"
+    ++ decimal (quarter n)))))
 
-abbrev pub mark_at : Bool → ℕ → Option ℕ → List ℕ
-mark_at corruptions x None = []
-mark_at corruptions x (Some machine) = mark corruptions x machine
+abbrev pub mark_at : ℕ → Bool → ℕ → Option ℕ → List ℕ
+mark_at n corruptions x None = []
+mark_at n corruptions x (Some machine) = mark n corruptions x machine
 
 -- the mark of an event, where it has one
-abbrev pub mark_of : Bool → ℕ → Option SavedEvent → List ℕ
-mark_of corruptions x None = []
-mark_of corruptions x (Some event) = mark_at corruptions x (marked corruptions event)
+abbrev pub mark_of : ℕ → Bool → ℕ → Option SavedEvent → List ℕ
+mark_of n corruptions x None = []
+mark_of n corruptions x (Some event) = mark_at n corruptions x (marked corruptions event)
 
 -- the mark of the event that leads from a column to the next, between the two
-abbrev pub mark_in : Block → Bool → ℕ → ℕ → List ℕ
-mark_in b corruptions from column =
-    mark_of corruptions (column + 1) (slice_get b.events (from + column))
+abbrev pub mark_in : Block → Bool → ℕ → ℕ → ℕ → List ℕ
+mark_in b corruptions from columns column =
+    mark_of b.n corruptions (across columns (column + 1)) (slice_get b.events (from + column))
 
--- the marks of n events
+-- the marks of the events between the columns
 abbrev pub marks_text : Block → Bool → ℕ → ℕ → List ℕ
-marks_text b corruptions from count = pieces (mark_in b corruptions from) count
-
--- ---- the curves: one point for each column
-
-abbrev pub point : ℕ → ℕ → List ℕ
-point x y = decimal x ++ (codes "," ++ (decimal y ++ codes " "))
-
-abbrev pub rest_points : Block → ℕ → ℕ → List ℕ
-rest_points b from columns = pieces (λ c. point c (rest_in b from c)) columns
-
-abbrev pub calm_points : Block → ℕ → ℕ → List ℕ
-calm_points b from columns = pieces (λ c. point c (calm_in b from c)) columns
+marks_text b corruptions from count = pieces (mark_in b corruptions from (count + 1)) count
 
 -- ---- the scale of the curves
 
@@ -136,25 +136,35 @@ height_of high limit = cond (nat_lt 0 high && nat_lt high (limit / 4)) high limi
 abbrev pub curve_height : Block → ℕ → ℕ → ℕ
 curve_height b from columns = height_of (highest_rest b from columns) (bound b.n)
 
+-- ---- the curves: one point for each column, in its middle
+
+abbrev pub point : ℕ → ℕ → ℕ → ℕ → List ℕ
+point columns height column number =
+    decimal (middle columns column) ++ (codes "," ++ (decimal (up height number) ++ codes " "))
+
+abbrev pub rest_points : Block → ℕ → ℕ → List ℕ
+rest_points b from columns =
+    pieces (λ c. point columns (curve_height b from columns) c (rest_in b from c)) columns
+
+abbrev pub calm_points : Block → ℕ → ℕ → List ℕ
+calm_points b from columns =
+    pieces (λ c. point columns (curve_height b from columns) c (calm_in b from c)) columns
+
 -- ---- the parts around them
 
--- the head of the file, lines that are as thick in each part of the page, and a white page
+-- the head of the file, and a white page
 abbrev pub page_opening : List ℕ
 page_opening =
-    codes "<svg xmlns=\"http://www.w3.org/2000/svg\" viewBox=\"0 0 1000 640\" font-family=\"sans-serif\" font-size=\"15\">\n"
-
-abbrev pub line_style : List ℕ
-line_style = codes "<style>rect,path,polyline{vector-effect:non-scaling-stroke}</style>\n"
+    codes "<svg xmlns=\"http://www.w3.org/2000/svg\" viewBox=\"0 0 1000 680\" font-family=\"sans-serif\" font-size=\"15\">\n"
 
 abbrev pub white_page : List ℕ
-white_page = codes "<rect width=\"1000\" height=\"640\" rx=\"8\" fill=\"#fff\"/>\n"
+white_page = codes "<rect width=\"1000\" height=\"680\" rx=\"8\" fill=\"#fff\"/>\n"
 
 -- the title: the ring's place, n and K, which events are shown of how many, and the sums of its
 -- block
 abbrev pub title_text : Block → ℕ → ℕ → List ℕ
 title_text b from count =
     page_opening
-    ++ (line_style
     ++ (white_page
     ++ (codes "<text x=\"70\" y=\"36\" font-size=\"22\">ring "
     ++ (decimal b.index
@@ -174,7 +184,7 @@ title_text b from count =
     ++ (decimal (corrupted_count (history b))
     ++ (codes ", surveys "
     ++ (decimal (length b.surveys)
-    ++ codes "</text>\n"))))))))))))))))))))
+    ++ codes "</text>\n")))))))))))))))))))
 
 -- five ticks of equal distance, and the names of the axes
 abbrev pub ticks : List ℕ
@@ -210,46 +220,33 @@ axes_text n from count height =
     ++ (decimal height
     ++ codes "</text>\n<text x=\"62\" y=\"590\" text-anchor=\"end\">0</text>\n"))))))))))))
 
--- the start of the rows, whose columns and units are stretched over their part of
--- the page
-abbrev pub rows_opening : ℕ → ℕ → List ℕ
-rows_opening n columns =
-    codes "<rect x=\"70\" y=\"80\" width=\"900\" height=\"300\" fill=\"#f3f3f3\"/>\n<svg x=\"70\" y=\"80\" width=\"900\" height=\"300\" viewBox=\"0 0 "
-    ++ (decimal columns
-    ++ (codes " "
-    ++ (decimal (4 * n)
-    ++ codes "\" preserveAspectRatio=\"none\" fill=\"#15489f\" stroke=\"#15489f\">\n")))
+-- the start of the rows
+abbrev pub rows_opening : List ℕ
+rows_opening =
+    codes "<rect x=\"70\" y=\"80\" width=\"900\" height=\"300\" fill=\"#f3f3f3\"/>\n<svg x=\"70\" y=\"80\" width=\"900\" height=\"300\" viewBox=\"0 0 90000 30000\" fill=\"#15489f\" stroke=\"#15489f\" stroke-width=\"100\">\n"
 
 -- the text between the rows and the marks of refused passes, between these and those of
 -- corruptions, and after them
 abbrev pub refusals_opening : List ℕ
-refusals_opening = codes "<path stroke=\"#888\" stroke-width=\"1.5\" stroke-linecap=\"square\" d=\""
+refusals_opening = codes "<path stroke=\"#888\" stroke-width=\"150\" stroke-linecap=\"square\" d=\""
 
 abbrev pub corruptions_opening : List ℕ
 corruptions_opening =
-    codes "\"/>\n<path stroke=\"#e69f00\" stroke-width=\"5\" stroke-linecap=\"round\" d=\""
+    codes "\"/>\n<path stroke=\"#e69f00\" stroke-width=\"500\" stroke-linecap=\"round\" d=\""
 
--- the end of the rows, the bound by its name, and the start of the curves, whose points are the
--- columns and the rests and the calms themselves, over the line of the bound; what is above the
--- height is cut off
-abbrev pub curves_opening : ℕ → ℕ → ℕ → List ℕ
-curves_opening columns height limit =
+-- the end of the rows, the bound by its name, and the start of the curves over the line of the
+-- bound; what is above the height is cut off
+abbrev pub curves_opening : ℕ → ℕ → List ℕ
+curves_opening height limit =
     codes "\"/>\n</svg>\n<rect x=\"70\" y=\"430\" width=\"900\" height=\"160\" fill=\"#f3f3f3\"/>\n<text x=\"970\" y=\"424\" text-anchor=\"end\">bound "
     ++ (decimal limit
-    ++ (codes "</text>\n<svg x=\"70\" y=\"430\" width=\"900\" height=\"160\" viewBox=\"0 0 "
-    ++ (decimal columns
-    ++ (codes " "
-    ++ (decimal height
-    ++ (codes "\" preserveAspectRatio=\"none\" fill=\"none\">\n<g transform=\"translate(.5 "
-    ++ (decimal height ++ (codes ") scale(1 -1)\">\n<path d=\"M0 "
-    ++ (decimal limit
-    ++ (codes "h"
-    ++ (decimal columns
-    ++ codes "\" stroke=\"#555\" stroke-width=\"1.5\" stroke-dasharray=\"2 3\"/>\n<polyline stroke=\"#111\" stroke-width=\"2.5\" points=\"")))))))))))
+    ++ (codes "</text>\n<svg x=\"70\" y=\"430\" width=\"900\" height=\"160\" viewBox=\"0 0 90000 16000\" fill=\"none\">\n<g transform=\"translate(0 16000) scale(1 -1)\">\n<path d=\"M0 "
+    ++ (decimal (up height limit)
+    ++ codes "h90000\" stroke=\"#555\" stroke-width=\"150\" stroke-dasharray=\"200 300\"/>\n<polyline stroke=\"#111\" stroke-width=\"250\" points=\"")))
 
 abbrev pub calm_opening : List ℕ
 calm_opening =
-    codes "\"/>\n<polyline stroke=\"#0a7d4f\" stroke-width=\"1.5\" stroke-dasharray=\"5 3\" points=\""
+    codes "\"/>\n<polyline stroke=\"#0a7d4f\" stroke-width=\"150\" stroke-dasharray=\"500 300\" points=\""
 
 -- the end of the curves
 abbrev pub curves_end : List ℕ
@@ -280,6 +277,15 @@ abbrev pub bound_key : List ℕ
 bound_key =
     codes "<path d=\"M776 613h24\" stroke=\"#555\" stroke-width=\"1.5\" stroke-dasharray=\"2 3\"/>\n<text x=\"808\" y=\"618\">bound</text>\n"
 
+-- what the two curves are
+abbrev pub rest_meaning : List ℕ
+rest_meaning =
+    codes "<text x=\"70\" y=\"644\">rest: at most so many granted passes are left until one machine alone is privileged</text>\n"
+
+abbrev pub calm_meaning : List ℕ
+calm_meaning =
+    codes "<text x=\"70\" y=\"664\">calm: so many passes were granted since the last corruption, or since the start</text>\n"
+
 -- the end of the page
 abbrev pub page_end : List ℕ
 page_end = codes "</g>\n</svg>\n"
@@ -288,7 +294,10 @@ abbrev pub ending_text : List ℕ
 ending_text =
     curves_end
     ++ (privileged_key
-    ++ (corruption_key ++ (refusal_key ++ (rest_key ++ (calm_key ++ (bound_key ++ page_end))))))
+    ++ (corruption_key
+    ++ (refusal_key
+    ++ (rest_key
+    ++ (calm_key ++ (bound_key ++ (rest_meaning ++ (calm_meaning ++ page_end))))))))
 
 -- ---- the picture: the upper part, the marks over its rows, and the lower part
 
@@ -296,7 +305,7 @@ abbrev pub upper_part : Block → ℕ → ℕ → List ℕ
 upper_part b from count =
     title_text b from count
     ++ (axes_text b.n from count (curve_height b from (count + 1))
-    ++ (rows_opening b.n (count + 1) ++ rows_text b from (count + 1)))
+    ++ (rows_opening ++ rows_text b from (count + 1)))
 
 abbrev pub marks_part : Block → ℕ → ℕ → List ℕ
 marks_part b from count =
@@ -305,7 +314,7 @@ marks_part b from count =
 
 abbrev pub lower_part : Block → ℕ → ℕ → List ℕ
 lower_part b from columns =
-    curves_opening columns (curve_height b from columns) (bound b.n)
+    curves_opening (curve_height b from columns) (bound b.n)
     ++ (rest_points b from columns ++ (calm_opening ++ (calm_points b from columns ++ ending_text)))
 
 -- for n events: a column before the first of them and one after each

@@ -1,23 +1,12 @@
--- The state of the walk over the columns: a gauge that has the ring of a place, and the runs of
--- each machine so far (this project's own; no public clause names it).
+-- The state of the walk over the columns: the runs of each machine so far (this project's own; no public clause names it).
 use Rattle.std.specs.Prelude.{◌≡◌, ℕ, ◌<◌, Bool, List, [], ◌++◌, length, get_or, map, Option, Some, None}
 use Rattle.std.specs.List.{flat_map, slice_get}
-use Rattle.ring_model.specs.Ring.{Ring, is_privileged}
-use Rattle.saved_history.specs.declared.saved.SavedRing.{SavedRing}
+use Rattle.ring_model.specs.Ring.{is_privileged}
 use Rattle.saved_history.specs.Content.{Block}
-use Rattle.ring_check.specs.declared.gauge.Gauge.{Gauge}
-use Rattle.ring_check.specs.Gauges.{ring_of, IsGauge}
 use Rattle.history_picture.specs.declared.stretches.Run.{Run}
 use Rattle.history_picture.specs.declared.stretches.Row.{Row}
 use Rattle.history_picture.specs.Stretches.{Stretch, begin_after, ended_from, run_from, run_begin, runs_ended, pieces}
 use Rattle.history_picture.specs.Picture.{privileged_in, rectangle}
-
--- a gauge has this ring, of the block's K and of as many machines
-pub record HasRing (ring : SavedRing) (r : Ring) (g : Gauge) : Type 0 where
-  pub gauge : IsGauge g
-  pub k : (ring_of g).k ≡ ring.k
-  pub machines : length (ring_of g).values ≡ ring.n
-  pub same : ring_of g ≡ r
 
 abbrev pub stretch_of : Run → Stretch
 stretch_of run = record { begin = run.begin; end = run.end }
@@ -49,10 +38,11 @@ AreRows b from columns rows =
 abbrev pub stretches_to : ℕ → Row → List Stretch
 stretches_to columns row = map stretch_of row.ended.items ++ run_from row.begin columns
 
-abbrev pub row_to : ℕ → ℕ → Option Row → List ℕ
-row_to columns machine None = []
-row_to columns machine (Some row) = flat_map (rectangle machine) (stretches_to columns row)
+abbrev pub row_to : ℕ → ℕ → ℕ → Option Row → List ℕ
+row_to n columns machine None = []
+row_to n columns machine (Some row) =
+    flat_map (rectangle n columns machine) (stretches_to columns row)
 
 -- the text of all rows
-abbrev pub rows_to : ℕ → List Row → List ℕ
-rows_to columns rows = pieces (λ i. row_to columns i (slice_get rows i)) (length rows)
+abbrev pub rows_to : ℕ → ℕ → List Row → List ℕ
+rows_to n columns rows = pieces (λ i. row_to n columns i (slice_get rows i)) (length rows)

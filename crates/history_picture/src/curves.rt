@@ -6,9 +6,10 @@ ghost use Rattle.ring_model.specs.Limits.{machine_limit};
 ghost use Rattle.ring_model.specs.Ring.{bound};
 ghost use Rattle.saved_history.specs.Content.{block_of};
 ghost use Rattle.history_picture.specs.Picture.{ring_shown, highest_rest, height_of, curve_height, point, rest_points, calm_points};
-ghost use Rattle.history_picture.specs.Walks.{HasRing};
+ghost use Rattle.history_steps.specs.Steps.{HasRing};
 
 use crate::columns::{calm_on, calm_to, go_on};
+use crate::page::{middle, up};
 use itoa::Buffer;
 use ring_check::Gauge;
 use ring_model::plain::bound;
@@ -54,13 +55,21 @@ pub(crate) fn curve_height(ring: &SavedRing, from: usize, columns: u32, gauge: &
     height_of(highest, bound(ring.n))
 }
 
-/// One point of a curve.
-fn put_point<W: Write>(out: &mut W, x: u32, y: u64) -> Result<(), WriteFault>
-    ensures { Writes (W.contents out.old) (W.contents out.new) result (point x y) }
+/// One point of a curve: in the middle of a column, as high as a number is.
+fn put_point<W: Write>(
+    out: &mut W,
+    columns: u32,
+    height: u64,
+    column: u32,
+    number: u64,
+) -> Result<(), WriteFault>
+    requires { 0 < columns }
+    ensures { Writes (W.contents out.old) (W.contents out.new) result
+        (point columns height column number) }
 {
     let mut buffers = (Buffer::new(), Buffer::new());
-    let x = buffers.0.format(x).as_bytes();
-    let y = buffers.1.format(y).as_bytes();
+    let x = buffers.0.format(middle(columns, column)).as_bytes();
+    let y = buffers.1.format(up(height, number)).as_bytes();
     put_all(out, &[x, b",", y, b" "])
 }
 
@@ -70,15 +79,17 @@ pub(crate) fn put_rests<W: Write>(
     ring: &SavedRing,
     from: usize,
     columns: u32,
+    height: u64,
     gauge: &mut Gauge,
 ) -> Result<(), WriteFault>
+    requires height { height ≡ curve_height (block_of ring.now) from columns }
     requires ring { HasRing ring.now (ring_shown (block_of ring.now) from) gauge.old }
     requires room { from + columns < 2 ^ 63 }
     ensures { Writes (W.contents out.old) (W.contents out.new) result
         (rest_points (block_of ring.now) from columns) }
 {
     for column in 0..columns {
-        match put_point(out, column, gauge.rest()) {
+        match put_point(out, columns, height, column, gauge.rest()) {
             Ok(()) => {}
             Err(fault) => return Err(fault),
         }
@@ -93,14 +104,16 @@ pub(crate) fn put_calms<W: Write>(
     ring: &SavedRing,
     from: usize,
     columns: u32,
+    height: u64,
 ) -> Result<(), WriteFault>
+    requires height { height ≡ curve_height (block_of ring.now) from columns }
     requires room { from + columns < 2 ^ 63 }
     ensures { Writes (W.contents out.old) (W.contents out.new) result
         (calm_points (block_of ring.now) from columns) }
 {
     let mut calm = calm_to(ring, from);
     for column in 0..columns {
-        match put_point(out, column, calm) {
+        match put_point(out, columns, height, column, calm) {
             Ok(()) => {}
             Err(fault) => return Err(fault),
         }

@@ -1,16 +1,16 @@
 //! The parts around the rows and the curves: the title, the numbers at the axes, and the text that opens and ends each part.
 
-ghost use Rattle.std.specs.Prelude.{◌≡◌, ◌+◌, ◌<◌, ◌≤◌, ◌^◌};
+ghost use Rattle.std.specs.Prelude.{◌+◌, ◌<◌, ◌≤◌, ◌^◌};
 ghost use Rattle.text_lines.specs.Writing.{Writes};
-ghost use Rattle.ring_model.specs.Limits.{machine_limit};
 ghost use Rattle.saved_history.specs.Content.{block_of};
 ghost use Rattle.history_picture.specs.Picture.{title_text, axes_text, rows_opening, curves_opening, ending_text};
 
+use crate::page::up;
 use itoa::Buffer;
 use ring_check::count_events;
 use saved_history::SavedRing;
 use std::io::Write;
-use text_lines::{WriteFault, put_all};
+use text_lines::{WriteFault, put, put_all};
 
 /// The head and the title.
 pub(crate) fn put_title<W: Write>(
@@ -39,9 +39,8 @@ pub(crate) fn put_title<W: Write>(
     put_all(
         out,
         &[
-            b"<svg xmlns=\"http://www.w3.org/2000/svg\" viewBox=\"0 0 1000 640\" font-family=\"sans-serif\" font-size=\"15\">\n",
-            b"<style>rect,path,polyline{vector-effect:non-scaling-stroke}</style>\n",
-            b"<rect width=\"1000\" height=\"640\" rx=\"8\" fill=\"#fff\"/>\n",
+            b"<svg xmlns=\"http://www.w3.org/2000/svg\" viewBox=\"0 0 1000 680\" font-family=\"sans-serif\" font-size=\"15\">\n",
+            b"<rect width=\"1000\" height=\"680\" rx=\"8\" fill=\"#fff\"/>\n",
             b"<text x=\"70\" y=\"36\" font-size=\"22\">ring ",
             index,
             b": n ",
@@ -105,59 +104,34 @@ pub(crate) fn put_axes<W: Write>(
 }
 
 /// Writes the text that opens the rows.
-pub(crate) fn put_rows_opening<W: Write>(
-    out: &mut W,
-    n: u32,
-    columns: u32,
-) -> Result<(), WriteFault>
-    requires { n ≤ machine_limit }
-    ensures { Writes (W.contents out.old) (W.contents out.new) result (rows_opening n columns) }
+pub(crate) fn put_rows_opening<W: Write>(out: &mut W) -> Result<(), WriteFault>
+    ensures { Writes (W.contents out.old) (W.contents out.new) result rows_opening }
 {
-    let mut buffers = (Buffer::new(), Buffer::new());
-    let wide = buffers.0.format(columns).as_bytes();
-    let high = buffers.1.format(4 * n).as_bytes();
-    put_all(
+    put(
         out,
-        &[
-            b"<rect x=\"70\" y=\"80\" width=\"900\" height=\"300\" fill=\"#f3f3f3\"/>\n<svg x=\"70\" y=\"80\" width=\"900\" height=\"300\" viewBox=\"0 0 ",
-            wide,
-            b" ",
-            high,
-            b"\" preserveAspectRatio=\"none\" fill=\"#15489f\" stroke=\"#15489f\">\n",
-        ],
+        b"<rect x=\"70\" y=\"80\" width=\"900\" height=\"300\" fill=\"#f3f3f3\"/>\n<svg x=\"70\" y=\"80\" width=\"900\" height=\"300\" viewBox=\"0 0 90000 30000\" fill=\"#15489f\" stroke=\"#15489f\" stroke-width=\"100\">\n",
     )
 }
 
 /// Writes the text that ends the marks and opens the curves.
 pub(crate) fn put_curves_opening<W: Write>(
     out: &mut W,
-    columns: u32,
     height: u64,
     limit: u64,
 ) -> Result<(), WriteFault>
-    ensures { Writes (W.contents out.old) (W.contents out.new) result
-        (curves_opening columns height limit) }
+    ensures { Writes (W.contents out.old) (W.contents out.new) result (curves_opening height limit) }
 {
-    let mut buffers = (Buffer::new(), Buffer::new(), Buffer::new());
-    let wide = buffers.0.format(columns).as_bytes();
-    let high = buffers.1.format(height).as_bytes();
-    let far = buffers.2.format(limit).as_bytes();
+    let mut buffers = (Buffer::new(), Buffer::new());
+    let far = buffers.0.format(limit).as_bytes();
+    let line = buffers.1.format(up(height, limit)).as_bytes();
     put_all(
         out,
         &[
             b"\"/>\n</svg>\n<rect x=\"70\" y=\"430\" width=\"900\" height=\"160\" fill=\"#f3f3f3\"/>\n<text x=\"970\" y=\"424\" text-anchor=\"end\">bound ",
             far,
-            b"</text>\n<svg x=\"70\" y=\"430\" width=\"900\" height=\"160\" viewBox=\"0 0 ",
-            wide,
-            b" ",
-            high,
-            b"\" preserveAspectRatio=\"none\" fill=\"none\">\n<g transform=\"translate(.5 ",
-            high,
-            b") scale(1 -1)\">\n<path d=\"M0 ",
-            far,
-            b"h",
-            wide,
-            b"\" stroke=\"#555\" stroke-width=\"1.5\" stroke-dasharray=\"2 3\"/>\n<polyline stroke=\"#111\" stroke-width=\"2.5\" points=\"",
+            b"</text>\n<svg x=\"70\" y=\"430\" width=\"900\" height=\"160\" viewBox=\"0 0 90000 16000\" fill=\"none\">\n<g transform=\"translate(0 16000) scale(1 -1)\">\n<path d=\"M0 ",
+            line,
+            b"h90000\" stroke=\"#555\" stroke-width=\"150\" stroke-dasharray=\"200 300\"/>\n<polyline stroke=\"#111\" stroke-width=\"250\" points=\"",
         ],
     )
 }
@@ -176,6 +150,8 @@ pub(crate) fn put_ending<W: Write>(out: &mut W) -> Result<(), WriteFault>
             b"<path d=\"M456 613h24\" stroke=\"#111\" stroke-width=\"2.5\"/>\n<text x=\"488\" y=\"618\">rest</text>\n",
             b"<path d=\"M556 613h24\" stroke=\"#0a7d4f\" stroke-width=\"1.5\" stroke-dasharray=\"5 3\"/>\n<text x=\"588\" y=\"618\">calm, cut off at the top</text>\n",
             b"<path d=\"M776 613h24\" stroke=\"#555\" stroke-width=\"1.5\" stroke-dasharray=\"2 3\"/>\n<text x=\"808\" y=\"618\">bound</text>\n",
+            b"<text x=\"70\" y=\"644\">rest: at most so many granted passes are left until one machine alone is privileged</text>\n",
+            b"<text x=\"70\" y=\"664\">calm: so many passes were granted since the last corruption, or since the start</text>\n",
             b"</g>\n</svg>\n",
         ],
     )

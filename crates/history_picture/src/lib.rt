@@ -13,6 +13,7 @@ mod frame;
 mod groups;
 mod laws;
 mod marks;
+mod page;
 mod picture;
 mod rows;
 mod stretches;

@@ -1,10 +1,11 @@
 //! The marks of events: corruptions, and passes that were refused.
 
-ghost use Rattle.std.specs.Prelude.{◌≡◌, ◌+◌, ◌<◌, ◌^◌, slice_get};
+ghost use Rattle.std.specs.Prelude.{◌≡◌, ◌+◌, ◌<◌, ◌^◌, ◌++◌, slice_get, codes, decimal};
 ghost use Rattle.text_lines.specs.Writing.{Writes};
 ghost use Rattle.saved_history.specs.Content.{block_of};
 ghost use Rattle.history_picture.specs.Picture.{marked, mark, mark_at, mark_of, mark_in, marks_text};
 
+use crate::page::{across, down, filled, quarter};
 use itoa::Buffer;
 use saved_history::{SavedEvent, SavedRing};
 use std::io::Write;
@@ -21,42 +22,55 @@ fn marked_machine(corruptions: bool, event: SavedEvent) -> Option<u32>
     }
 }
 
-/// A mark at the left end of a column, in the row of a machine.
+/// A line down the page.
+fn put_line<W: Write>(out: &mut W, x: u64, y: u64, long: u32) -> Result<(), WriteFault>
+    ensures { Writes (W.contents out.old) (W.contents out.new) result
+        (codes "M" ++ (decimal x ++ (codes " " ++ (decimal y ++ (codes "v" ++ decimal long))))) }
+{
+    let mut buffers = (Buffer::new(), Buffer::new(), Buffer::new());
+    let x = buffers.0.format(x).as_bytes();
+    let y = buffers.1.format(y).as_bytes();
+    let long = buffers.2.format(long).as_bytes();
+    put_all(out, &[b"M", x, b" ", y, b"v", long])
+}
+
+/// A mark between two columns, in the row of a machine.
 fn put_mark<W: Write>(
     out: &mut W,
+    n: u32,
     corruptions: bool,
-    x: u32,
+    x: u64,
     machine: u32,
 ) -> Result<(), WriteFault>
-    ensures { Writes (W.contents out.old) (W.contents out.new) result (mark corruptions x machine) }
+    requires { 0 < n }
+    ensures { Writes (W.contents out.old) (W.contents out.new) result
+        (mark n corruptions x machine) }
 {
-    let mut buffers = (Buffer::new(), Buffer::new());
-    let x = buffers.0.format(x).as_bytes();
-    let row = 4 * machine as u64;
+    let top = down(n, machine);
     if corruptions {
-        let y = buffers.1.format(row).as_bytes();
-        put_all(out, &[b"M", x, b" ", y, b"v3"])
+        put_line(out, x, top, filled(n))
     } else {
-        let y = buffers.1.format(row + 1).as_bytes();
-        put_all(out, &[b"M", x, b" ", y, b"v1"])
+        put_line(out, x, top + quarter(n) as u64, quarter(n))
     }
 }
 
 /// The mark of an event, where it has one.
 fn put_mark_of<W: Write>(
     out: &mut W,
+    n: u32,
     corruptions: bool,
-    x: u32,
+    x: u64,
     event: Option<SavedEvent>,
 ) -> Result<(), WriteFault>
+    requires { 0 < n }
     ensures { Writes (W.contents out.old) (W.contents out.new) result
-        (mark_of corruptions x event) }
+        (mark_of n corruptions x event) }
 {
     let Some(event) = event else {
         return Ok(());
     };
     match marked_machine(corruptions, event) {
-        Some(machine) => put_mark(out, corruptions, x, machine),
+        Some(machine) => put_mark(out, n, corruptions, x, machine),
         None => Ok(()),
     }
 }
@@ -87,7 +101,8 @@ pub(crate) fn put_marks<W: Write>(
 {
     for column in 0..count {
         let event = event_at(ring, from + column as usize);
-        match put_mark_of(out, corruptions, column + 1, event) {
+        let x = across(count + 1, column + 1);
+        match put_mark_of(out, ring.n, corruptions, x, event) {
             Ok(()) => {}
             Err(fault) => return Err(fault),
         }

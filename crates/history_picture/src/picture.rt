@@ -7,12 +7,14 @@ ghost use Rattle.ring_model.specs.Limits.{machine_limit};
 ghost use Rattle.ring_model.specs.Ring.{ring_with, bound};
 ghost use Rattle.saved_history.specs.Content.{block_of};
 ghost use Rattle.history_picture.specs.Picture.{ring_shown, curve_height, upper_part, marks_part, lower_part, picture};
-ghost use Rattle.history_picture.specs.Walks.{HasRing, AreRows};
+ghost use Rattle.history_steps.specs.Steps.{HasRing};
+ghost use Rattle.history_picture.specs.Walks.{AreRows};
 
 use crate::columns::gauge_at;
 use crate::curves::{curve_height, put_calms, put_rests};
 use crate::frame::{put_axes, put_curves_opening, put_ending, put_rows_opening, put_title};
 use crate::marks::put_marks;
+use crate::page::Grid;
 use crate::rows::put_rows;
 use crate::stretches::{Row, walk};
 use ring_check::Gauge;
@@ -50,8 +52,12 @@ fn put_upper<W: Write>(
 {
     put_title(out, ring, from, count)?;
     put_axes(out, ring.n, from, count, height)?;
-    put_rows_opening(out, ring.n, count + 1)?;
-    put_rows(out, rows, count + 1)
+    put_rows_opening(out)?;
+    let grid = Grid {
+        n: ring.n,
+        columns: count + 1,
+    };
+    put_rows(out, grid, rows)
 }
 
 /// The marks of refused passes, and over them those of corruptions.
@@ -68,12 +74,12 @@ fn put_both_marks<W: Write>(
 {
     put(
         out,
-        b"<path stroke=\"#888\" stroke-width=\"1.5\" stroke-linecap=\"square\" d=\"",
+        b"<path stroke=\"#888\" stroke-width=\"150\" stroke-linecap=\"square\" d=\"",
     )?;
     put_marks(out, ring, false, from, count)?;
     put(
         out,
-        b"\"/>\n<path stroke=\"#e69f00\" stroke-width=\"5\" stroke-linecap=\"round\" d=\"",
+        b"\"/>\n<path stroke=\"#e69f00\" stroke-width=\"500\" stroke-linecap=\"round\" d=\"",
     )?;
     put_marks(out, ring, true, from, count)
 }
@@ -94,13 +100,13 @@ fn put_lower<W: Write>(
     ensures { Writes (W.contents out.old) (W.contents out.new) result
         (lower_part (block_of ring.now) from columns) }
 {
-    put_curves_opening(out, columns, height, bound(ring.n))?;
-    put_rests(out, ring, from, columns, gauge)?;
+    put_curves_opening(out, height, bound(ring.n))?;
+    put_rests(out, ring, from, columns, height, gauge)?;
     put(
         out,
-        b"\"/>\n<polyline stroke=\"#0a7d4f\" stroke-width=\"1.5\" stroke-dasharray=\"5 3\" points=\"",
+        b"\"/>\n<polyline stroke=\"#0a7d4f\" stroke-width=\"150\" stroke-dasharray=\"500 300\" points=\"",
     )?;
-    put_calms(out, ring, from, columns)?;
+    put_calms(out, ring, from, columns, height)?;
     put_ending(out)
 }
 

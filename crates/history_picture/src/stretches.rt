@@ -3,7 +3,8 @@
 ghost use Rattle.std.specs.Prelude.{◌≡◌, ◌+◌, ◌<◌, ◌^◌, [], length, vec_len, IfOk};
 ghost use Rattle.saved_history.specs.Content.{block_of};
 ghost use Rattle.history_picture.specs.Picture.{ring_shown};
-ghost use Rattle.history_picture.specs.Walks.{HasRing, IsLooked, AreLooked, AreNew, AreRows};
+ghost use Rattle.history_steps.specs.Steps.{HasRing};
+ghost use Rattle.history_picture.specs.Walks.{IsLooked, AreLooked, AreNew, AreRows};
 
 use crate::columns::go_on;
 use ring_check::Gauge;

@@ -2,7 +2,7 @@ use Rattle.std.proofs.Common.{◌≡◌, ◌+◌, ◌<◌, ◌∙◌, take, refl
 use Rattle.ring_model.specs.Groups.{left_after}
 use Rattle.saved_history.specs.Content.{block_of}
 use Rattle.ring_check.specs.Legal.{history}
-use Rattle.history_picture.specs.Picture.{calm_at}
+use Rattle.history_steps.specs.Steps.{calm_at}
 use Rattle.history_picture.proofs.Shown.{shown_here, shown_before}
 use Rattle.history_picture.proofs.columns.calm_on.Goals as goal
 

@@ -1,6 +1,6 @@
 use Rattle.std.proofs.Common.{◌≡◌, ◌≤◌}
 use Rattle.saved_history.specs.Content.{block_of}
-use Rattle.history_picture.specs.Picture.{calm_at}
+use Rattle.history_steps.specs.Steps.{calm_at}
 use Rattle.history_picture.proofs.columns.calm_on.Given as goal
 
 abbrev pub invariant-loop-i : goal.invariant-loop-i

@@ -2,9 +2,9 @@ use Rattle.std.proofs.Common.{◌≡◌, ◌+◌, ◌<◌, ◌∙◌, take, refl
 use Rattle.ring_model.specs.Groups.{left_after}
 use Rattle.saved_history.specs.Content.{block_of}
 use Rattle.ring_check.specs.Legal.{history}
-use Rattle.history_picture.specs.Picture.{ring_at}
+use Rattle.history_steps.specs.Steps.{ring_at}
 use Rattle.history_picture.proofs.Shown.{shown_here, shown_before}
-use Rattle.history_picture.proofs.Walking.{named}
+use Rattle.history_steps.proofs.Places.{named}
 use Rattle.history_picture.proofs.columns.go_on.Goals as goal
 
 pub loop-i-init : goal.loop-i-init

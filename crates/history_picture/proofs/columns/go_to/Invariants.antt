@@ -1,6 +1,6 @@
 use Rattle.saved_history.specs.Content.{block_of}
 use Rattle.history_picture.specs.Picture.{ring_shown}
-use Rattle.history_picture.specs.Walks.{HasRing}
+use Rattle.history_steps.specs.Steps.{HasRing}
 use Rattle.history_picture.proofs.columns.go_to.Given as goal
 
 abbrev pub invariant-loop-i : goal.invariant-loop-i

@@ -3,7 +3,7 @@ use Rattle.std.specs.Prelude.{max}
 use Rattle.ring_model.specs.Ring.{Ring, rest}
 use Rattle.saved_history.specs.Content.{block_of}
 use Rattle.history_picture.specs.Picture.{ring_shown, rest_in, highest_rest}
-use Rattle.history_picture.proofs.Walking.{named}
+use Rattle.history_steps.proofs.Places.{named}
 use Rattle.history_picture.proofs.curves.highest_rest.Goals as goal
 
 pub rest-requires : goal.rest-requires

@@ -10,31 +10,31 @@ use Rattle.history_picture.proofs.picture.put_lower.Goals as goal
 pub returns-in_err-put_curves_opening : goal.returns-in_err-put_curves_opening
 returns-in_err-put_curves_opening g c =
     let b = block_of c.args.ring.now in
-    let opening = curves_opening c.args.columns (curve_height b c.args.from c.args.columns) (bound b.n) in
+    let opening = curves_opening (curve_height b c.args.from c.args.columns) (bound b.n) in
     let rests = rest_points b c.args.from c.args.columns in
     let calms = calm_points b c.args.from c.args.columns in
     let fault = c.in_err-put_curves_opening.field-0.0 in
-    let here = writes_same _ _ (Err fault) (curves_opening c.args.columns c.args.height c.bound.result) opening (ap (λ (h : ℕ). curves_opening c.args.columns h c.bound.result) c.requires.height ∙ ap (curves_opening c.args.columns (curve_height b c.args.from c.args.columns)) c.bound.ensures) c.in_err-put_curves_opening.ensures in
+    let here = writes_same _ _ (Err fault) (curves_opening c.args.height c.bound.result) opening (ap (λ (h : ℕ). curves_opening h c.bound.result) c.requires.height ∙ ap (curves_opening (curve_height b c.args.from c.args.columns)) c.bound.ensures) c.in_err-put_curves_opening.ensures in
     rw (err_from_is_err_and c.from_residual.result c.from_residual.ensures.1).1
     (writes_err _ _ fault opening (rests ++ (calm_opening ++ (calms ++ ending_text))) here)
 
 pub returns-in_err-put_rests : goal.returns-in_err-put_rests
 returns-in_err-put_rests g c =
     let b = block_of c.args.ring.now in
-    let opening = curves_opening c.args.columns (curve_height b c.args.from c.args.columns) (bound b.n) in
+    let opening = curves_opening (curve_height b c.args.from c.args.columns) (bound b.n) in
     let rests = rest_points b c.args.from c.args.columns in
     let calms = calm_points b c.args.from c.args.columns in
-    let here = writes_same _ _ (Ok c.in_ok-put_curves_opening.field-0) (curves_opening c.args.columns c.args.height c.bound.result) opening (ap (λ (h : ℕ). curves_opening c.args.columns h c.bound.result) c.requires.height ∙ ap (curves_opening c.args.columns (curve_height b c.args.from c.args.columns)) c.bound.ensures) c.in_ok-put_curves_opening.ensures in
+    let here = writes_same _ _ (Ok c.in_ok-put_curves_opening.field-0) (curves_opening c.args.height c.bound.result) opening (ap (λ (h : ℕ). curves_opening h c.bound.result) c.requires.height ∙ ap (curves_opening (curve_height b c.args.from c.args.columns)) c.bound.ensures) c.in_ok-put_curves_opening.ensures in
     rw (err_from_is_err_and c.from_residual-in_err-put_rests.result c.from_residual-in_err-put_rests.ensures.1).1
     (writes_second _ _ _ c.in_err-put_rests.field-0.0 opening rests (calm_opening ++ (calms ++ ending_text)) here c.in_err-put_rests.ensures)
 
 pub returns-in_err-put : goal.returns-in_err-put
 returns-in_err-put g c =
     let b = block_of c.args.ring.now in
-    let opening = curves_opening c.args.columns (curve_height b c.args.from c.args.columns) (bound b.n) in
+    let opening = curves_opening (curve_height b c.args.from c.args.columns) (bound b.n) in
     let rests = rest_points b c.args.from c.args.columns in
     let calms = calm_points b c.args.from c.args.columns in
-    let here = writes_same _ _ (Ok c.in_ok-put_curves_opening.field-0) (curves_opening c.args.columns c.args.height c.bound.result) opening (ap (λ (h : ℕ). curves_opening c.args.columns h c.bound.result) c.requires.height ∙ ap (curves_opening c.args.columns (curve_height b c.args.from c.args.columns)) c.bound.ensures) c.in_ok-put_curves_opening.ensures in
+    let here = writes_same _ _ (Ok c.in_ok-put_curves_opening.field-0) (curves_opening c.args.height c.bound.result) opening (ap (λ (h : ℕ). curves_opening h c.bound.result) c.requires.height ∙ ap (curves_opening (curve_height b c.args.from c.args.columns)) c.bound.ensures) c.in_ok-put_curves_opening.ensures in
     let fault = c.in_err-put.field-0.0 in
     rw (err_from_is_err_and c.from_residual-in_err-put.result c.from_residual-in_err-put.ensures.1).1
     (writes_then _ _ _ (Err fault) opening (rests ++ (calm_opening ++ (calms ++ ending_text))) here
@@ -43,10 +43,10 @@ returns-in_err-put g c =
 pub returns-in_err-put_calms : goal.returns-in_err-put_calms
 returns-in_err-put_calms g c =
     let b = block_of c.args.ring.now in
-    let opening = curves_opening c.args.columns (curve_height b c.args.from c.args.columns) (bound b.n) in
+    let opening = curves_opening (curve_height b c.args.from c.args.columns) (bound b.n) in
     let rests = rest_points b c.args.from c.args.columns in
     let calms = calm_points b c.args.from c.args.columns in
-    let here = writes_same _ _ (Ok c.in_ok-put_curves_opening.field-0) (curves_opening c.args.columns c.args.height c.bound.result) opening (ap (λ (h : ℕ). curves_opening c.args.columns h c.bound.result) c.requires.height ∙ ap (curves_opening c.args.columns (curve_height b c.args.from c.args.columns)) c.bound.ensures) c.in_ok-put_curves_opening.ensures in
+    let here = writes_same _ _ (Ok c.in_ok-put_curves_opening.field-0) (curves_opening c.args.height c.bound.result) opening (ap (λ (h : ℕ). curves_opening h c.bound.result) c.requires.height ∙ ap (curves_opening (curve_height b c.args.from c.args.columns)) c.bound.ensures) c.in_ok-put_curves_opening.ensures in
     let fault = c.in_err-put_calms.field-0.0 in
     rw (err_from_is_err_and c.from_residual-in_err-put_calms.result c.from_residual-in_err-put_calms.ensures.1).1
     (writes_then _ _ _ (Err fault) opening (rests ++ (calm_opening ++ (calms ++ ending_text))) here
@@ -56,10 +56,10 @@ returns-in_err-put_calms g c =
 pub returns : goal.returns
 returns g c =
     let b = block_of c.args.ring.now in
-    let opening = curves_opening c.args.columns (curve_height b c.args.from c.args.columns) (bound b.n) in
+    let opening = curves_opening (curve_height b c.args.from c.args.columns) (bound b.n) in
     let rests = rest_points b c.args.from c.args.columns in
     let calms = calm_points b c.args.from c.args.columns in
-    let here = writes_same _ _ (Ok c.in_ok-put_curves_opening.field-0) (curves_opening c.args.columns c.args.height c.bound.result) opening (ap (λ (h : ℕ). curves_opening c.args.columns h c.bound.result) c.requires.height ∙ ap (curves_opening c.args.columns (curve_height b c.args.from c.args.columns)) c.bound.ensures) c.in_ok-put_curves_opening.ensures in
+    let here = writes_same _ _ (Ok c.in_ok-put_curves_opening.field-0) (curves_opening c.args.height c.bound.result) opening (ap (λ (h : ℕ). curves_opening h c.bound.result) c.requires.height ∙ ap (curves_opening (curve_height b c.args.from c.args.columns)) c.bound.ensures) c.in_ok-put_curves_opening.ensures in
     let r = c.put_ending.result in
     writes_then _ _ _ r opening (rests ++ (calm_opening ++ (calms ++ ending_text))) here
     (writes_then _ _ _ r rests (calm_opening ++ (calms ++ ending_text)) c.in_ok-put_rests.ensures

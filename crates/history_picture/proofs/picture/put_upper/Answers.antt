@@ -12,7 +12,7 @@ pub returns-in_err-put_title : goal.returns-in_err-put_title
 returns-in_err-put_title g c =
     let b = block_of c.args.ring.now in
     let axes = axes_text b.n c.args.from c.args.count (curve_height b c.args.from (c.args.count + 1)) in
-    let opening = rows_opening b.n (c.args.count + 1) in
+    let opening = rows_opening in
     let rows = rows_text b c.args.from (c.args.count + 1) in
     rw (err_from_is_err_and c.from_residual.result c.from_residual.ensures.1).1
     (writes_err _ _ c.in_err-put_title.field-0.0 (title_text b c.args.from c.args.count) (axes ++ (opening ++ rows)) c.in_err-put_title.ensures)
@@ -21,7 +21,7 @@ pub returns-in_err-put_axes : goal.returns-in_err-put_axes
 returns-in_err-put_axes g c =
     let b = block_of c.args.ring.now in
     let axes = axes_text b.n c.args.from c.args.count (curve_height b c.args.from (c.args.count + 1)) in
-    let opening = rows_opening b.n (c.args.count + 1) in
+    let opening = rows_opening in
     let rows = rows_text b c.args.from (c.args.count + 1) in
     let fault = c.in_err-put_axes.field-0.0 in
     let here = writes_same _ _ (Err fault) (axes_text b.n c.args.from c.args.count c.args.height) axes (ap (axes_text b.n c.args.from c.args.count) c.requires.height) c.in_err-put_axes.ensures in
@@ -32,7 +32,7 @@ pub returns-in_err-put_rows_opening : goal.returns-in_err-put_rows_opening
 returns-in_err-put_rows_opening g c =
     let b = block_of c.args.ring.now in
     let axes = axes_text b.n c.args.from c.args.count (curve_height b c.args.from (c.args.count + 1)) in
-    let opening = rows_opening b.n (c.args.count + 1) in
+    let opening = rows_opening in
     let rows = rows_text b c.args.from (c.args.count + 1) in
     let fault = c.in_err-put_rows_opening.field-0.0 in
     let here = writes_same _ _ (Ok c.in_ok-put_axes.field-0) (axes_text b.n c.args.from c.args.count c.args.height) axes (ap (axes_text b.n c.args.from c.args.count) c.requires.height) c.in_ok-put_axes.ensures in
@@ -44,11 +44,11 @@ pub returns : goal.returns
 returns g c =
     let b = block_of c.args.ring.now in
     let axes = axes_text b.n c.args.from c.args.count (curve_height b c.args.from (c.args.count + 1)) in
-    let opening = rows_opening b.n (c.args.count + 1) in
+    let opening = rows_opening in
     let rows = rows_text b c.args.from (c.args.count + 1) in
     let here = writes_same _ _ (Ok c.in_ok-put_axes.field-0) (axes_text b.n c.args.from c.args.count c.args.height) axes (ap (axes_text b.n c.args.from c.args.count) c.requires.height) c.in_ok-put_axes.ensures in
     let r = c.put_rows.result in
-    let last = writes_same _ _ r (rows_to (c.args.count + 1) c.args.rows.now) rows (rows_are b c.args.from (c.args.count + 1) c.args.rows.now c.requires.machines c.requires.rows) c.put_rows.ensures in
+    let last = writes_same _ _ r (rows_to b.n (c.args.count + 1) c.args.rows.now) rows (rows_are b c.args.from (c.args.count + 1) c.args.rows.now c.requires.machines c.requires.rows) c.put_rows.ensures in
     writes_then _ _ _ r (title_text b c.args.from c.args.count) (axes ++ (opening ++ rows)) c.in_ok-put_title.ensures
     (writes_then _ _ _ r axes (opening ++ rows) here
     (writes_then _ _ _ r opening rows c.in_ok-put_rows_opening.ensures last))

@@ -1,7 +1,8 @@
 use Rattle.std.proofs.Common.{◌≡◌, ◌+◌, ap, arith}
 use Rattle.saved_history.specs.Content.{block_of}
 use Rattle.history_picture.specs.Picture.{ring_shown}
-use Rattle.history_picture.proofs.Walking.{named, rows_new}
+use Rattle.history_steps.proofs.Places.{named}
+use Rattle.history_picture.proofs.Walking.{rows_new}
 use Rattle.history_picture.proofs.stretches.walk.Goals as goal
 
 pub loop-column-init : goal.loop-column-init

@@ -3,8 +3,8 @@ use Rattle.ring_model.proofs.Histories.{calm_next}
 use Rattle.saved_history.specs.declared.saved.SavedEvent.{SavedEvent}
 use Rattle.saved_history.specs.Content.{block_of}
 use Rattle.ring_check.specs.Table.{event_of}
-use Rattle.history_picture.proofs.Places.{calm_more, calm_stays}
-use Rattle.history_picture.proofs.columns.calm_step.Goals as goal
+use Rattle.history_steps.proofs.Places.{calm_more, calm_stays}
+use Rattle.history_steps.proofs.steps.calm_step.Goals as goal
 
 pub returns-then-place-len-clause-calm : goal.returns-then-place-len-clause-calm
 returns-then-place-len-clause-calm c =

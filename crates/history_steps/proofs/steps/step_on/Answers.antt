@@ -2,11 +2,10 @@ use Rattle.std.proofs.Common.{◌≡◌, ◌<◌, ◌≤◌, ◌∙◌, length, 
 use Rattle.saved_history.specs.declared.saved.SavedEvent.{SavedEvent}
 use Rattle.ring_check.specs.Table.{event_of}
 use Rattle.ring_check.specs.Gauges.{ring_of}
-use Rattle.history_picture.specs.Picture.{next_ring}
+use Rattle.history_steps.specs.Steps.{next_ring}
 use Rattle.saved_history.specs.Content.{block_of}
-use Rattle.history_picture.proofs.Places.{ring_more, ring_stays}
-use Rattle.history_picture.proofs.Walking.{named, stepped}
-use Rattle.history_picture.proofs.columns.step_on.Goals as goal
+use Rattle.history_steps.proofs.Places.{ring_more, ring_stays, named, stepped}
+use Rattle.history_steps.proofs.steps.step_on.Goals as goal
 
 pub call-requires-clause-k : goal.call-requires-clause-k
 call-requires-clause-k c = c.requires.k
