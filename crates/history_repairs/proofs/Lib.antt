@@ -1,0 +1,5 @@
+pub mod Bounded
+pub mod Ranking
+pub mod Spreading
+pub mod Walking
+pub mod Texts

@@ -1,0 +1,4 @@
+pub mod Ranks
+pub mod Repairs
+pub mod Lines
+pub mod Walks
