@@ -129,7 +129,7 @@ class Rules(unittest.TestCase):
                 write("lock b nobody-has-this-name\n")
                 server.process.send_signal(signal.SIGHUP)
                 wait_until(lambda: "rules-bad rules not read again, the old ones hold: " in server.text_of_log())
-                self.assertIn("line 1: `lock NAME: USER %GROUP ..` is wanted", server.text_of_log())
+                self.assertIn("line 1: `lock NAME: USER %GROUP cert:NAME ..` is wanted", server.text_of_log())
                 self.assertEqual(say(sock, "release b 1\ntry b 1\n", 2), ["released b", "granted b 2"])
                 for times, of_all in enumerate((user, 65533), 2):  # a pattern, and one that is longer than that
                     write(f"lock *: {of_all}\nlock b*: 65533\n")
