@@ -1,7 +1,12 @@
-//! Tests of `ring_repairs`, by its public items only. They are here so that it is not proved once more with its tests.
+//! Tests of `ring_repairs`, and of the texts and reports over it, by public items only. They are here so that these are not proved once more
+//! with their tests.
 #![tactic(auto)]
 
 #[cfg(test)]
 mod repairs;
 #[cfg(test)]
+mod reports;
+#[cfg(test)]
 mod studies;
+#[cfg(test)]
+mod texts;

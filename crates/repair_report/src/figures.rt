@@ -1,0 +1,60 @@
+//! The figures of a study's trials.
+
+ghost use Rattle.std.specs.Prelude.{◌≡◌, MatchOption};
+ghost use Rattle.ring_repairs.specs.Histograms.{counted};
+ghost use Rattle.repair_report.specs.Reports.{IsFigures, daemon_name, start_name, start_faults};
+
+use repair_texts::Figures;
+use ring_repairs::{Daemon, Repairs, Start, longest_repair};
+use ring_settle::bound;
+
+/// The word for which machine moves next.
+pub(crate) fn daemon_name(daemon: Daemon) -> &'static [u8]
+    ensures { result.now ≡ daemon_name daemon }
+{
+    match daemon {
+        Daemon::First => b"first",
+        Daemon::Last => b"last",
+        Daemon::Random => b"random",
+    }
+}
+
+/// The word for where a trial starts.
+pub(crate) fn start_name(start: Start) -> &'static [u8]
+    ensures { result.now ≡ start_name start }
+{
+    match start {
+        Start::Any => b"any",
+        Start::Faults(_) => b"faults",
+    }
+}
+
+/// With how many faults a trial starts, if it starts with some.
+pub(crate) fn start_faults(start: Start) -> Option<u32>
+    ensures { result ≡ start_faults start }
+{
+    match start {
+        Start::Any => None,
+        Start::Faults(faults) => Some(faults),
+    }
+}
+
+/// The figures of the trials that are done; none if none is.
+pub(crate) fn figures_of(repairs: &Repairs) -> Option<Figures>
+    ensures { MatchOption result (counted repairs.now.passes ≡ 0) (IsFigures repairs.now) }
+{
+    let n = repairs.study().size().n(); // says: it is a size within the limits
+    let passes = repairs.passes();
+    Some(Figures {
+        trials: passes.total(),
+        bound: bound(n),
+        longest: longest_repair(n),
+        least: passes.least()?,
+        mean: passes.mean_hundredths()?,
+        median: passes.quantile(50, 100)?,
+        p90: passes.quantile(90, 100)?,
+        p99: passes.quantile(99, 100)?,
+        p999: passes.quantile(999, 1_000)?,
+        greatest: passes.greatest()?,
+    })
+}
