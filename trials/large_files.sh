@@ -35,6 +35,15 @@ told "settings are not JSON" run limit
 told "over is too large" run over
 told "/dev/zero is too large" check /dev/zero
 told "- is too large" check - over
+listed=$out/listed
+rm -rf "$listed"
+mkdir "$listed"
+printf '1 acquire a 1\n' | "$program" locks --journal "$listed" --locks a >/dev/null 2>&1
+ln -sf /dev/zero "$listed/locks"
+for command in check holds; do
+    told "cannot read listed/locks" "$command" listed
+done
+rm -rf "$listed"
 told "- is too large" run - /dev/zero
 rm -f "$out/limit" "$out/over"
 row "large files, and standard input without an end" "$tried" "$failed"

@@ -19,3 +19,4 @@ mod HeldNames
 mod PoolWords
 mod NameRefused
 mod NameHanded
+mod Within

@@ -25,6 +25,10 @@ use Rattle.folder_of_locks.specs.declared.places.FoundLocks.{FoundLocks}
 use Rattle.folder_of_locks.specs.declared.places.Start.{Start}
 use Rattle.folder_of_locks.specs.Rings.{AreBegun, AreRingsRefused}
 
+-- the most bytes of a file that is read
+abbrev pub most_bytes : ℕ
+most_bytes = 1073741824
+
 -- the file of the locks of a folder
 abbrev pub locks_file : List ℕ → List ℕ
 locks_file folder = path_in folder list_name

@@ -1,9 +1,9 @@
 //! The list of the locks of a folder.
 
-ghost use Rattle.std.specs.Prelude.{◌≡◌, ◌⊎◌, map, string_bytes, OnOk, OnErr, IfOk, IfErr, Some};
+ghost use Rattle.std.specs.Prelude.{◌≡◌, ◌≤◌, ◌⊎◌, map, string_bytes, vec_len, OnOk, OnErr, IfOk, IfErr, IfSome, Some};
 ghost use Rattle.disks.specs.Held.{Replaces, IsHeld};
 ghost use Rattle.folder_of_locks.specs.Lists.{listed, file_text, IsLockFile, IsLockList};
-ghost use Rattle.folder_of_locks.specs.Folders.{locks_file, IsTextFault, IsWordRefusal, IsDifference, Continues};
+ghost use Rattle.folder_of_locks.specs.Folders.{most_bytes, locks_file, IsTextFault, IsWordRefusal, IsDifference, Continues};
 
 use crate::checks::first_difference;
 use crate::faults::StartFault;
@@ -14,6 +14,9 @@ use disks::{Contents, ContentsFault, Disk, ReplaceFault, replace};
 use std::alloc::{AllocError, Global};
 use std::io::{Read, Write};
 
+/// The most bytes of a file that is read.
+const MOST_BYTES: u32 = 1_073_741_824;
+
 /// The name of the file of locks in a folder.
 pub(crate) fn list_file(alloc: Global, folder: &str) -> Result<String, AllocError>
     ensures { IfOk result (λ name. string_bytes name ≡ locks_file folder.now) }
@@ -23,30 +26,44 @@ pub(crate) fn list_file(alloc: Global, folder: &str) -> Result<String, AllocErro
     Ok(name)
 }
 
-/// All bytes of the file of this name.
+/// All bytes that a reader gives, if they are at most `limit`; none if it fails, or gives a byte more.
+fn bytes_within<R: Read + Drop>(alloc: Global, reader: R, limit: u32) -> Option<Vec<u8>>
+    ensures most { IfSome result (λ bytes. vec_len bytes ≤ limit) }
+    ensures all { IfSome result
+        (λ bytes. IfSome (R.remaining reader) (λ rest. bytes.items ≡ rest)) }
+{
+    let mut bytes = Vec::new(alloc);
+    let mut limited = reader.take(limit as u64 + 1);
+    match limited.read_to_end(&mut bytes) {
+        Ok(count) if count <= limit as usize => Some(bytes),
+        _ => None,
+    }
+}
+
+/// All bytes of the file of this name, which has at most [`MOST_BYTES`].
 pub(crate) fn file_bytes<D: Disk>(
     alloc: Global,
     disk: &D,
     name: &str,
 ) -> Result<Vec<u8>, StartFault>
     ensures ok { IfOk result (λ bytes. IsHeld (D.holds disk.now) name.now bytes.items) }
+    ensures most { IfOk result (λ bytes. vec_len bytes ≤ most_bytes) }
     ensures err { IfErr result (λ e. e ≡ StartFault.UnreadLocks) }
 {
-    let Ok(mut reader) = disk.open(name) else {
+    let Ok(reader) = disk.open(name) else {
         return Err(StartFault::UnreadLocks);
     };
-    let mut bytes = Vec::new(alloc);
-    match reader.read_to_end(&mut bytes) {
-        Ok(_) => Ok(bytes),
-        Err(_) => Err(StartFault::UnreadLocks),
+    match bytes_within(alloc, reader, MOST_BYTES) {
+        Some(bytes) => Ok(bytes),
+        None => Err(StartFault::UnreadLocks),
     }
 }
 
-/// All bytes of the file of locks in a folder.
+/// All bytes of the file of locks in a folder, which has at most [`MOST_BYTES`].
 ///
 /// # Errors
 ///
-/// `UnreadLocks`, `OutOfMemory`.
+/// `UnreadLocks` if it cannot be read, or has more; `OutOfMemory`.
 pub fn list_bytes<D: Disk>(alloc: Global, disk: &D, folder: &str) -> Result<Vec<u8>, StartFault>
     ensures ok { IfOk result (λ bytes. IsHeld (D.holds disk.now) (locks_file folder.now) bytes.items) }
     ensures err { IfErr result (λ e. (e ≡ StartFault.UnreadLocks) ⊎ (e ≡ StartFault.OutOfMemory)) }
