@@ -367,30 +367,32 @@ class Trouble(Trial):
             self.assertEqual((lost["written"], lost["lines_lost_total"]), (1, int(gap.split()[1])))
             self.assertEqual(server.text_of_log().count("grants-unwritten"), 1)
 
-    def test_an_answer_waits_for_the_disk_and_others_do_not(self):
+    def test_an_answer_waits_for_the_lines_before_it_and_others_do_not(self):
+        """With syncs: as long as those are not on the disk."""
         with self.server(is_synced=True) as server, server.raw() as sock, server.raw() as other:
             self.begin("held")
-            sock.sendall(b"acquire a 1\n")
-            self.wait_for("granted a 1")
+            self.assertEqual(say(sock, "acquire a 1\n"), ["granted a 1"])  # none is before it
+            sock.sendall(b"acquire b 1\n")
+            self.wait_for("granted b 1")
             for _ in range(20):
-                self.assertEqual(say(other, "ping\nstats b\n", 2)[0], "pong")
+                self.assertEqual(say(other, "ping\nstats c\n", 2)[0], "pong")
             sock.settimeout(0.3)
             with self.assertRaises(OSError):
                 sock.recv(100)
             self.assertNotIn("grants-unwritten", server.text_of_log())
             self.end("held")
             sock.settimeout(PATIENCE)
-            self.assertEqual(read_lines(sock, 1), ["granted a 1"])
-            self.assertEqual(say(sock, "release a 1\nacquire b 1\n", 2), ["released a", "granted b 1"])
+            self.assertEqual(read_lines(sock, 1), ["granted b 1"])
+            self.assertEqual(say(sock, "release a 1\nacquire c 1\n", 2), ["released a", "granted c 1"])
 
     def test_a_disk_that_hangs_is_not_waited_for(self):
         with self.server(is_synced=True) as server, server.raw() as sock:
             self.begin("held")
             begun = time.monotonic()
             self.assertEqual(say(sock, "acquire a 1\n"), ["granted a 1"])
-            self.assertGreaterEqual(time.monotonic() - begun, 1.9)
-            begun = time.monotonic()
             self.assertEqual(say(sock, "acquire b 1\n"), ["granted b 1"])
+            self.assertGreaterEqual(time.monotonic() - begun, 1.9)
+            self.assertEqual(say(sock, "release a 1\n"), ["released a"])
             server.wait_for_log("grants-unwritten", "the disk does not take them in time")
             self.end("held")
 
@@ -418,12 +420,13 @@ class Trouble(Trial):
     def test_what_was_asked_is_answered_at_the_end(self):
         with self.server(is_synced=True) as server, server.raw() as sock:
             self.begin("held")
-            sock.sendall(b"acquire a 1\n")
-            self.wait_for("granted a 1")
+            say(sock, "acquire a 1\n")
+            sock.sendall(b"acquire b 1\n")
+            self.wait_for("granted b 1")
             server.process.send_signal(signal.SIGTERM)
             server.wait_for_log("stopping")
             self.end("held")
-            self.assertEqual(read_lines(sock, 1), ["granted a 1"])
+            self.assertEqual(read_lines(sock, 1), ["granted b 1"])
 
 
 if __name__ == "__main__":

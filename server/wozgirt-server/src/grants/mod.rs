@@ -1,6 +1,6 @@
 //! The record of grants (`--grants FILE`): a line for each grant and for each end of a hold. It is written before an answer about it
-//! leaves; with syncs it is on the disk by then. What cannot be written holds nothing up: the log says so, and the record, when it can be
-//! written again.
+//! leaves; with syncs the lines of the block before are on the disk by then. What cannot be written holds nothing up: the log says so,
+//! and the record, when it can be written again.
 
 mod file;
 mod syncing;
@@ -106,7 +106,8 @@ impl Grants {
         self.lines += 1;
     }
 
-    /// Writes the block, if there is one. An answer about it may leave as soon as [`Grants::done`] is the number that is returned.
+    /// Writes the block, if there is one. An answer about it may leave as soon as [`Grants::done`] is the number that is returned: that of
+    /// the block before, whose sync goes beside what the engine does meanwhile. Nothing is returned if that is done.
     pub fn write(&mut self, now: Instant) -> Option<Ticket> {
         let (lines, at) = (take(&mut self.lines), self.at.take()?);
         let lost = self.file.lost().map_or(0, |lost| lost.lines);
@@ -128,7 +129,7 @@ impl Grants {
         self.asked += 1;
         self.waits_since.get_or_insert(now);
         syncing.ask(Ask { ticket: self.asked, file: file.clone(), lines: Lost { lines, since: at } });
-        Some(self.asked)
+        Some(self.asked - 1).filter(|before| *before > self.done())
     }
 
     fn note_fault(&mut self, fault: &dyn Display, lines: u64) {
