@@ -1,4 +1,3 @@
 pub mod Requested
 pub mod CutTexts
 pub mod Endings
-mod Buffers

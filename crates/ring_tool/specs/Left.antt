@@ -1,8 +1,9 @@
 -- What has left the buffer of standard output, and what is on standard error, at the end of a
 -- run.
-use Rattle.std.specs.Prelude.{◌≡◌, ◌<◌, ℕ, List, ◌++◌, length, Bool, true, false, ⊤, codes, Option, IfSome}
+use Rattle.std.specs.Prelude.{◌≡◌, ◌<◌, ◌⊎◌, ℕ, List, ◌++◌, length, Bool, true, false, codes, Option, IfSome}
 use Rattle.std.specs.Io.KnownBytes.{Keeps, Appends, append_known}
 use Rattle.tool_parts.specs.FaultLines.{fixed_line}
+use Rattle.tool_parts.specs.Written.{AppendsFront}
 use Rattle.tool_parts.specs.declared.faults.ToolError.{ToolError}
 use Rattle.tool_parts.specs.declared.faults.ToolError.TheVariants as tool
 
@@ -23,10 +24,10 @@ abbrev pub HasLeft : Option (List ℕ) → Option (List ℕ) → Bool → Type 0
 HasLeft printed out true = Keeps printed out
 HasLeft printed out false = IsCut printed out
 
--- standard error has the text after what it had, if that could be written
+-- standard error has the text after what it had, or only a front of it
 abbrev pub HasText : List ℕ → Bool → Option (List ℕ) → Option (List ℕ) → Type 0
 HasText text true old new = Appends old new text
-HasText text false old new = ⊤
+HasText text false old new = AppendsFront old new text
 
 -- a line, with its end: that of a refusal without a value is known
 abbrev pub IsLineOf : ToolError → List ℕ → Type 0
@@ -35,10 +36,11 @@ IsLineOf e text =
     × IfSome (fixed_line e) (λ known. line ≡ known)
     × (text ≡ line ++ codes "\n")
 
--- standard error has the line of a refusal after what it had, if that could be written
+-- standard error has the line of a refusal after what it had, or only a front of it; without memory
+-- for that line it is the one of a lack of memory
 abbrev pub HasLine : ToolError → Bool → Option (List ℕ) → Option (List ℕ) → Type 0
-HasLine e true old new = (text : List ℕ) × IsLineOf e text × Appends old new text
-HasLine e false old new = ⊤
+HasLine e told old new =
+    (text : List ℕ) × (IsLineOf e text ⊎ IsLineOf tool.OutOfMemory text) × HasText text told old new
 
 -- How a run ends that was answered. Status 0: every byte that was printed is in the output below,
 -- and standard error is as it was. Status 1: a byte is missing there, and standard error has the

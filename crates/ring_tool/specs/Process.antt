@@ -1,37 +1,36 @@
 -- The run of a process: what its words were read as is run over what it is given.
-use Rattle.std.specs.Prelude.{◌≡◌, ℕ, Bool, List, Option, Some, None, ◌⊎◌}
-use Rattle.disks.specs.Held.{Held}
-use Rattle.tool_parts.specs.Worlds.{World, world}
+use Rattle.std.specs.Prelude.{◌≡◌, ℕ, Bool, List, Option, Some, None, ◌⊎◌, codes}
+use Rattle.tool_parts.specs.Worlds.{World}
+use Rattle.tool_parts.specs.declared.faults.ToolError.TheVariants as tool
 use Rattle.ring_tool.specs.declared.asked.Asked.{Asked}
-use Rattle.ring_tool.specs.Run.{HasRun}
+use Rattle.ring_tool.specs.Left.{HasFront, HasText, HasLine}
+use Rattle.ring_tool.specs.Run.{HasRun, IsIdle}
 
 -- What is run is what the words of the process were read as, and the run has ended with this status.
 pub record IsRunOf (Words : Option (List (List ℕ)) → Type 0)
-    (Reads : List (List ℕ) → Asked → Type 0) (status : ℕ) (was is : World) : Type 0 where
-  pub words : List (List ℕ)
-  pub given : Words (Some words)
-  pub asked : Asked
-  pub read : Reads words asked
-  pub told : Bool
-  pub run : HasRun asked status told was is
+    (Reads : List (List ℕ) → Asked → Type 0) (status : ℕ) (told : Bool) (was is : World) : Type 0
+  where
+    pub words : List (List ℕ)
+    pub given : Words (Some words)
+    pub asked : Asked
+    pub read : Reads words asked
+    pub run : HasRun asked status told was is
 
--- The same over the input and the output of the process: what these have before and after it, by
--- `remaining` and `contents`, beside what files and standard error hold.
-abbrev pub IsRunOver : {I O : Type 0} → (Option (List (List ℕ)) → Type 0)
-    → (List (List ℕ) → Asked → Type 0) → (I → Type 0) → (O → Type 0) → (I → Option (List ℕ))
-    → (O → Option (List ℕ)) → ℕ → Option Held → Option (List ℕ) → Option Held → Option (List ℕ)
-    → Type 0
-IsRunOver {I} {O} Words Reads HasInput HasOutput remaining contents status was err is told =
-    (input : I)
-    × (output : O)
-    × (rest : I)
-    × (printed : O)
-    × HasInput input
-    × HasOutput output
-    × IsRunOf Words Reads status (world was (remaining input) (contents output) err)
-    (world is (remaining rest) (contents printed) told)
+-- what standard error gets if a word is not UTF-8
+abbrev pub not_utf8 : List ℕ
+not_utf8 = codes "error: a word is not UTF-8\n"
 
--- Nothing was run, and no file has changed: a word is not UTF-8, with status 2; or there was no memory
--- for the words or for the buffer, with status 1.
-abbrev pub IsNotRun : (Option (List (List ℕ)) → Type 0) → ℕ → Option Held → Option Held → Type 0
-IsNotRun Words status was is = (is ≡ was) × ((Words None × (status ≡ 2)) ⊎ (status ≡ 1))
+-- Nothing was run: files and input are as they were, and nothing was printed. A word is not UTF-8, with
+-- status 2; or there was no memory for the words, with status 1. Standard error has the line of that.
+abbrev pub IsNotRun : (Option (List (List ℕ)) → Type 0) → ℕ → Bool → World → World → Type 0
+IsNotRun Words status told was is =
+    IsIdle was is
+    × HasFront was.out is.out
+    × ((Words None × (status ≡ 2) × HasText not_utf8 told was.err is.err)
+    ⊎ ((status ≡ 1) × HasLine tool.OutOfMemory told was.err is.err))
+
+-- What the words were read as was run; or nothing was.
+abbrev pub HasRunAs : (Option (List (List ℕ)) → Type 0) → (List (List ℕ) → Asked → Type 0) → ℕ
+    → Bool → World → World → Type 0
+HasRunAs Words Reads status told was is =
+    IsRunOf Words Reads status told was is ⊎ IsNotRun Words status told was is

@@ -16,7 +16,7 @@ use tool_parts::faults::ToolError;
 pub struct Ending<O> {
     /// The exit status.
     pub status: u8,
-    /// Whether the text for standard error, if there is one, is known to be written with every byte.
+    /// Whether the text for standard error, if there is one, is written with every byte.
     pub told: bool,
     /// The writer below the buffer of standard output.
     pub out: O,
@@ -47,16 +47,27 @@ fn line_of(alloc: Global, fault: &ToolError<'_>) -> Option<Vec<u8>>
     Some(text)
 }
 
-/// Writes the line of a refusal, and returns whether it is known to be written: not if there is no memory to write it first.
+/// What standard error gets where there is no memory for the line of a refusal.
+const NO_MEMORY: &str = "out of memory\n";
+
+/// Writes a text, and returns whether each byte of it is written.
+fn put_whole<E: Write>(err: &mut E, text: &[u8]) -> bool
+    ensures { HasText text.now result (E.contents err.old) (E.contents err.new) }
+{
+    match put(err, text) {
+        Ok(()) => true,
+        Err(_) => false,
+    }
+}
+
+/// Writes the line of a refusal, or where there is no memory for it that of a lack of memory. Returns whether each byte of it is
+/// written.
 fn tell<E: Write>(alloc: Global, fault: &ToolError<'_>, err: &mut E) -> bool
     ensures { HasLine fault.now result (E.contents err.old) (E.contents err.new) }
 {
     match line_of(alloc, fault) {
-        Some(text) => put(err, text.as_slice()).is_ok(),
-        None => {
-            let _ = writeln!(err, "{fault}");
-            false
-        }
+        Some(text) => put_whole(err, text.as_slice()),
+        None => put_whole(err, NO_MEMORY.as_bytes()),
     }
 }
 
@@ -127,7 +138,7 @@ pub fn refuse<O: Write + Drop, E: Write>(text: &str, out: BufWriter<O>, err: &mu
     ensures front { HasFront (writer_contents O.contents out) (O.contents result.out) }
 {
     let (below, _) = emptied(out);
-    let told = put(err, text.as_bytes()).is_ok();
+    let told = put_whole(err, text.as_bytes());
     Ending {
         status: 2,
         told,
