@@ -38,7 +38,7 @@ fault_of_list list.OutOfMemory = tool.OutOfMemory
 -- why a line of a segment says nothing of names
 abbrev pub remark_cause : NotTaken → List ℕ
 remark_cause untaken.Misspelled = codes "misspelled"
-remark_cause untaken.Ring = codes "no such ring"
+remark_cause untaken.Ring = codes "there is no such ring"
 remark_cause untaken.OutOfMemory = codes "out of memory"
 
 -- the refusal for locks of this folder that do not start, with holders of the file of this name

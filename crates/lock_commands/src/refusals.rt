@@ -55,7 +55,7 @@ fn remark_cause(why: NotTaken) -> &'static str
 {
     match why {
         NotTaken::Misspelled => "misspelled",
-        NotTaken::Ring => "no such ring",
+        NotTaken::Ring => "there is no such ring",
         NotTaken::OutOfMemory => "out of memory",
     }
 }
