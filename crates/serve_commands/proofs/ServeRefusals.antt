@@ -74,7 +74,8 @@ of_names folder names.OutOfMemory h = h
 
 of_last : (files : Option Held) (folder : List ℕ) (last : ℕ) → IsLastRefusal files folder last tool.BadList → ⊥
 of_last files folder last (inl h) = h
-of_last files folder last (inr h) = h.2
+of_last files folder last (inr (bytes, held, inl h)) = h
+of_last files folder last (inr (bytes, held, inr h)) = h.1
 
 of_among : (files : Option Held) (folder : List ℕ) (entries : List FolderEntry) (saved : Option Saved) → IsUnknownAmong files folder entries saved tool.BadList → ⊥
 of_among files folder entries saved (inl h) = of_names folder h.0 h.2

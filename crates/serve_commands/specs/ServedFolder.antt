@@ -1,6 +1,7 @@
 -- `serve` with a journal that is a folder of segments.
 use Rattle.std.specs.Prelude.{◌≡◌, ◌≢◌, ℕ, ◌⊎◌, max, List, Bool, true, false, Option, None, Some, IfSome, IsSome, Ok, Err, codes}
-use Rattle.std.specs.List.{AllByRecursion}
+use Rattle.std.specs.List.{AllByRecursion, list_any}
+use Rattle.std.specs.Result.{is_ok}
 use Rattle.disks.specs.Held.{Held, IsOneFile, Replaces, IsHeld}
 use Rattle.disks.specs.Folders.{Lists, is_among, names_of, path_in}
 use Rattle.disks.specs.declared.disk.FolderEntry.{FolderEntry}
@@ -10,7 +11,9 @@ use Rattle.line_service.specs.declared.folder_errors.FolderError.{FolderError}
 use Rattle.line_service.specs.declared.folder_errors.FolderError.TheVariants as names
 use Rattle.line_service.specs.declared.segment_numbers.SegmentNumbers.{SegmentNumbers}
 use Rattle.saved_history.specs.declared.saved.Saved.{Saved}
+use Rattle.text_lines.specs.Reading.{word_at}
 use Rattle.segment_files.specs.Spelling.{no_digest}
+use Rattle.segment_files.specs.Remarks.{lines_in}
 use Rattle.segment_files.specs.declared.last.LastSegment.{LastSegment}
 use Rattle.segment_files.specs.declared.errors.SegmentError.TheVariants as segment
 use Rattle.segment_files.specs.Torn.{IsRightEnd}
@@ -53,13 +56,22 @@ pub record IsFirst (saved : Option Saved) (p : Place) : Type 0 where
   pub number : p.number ≡ 1
   pub behind : p.behind ≡ no_digest
 
--- where the segment of this number ends, whose file says that number; its end may be torn
+-- a line of the file says how many grants there were of all rings: it is one of locks with a pool
+abbrev pub is_floor : List ℕ → Bool
+is_floor line = is_ok (word_at (codes "# floor ") line)
+
+abbrev pub has_floor : List ℕ → Bool
+has_floor bytes = list_any is_floor (lines_in bytes)
+
+-- where the segment of this number ends, whose file says that number, and is none of locks with a
+-- pool; its end may be torn
 pub record IsLast (files : Option Held) (folder : List ℕ) (last : ℕ) (p : Place) : Type 0 where
   pub bytes : List ℕ
   pub held : IsHeld files (segment_file folder last) bytes
   pub segment : LastSegment
   pub right : IsRightEnd bytes (Ok segment)
   pub named : segment.head.number ≡ last
+  pub plain : has_floor bytes ≡ false
   pub resumed : AreResumedAfter segment.head.bases.items p.rings segment.saved.rings.items
   pub number : p.number ≡ last
   pub behind : p.behind ≡ segment.head.behind
@@ -151,13 +163,20 @@ IsLastFault folder last bytes (tool.Segment named number error) =
 IsLastFault folder last bytes tool.OutOfMemory = Unit {0}
 IsLastFault folder last bytes _ = ⊥
 
--- the segment of this number cannot be read, or its bytes are refused
+-- the file of locks is gone
+abbrev pub IsListless : List ℕ → ToolError → Type 0
+IsListless folder (tool.NoLocksFile named) = named.now ≡ folder
+IsListless folder _ = ⊥
+
+-- the segment of this number cannot be read, or its bytes are refused: they are no such segment, or
+-- one of locks with a pool
 abbrev pub IsLastRefusal : Option Held → List ℕ → ℕ → ToolError → Type 0
 IsLastRefusal files folder last e =
     IsUnreadSegment files folder last e
     ⊎ ((bytes : List ℕ)
     × IsHeld files (segment_file folder last) bytes
-    × IsLastFault folder last bytes e)
+    × (IsLastFault folder last bytes e
+    ⊎ ((has_floor bytes ≡ true) × IsListless folder e)))
 
 -- it is not known where the rings are: a name among these in the folder is refused, the last
 -- segment is, or, where there is none, the history

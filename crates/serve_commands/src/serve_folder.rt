@@ -14,7 +14,7 @@ ghost use Rattle.ring_service.specs.Services.{ServiceView};
 ghost use Rattle.line_service.specs.Segments.{Moment};
 ghost use Rattle.tool_parts.specs.Chained.{IsFolderFault};
 ghost use Rattle.serve_commands.specs.Served.{IsFirstRefusal};
-ghost use Rattle.serve_commands.specs.ServedFolder.{place_of, IsFirst, IsLast, StandsAmong, StandsIn, IsServedIn, IsLastFault, IsLastRefusal, IsRun, IsRunRefused, IsUnknownAmong, IsUnknown, SavesApart, IsSavesRefusal, IsRefusedIn};
+ghost use Rattle.serve_commands.specs.ServedFolder.{place_of, is_floor, has_floor, IsFirst, IsLast, StandsAmong, StandsIn, IsServedIn, IsLastFault, IsLastRefusal, IsRun, IsRunRefused, IsUnknownAmong, IsUnknown, SavesApart, IsSavesRefusal, IsRefusedIn};
 ghost use Rattle.serve_commands.specs.Lasting.{RunLasts, FolderLasts};
 ghost use Rattle.tool_parts.specs.Locking.{IsUnkeptFolder, IsLocked, IsLockLeft};
 
@@ -27,9 +27,10 @@ use line_service::{
 };
 use ring_service::{ChainRules, RingService, Served};
 use saved_history::Saved;
-use segment_files::{DIGEST_DIGITS, LastSegment, SegmentError, read_end};
+use segment_files::{DIGEST_DIGITS, LastSegment, SegmentError, read_end, split_line};
 use std::alloc::{AllocError, Global};
 use std::io::{Read, Write};
+use text_lines::fixed_word;
 use tool_parts::chain::{folder_numbers, segment_bytes};
 use tool_parts::faults::ToolError;
 use tool_parts::locking::lock_folder;
@@ -101,6 +102,28 @@ fn last_segment<'a>(
     }
 }
 
+/// Whether a line says how many grants there were of all rings.
+fn is_floor(line: &[u8]) -> bool
+    ensures { result ≡ is_floor line.now }
+{
+    fixed_word(line, b"# floor ").is_ok()
+}
+
+/// Whether these bytes are those of locks with a pool: one of the lines says how many grants there were of all rings.
+fn has_floor(bytes: &[u8]) -> bool
+    ensures { result ≡ has_floor bytes.now }
+{
+    let mut rest = bytes;
+    while !rest.is_empty() {
+        let (line, after) = split_line(rest);
+        if is_floor(line) {
+            return true;
+        }
+        rest = after;
+    }
+    false
+}
+
 /// The rings of a segment with which a chain can end, after its bases.
 ///
 /// # Errors
@@ -123,7 +146,7 @@ fn resume_last(alloc: Global, last: &LastSegment) -> Result<Served, ToolError<'s
 ///
 /// # Errors
 ///
-/// Those of [`segment_bytes`] and [`last_segment`].
+/// Those of [`segment_bytes`] and [`last_segment`], and `NoLocksFile` if it is one of locks with a pool.
 fn last_place<'a, D: Disk>(
     alloc: Global,
     disk: &D,
@@ -144,6 +167,10 @@ fn last_place<'a, D: Disk>(
         Ok(last) => last,
         Err(fault) => return Err(fault),
     };
+    if has_floor(bytes.as_slice()) {
+        // the calls of `serve` are not holds, and name no lock
+        return Err(ToolError::NoLocksFile(folder));
+    }
     match resume_last(alloc, &last) {
         Ok(served) => Ok(Start {
             served,
