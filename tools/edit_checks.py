@@ -122,7 +122,7 @@ class Trial:
     def checked(self, texts):
         """The status of a check of the crate with these texts, and its lines."""
         with tempfile.TemporaryDirectory(prefix="edits-", dir=os.path.dirname(self.seed)) as room:
-            shutil.copytree(self.seed, f"{room}/kept", copy_function=os.link)
+            shutil.copytree(self.seed, f"{room}/kept")
             ran = self.rt.checked(self.crate, texts, ["--jobs", "1"], f"{room}/kept")
         return ran.returncode, ran.stdout.rstrip("\n").split("\n")
 

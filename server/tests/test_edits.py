@@ -296,6 +296,9 @@ class Kept(unittest.TestCase):
     def begun(self, status, kept=None, spoils=False):
         def checked(_crate, texts, _flags, folder):
             self.seen = sorted(os.listdir(folder))
+            if "proofs" in self.seen:
+                with open(f"{folder}/proofs", encoding="utf-8") as file:
+                    self.found = file.read()
             if os.path.exists(f"{folder}/proofs") and not spoils:
                 os.remove(f"{folder}/proofs")
             with open(f"{folder}/proofs", "a", encoding="utf-8") as file:
@@ -313,9 +316,17 @@ class Kept(unittest.TestCase):
         self.assertTrue(trial.ended())
         self.assertEqual(os.listdir(self.room), [])
 
-    def test_a_try_that_spoils_what_it_begins_with_is_seen(self):
+    def test_a_try_that_spoils_its_copy_spoils_no_other(self):
         trial = self.begun(0, spoils=True)
-        trial.checked({"src/lib.rt": "another"})
+        for _ in range(2):
+            trial.checked({"src/lib.rt": "another"})
+            self.assertEqual(self.found, "proved")
+        self.assertTrue(trial.ended())
+
+    def test_a_change_of_what_they_begin_with_is_seen(self):
+        trial = self.begun(0)
+        with open(f"{trial.seed}/proofs", "a", encoding="utf-8") as file:
+            file.write("more")
         self.assertFalse(trial.ended())
 
     def test_they_begin_with_what_was_kept_and_leave_it(self):
