@@ -71,6 +71,9 @@ def structs(text):
 
 def functions(text):
     block = re.search(r'^extern "C" \{\n(.*?)^\}', text, re.MULTILINE | re.DOTALL)[1]
+    # a declaration that is too long for one line goes over several
+    block = re.sub(r"\n {8}(?=->)", " ", re.sub(r",\n {4}\)", ")", block))
+    block = re.sub(r",\n {8}", ", ", re.sub(r"\(\n {8}", "(", block))
     return block.splitlines(), re.findall(r"^    pub fn (\w+)\((.*)\) -> (\w+);$", block, re.MULTILINE)
 
 
