@@ -67,10 +67,10 @@ def compare(name, unit, kind, measure, best_of, rounds):
     for _ in range(rounds):
         pairs.append((measured(kind, measure), measured(kind, measure, "with")))
     without, given = (statistics.median(it[i] for it in pairs) for i in (0, 1))
-    between = statistics.median(it[1] - it[0] for it in pairs)
-    ratio = statistics.median(it[1] / it[0] for it in pairs)
+    between, ratios = [it[1] - it[0] for it in pairs], [it[1] / it[0] for it in pairs]
     best = [best_of(it[i] for it in pairs) for i in (0, 1)]
-    print(f"{name}: without {without:.1f}, with {given:.1f} {unit}; difference {between:.1f}, ratio {ratio:.3f} (middles of {rounds}); "
+    print(f"{name}: without {without:.1f}, with {given:.1f} {unit}; difference {statistics.median(between):.1f} ({min(between):.1f} to "
+          f"{max(between):.1f}), ratio {statistics.median(ratios):.3f} ({min(ratios):.3f} to {max(ratios):.3f}; middles of {rounds}); "
           f"at best {best[0]:.1f} and {best[1]:.1f}, ratio {best[1] / best[0]:.3f}", flush=True)
 
 

@@ -67,6 +67,14 @@ class Proxy:
         assert send == ["/bin/kill", "-USR2", "$MAINPID"], send
         self.process.send_signal(signal.SIGUSR2)
 
+    def processor_time(self):
+        """The seconds that the process with its connections has taken."""
+        with open(f"/proc/{self.process.pid}/task/{self.process.pid}/children", encoding="ascii") as file:
+            worker = file.read().split()[-1]
+        with open(f"/proc/{worker}/stat", encoding="ascii") as file:
+            words = file.read().rpartition(")")[2].split()
+        return (int(words[11]) + int(words[12])) / os.sysconf("SC_CLK_TCK")
+
     def text_of_log(self):
         with open(self.log, encoding="utf-8", errors="replace") as file:
             return file.read()

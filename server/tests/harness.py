@@ -328,9 +328,9 @@ def granted(sock):
 
 
 def a_port(test):
-    """A port of 127.0.0.1 that nobody gets by chance until the test is over. A server can listen there, again and again."""
+    """A port of 127.0.0.1 that nobody gets by chance until the test, or the class, is over. A server can listen there, again and again."""
     guard = socket.socket()
-    test.addCleanup(guard.close)
+    (test.addClassCleanup if isinstance(test, type) else test.addCleanup)(guard.close)
     guard.setsockopt(socket.SOL_SOCKET, socket.SO_REUSEADDR, 1)
     guard.bind(("127.0.0.1", 0))
     return guard.getsockname()[1]

@@ -64,6 +64,11 @@ class Side:
         return {"segments": len(journals.segments(self.folder)), "locks": locks, "calls": calls, "remarks": remarks,
                 "holds": sorted(journals.holds(self.folder), key=str)}
 
+    def holds(self):
+        """What it says of the holds in its journal, in its order."""
+        done = subprocess.run([self.program, "holds", self.folder], capture_output=True, text=True, check=False)
+        return done.stdout.splitlines(), done.returncode
+
 
 def _without_amount(call):
     """The engine counts moves and amounts of a ring anew in each segment; its double, which has no bases, goes on."""
@@ -100,7 +105,9 @@ class Both(unittest.TestCase):
                 file.writelines(f"hold {name} {token} {7 + i}\n" for i, (_, name, token, _) in enumerate(holds[:2]))
             if holds:
                 self.both(["7 99 did 7 busy a", "state"], *words, "--holders", os.path.join(self.top, "holders"))
-
+            engine, double = (side.holds() for side in self.sides)
+            self.assertEqual(double, engine)
+            self.assertTrue(engine[0])
         for side in self.sides:
             shutil.rmtree(side.folder)
             os.mkdir(side.folder)

@@ -1,5 +1,6 @@
 """How the server ends, and what it leaves to others: it ends in time whoever reads its log, and touches no socket but its own."""
 
+import contextlib
 import fcntl
 import os
 import re
@@ -84,7 +85,8 @@ class InTime(unittest.TestCase):
             sock.sendall(b"acquire a 1\n")
             server.process.terminate()
             self.assertEqual(server.process.wait(LIMIT), 0)
-            self.assertEqual(sock.recv(10), b"")
+            with contextlib.suppress(ConnectionResetError):  # it may not have read the line
+                self.assertEqual(sock.recv(10), b"")
 
     def test_a_key_of_the_terminal_ends_the_server_alone(self):
         with Server() as server:

@@ -1,6 +1,7 @@
 """HAProxy before the server, as the package has it: which client a certificate is, what ends a connection and what does not."""
 
 import asyncio
+import json
 import os
 import re
 import shutil
@@ -14,7 +15,7 @@ from concurrent.futures import ThreadPoolExecutor
 
 from certificates import Authority, needs_openssl
 from front import HAPROXY, PARTS, Front, Tunnel, needs_haproxy, text_of, words_of
-from harness import (COMMAND, FOLDER, PATIENCE, Server, a_port, at_least, by_the_clock, needs_loopback, needs_programs, say,
+from harness import (COMMAND, ENGINE, FOLDER, PATIENCE, Server, a_port, at_least, by_the_clock, needs_loopback, needs_programs, say,
                      wait_until)
 from wozgirt import Client, Lock, LockLost, NotPermitted, Session, Tls, aio
 
@@ -86,81 +87,146 @@ class Configuration(unittest.TestCase):
             self.assertEqual({*re.findall(r"(WOZGIRT_TUNNEL_\w+)=", text_of(unit))}, wanted)
 
 
+class Door:
+    """A server in a folder, with a socket for HAProxy, its rules and its record of grants."""
+
+    def __init__(self, folder, locks):
+        self.proxied, self.certificate, self.grants = (os.path.join(folder, it) for it in ("proxied.sock", "server.pem", "journal.grants"))
+        shutil.copyfile(MADE[0].server, self.certificate)
+        with open(folder + "/rules", "w", encoding="utf-8") as file:
+            file.write("lock a/*: cert:alice\nlock b/*: *\nlock c/*: cert:bob\n")
+        self.words, self.locks, self.folder = ["--proxied", self.proxied, "--rules", folder + "/rules", "--grants", self.grants], locks, folder
+        self.server = self.serve()
+
+    def serve(self):
+        return Server(*self.words, locks=self.locks, folder=self.folder)
+
+    def front(self, port, text=None, folder=None, **more):
+        given = {"WOZGIRT_TLS_CERT": self.certificate, "WOZGIRT_TLS_CA": MADE[0].cacert, "WOZGIRT_TLS_SERVER": self.proxied, **more}
+        return Front(folder or self.folder, port, text, **given)
+
+
+def port_of(connection):
+    """Its own."""
+    with socket.socket(fileno=os.dup(connection.fileno())) as sock:
+        return sock.getsockname()[1]
+
+
+def new_folder(test):
+    """A folder, which is removed after the test, or after all of a class."""
+    folder = tempfile.mkdtemp(prefix="wozgirt-front-", dir=FOLDER)
+    (test.addClassCleanup if isinstance(test, type) else test.addCleanup)(shutil.rmtree, folder, ignore_errors=True)
+    return folder
+
+
 @needs_programs
 @needs_loopback
 @needs_openssl
 @needs_haproxy
 class Fronts(unittest.TestCase):
-    def setUp(self):
-        self.made, self.folder = MADE[0], tempfile.mkdtemp(prefix="wozgirt-front-", dir=FOLDER)
-        self.addCleanup(shutil.rmtree, self.folder, ignore_errors=True)
-        self.proxied, self.certificate = self.folder + "/proxied.sock", self.folder + "/server.pem"
-        shutil.copyfile(self.made.server, self.certificate)
-        with open(self.folder + "/rules", "w", encoding="utf-8") as file:
-            file.write("lock a: cert:alice\nlock b: *\nlock c: cert:bob\n")
-        self.words = ["--proxied", self.proxied, "--rules", self.folder + "/rules"]
-        self.server = Server(*self.words)
-        self.addCleanup(self.server.__exit__)
+    """One server with HAProxy in front of it for all tests, each of which has three locks of its own: for alice, for all, for bob."""
 
-    def front(self, text=None):
-        front = Front(self.folder, a_port(self), text, WOZGIRT_TLS_CERT=self.certificate, WOZGIRT_TLS_CA=self.made.cacert,
-                      WOZGIRT_TLS_SERVER=self.proxied)
+    @classmethod
+    def setUpClass(cls):
+        cls.made, cls.folder = MADE[0], new_folder(cls)
+        tests = unittest.defaultTestLoader.getTestCaseNames(cls)
+        cls.door = Door(cls.folder, ",".join(f"{it}/{test}" for test in tests for it in "abc"))
+        cls.addClassCleanup(cls.door.server.__exit__)
+        cls.front = cls.door.front(a_port(cls))
+        cls.addClassCleanup(cls.front.stop)
+        cls.server = cls.door.server
+
+    def setUp(self):
+        self.a, self.b, self.c = (f"{it}/{self._testMethodName}" for it in "abc")
+
+    def another_front(self, text=None, **more):
+        """One that the test may change."""
+        front = self.door.front(a_port(self), text, new_folder(self), **more)
         self.addCleanup(front.stop)
         return front
 
-    def raw(self, front, files):
+    def raw(self, files, front=None):
         """A connection by TLS without a client's mind of its own."""
-        plain = socket.create_connection(("127.0.0.1", front.port), PATIENCE)
+        plain = socket.create_connection(("127.0.0.1", (front or self.front).port), PATIENCE)
         self.addCleanup(plain.close)
         sock = files.context().wrap_socket(plain, server_hostname="127.0.0.1")
         self.addCleanup(sock.close)
         return sock
 
-    def token(self, front, name, files):
-        with Lock(front.place, name, wait=PATIENCE, tls=files) as token:
+    def token(self, name, files, front=None):
+        with Lock((front or self.front).place, name, wait=PATIENCE, tls=files) as token:
             return token
 
     def test_rules_know_clients_by_their_certificates(self):
-        made, front = self.made, self.front()
-        self.assertEqual([self.token(front, "a", made.alice), self.token(front, "b", made.alice), self.token(front, "c", made.bob)], [1, 1, 1])
-        self.assertEqual(self.token(front, "b", made.nobody), 2)
-        for name, files in (("a", made.nobody), ("a", made.bob), ("c", made.alice)):
+        a, b, c, made = self.a, self.b, self.c, self.made
+        self.assertEqual([self.token(a, made.alice), self.token(b, made.alice), self.token(c, made.bob)], [1, 1, 1])
+        self.assertEqual(self.token(b, made.nobody), 2)
+        for name, files in ((a, made.nobody), (a, made.bob), (c, made.alice)):
             with self.assertRaises(NotPermitted):
-                self.token(front, name, files)
-        self.assertEqual([self.token(front, name, made.alice) for name in "ab"], [2, 3])
+                self.token(name, files)
+        self.assertEqual([self.token(name, made.alice) for name in (a, b)], [2, 3])
 
     def test_a_certificate_of_another_authority(self):
-        front = self.front()
         with self.assertRaisesRegex(LockLost, "the server refuses this client's certificate"):
-            Client(front.place, tls=self.made.mallory)
-        front.wait_for_log("refused: SSL client certificate not trusted (fault 20 of its certificate")
-        self.assertEqual(self.token(front, "a", self.made.alice), 1)
+            Client(self.front.place, tls=self.made.mallory)
+        self.front.wait_for_log("refused: SSL client certificate not trusted (fault 20 of its certificate")
+        self.assertEqual(self.token(self.a, self.made.alice), 1)
+
+    def test_the_record_of_grants_has_the_certificate(self):
+        """And the client's address, which is not HAProxy's: `wozgirt log` shows who held it. Who has none is an address."""
+        with Client(self.front.place, tls=self.made.alice) as alice, Client(self.front.place, tls=self.made.nobody) as nobody:
+            alice.release(self.a, alice.acquire(self.a, label=7))
+            nobody.acquire(self.b, label=8)
+            alices, nobodys = (f"127.0.0.1:{port_of(it)}" for it in (alice, nobody))
+            with open(self.door.grants, encoding="ascii") as file:
+                lines = [line.split(" ", 1)[1] for line in file.read().splitlines() if self._testMethodName in line]
+            self.assertEqual([re.sub(r"client=\d+", "client=N", line) for line in lines],
+                             [f"granted {self.a} 1 label=7 client=N certificate=alice address={alices}", f"ended {self.a} 1 released",
+                              f"granted {self.b} 1 label=8 client=N address={nobodys}"])
+            whole, short = (self.log(*words) for words in (["--json", self.a], [self.a]))
+        (held,) = map(json.loads, whole.splitlines())
+        self.assertEqual({it: held[it] for it in ("token", "label", "certificate", "address", "user", "process", "end", "journal")},
+                         {"token": 1, "label": 7, "certificate": "alice", "address": alices, "user": None, "process": None, "end": "released",
+                          "journal": "released"})
+        self.assertRegex(short, rf"(?m)^{self.a} +1 +7 .* cert:alice +{alices} +released$")
+
+    def log(self, *words):
+        done = subprocess.run([COMMAND, "log", "--journal", self.server.journal, "--grants", self.door.grants, "--engine", ENGINE, *words],
+                              capture_output=True, text=True, timeout=PATIENCE, check=False)
+        self.assertEqual((done.stderr, done.returncode), ("", 0))
+        return done.stdout
 
     def test_a_session_is_that_of_its_certificate(self):
-        front = self.front()
-        with Session(front.place, tls=self.made.alice) as session:
-            token, line = session.acquire("b", wait=PATIENCE), f"session {session._key}\n"
+        with Session(self.front.place, tls=self.made.alice) as session:
+            token, line = session.acquire(self.b, wait=PATIENCE), f"session {session._key}\n"
             for files in (self.made.bob, self.made.nobody):
-                self.assertEqual(say(self.raw(front, files), line), ["refused session"])
-            session.release("b", token)
-        self.assertEqual(say(self.raw(front, self.made.alice), line)[0].split()[:2], line.split())
+                self.assertEqual(say(self.raw(files), line), ["refused session"])
+            session.release(self.b, token)
+        self.assertEqual(say(self.raw(self.made.alice), line)[0].split()[:2], line.split())
 
     def test_each_client_has_a_lease(self):
-        with self.raw(self.front(), self.made.nobody) as sock:
+        with self.raw(self.made.nobody) as sock:
             self.assertEqual(say(sock, "lease\n"), ["lease 30000"])
 
     @by_the_clock
-    def test_a_silent_client_keeps_its_lock(self, longer):
-        front = self.front(shortened(text_of("tls.cfg"), longer))
+    def test_who_is_silent(self, longer):
+        """A client keeps its lock. Who makes no handshake has ten seconds, a second here, and the server does not hear of it."""
+        front = self.another_front(shortened(text_of("tls.cfg"), longer))
         with Client(front.place, lease=30, tls=self.made.alice) as client:
-            token = client.acquire("a", wait=PATIENCE)
-            time.sleep(SILENCE * longer)
-            client.release("a", token)
+            token, begun = client.acquire(self.a, wait=PATIENCE), time.monotonic()
+            with socket.create_connection(("127.0.0.1", front.port), PATIENCE) as silent:
+                self.assertEqual(silent.recv(1), b"")
+                clients = self.server.operate("clients", 3)
+                at_least(longer, begun)
+                self.assertLess(time.monotonic() - begun, 3 * longer)
+                self.assertEqual([f" cert:alice, 127.0.0.1:{port_of(client)}" in clients, f":{port_of(silent)}" in clients], [True, False])
+            time.sleep(max(0, begun + SILENCE * longer - time.monotonic()))
+            client.release(self.a, token)
 
     def test_a_shorter_time_than_the_silence_would_be_seen(self):
-        front = self.front(re.sub("(timeout tunnel) .*", r"\1 300ms", text_of("tls.cfg")))
+        front = self.another_front(re.sub("(timeout tunnel) .*", r"\1 300ms", text_of("tls.cfg")))
         with Client(front.place, lease=30, tls=self.made.alice) as client:
-            client.acquire("a", wait=PATIENCE)
+            client.acquire(self.a, wait=PATIENCE)
             wait_until(lambda: self.is_lost(client))
 
     @staticmethod
@@ -171,87 +237,89 @@ class Fronts(unittest.TestCase):
             return True
         return False
 
-    @by_the_clock
-    def test_who_says_nothing_has_ten_seconds(self, longer):
-        """A second here. The server does not hear of such a client."""
-        front = self.front(shortened(text_of("tls.cfg"), longer))
-        begun = time.monotonic()
-        with socket.create_connection(("127.0.0.1", front.port), PATIENCE) as silent:
-            self.assertEqual(silent.recv(1), b"")
-        at_least(longer, begun)
-        self.assertLess(time.monotonic() - begun, 3 * longer)
-        self.assertEqual(self.server.operate("clients").splitlines()[0], "clients 1")  # who asks
-
     def test_certificates_are_read_again(self):
-        front = self.front()
+        certificate = os.path.join(new_folder(self), "server.pem")
+        shutil.copyfile(self.made.server, certificate)
+        front = self.another_front(WOZGIRT_TLS_CERT=certificate)
         with Client(front.place, lease=30, tls=self.made.alice) as client:
-            token = client.acquire("a", wait=PATIENCE)
+            token = client.acquire(self.a, wait=PATIENCE)
             self.assertEqual(self.name_of(front), "server")
-            shutil.copyfile(self.made.next_server, self.certificate)
+            shutil.copyfile(self.made.next_server, certificate)
             front.reload()
             wait_until(lambda: self.name_of(front) == "next")
-            client.release("a", token)
-            self.assertEqual(client.acquire("a", wait=PATIENCE), token + 1)
-            with open(self.certificate, "w", encoding="ascii") as file:
+            client.release(self.a, token)
+            self.assertEqual(client.acquire(self.a, wait=PATIENCE), token + 1)
+            with open(certificate, "w", encoding="ascii") as file:
                 file.write("no certificate\n")
             with self.assertRaises(subprocess.CalledProcessError):
                 front.reload()
             self.assertEqual(self.name_of(front), "next")
-            client.release("a", token + 1)
+            client.release(self.a, token + 1)
+
+    def test_it_stays_awake_if_it_is_asked_to(self):
+        front = self.another_front(WOZGIRT_TLS_AWAKE="1")
+        wait_until(lambda: front.processor_time() > 0.3)
+        self.assertEqual(self.token(self.a, self.made.alice, front), 1)
 
     def test_a_server_that_starts_is_waited_for(self):
         """As it is by a client on its socket."""
-        front = self.front()
-        self.server.stop()
+        door = Door(new_folder(self), self.a)
+        self.addCleanup(door.server.__exit__)
+        front = door.front(a_port(self))
+        self.addCleanup(front.stop)
+        door.server.stop()
         begun = time.monotonic()
         with self.assertRaises((LockLost, TimeoutError)):
-            Client(front.place, timeout=1, tls=self.made.alice)
-        at_least(0.9, begun)
+            Client(front.place, timeout=0.5, tls=self.made.alice)
+        at_least(0.4, begun)
         with ThreadPoolExecutor() as pool:
             later = pool.submit(self.tokens, front)
-            time.sleep(0.5)
-            again = Server(*self.words, folder=self.server.folder)
+            time.sleep(0.3)
+            again = door.serve()
             self.addCleanup(again.__exit__)
             self.assertEqual(later.result(PATIENCE), [1, 2])
 
     def tokens(self, front):
         """Those of a client for threads and of one for asyncio."""
         async def take():
-            async with aio.Lock(front.place, "a", wait=PATIENCE, tls=self.made.alice) as token:
+            async with aio.Lock(front.place, self.a, wait=PATIENCE, tls=self.made.alice) as token:
                 return token
-        return [self.token(front, "a", self.made.alice), asyncio.run(take())]
+        return [self.token(self.a, self.made.alice, front), asyncio.run(take())]
 
     def name_of(self, front):
         """The name in the server's certificate."""
-        with self.raw(front, self.made.nobody) as sock:
+        with self.raw(self.made.nobody, front) as sock:
             return dict(pair for it in sock.getpeercert()["subject"] for pair in it)["commonName"]
 
-    def tunnel(self, front, host="localhost"):
-        tunnel = Tunnel(self.folder, host, front.port, WOZGIRT_TUNNEL_CERT=self.made.alice.cert, WOZGIRT_TUNNEL_CA=self.made.cacert)
+    def tunnel(self, front, text=None):
+        tunnel = Tunnel(new_folder(self), "localhost", front.port, text, WOZGIRT_TUNNEL_CERT=self.made.alice.cert,
+                        WOZGIRT_TUNNEL_CA=self.made.cacert)
         self.addCleanup(tunnel.stop)
         return tunnel
 
     def test_a_tunnel(self):
         """All who use its socket are its certificate."""
-        tunnel = self.tunnel(self.front())
+        tunnel = self.tunnel(self.front)
         self.assertEqual(stat.S_IMODE(os.stat(tunnel.socket).st_mode), 0o660)
-        done = subprocess.run([COMMAND, "lock", "--socket", tunnel.socket, "a", "--", "sh", "-c", "echo $WOZGIRT_TOKEN"], capture_output=True,
+        done = subprocess.run([COMMAND, "lock", "--socket", tunnel.socket, self.a, "--", "sh", "-c", "echo $WOZGIRT_TOKEN"], capture_output=True,
                               text=True, timeout=PATIENCE, check=False)
         self.assertEqual((done.stdout, done.stderr), ("1\n", ""))
-        done = subprocess.run([COMMAND, "lock", "--socket", tunnel.socket, "c", "--", "true"], capture_output=True, text=True,
+        done = subprocess.run([COMMAND, "lock", "--socket", tunnel.socket, self.c, "--", "true"], capture_output=True, text=True,
                               timeout=PATIENCE, check=False)
-        self.assertEqual((done.returncode, done.stderr), (76, "wozgirt: refused: permission c\n"))
+        self.assertEqual((done.returncode, done.stderr), (76, f"wozgirt: refused: permission {self.c}\n"))
 
     def test_a_tunnel_to_another_server(self):
-        """One that the certificate is not for, and one with the right name that is a client: the way ends there."""
+        """One that the certificate is not for, and one with the right name that is a client: the way ends there. It is tried once more,
+        where the package has it tried five times."""
+        text, socks = re.sub("retries 5", "retries 1", text_of("tunnel.cfg")), []
+        self.assertNotEqual(text, text_of("tunnel.cfg"))
         for certificate in (self.made.next_server, self.made.posing):
-            shutil.copyfile(certificate, self.certificate)
-            tunnel = self.tunnel(self.front())
-            with socket.socket(socket.AF_UNIX) as sock:
-                sock.settimeout(PATIENCE)
-                sock.connect(tunnel.socket)
-                self.assertEqual(say(sock, "ping\n"), [])
-            tunnel.stop()
+            socks.append(socket.socket(socket.AF_UNIX))
+            self.addCleanup(socks[-1].close)
+            socks[-1].settimeout(PATIENCE)
+            socks[-1].connect(self.tunnel(self.another_front(WOZGIRT_TLS_CERT=certificate), text).socket)
+            socks[-1].sendall(b"ping\n")
+        self.assertEqual([sock.recv(100) for sock in socks], [b"", b""])
 
 
 if __name__ == "__main__":

@@ -1,6 +1,7 @@
 """Sessions of several servers: what was done is not done again, wherever a client goes on, and nobody else has them."""
 
 import os
+import re
 import shutil
 import signal
 import socket
@@ -129,7 +130,9 @@ class Sessions(Trial):
                 it = subprocess.run(["setpriv", "--reuid=65534", "--clear-groups", sys.executable, "-c", OTHER_USER, server.path],
                                     capture_output=True, text=True, timeout=PATIENCE, check=False)
                 self.assertEqual(it.stdout.split("\n")[:2], ["refused session", "granted b 1" if server is a else "granted b 2"], it.stderr)
-                server.wait_for_log("refused, the session belongs to another user: nobody, process ")
+                # by number as long as the system has not said the name
+                said = re.compile("refused, the session belongs to another user: (nobody|65534), process ")
+                wait_until(lambda server=server, said=said: said.search(server.text_of_log()))
         self.assertEqual(say(one, "ping\n"), ["pong"])
         self.assertEqual(over_tcp("127.0.0.1"), ["session 77 1", "holds a 1"])  # its client may go from the socket to TCP
         self.assertEqual(over_tcp("127.0.0.2"), ["refused session", "pong"])

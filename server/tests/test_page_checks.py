@@ -1,6 +1,7 @@
 """That tools/documents.py finds what it looks for in pages: words, clauses, links, and the form of the first page."""
 
 import os
+import shutil
 import sys
 import tempfile
 import textwrap
@@ -82,6 +83,23 @@ class Pages(unittest.TestCase):
         page = self.page(f"{said}# All\n\nIt is in this table: 7 lines, in this table: 9 lines.\n\n{table}\n# After\n")
         self.assertEqual([it for _, it in page_sums.wrong_sums(page)],
                          ["8 lines: the table has 7", "7 lines: no table of definitions is there", "9 lines: the table has 7"])
+
+    @unittest.skipUnless(shutil.which("rt"), "there is no rt")
+    def test_tables_of_definitions(self):
+        def said(lines):
+            with open(os.path.join(folder.name, "page.md"), "w", encoding="utf-8") as file:
+                file.write(f"<!-- order: low.Low.IsLow -->\n\n| File | Definitions | Lines | Says |\n|---|---|---|---|\n| `low/specs/Low.antt` | 2 | {lines} | Low |\n| 1 files | 2 | {lines} | |\n")
+            return [it for _, it in page_sums.wrong_orders(Page(folder.name, "page.md"))]
+
+        folder = tempfile.TemporaryDirectory()
+        self.addCleanup(folder.cleanup)
+        os.makedirs(os.path.join(folder.name, "crates/low/specs"))
+        for path, text in (("crates.txt", "low:\n"), ("page.md", ""),
+                           ("crates/low/specs/Low.antt", "-- Low.\nuse Rattle.std.specs.Prelude.{◌≡◌, ℕ}\n\nabbrev pub zeroth : ℕ\nzeroth = 0\n\n-- it is low\nabbrev pub IsLow : ℕ → Type 0\nIsLow n = n ≡ zeroth\n")):
+            with open(os.path.join(folder.name, path), "w", encoding="utf-8") as file:
+                file.write(text)
+        self.assertEqual(said(4), [])
+        self.assertEqual([it.split("\n")[0] for it in said(5)], ["the reading order is"])
 
 
 class Clauses(unittest.TestCase):

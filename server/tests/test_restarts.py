@@ -158,6 +158,15 @@ class Restarts(Trial):
         self.session(server, 2 * longer)
         self.end(server)
 
+    def test_a_lease_that_was_asked_for_is_the_sessions_at_the_next_start(self):
+        """The longest would keep the lock for longer than this test waits."""
+        server = self.server(lease=str(3 * PATIENCE))
+        one, _ = self.session(server, 1)
+        self.assertEqual(say(one, "lease 300\n1 acquire a 5\n", 2), ["lease 300", "1 granted a 1"])
+        other = self.raw(self.again(server, signal.SIGKILL, lease=str(3 * PATIENCE)))
+        other.sendall(b"acquire a 6\n")
+        self.assertEqual(granted(other), "granted a 2")
+
     @by_the_clock
     def test_plain_clients_are_as_they_were(self, longer):
         """A hold of theirs stays for the grace of the next start, and then it is over; their number is no session's."""

@@ -10,6 +10,10 @@ use std::time::{Duration, Instant};
 
 /// How long the server may take to be reached, and to answer what needs no waiting.
 const SOON: Duration = Duration::from_secs(10);
+/// The pause until a server that may just be starting is looked for again. Short, since a client that comes later may find it at once; and
+/// longer for one that has ended the connection.
+const PAUSE: Duration = Duration::from_millis(10);
+const PAUSE_AFTER_END: Duration = Duration::from_millis(50);
 
 /// When a server has to have answered what needs no waiting, if nothing is waited for longer than until `deadline`.
 pub fn soon(deadline: Option<Instant>) -> Instant {
@@ -100,6 +104,15 @@ impl Fault {
             Fault::ClosedFirst => true,
             Fault::At(_, fault) => fault.is_of_a_start(),
             _ => false,
+        }
+    }
+
+    /// The pause until such a server is tried again. A place that ends each connection may be a tunnel, for which a try is a handshake.
+    pub fn pause(&self) -> Duration {
+        match self {
+            Fault::ClosedFirst => PAUSE_AFTER_END,
+            Fault::At(_, fault) => fault.pause(),
+            _ => PAUSE,
         }
     }
 }

@@ -10,8 +10,6 @@ use std::thread;
 use std::time::{Duration, Instant};
 use wozgirt_system::{connect_within, hear_nothing};
 
-/// The pause until a server that may just be starting is looked for again. Short, since a client that comes later may find it at once.
-const PAUSE: Duration = Duration::from_millis(10);
 /// The least time that a connection over TCP may take: none at all is refused.
 const LEAST: Duration = Duration::from_millis(1);
 
@@ -72,7 +70,7 @@ pub fn while_starting<T>(until: Instant, mut attempt: impl FnMut() -> Result<T, 
         let result = attempt();
         let left = until.saturating_duration_since(Instant::now());
         match result {
-            Err(fault) if fault.is_of_a_start() && !left.is_zero() => thread::sleep(PAUSE.min(left)),
+            Err(fault) if fault.is_of_a_start() && !left.is_zero() => thread::sleep(fault.pause().min(left)),
             other => return other,
         }
     }
@@ -103,6 +101,8 @@ mod tests {
             });
             assert_eq!((count, found.is_ok()), (attempts, attempts == 3), "{kind:?}");
         }
+        let ended = Fault::At(Place::Tcp("h:1".into()), Box::new(Fault::Closed.before_an_answer()));
+        assert_eq!((ended.is_of_a_start(), ended.pause()), (true, 5 * fault(ErrorKind::NotFound).pause()));
         let begun = Instant::now();
         let until = begun + Duration::from_millis(120);
         assert!(while_starting(until, || Err::<(), _>(fault(ErrorKind::NotFound))).is_err());

@@ -13,9 +13,8 @@ const CONNECT: Duration = Duration::from_secs(2);
 const ANSWER: Duration = Duration::from_secs(5);
 /// And how long at least, if there is less time left than that.
 const LEAST: Duration = Duration::from_millis(50);
-/// The pause until all servers are tried again, if none of them answers; and one, which may be there at any moment.
+/// The pause until all of several servers are tried again, if none of them answers.
 const PAUSE: Duration = Duration::from_millis(50);
-const PAUSE_OF_ONE: Duration = Duration::from_millis(10);
 
 /// What is looked for.
 #[derive(Debug, Clone)]
@@ -63,7 +62,7 @@ impl Search {
         let count = self.places.len();
         let mut fault = Fault::Nobody;
         for round in 1.. {
-            let mut is_starting = false;
+            let (mut is_starting, mut pause) = (false, if self.is_attached { Duration::ZERO } else { PAUSE });
             for i in 0..count {
                 let at = (self.first + i) % count;
                 let other = match self.try_one(at, count - i).map_err(Fault::before_an_answer) {
@@ -73,6 +72,7 @@ impl Search {
                     Err(other) => Fault::At(self.places[at].clone(), Box::new(other)),
                 };
                 is_starting |= other.is_of_a_start();
+                pause = pause.max(other.pause());
                 // what a server says, or that it says nothing, is more than that another is not there
                 if matches!(fault, Fault::Nobody) || fault.is_of_a_start() || !other.is_of_a_start() {
                     fault = other;
@@ -84,7 +84,6 @@ impl Search {
             if round >= self.rounds && !(is_starting && Instant::now() < self.there) {
                 break;
             }
-            let pause = if self.is_attached { PAUSE_OF_ONE } else { PAUSE };
             thread::sleep(pause.min(self.until.saturating_duration_since(Instant::now())));
         }
         Err(fault)

@@ -2,11 +2,10 @@
 
 use super::{Alone, Ask, At, NoSession, What};
 use crate::board::{Party, Why};
-use crate::cluster::{Key, Line};
+use crate::cluster::Key;
 use crate::connection::{Connection, Pending, Seat};
 use crate::desk::{Desk, Then, Unasked};
 use crate::log::{some_of, End, Event, Of};
-use crate::mode::Mode;
 use crate::requests::BadRequest;
 use crate::shares::Guest;
 use crate::turns::FIRST_TAG;
@@ -15,10 +14,7 @@ use wozgirt_engine::{Answer, Client, Input, Label, Lock, NotALine, Token};
 
 impl Desk {
     pub(crate) fn alone(&mut self) -> Option<&mut Alone> {
-        match &mut self.mode {
-            Mode::Alone(alone) => Some(alone),
-            Mode::InLog(_) => None,
-        }
+        self.mode.alone_mut()
     }
 
     /// The client gives its key. Its session begins or continues. One that is attached is over when the client closes the connection.
@@ -59,8 +55,7 @@ impl Desk {
 
     /// Sends the client of a session what the session has, as soon as the engine has answered all that was asked for it.
     pub(crate) fn tell_opened(&mut self, connection: &mut Connection) {
-        let (Mode::Alone(alone), Some(seat)) = (&self.mode, &connection.seat) else { return };
-        let Some(session) = seat.session.and_then(|number| alone.session(number)) else { return };
+        let (Some(seat), Some((number, session))) = (&connection.seat, self.mode.seated(connection)) else { return };
         if !session.asked.is_empty() {
             return;
         }
@@ -74,7 +69,7 @@ impl Desk {
         }
         for (lock, token) in session.holds.iter() {
             let _ = write!(text, "\nholds {lock} {token}");
-            seat.session.into_iter().for_each(|number| self.board.kept(lock, *token, number));
+            self.board.kept(lock, *token, number);
         }
         if let Some(place) = &session.waits {
             let _ = write!(text, "\nwaits {}", place.lock);
@@ -115,7 +110,7 @@ impl Desk {
             return Then::Wait;
         };
         let client = connection.client;
-        if let Some(it) = self.alone().and_then(|alone| alone.session_mut(session)) {
+        if let Some(it) = self.mode.session_mut(session) {
             let is_new = it.last_asked.map_or(true, |last| number > last);
             it.last_asked = it.last_asked.max(Some(number));
             it.asked.push_back(Ask { client, what: What::Input(number, input.clone(), is_new) });
@@ -138,22 +133,20 @@ impl Desk {
         self.ask_engine(session, &self.look());
         if let Some(alone) = self.alone() {
             alone.end(session);
-            if let Some(it) = alone.session_mut(session) {
-                it.asked.push_back(Ask { client, what: What::Leave(number) });
-            }
         }
+        self.mode.note_asked(session, Ask { client, what: What::Leave(number) });
         self.note_asked(connection, Pending::Leaving(number));
     }
 
-    fn last_asked(&mut self, session: Client) -> Option<u64> {
-        self.alone().and_then(|alone| alone.session(session)).and_then(|it| it.last_asked)
+    fn last_asked(&self, session: Client) -> Option<u64> {
+        self.mode.session(session).and_then(|it| it.last_asked)
     }
 
     /// The session is over: its locks are free as soon as the engine has heard that, when it is the turn of one with this tag. Returns
     /// what it held, as a list of names.
     fn end_session(&mut self, session: Client, tag: u64, why: Why) -> String {
         // of one that has nothing the engine knows nothing
-        if self.alone().and_then(|alone| alone.session(session)).is_some_and(|it| !it.is_blank()) {
+        if self.mode.session(session).is_some_and(|it| !it.is_blank()) {
             let last = self.last_asked(session);
             self.say_gone(session, tag, last);
         }
@@ -179,8 +172,8 @@ impl Desk {
     pub(crate) fn leave_session(&mut self, connection: &mut Connection, end: End) -> String {
         let (now, longest) = (self.now, self.settings.limits.longest_lease);
         let Some(seat) = connection.seat.take() else { return String::new() };
-        let Some((alone, number)) = self.alone().zip(seat.session) else { return String::new() };
-        let Some(session) = alone.session_mut(number).filter(|it| it.at == At::Here(connection.client)) else {
+        let found = seat.session.and_then(|number| Some((number, self.mode.session_mut(number)?)));
+        let Some((number, session)) = found.filter(|(_, it)| it.at == At::Here(connection.client)) else {
             return String::new(); // it is at another connection
         };
         let is_engine_gone = matches!(end, End::Engine | End::Stop);
@@ -198,21 +191,9 @@ impl Desk {
     }
 
     /// An operator ends the session with this number, whose client is away. Returns what it held, if there is one.
-    pub(crate) fn end_away(&mut self, number: Client) -> Option<String> {
-        match &mut self.mode {
-            Mode::Alone(alone) => {
-                alone.session(number).filter(|it| matches!(it.at, At::Away(Some(_))) && !it.is_left)?;
-                Some(self.end_session(number, FIRST_TAG, Why::Parted(End::Kicked)))
-            }
-            Mode::InLog(cluster) => {
-                let (key, _) = cluster.owns.away().find(|(key, _)| cluster.owns.session(*key) == Some(number))?;
-                let held = some_of(&cluster.standing(key).held());
-                cluster.owns.note_end(key, Why::Parted(End::Kicked));
-                cluster.owns.end_away(key);
-                cluster.put(Line::Gone(key));
-                Some(held)
-            }
-        }
+    pub(crate) fn end_away_alone(&mut self, number: Client) -> Option<String> {
+        self.mode.session(number).filter(|it| matches!(it.at, At::Away(Some(_))) && !it.is_left)?;
+        Some(self.end_session(number, FIRST_TAG, Why::Parted(End::Kicked)))
     }
 
     /// Sessions whose clients have not come back are over.
@@ -226,18 +207,14 @@ impl Desk {
 
     /// An operator ends the hold of a session.
     pub(crate) fn ask_session_to_end(&mut self, operator: Client, session: Client, lock: Lock, token: Token) {
-        if let Some(it) = self.alone().and_then(|alone| alone.session_mut(session)) {
-            it.asked.push_back(Ask { client: operator, what: What::End(operator, lock.clone(), token) });
-        }
+        self.mode.note_asked(session, Ask { client: operator, what: What::End(operator, lock.clone(), token) });
         self.ask_engine(session, &Input::Release { lock, token });
     }
 
     /// The engine has granted a session the lock for which it waited.
     pub(crate) fn granted_late(&mut self, session: Client, lock: Lock, token: Token) {
         self.board.granted(&lock, session, token, None, self.now);
-        if let Some(alone) = self.alone() {
-            alone.hold(session, lock, token);
-        }
+        self.mode.hold(session, lock, token);
     }
 
     /// A place in a queue that the session had before the engine started.
@@ -255,11 +232,7 @@ impl Desk {
                 self.board.waits(l, party, label, self.now);
                 self.granted_late(session, lock, *token);
             }
-            Answer::Refused { .. } => {
-                if let Some(alone) = self.alone() {
-                    alone.free(session, lock);
-                }
-            }
+            Answer::Refused { .. } => self.mode.free(session, lock),
             _ => return Err(Unasked),
         }
         Ok(())
@@ -283,8 +256,8 @@ impl Desk {
     }
 
     /// A session, and on whose account it is.
-    fn party(&mut self, session: Client) -> Party {
-        let guest = self.alone().and_then(|alone| alone.session(session)).map(|it| it.guest.clone());
+    fn party(&self, session: Client) -> Party {
+        let guest = self.mode.session(session).map(|it| it.guest.clone());
         Party { client: session, guest: guest.unwrap_or(Guest::UNKNOWN) }
     }
 

@@ -5,29 +5,24 @@ use crate::board::Why;
 use crate::connection::{Connection, Pending, Seat};
 use crate::desk::{Desk, Then};
 use crate::log::{some_of, End, Event, Of};
-use crate::mode::Mode;
 use crate::requests::BadRequest;
 use crate::shares::Share;
 use wozgirt_engine::{Answer, Input, NotALine, Token};
 
 impl Desk {
     /// The client gives its key. Its session begins, or continues, where the log has it.
-    pub(crate) fn open_session(&mut self, connection: &mut Connection, key: u64, is_attached: bool) -> Then {
-        let cluster = match &mut self.mode {
-            Mode::Alone(_) => return self.begin_session(connection, key, is_attached),
-            Mode::InLog(_) if is_attached => {
-                // when a client continues with the next server, the end of a connection says nothing
-                self.sums.refused("session");
-                connection.tell_in_order("refused session");
-                return Then::Wait;
-            }
-            Mode::InLog(cluster) => cluster,
-        };
+    pub(crate) fn put_session(&mut self, connection: &mut Connection, key: u64, is_attached: bool) -> Then {
+        if is_attached {
+            // when a client continues with the next server, the end of a connection says nothing
+            self.sums.refused("session");
+            connection.tell_in_order("refused session");
+            return Then::Wait;
+        }
         if connection.seat.is_some() {
             connection.tell_in_order(format_args!("refused {}", BadRequest::Rest(NotALine::Syntax)));
             return Then::Wait;
         }
-        if !cluster.applied.sessions.contains_key(&key) && !self.may_begin(connection) {
+        if !self.mode.knows(key) && !self.may_begin(connection) {
             connection.tell_in_order("refused session");
             return Then::Wait;
         }
@@ -77,16 +72,14 @@ impl Desk {
         }
         let Some(key) = self.key(connection) else { return };
         let number = number.unwrap_or_else(|| connection.next_number());
-        if let Some(cluster) = self.mode.in_log_mut() {
-            cluster.put(Line::Do(key, number, input.clone()));
-        }
+        self.mode.put(Line::Do(key, number, input.clone()));
         connection.pending.push_back(Pending::Numbered(number, input));
     }
 
     /// Whether one more session of this user or address may be in the log: as many may be there as of a single server.
     fn may_begin(&mut self, connection: &Connection) -> bool {
         let share = Share::beyond(self.settings.most_sessions());
-        let may = self.mode.in_log().map_or(true, |it| share.permits(it.mirror.parties(), &connection.caller.guest));
+        let may = self.mode.sessions().map_or(true, |counts| share.permits(counts, &connection.caller.guest));
         if !may {
             self.sums.refused("session");
             self.note_part(connection, Of::Sessions);
@@ -99,10 +92,7 @@ impl Desk {
         self.sums.inputs += 1;
         let Some(key) = self.key(connection) else { return };
         connection.pending.push_back(Pending::Leaving(number.unwrap_or(0)));
-        if let Some(cluster) = self.mode.in_log_mut() {
-            cluster.owns.note_end(key, Why::Left);
-            cluster.put(Line::Gone(key));
-        }
+        self.mode.put_end(key, Why::Left);
         if let Some(seat) = &mut connection.seat {
             seat.has_left = true;
         }
@@ -205,8 +195,7 @@ impl Desk {
         let is_over = !seat.is_keyed && !matches!(end, End::Engine | End::Stop | End::Log | End::Moved);
         if is_over || matches!(end, End::Lease | End::Kicked) || seat.has_left {
             if cluster.owns.go(seat.key, connection.client) && !seat.has_left {
-                cluster.owns.note_end(seat.key, Why::Parted(end));
-                cluster.put(Line::Gone(seat.key));
+                cluster.put_end(seat.key, Why::Parted(end));
             }
         } else {
             let until = self.now + connection.lease.unwrap_or(self.settings.limits.longest_lease);
@@ -216,13 +205,22 @@ impl Desk {
         some_of(&held)
     }
 
+    /// An operator ends the session with this number, whose client is away. Returns what it held, if there is one.
+    pub(crate) fn put_end_of_away(&mut self, number: Session) -> Option<String> {
+        let cluster = self.mode.in_log_mut()?;
+        let (key, _) = cluster.owns.away().find(|(key, _)| cluster.owns.session(*key) == Some(number))?;
+        let held = some_of(&cluster.standing(key).held());
+        cluster.put_end(key, Why::Parted(End::Kicked));
+        cluster.owns.end_away(key);
+        Some(held)
+    }
+
     /// Sessions whose clients have not come back are over.
     pub(crate) fn end_late_sessions(&mut self) {
         let Some(cluster) = self.mode.in_log_mut() else { return };
         for key in cluster.owns.take_late(self.now) {
             let held = some_of(&cluster.standing(key).held());
-            cluster.owns.note_end(key, Why::Session);
-            cluster.put(Line::Gone(key));
+            cluster.put_end(key, Why::Session);
             let session = cluster.owns.session(key).unwrap_or(0);
             self.log.say(&Event::SessionOver { session, held: if held.is_empty() { "nothing" } else { &held } });
         }

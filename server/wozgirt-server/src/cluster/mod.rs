@@ -40,6 +40,7 @@ pub use sessions::{draw, Owns};
 pub use words::{OverEtcd, ReadingOverEtcd};
 use writer::Writer;
 
+use crate::board::Why;
 use crate::engine::Engine;
 use crate::names::Names;
 use crate::pages::InLog;
@@ -47,6 +48,7 @@ use crate::settings::Settings;
 use std::collections::BTreeSet;
 use std::fs::File;
 use std::io;
+use std::rc::Rc;
 use std::time::{Duration, Instant};
 use wozgirt_engine::Client;
 
@@ -155,6 +157,12 @@ impl Cluster {
         }
     }
 
+    /// The session of this key ends with the next entry, and this is why.
+    pub fn put_end(&mut self, key: Key, why: Why) {
+        self.owns.note_end(key, why);
+        self.put(Line::Gone(key));
+    }
+
     /// A number for a client that comes.
     pub fn next_client(&mut self) -> Client {
         self.numbers.last += 1;
@@ -233,7 +241,8 @@ impl Cluster {
         }
         match given {
             Given::Here(..) | Given::Closed(_) | Given::Gone(_) if !is_own => return,
-            Given::Here(key, session) | Given::Do { key, session, .. } if is_own => self.owns.name(key, session),
+            Given::Here(key, session) => self.owns.arrive(key, session),
+            Given::Do { key, session, .. } if is_own => self.owns.name(key, session),
             _ => {}
         }
         self.mirror.give(given);
@@ -244,6 +253,31 @@ impl Cluster {
         let over =
             entry.lines.iter().filter_map(|line| if let Line::Server(server) = line { Some(server) } else { None });
         over.flat_map(|server| self.applied.sessions_of(server))
+    }
+
+    /// Sessions that have gone on at other servers: those connections of this one where they were.
+    pub fn lose_sessions(&mut self, moved: &[(Key, Server)]) -> Vec<Client> {
+        let own = moved.iter().filter(|(_, before)| Some(before) == self.member.me.as_ref());
+        own.filter_map(|(key, _)| self.owns.moved(*key)).collect()
+    }
+
+    /// Whether this server is one of these.
+    pub fn is_among(&self, servers: &[Server]) -> bool {
+        servers.iter().any(|server| Some(server) == self.member.me.as_ref())
+    }
+
+    /// The engine has done an entry: what another server has claimed of a position by it, and what is known of that.
+    pub fn done(&mut self, position: u64, digest: &str) -> Result<Option<(Rc<str>, u64, Verdict)>, Other> {
+        self.place.done(position, digest)?;
+        self.replica.digests.note(position, digest.into());
+        let Some(block) = self.replica.blocks.pop_front() else { return Ok(None) };
+        if block.is_checkpoint {
+            self.replica.phase = Phase::Asking(Vec::new());
+        }
+        let Some((name, position, digest)) = block.claim else { return Ok(None) };
+        let verdict = self.replica.digests.compare(&name, position, &digest);
+        self.replica.contradictions += u64::from(matches!(verdict, Verdict::Other));
+        Ok(Some((name, position, verdict)))
     }
 
     /// When the next entry is due, if one waits.

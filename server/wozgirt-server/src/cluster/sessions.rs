@@ -1,9 +1,10 @@
 //! The sessions of this server's own clients.
 
 use super::entries::{Key, Session};
+use super::mirror::Effect;
 use super::owner::Who;
 use crate::board::Why;
-use std::collections::{HashMap, VecDeque};
+use std::collections::{HashMap, HashSet, VecDeque};
 use std::fs::File;
 use std::io::{self, Read};
 use std::time::Instant;
@@ -34,6 +35,8 @@ pub struct Owns {
     /// The number of the client's last session, as soon as the log has given it.
     sessions: HashMap<Key, Session>,
     keys: HashMap<Session, Key>,
+    /// Those that come from another server, until the engine has done what was said for them there.
+    arriving: HashSet<Session>,
     /// Why sessions end of whom the log has not said that yet.
     ends: HashMap<Session, Why>,
     /// The connections where sessions have begun, until the log says so.
@@ -61,9 +64,27 @@ impl Owns {
         self.keys.insert(session, key);
     }
 
+    /// The same, and it begins or continues here as soon as the engine has done what was said before.
+    pub fn arrive(&mut self, key: Key, session: Session) {
+        if !self.keys.contains_key(&session) {
+            self.arriving.insert(session);
+        }
+        self.name(key, session);
+    }
+
+    /// What the engine has done: sessions that begin here by that.
+    pub fn note_arrivals(&mut self, effects: &[Effect<'_>]) {
+        for effect in effects {
+            if let Effect::Here(_, session) = effect {
+                self.arriving.remove(session);
+            }
+        }
+    }
+
     /// The session is over.
     pub fn forget(&mut self, session: Session) {
         self.ends.remove(&session);
+        self.arriving.remove(&session);
         if let Some(key) = self.keys.remove(&session) {
             if self.sessions.get(&key) == Some(&session) {
                 self.sessions.remove(&key);
@@ -88,9 +109,10 @@ impl Owns {
         self.ends.get(&session).copied()
     }
 
-    /// Whether the session's client is this server's.
+    /// Whether what the engine answers for the session now was said to this server.
     pub fn has(&self, session: Session) -> bool {
-        self.keys.get(&session).is_some_and(|key| self.all.contains_key(key))
+        let is_own = self.keys.get(&session).is_some_and(|key| self.all.contains_key(key));
+        is_own && !self.arriving.contains(&session)
     }
 
     /// The number of the client's session.
@@ -223,6 +245,11 @@ mod tests {
         owns.forget(6);
         assert_eq!((owns.end_of(6), owns.has(6)), (None, false));
         assert_eq!((owns.client_of(6), owns.session(70)), (None, None));
+        owns.arrive(70, 7);
+        assert!(!owns.has(7) && owns.client_of(7) == Some(1)); // another server is answered still
+        owns.note_arrivals(&[Effect::Gone(71), Effect::Here(70, 7)]);
+        owns.arrive(70, 7); // its client comes to another connection here
+        assert!(owns.has(7));
         let mut random = File::open("/dev/urandom").unwrap();
         assert_ne!(draw(&mut random).unwrap(), draw(&mut random).unwrap());
     }

@@ -4,7 +4,6 @@ use super::Desk;
 use crate::board::Why;
 use crate::connection::{Connection, Pending};
 use crate::log::{End, Event};
-use crate::mode::Mode;
 use crate::turns::Turn;
 use wozgirt_engine::{Client, Input};
 
@@ -19,10 +18,7 @@ impl Desk {
             }
         }
         self.step_out(connection);
-        let held = match self.mode {
-            Mode::Alone(_) => self.end_plain(connection, end),
-            Mode::InLog(_) => self.end_seat(connection, end, is_asking),
-        };
+        let held = self.end_of(connection, end, is_asking);
         self.questions.askers -= usize::from(connection.asking.asked > 0);
         self.sums.ended(end);
         let is_wanted = !held.is_empty() || !matches!(end, End::Closed | End::Stop);
@@ -38,7 +34,7 @@ impl Desk {
     }
 
     /// What a connection that is gone had is free. Returns what it held.
-    fn end_plain(&mut self, connection: &mut Connection, end: End) -> String {
+    pub(crate) fn end_plain(&mut self, connection: &mut Connection, end: End) -> String {
         if connection.seat.is_some() {
             return self.leave_session(connection, end);
         }

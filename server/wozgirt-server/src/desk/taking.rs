@@ -4,7 +4,6 @@ use super::{Desk, Order, Then};
 use crate::connection::{Connection, Pending};
 use crate::header;
 use crate::log::End;
-use crate::mode::Mode;
 use crate::requests::{numbered, parse, BadRequest, Request, Verb, LONGEST_LINE};
 use crate::status::Listing;
 use std::time::Instant;
@@ -59,13 +58,7 @@ impl Desk {
             }
             Ok(Request::Of(name, Verb::End(token))) => return self.end_hold(connection, name, token),
             Ok(Request::Of(name, verb)) => return self.ask(connection, number, name, verb),
-            Ok(Request::Leave) => match self.mode {
-                Mode::Alone(_) => match number {
-                    Some(number) => self.ask_session_to_leave(connection, number),
-                    None => self.ask_to_leave(connection),
-                },
-                Mode::InLog(_) => self.put_leave(connection, number),
-            },
+            Ok(Request::Leave) => self.leave(connection, number),
             Ok(Request::Session(key, is_attached)) => return self.open_session(connection, key, is_attached),
             Ok(Request::Cluster) => self.tell_cluster(connection),
             Ok(Request::Ping) => connection.tell_in_order("pong"),
@@ -73,10 +66,9 @@ impl Desk {
                 let longest = self.settings.limits.longest_lease;
                 let lease = if asked.is_zero() { longest } else { asked.min(longest) };
                 connection.lease = Some(lease);
-                if let (Mode::Alone(alone), Some(seat)) = (&mut self.mode, &connection.seat) {
-                    seat.session.into_iter().for_each(|session| alone.set_lease(session, lease));
-                    connection.asking.tag = self.questions.turns.charge(connection.asking.tag, 1);
+                if self.mode.set_lease(connection, lease) {
                     // it may be written
+                    connection.asking.tag = self.questions.turns.charge(connection.asking.tag, 1);
                 }
                 connection.tell_in_order(format_args!("lease {}", lease.as_millis()));
             }
@@ -127,24 +119,16 @@ impl Desk {
             }
         };
         self.sums.inputs += 1;
-        match (&self.mode, number, &input) {
-            (Mode::Alone(_), Some(number), _) => return self.ask_for_session(connection, number, input),
-            (Mode::Alone(_), None, Input::Stats { lock }) if connection.seat.is_some() => {
-                self.tell_stats(connection, lock);
-            }
-            (Mode::Alone(_), None, _) => self.ask_plainly(connection, input),
-            (Mode::InLog(_), _, _) => self.put_input(connection, number, input),
-        }
-        Then::Wait
+        self.take_input(connection, number, input)
     }
 
-    fn ask_plainly(&mut self, connection: &mut Connection, input: Input) {
+    pub(crate) fn ask_plainly(&mut self, connection: &mut Connection, input: Input) {
         self.ask_engine(connection.client, &input);
         self.note_asked(connection, Pending::Asked(input));
     }
 
     /// The engine does not answer a leave: the next question after it shows when it is done.
-    fn ask_to_leave(&mut self, connection: &mut Connection) {
+    pub(crate) fn ask_to_leave(&mut self, connection: &mut Connection) {
         self.sums.inputs += 1;
         for input in [Input::Leave, self.look()] {
             self.ask_engine(connection.client, &input);
@@ -189,7 +173,7 @@ impl Desk {
     /// An operator ends a hold. What servers share a log of is ended with its session.
     fn end_hold(&mut self, connection: &mut Connection, name: &str, token: Token) -> Then {
         let why = match self.board.lock(name).map(|sight| (&sight.lock, sight.holder)) {
-            _ if self.mode.in_log().is_some() => "cluster",
+            _ if !self.mode.ends_holds() => "cluster",
             None if self.board.name(name).is_none() => "lock",
             Some((lock, Some(holder))) if holder.token == token => {
                 connection.pending.push_back(Pending::Ending);

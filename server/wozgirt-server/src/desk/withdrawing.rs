@@ -3,7 +3,6 @@
 use super::Desk;
 use crate::alone::{Ask, What};
 use crate::connection::{Connection, Pending};
-use crate::mode::Mode;
 use std::fmt;
 use wozgirt_engine::{Answer, Client, Input, Lock};
 
@@ -22,9 +21,8 @@ impl Desk {
         if connection.caller.is_operator() {
             return;
         }
-        match (&self.mode, &connection.seat) {
-            (Mode::InLog(_), _) => {}
-            (Mode::Alone(_), None) => {
+        match (&connection.seat, self.mode.seated(connection)) {
+            (None, _) => {
                 let asked = connection.pending.iter().filter_map(|it| match it {
                     Pending::Asked(input) => wanted(input),
                     _ => None,
@@ -34,10 +32,8 @@ impl Desk {
                     self.note_asked(connection, Pending::Withdrawn(lock));
                 }
             }
-            (Mode::Alone(alone), Some(seat)) => {
-                let Some((number, session)) = seat.session.and_then(|it| Some((it, alone.session(it)?))) else {
-                    return;
-                };
+            (Some(_), None) => {}
+            (Some(_), Some((number, session))) => {
                 let asked = session.asked.iter().filter_map(|ask| match &ask.what {
                     What::Input(_, input, _) => wanted(input),
                     _ => None,
@@ -56,9 +52,7 @@ impl Desk {
     }
 
     fn withdraw_for_session(&mut self, session: Client, client: Client, lock: Lock) {
-        if let Some(it) = self.alone().and_then(|alone| alone.session_mut(session)) {
-            it.asked.push_back(Ask { client, what: What::Withdraw(lock.clone()) });
-        }
+        self.mode.note_asked(session, Ask { client, what: What::Withdraw(lock.clone()) });
         self.ask_engine(session, &Input::Cancel { lock });
     }
 

@@ -3,13 +3,12 @@
 use super::checkpoints::check_settings;
 use super::engine_side::poll_process;
 use super::{Server, ENGINE, ENGINE_INPUT};
-use crate::cluster::{list, Block, Effect, Key, Phase, Read, Server as LogServer, Verdict};
+use crate::cluster::{list, Block, Effect, Key, Phase, Read, Verdict};
 use crate::engine::{Outcome, Unheard};
-use crate::log::{End, Event};
+use crate::log::{End, Event, Log};
 use crate::CannotServe;
 use std::mem;
-use std::process::ExitStatus;
-use wozgirt_engine::{Answer, Answered, Client, Input, StateLine, NOBODY};
+use wozgirt_engine::{Answer, Answered, Input, StateLine, NOBODY};
 
 /// The status with which the process that speaks to etcd says that the log is not the one that is asked for.
 const LOST: i32 = 4;
@@ -47,14 +46,12 @@ impl Server {
     }
 
     fn engine_ended(&mut self, outcome: Outcome) -> Result<(), CannotServe> {
-        let is_planned = |phase: &Phase, status: &ExitStatus| matches!(phase, Phase::Ending(_)) && status.success();
-        let Some(cluster) = self.desk.mode.in_log() else { return Ok(()) };
         match outcome {
             Outcome::NotYet => {}
-            Outcome::Again(status) if is_planned(&cluster.replica.phase, &status) => self.save()?,
+            Outcome::Again(status) if status.success() && self.desk.mode.is_saving() => self.save()?,
             Outcome::Again(status) => {
                 self.desk.log.say(&Event::EngineEnded { status: status.to_string() });
-                if cluster.replica.is_restored {
+                if self.desk.mode.in_log().is_some_and(|cluster| cluster.replica.is_restored) {
                     self.lose_engine_of_cluster(true); // it ended badly while it was to end
                 }
                 self.begin_cluster()?;
@@ -103,9 +100,7 @@ impl Server {
                 }
             }
             Err(Unheard::Ended) => {
-                let is_planned =
-                    self.desk.mode.in_log().is_some_and(|cluster| matches!(cluster.replica.phase, Phase::Ending(_)));
-                if is_planned && self.stopping.is_none() {
+                if self.desk.mode.is_saving() && self.stopping.is_none() {
                     self.desk.engine.give_up(true, self.desk.now);
                 } else {
                     self.lose_engine_of_cluster(true);
@@ -118,6 +113,7 @@ impl Server {
 
     /// One line of the engine. False if it is given up.
     fn hear_line(&mut self, line: &str) -> Result<bool, CannotServe> {
+        self.note_news(); // before sessions come that this line is for
         let now = self.desk.now;
         let desk = &mut self.desk;
         let Some(cluster) = desk.mode.in_log_mut() else { return Ok(false) };
@@ -139,6 +135,7 @@ impl Server {
         }
         match cluster.mirror.hear(line, &mut desk.board, now) {
             Ok(effects) => {
+                cluster.owns.note_arrivals(&effects);
                 for effect in effects {
                     self.tell_effect(effect)?;
                 }
@@ -269,27 +266,17 @@ impl Server {
         let claim = entry.filter(|_| step.is_taken && !is_own);
         let claim = claim.map(|entry| (entry.writer.name, entry.position, entry.digest));
         cluster.replica.blocks.push_back(Block { claim, is_checkpoint: step.is_checkpoint });
-        self.note_ends(position, &step.over, &step.moved);
-        Ok(())
-    }
-
-    /// Servers that are over at this position, and sessions that have gone on elsewhere.
-    fn note_ends(&mut self, position: u64, over: &[LogServer], moved: &[(Key, LogServer)]) {
-        let desk = &mut self.desk;
-        let Some(cluster) = desk.mode.in_log_mut() else { return };
-        let me = cluster.member.me.clone();
-        let owns = &mut cluster.owns;
-        let moved = moved.iter().filter(|(_, before)| Some(before) == me.as_ref());
-        let clients: Vec<Client> = moved.filter_map(|(key, _)| owns.moved(*key)).collect();
-        for server in over {
+        for server in &step.over {
             desk.log.say(&Event::ServerOver { server, position });
         }
-        for client in clients {
+        let (moved, is_over) = (cluster.lose_sessions(&step.moved), cluster.is_among(&step.over));
+        for client in moved {
             self.part(client, End::Moved);
         }
-        if over.iter().any(|server| Some(server) == me.as_ref()) {
+        if is_over {
             self.lose_log("another server has declared it over", false);
         }
+        Ok(())
     }
 
     /// Sends the answers of the engine to those that they concern.
@@ -298,7 +285,12 @@ impl Server {
         let (desk, talks) = (&mut self.desk, &mut self.talks);
         let Some(cluster) = desk.mode.in_log_mut() else { return Ok(()) };
         let client = match &effect {
-            Effect::Done { position, digest } => return self.done(*position, digest.clone()),
+            Effect::Done { position, digest } => {
+                return match cluster.done(*position, digest)? {
+                    Some((name, claimed, verdict)) => judge(&mut desk.log, &name, claimed, &verdict),
+                    None => Ok(()),
+                };
+            }
             Effect::Left(session, _) => {
                 cluster.owns.forget(*session);
                 return Ok(());
@@ -364,31 +356,6 @@ impl Server {
         Ok(())
     }
 
-    /// The engine has done an entry.
-    fn done(&mut self, position: u64, digest: String) -> Result<(), CannotServe> {
-        let desk = &mut self.desk;
-        let Some(cluster) = desk.mode.in_log_mut() else { return Ok(()) };
-        cluster.place.done(position, &digest)?;
-        cluster.replica.digests.note(position, digest);
-        let Some(block) = cluster.replica.blocks.pop_front() else { return Ok(()) };
-        if block.is_checkpoint {
-            cluster.replica.phase = Phase::Asking(Vec::new());
-        }
-        let Some((name, position, digest)) = block.claim else { return Ok(()) };
-        match cluster.replica.digests.compare(&name, position, &digest) {
-            Verdict::Nothing => Ok(()),
-            Verdict::Other => {
-                cluster.replica.contradictions += 1;
-                desk.log.say(&Event::Contradiction { name: &name, position });
-                Ok(())
-            }
-            Verdict::Damaged => {
-                desk.log.say(&Event::Contradiction { name: &name, position });
-                Err(CannotServe::Contradicted(position))
-            }
-        }
-    }
-
     /// Ends both processes when all that was asked is answered.
     pub(super) fn stop_cluster(&mut self) {
         let Some(cluster) = self.desk.mode.in_log_mut() else { return };
@@ -396,5 +363,16 @@ impl Server {
             cluster.log.end();
             self.desk.engine.end();
         }
+    }
+}
+
+/// What comes of the digest that a server of this name has claimed for a position.
+fn judge(log: &mut Log, name: &str, position: u64, verdict: &Verdict) -> Result<(), CannotServe> {
+    if !matches!(verdict, Verdict::Nothing) {
+        log.say(&Event::Contradiction { name, position });
+    }
+    match verdict {
+        Verdict::Nothing | Verdict::Other => Ok(()),
+        Verdict::Damaged => Err(CannotServe::Contradicted(position)),
     }
 }

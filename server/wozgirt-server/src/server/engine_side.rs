@@ -271,7 +271,7 @@ impl Server {
             Mode::Alone(_) => self.look_at_engine_alone()?,
             Mode::InLog(_) => self.look_at_cluster()?,
         }
-        let of_log = self.desk.mode.in_log_mut().and_then(|cluster| cluster.log.take_lack());
+        let of_log = self.desk.mode.other_process().and_then(Engine::take_lack);
         for fault in self.desk.engine.take_lack().into_iter().chain(of_log) {
             self.desk.log.say(&Event::CannotStart { fault: &fault });
         }
@@ -337,7 +337,7 @@ impl Server {
         for line in desk.engine.remarks() {
             desk.log.say(&Event::EngineSaid { line: &line });
         }
-        let of_log = desk.mode.in_log_mut().map(|cluster| cluster.log.remarks());
+        let of_log = desk.mode.other_process().map(Engine::remarks);
         for line in of_log.into_iter().flatten() {
             desk.log.say(&Event::LogSaid { line: &line });
         }

@@ -119,10 +119,10 @@ impl Server {
     /// etcd has no room for entries, so nothing can be put into the log until an operator makes some. False: nothing more is heard of it.
     fn fill_log(&mut self) -> bool {
         let Some(cluster) = self.desk.mode.in_log_mut() else { return false };
-        if !mem::replace(&mut cluster.reading.is_full, true) {
+        let (was_full, is_in_log) = (mem::replace(&mut cluster.reading.is_full, true), cluster.member.me.is_some());
+        if !was_full {
             self.desk.log.say(&Event::LogFull);
         }
-        let is_in_log = self.desk.mode.in_log().is_some_and(|cluster| cluster.member.me.is_some());
         if is_in_log {
             self.lose_log("etcd has no room", false);
         }

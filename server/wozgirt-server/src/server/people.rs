@@ -14,7 +14,7 @@ use crate::shares::Guest;
 use crate::stream::Stream;
 use crate::CannotServe;
 use std::io;
-use std::net::SocketAddr;
+use std::net::{IpAddr, SocketAddr};
 use std::rc::Rc;
 use std::sync::mpsc::Receiver;
 use wozgirt_system::peer_of;
@@ -35,7 +35,7 @@ impl People {
 
     /// The client that has come in at this door, from this address if it is not a Unix socket.
     pub(super) fn caller(&mut self, door: Door, stream: &Stream, from: Option<SocketAddr>) -> Caller {
-        if let Some(from) = from {
+        if let Some(from) = from.map(short) {
             let (identity, guest) = (Who::at(from.ip()), Guest::at(from.ip()));
             return Caller { door, known: Known::Nobody, address: Some(from), identity, guest, who: from.to_string() };
         }
@@ -61,6 +61,7 @@ impl People {
         match header {
             Header::Local => self.caller(door, stream, None),
             Header::Client { address, name: Some(name) } => {
+                let address = address.map(short);
                 let from = address.map_or("from somewhere".into(), |address| address.to_string());
                 let who = format!("cert:{name}, {from}");
                 let (identity, guest) = (Who::Certificate(name.clone()), Guest::Certificate(name.clone()));
@@ -137,6 +138,12 @@ impl Server {
     }
 }
 
+/// An address of IPv4 as such, also where a socket for both versions has it as one of IPv6.
+fn short(address: SocketAddr) -> SocketAddr {
+    let IpAddr::V6(long) = address.ip() else { return address };
+    long.to_ipv4_mapped().map_or(address, |it| SocketAddr::new(it.into(), address.port()))
+}
+
 #[cfg(test)]
 mod tests {
     use super::*;
@@ -157,6 +164,21 @@ mod tests {
         let address = "127.0.0.9".parse().unwrap();
         assert_eq!((far.identity, far.guest), (Who::Address(address), Guest::at(address)));
         assert_eq!((far.who.as_str(), far.known, far.door), ("127.0.0.9:70", Known::Nobody, Door::Network));
+    }
+
+    #[test]
+    fn an_address_has_one_form() {
+        let mut people = People::start().unwrap();
+        let (one, _other) = UnixStream::pair().unwrap();
+        let stream = Stream::unix(one).unwrap();
+        for (given, shown) in [("[::ffff:10.0.0.7]:70", "10.0.0.7:70"), ("[fe00::7]:70", "[fe00::7]:70")] {
+            let (given, name) = (given.parse().unwrap(), CertificateName::new(b"a").unwrap());
+            let header = |name| Header::Client { address: Some(given), name };
+            let named = people.caller_of_proxy(&stream, header(Some(name)));
+            let plain = people.caller_of_proxy(&stream, header(None));
+            assert_eq!((named.address, plain.address), (shown.parse().ok(), shown.parse().ok()));
+            assert_eq!((named.who, plain.who.as_str()), (format!("cert:a, {shown}"), shown));
+        }
     }
 
     #[test]

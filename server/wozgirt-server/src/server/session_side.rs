@@ -53,9 +53,13 @@ impl Server {
     }
 
     /// The connection where the session is.
-    fn client_of(&mut self, session: Client) -> Option<Client> {
-        let at = self.desk.alone().and_then(|alone| alone.session(session)).map(|session| session.at);
-        at.and_then(|at| if let At::Here(client) = at { Some(client) } else { None })
+    fn client_of(&self, session: Client) -> Option<Client> {
+        let at = self.desk.mode.session(session)?.at;
+        if let At::Here(client) = at {
+            Some(client)
+        } else {
+            None
+        }
     }
 
     fn granted_late(&mut self, session: Client, lock: Lock, token: Token) {
@@ -79,9 +83,7 @@ impl Server {
     fn ended_for_session(&mut self, session: Client, operator: Client, lock: Lock, token: Token, answer: &Answer<'_>) {
         if matches!(answer, Answer::Released { .. }) {
             self.desk.board.left(&lock, session, Why::Operator);
-            if let Some(alone) = self.desk.alone() {
-                alone.free(session, lock.clone());
-            }
+            self.desk.mode.free(session, lock.clone());
         }
         self.tell_ended(operator, session, &lock, token, answer);
     }
@@ -90,9 +92,7 @@ impl Server {
         if !self.desk.is_withdrawn(session, &lock, answer) {
             return;
         }
-        if let Some(alone) = self.desk.alone() {
-            alone.free(session, lock.clone());
-        }
+        self.desk.mode.free(session, lock.clone());
         if let Some(connection) = self.talks.get_mut(client) {
             connection.tell(NotPermitted(&lock));
         }
@@ -100,11 +100,13 @@ impl Server {
 
     /// Writes what is new of sessions, before a client gets an answer about it. If that cannot be, they end with this server.
     pub(super) fn write_sessions(&mut self) {
-        for it in self.desk.alone().map(|alone| alone.take_ended()).unwrap_or_default() {
+        let Some(alone) = self.desk.alone() else { return };
+        let (ended, written) = (alone.take_ended(), alone.write());
+        for it in ended {
             // its session has left all
             self.tell_ended(it.operator, it.session, &it.lock, it.token, &Answer::Released { lock: &it.lock });
         }
-        if let Some(fault) = self.desk.alone().and_then(|alone| alone.write().err()) {
+        if let Err(fault) = written {
             self.say_unkept(&fault);
         }
     }
