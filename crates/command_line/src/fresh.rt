@@ -5,6 +5,7 @@ use clap::error::ErrorKind;
 use clap::{ArgMatches, Command, Error};
 use std::alloc::Global;
 use tool_parts::requests::{NewWords, Request, RingSize};
+use tool_requests::Wanted;
 
 const ABOUT: &str = "Prints a saved history of settled rings that have no events yet";
 
@@ -37,7 +38,7 @@ pub(crate) fn new_command<'a>(alloc: Global) -> Result<Command<'a>, Error> {
 }
 
 /// The number that a text spells without sign and leading zeros, below 2 to the power 32.
-fn read_number(text: &str) -> Option<u32> {
+pub(crate) fn read_number(text: &str) -> Option<u32> {
     if text.starts_with('+') || text.len() > 1 && text.starts_with('0') {
         return None;
     }
@@ -70,7 +71,7 @@ fn no_size(alloc: Global, word: &str) -> Result<Error, Error> {
 pub(crate) fn new_words<'a>(
     alloc: Global,
     words: &ArgMatches<'a>,
-) -> Result<Option<Request<'a>>, Error> {
+) -> Result<Option<Wanted<'a>>, Error> {
     let Some(given) = words.get_strs("RINGS") else {
         return Ok(None);
     };
@@ -81,5 +82,5 @@ pub(crate) fn new_words<'a>(
         };
         rings.push(size)?;
     }
-    Ok(Some(Request::New(NewWords { rings })))
+    Ok(Some(Wanted::Tool(Request::New(NewWords { rings }))))
 }

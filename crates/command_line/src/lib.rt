@@ -1,4 +1,4 @@
-//! The command line of the program, as `clap` reads it: from words to a request.
+//! The command line of the program, as `clap` reads it: from words to what they want.
 #![tactic(auto)]
 
 mod arguments;
@@ -7,9 +7,11 @@ mod holds;
 mod journals;
 mod locks;
 mod picture;
+mod repairs;
 mod report;
+mod states;
 mod version;
 mod words;
 
 pub use version::VERSION;
-pub use words::read_words;
+pub use words::{Words, read_words};

@@ -8,12 +8,16 @@ use crate::journals::{
 };
 use crate::locks::{locks_command, locks_words};
 use crate::picture::{picture_command, picture_words};
+use crate::repairs::{repairs_command, repairs_words};
 use crate::report::{report_command, report_words};
+use crate::states::{states_command, states_words};
 use crate::version::VERSION;
 use clap::error::ErrorKind;
 use clap::{ArgMatches, Command, Error};
+use repair_requests::RepairsWords;
 use std::alloc::Global;
 use tool_parts::requests::{CheckWords, Request, RunWords, StepWords, UpgradeWords};
+use tool_requests::Wanted;
 
 const ABOUT: &str =
     "A verified arbiter: rings of machines that pass a token, after E. W. Dijkstra (1974)";
@@ -104,6 +108,15 @@ Example, where old.txt begins with `ringfarm 1`:
 
 Exit status: 0 if NEW was written, 1 if FILE is not legal or a file fails, 2 after a usage error.";
 
+/// What words ask for.
+#[derive(Drop)]
+pub enum Words<'a> {
+    /// A command that may read or make files of histories, of journals or of locks.
+    Tool(Wanted<'a>),
+    /// Repairs of rings, counted.
+    Repairs(RepairsWords<'a>),
+}
+
 /// The name of a command.
 #[derive(Clone, Copy)]
 enum CommandName {
@@ -111,9 +124,11 @@ enum CommandName {
     Run,
     Check,
     Report,
+    States,
     Picture,
     Upgrade,
     New,
+    Repairs,
     Serve,
     Locks,
     Holds,
@@ -122,14 +137,16 @@ enum CommandName {
 }
 
 /// The commands, in the order in which help lists them.
-static COMMANDS: [CommandName; 12] = [
+static COMMANDS: [CommandName; 14] = [
     CommandName::Step,
     CommandName::Run,
     CommandName::Check,
     CommandName::Report,
+    CommandName::States,
     CommandName::Picture,
     CommandName::Upgrade,
     CommandName::New,
+    CommandName::Repairs,
     CommandName::Serve,
     CommandName::Locks,
     CommandName::Holds,
@@ -277,9 +294,11 @@ fn command_named<'a>(alloc: Global, name: CommandName) -> Result<Command<'a>, Er
         CommandName::Run => run_command(alloc),
         CommandName::Check => check_command(alloc),
         CommandName::Report => report_command(alloc),
+        CommandName::States => states_command(alloc),
         CommandName::Picture => picture_command(alloc),
         CommandName::Upgrade => upgrade_command(alloc),
         CommandName::New => new_command(alloc),
+        CommandName::Repairs => repairs_command(alloc),
         CommandName::Serve => serve_command(alloc),
         CommandName::Locks => locks_command(alloc),
         CommandName::Holds => holds_command(alloc),
@@ -353,7 +372,6 @@ fn request_named<'a>(name: &str, words: &ArgMatches<'a>) -> Option<Request<'a>> 
         "step" => step_words(words),
         "run" => run_words(words),
         "check" => check_words(words),
-        "report" => report_words(words),
         "picture" => picture_words(words),
         "upgrade" => upgrade_words(words),
         "recover" => recover_words(words),
@@ -365,28 +383,43 @@ fn request_named<'a>(name: &str, words: &ArgMatches<'a>) -> Option<Request<'a>> 
     }
 }
 
-/// The request of the command that was found, where its words are there.
-fn request_of<'a>(alloc: Global, matches: &ArgMatches<'a>) -> Result<Option<Request<'a>>, Error> {
+/// What the command of this name wants, where its words are there; `new` and `repairs` apart.
+fn wanted_named<'a>(name: &str, words: &ArgMatches<'a>) -> Option<Wanted<'a>> {
+    match name {
+        "report" => report_words(words),
+        "states" => states_words(words),
+        _ => Some(Wanted::Tool(request_named(name, words)?)),
+    }
+}
+
+/// The words of a command of [`Wanted`], where they are there.
+fn tool_words<'a>(wanted: Option<Wanted<'a>>) -> Option<Words<'a>> {
+    Some(Words::Tool(wanted?))
+}
+
+/// What the command that was found wants, where its words are there.
+fn words_of<'a>(alloc: Global, matches: &ArgMatches<'a>) -> Result<Option<Words<'a>>, Error> {
     let Some((name, words)) = matches.subcommand() else {
         return Ok(None);
     };
     match name {
-        "new" => new_words(alloc, words),
-        _ => Ok(request_named(name, words)),
+        "new" => Ok(tool_words(new_words(alloc, words)?)),
+        "repairs" => repairs_words(alloc, words),
+        _ => Ok(tool_words(wanted_named(name, words))),
     }
 }
 
-/// Returns the command that the words ask for. The program's name is not among them.
+/// Returns what the words ask for. The program's name is not among them.
 ///
 /// # Errors
 ///
 /// The answer of `clap`: a text with the mistake, or with the help that was asked for, or a word
 /// that there was no memory.
-pub fn read_words<'a>(alloc: Global, words: &'a [String]) -> Result<Request<'a>, Error> {
+pub fn read_words<'a>(alloc: Global, words: &'a [String]) -> Result<Words<'a>, Error> {
     let mut command = command_line(alloc)?;
     let matches = command.try_get_matches_from_mut(words)?;
-    if let Some(request) = request_of(alloc, &matches)? {
-        return Ok(request);
+    if let Some(asked) = words_of(alloc, &matches)? {
+        return Ok(asked);
     }
     // No words lead here, since `clap` asks for a command and for its words.
     Err(command.error(ErrorKind::MissingSubcommand, "a command is required")?)

@@ -6,7 +6,7 @@ use Rattle.name_check.specs.declared.lines.Ring.{Ring}
 use Rattle.name_check.specs.Entries.{Entry, Judged, begun, File as NextFile}
 use Rattle.name_check.specs.Judged.{noted, noted_all, AreRight}
 use Rattle.name_check.specs.Laws.{IsNow, NoneHeld, JudgedAreNamed, SoundBegins}
-use Rattle.judged_files.specs.Lines.{has_top}
+use Rattle.judged_files.specs.Lines.{shows_pool}
 use Rattle.judged_files.specs.Judging.{IsJudged, IsAcceptedBy, AreAccepted}
 use Rattle.judged_files.specs.Laws.{FilesSay, AreBefore, Say, AreNamed, JudgedFoldersAreNamed}
 
@@ -45,7 +45,7 @@ later fixed s (f ∷ fs) t are =
 record SaidAll (fixed : List (List ℕ)) (fs : List (List ℕ)) : Type 0 where
   gs : List Ring
   es : List Entry
-  say : Say fs gs es
+  say : Say (length fixed) fs gs es
   right : AreRight (begun fixed gs) es
 
 first_with : (fixed : List (List ℕ)) (j : Judged) (f : List ℕ) (fs : List (List ℕ)) → IsJudged fixed None f j → SaidLater j fs → SaidAll fixed (f ∷ fs)
@@ -68,7 +68,7 @@ first_with fixed j f fs is more = record {
   right = subst (λ (m : Judged). AreRight m (is.said ++ more.es)) is.starts (right_both is.start is.said more.es is.right.right (subst (λ (m : Judged). AreRight m more.es) (sym is.right.now) more.right));
 }
 
-older_with : (fixed : List (List ℕ)) (f : List ℕ) (fs : List (List ℕ)) → has_top f ≡ false → AreBefore fs ⊎ SaidAll fixed fs → AreBefore (f ∷ fs) ⊎ SaidAll fixed (f ∷ fs)
+older_with : (fixed : List (List ℕ)) (f : List ℕ) (fs : List (List ℕ)) → shows_pool (length fixed) f ≡ false → AreBefore (length fixed) fs ⊎ SaidAll fixed fs → AreBefore (length fixed) (f ∷ fs) ⊎ SaidAll fixed (f ∷ fs)
 older_with fixed f fs none (inl all) = inl (none, all)
 older_with fixed f fs none (inr a) = inr (record {
   gs = a.gs;
@@ -89,9 +89,9 @@ older_with fixed f fs none (inr a) = inr (record {
   right = a.right;
 })
 
-all_said : (fixed fs : List (List ℕ)) (t : Option Judged) → AreAccepted fixed None fs t → AreBefore fs ⊎ SaidAll fixed fs
+all_said : (fixed fs : List (List ℕ)) (t : Option Judged) → AreAccepted fixed None fs t → AreBefore (length fixed) fs ⊎ SaidAll fixed fs
 all_said fixed [] t are = inl tt
-all_said fixed (f ∷ fs) t are = elim (cases_Bool (has_top f)) [
+all_said fixed (f ∷ fs) t are = elim (cases_Bool (shows_pool (length fixed) f)) [
   | inl has ↦
       let judged : IsAcceptedBy false fixed None f are.0 = subst (λ (v : Bool). IsAcceptedBy (not v) fixed None f are.0) has are.1 in
       inr (first_with fixed judged.0 f fs judged.2 (later fixed judged.0 fs t (subst (λ (o : Option Judged). AreAccepted fixed o fs t) judged.1 are.2)))

@@ -106,5 +106,5 @@ pub accepted_more : (fixed : List (List ℕ)) (old : Option Judged) (fs : List (
 accepted_more fixed old [] mid f new are is = (new, subst (λ (o : Option Judged). IsAccepted fixed o f new) (sym are) is, refl)
 accepted_more fixed old (g ∷ fs) mid f new are is = (are.0, are.1, accepted_more fixed are.0 fs mid f new are.2 is)
 
-pub refused_of : (fixed : List (List ℕ)) (o p : Option Judged) (bytes : List ℕ) (last : Bool) (e : JudgeError) → o ≡ p → is_passed o bytes ≡ false → IsRefusedFile fixed o bytes last e → IsUnaccepted fixed p bytes last e
+pub refused_of : (fixed : List (List ℕ)) (o p : Option Judged) (bytes : List ℕ) (last : Bool) (e : JudgeError) → o ≡ p → is_passed (length fixed) o bytes ≡ false → IsRefusedFile fixed o bytes last e → IsUnaccepted fixed p bytes last e
 refused_of fixed o p bytes last e same passed why = subst (λ (q : Option Judged). IsUnaccepted fixed q bytes last e) same (passed, why)

@@ -1,7 +1,7 @@
 -- With which rings a segment's file begins (this project's own).
-use Rattle.std.specs.Prelude.{◌≡◌, ℕ, ◌+◌, if◌then◌else◌, Bool, List, [], ◌∷◌, slice_get, Some, Result, Ok, Err}
+use Rattle.std.specs.Prelude.{◌≡◌, ℕ, ◌+◌, ◌-◌, if◌then◌else◌, List, [], ◌∷◌, length, slice_get, Option, None, Some, Result, Ok, Err}
 use Rattle.std.specs.Option.{is_none}
-use Rattle.std.specs.List.{flat_map, list_any}
+use Rattle.std.specs.List.{flat_map}
 use Rattle.ring_model.specs.Surveys.{granted_count}
 use Rattle.ring_model.specs.declared.bases.Base.{Base}
 use Rattle.saved_history.specs.Content.{Block}
@@ -30,17 +30,22 @@ begun_lines (line ∷ lines) = if is_done line then line ∷ [] else line ∷ be
 unfoldable pub beginning : List ℕ → List ℕ
 beginning bytes = flat_map (λ (line : List ℕ). line) (begun_lines (lines_in bytes))
 
--- one of the holds is open
-abbrev pub has_open : List Hold → Bool
-has_open holds = list_any (λ (h : Hold). is_none h.end) holds
+-- the token of a hold, if it is open
+abbrev pub open_end : Option Hold → Option ℕ
+open_end None = None
+open_end (Some h) = if is_none h.end then Some h.token else None
+
+-- Of holds one after the other only the last may be open.
+abbrev pub open_token : List Hold → Option ℕ
+open_token holds = open_end (slice_get holds (length holds - 1))
 
 -- A ring after what is before the file and the events of its block: how many grants it had, those of
--- repairs too, and whether a hold of it is open. The first event may carry one.
+-- repairs too, and the token of the hold that is open. The first event may carry one.
 pub record IsRing (b : Base) (k : Block) (g : Ring) : Type 0 where
   pub grants : g.grants ≡ capped (b.grants + granted_count (history k))
   pub holds : List Hold
   pub are : AreLaterHolds holds (signs_of b k)
-  pub held : g.held ≡ has_open holds
+  pub held : g.held ≡ open_token holds
 
 abbrev pub AreRings : List Base → List Block → List Ring → Type 0
 AreRings (b ∷ bs) (k ∷ ks) [] = ⊥

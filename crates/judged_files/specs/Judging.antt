@@ -11,7 +11,7 @@ use Rattle.judged_files.specs.declared.faults.Cause.{Cause}
 use Rattle.judged_files.specs.declared.faults.Cause.TheVariants as cause
 use Rattle.judged_files.specs.declared.faults.JudgeError.{JudgeError}
 use Rattle.judged_files.specs.declared.faults.JudgeError.TheVariants as refused
-use Rattle.judged_files.specs.Lines.{is_done, LineSays, IsUnsaid, whole_lines, has_top, AreSaidBy}
+use Rattle.judged_files.specs.Lines.{is_done, LineSays, IsUnsaid, whole_lines, shows_pool, AreSaidBy}
 use Rattle.judged_files.specs.Beginnings.{Begins, IsUnbegun}
 
 -- ---- a file
@@ -35,10 +35,10 @@ pub record IsJudged (fixed : List (List ℕ)) (old : Option Judged) (bytes : Lis
   pub each : AreSaidBy false (whole_lines bytes) said
   pub right : AreSaid start said new
 
--- The files before the first one that says how many grants there were are passed over.
-abbrev pub is_passed : Option Judged → List ℕ → Bool
-is_passed None bytes = not (has_top bytes)
-is_passed (Some old) bytes = false
+-- The files before the first one that shows that the folder has a pool are passed over.
+abbrev pub is_passed : ℕ → Option Judged → List ℕ → Bool
+is_passed fixed None bytes = not (shows_pool fixed bytes)
+is_passed fixed (Some old) bytes = false
 
 abbrev pub IsAcceptedBy : Bool → List (List ℕ) → Option Judged → List ℕ → Option Judged → Type 0
 IsAcceptedBy true fixed old bytes new = new ≡ None
@@ -47,7 +47,8 @@ IsAcceptedBy false fixed old bytes new =
 
 -- a file is passed over, or judged
 abbrev pub IsAccepted : List (List ℕ) → Option Judged → List ℕ → Option Judged → Type 0
-IsAccepted fixed old bytes new = IsAcceptedBy (is_passed old bytes) fixed old bytes new
+IsAccepted fixed old bytes new =
+    IsAcceptedBy (is_passed (length fixed) old bytes) fixed old bytes new
 
 -- ---- a folder
 
@@ -147,4 +148,4 @@ IsRefusedFile fixed old bytes last e =
 
 abbrev pub IsUnaccepted : List (List ℕ) → Option Judged → List ℕ → Bool → JudgeError → Type 0
 IsUnaccepted fixed old bytes last e =
-    (is_passed old bytes ≡ false) × IsRefusedFile fixed old bytes last e
+    (is_passed (length fixed) old bytes ≡ false) × IsRefusedFile fixed old bytes last e

@@ -6,7 +6,7 @@ use Rattle.name_check.specs.declared.lines.Ring.{Ring}
 use Rattle.name_check.specs.Entries.{Entry, begun, File as NextFile}
 use Rattle.name_check.specs.Judged.{AreRight}
 use Rattle.name_check.specs.Laws.{AreHolds, signs_of, NoneHeld}
-use Rattle.judged_files.specs.Lines.{whole_lines, has_top, AreSaidBy}
+use Rattle.judged_files.specs.Lines.{whole_lines, shows_pool, AreSaidBy}
 use Rattle.judged_files.specs.Beginnings.{Begins}
 use Rattle.judged_files.specs.Judging.{IsJudgedFolder}
 
@@ -23,18 +23,18 @@ FilesSay (f ∷ fs) es =
     × FilesSay fs more
     × (es ≡ NextFile (length rings) ∷ (said ++ more))
 
--- these files are from before the folder had a pool
-abbrev pub AreBefore : List (List ℕ) → Type 0
-AreBefore files = AllByRecursion (λ (f : List ℕ). has_top f ≡ false) files
+-- these files are from before the folder had a pool after this number of fixed locks
+abbrev pub AreBefore : ℕ → List (List ℕ) → Type 0
+AreBefore fixed files = AllByRecursion (λ (f : List ℕ). shows_pool fixed f ≡ false) files
 
 -- The first file of a folder that is judged begins with these rings, and from its first line on the
 -- files say this.
-pub record Say (files : List (List ℕ)) (gs : List Ring) (es : List Entry) : Type 0 where
+pub record Say (fixed : ℕ) (files : List (List ℕ)) (gs : List Ring) (es : List Entry) : Type 0 where
   pub before : List (List ℕ)
   pub first : List ℕ
   pub others : List (List ℕ)
   pub parts : files ≡ before ++ first ∷ others
-  pub older : AreBefore before
+  pub older : AreBefore fixed before
   pub begins : Begins first gs
   pub said : List Entry
   pub more : List Entry
@@ -53,9 +53,9 @@ AreNamed fixed gs es =
 abbrev pub JudgedFoldersAreNamed : Type 0
 JudgedFoldersAreNamed =
     (fixed files : List (List ℕ)) → IsJudgedFolder fixed files
-    → AreBefore files
+    → AreBefore (length fixed) files
     ⊎ ((gs : List Ring)
     × (es : List Entry)
-    × Say files gs es
+    × Say (length fixed) files gs es
     × AreRight (begun fixed gs) es
     × AreNamed fixed gs es)

@@ -1,5 +1,5 @@
 -- What each line of a segment's file says of names (this project's own).
-use Rattle.std.specs.Prelude.{◌≡◌, ℕ, ◌^◌, ◌==◌, ◌||◌, if◌then◌else◌, Bool, true, false, List, [], ◌∷◌, ◌++◌, Result, Ok, Err, codes, ◌⊎◌}
+use Rattle.std.specs.Prelude.{◌≡◌, ℕ, ◌^◌, ◌==◌, ◌||◌, nat_lt, if◌then◌else◌, Bool, true, false, List, [], ◌∷◌, ◌++◌, length, Result, Ok, Err, codes, ◌⊎◌}
 use Rattle.std.specs.List.{filter, list_any}
 use Rattle.std.specs.Result.{is_ok}
 use Rattle.text_lines.specs.Reading.{word_at}
@@ -124,13 +124,26 @@ IsHeard done line result = IsHeardAs (LineSays done line) (IsUnsaid done line) r
 abbrev pub whole_lines : List ℕ → List (List ℕ)
 whole_lines bytes = filter has_line_end (lines_in bytes)
 
--- it says how many grants there were of all rings
-abbrev pub is_top : List ℕ → Bool
-is_top line = is_ok (word_at (codes "# floor ") line)
+-- it begins as a remark about names: of all grants, of a name that is bound, or of one that is lost
+abbrev pub is_named : List ℕ → Bool
+is_named line =
+    is_ok (word_at (codes "# floor ") line)
+    || (is_ok (word_at (codes "# name ") line) || is_ok (word_at (codes "# free ") line))
 
--- A file without such a line is from before the folder had a pool.
-abbrev pub has_top : List ℕ → Bool
-has_top bytes = list_any is_top (whole_lines bytes)
+-- it begins the block of a ring
+abbrev pub is_block : List ℕ → Bool
+is_block line = is_ok (word_at (codes "ring ") line)
+
+abbrev pub has_named : List ℕ → Bool
+has_named bytes = list_any is_named (whole_lines bytes)
+
+abbrev pub block_count : List ℕ → ℕ
+block_count bytes = length (filter is_block (whole_lines bytes))
+
+-- A file shows that the folder has a pool, by a line that is a remark about names, or by more rings
+-- than there are fixed locks. One that does not is from before it had one.
+abbrev pub shows_pool : ℕ → List ℕ → Bool
+shows_pool fixed bytes = has_named bytes || nat_lt fixed (block_count bytes)
 
 -- Lines say this, one after the other; the blocks of the rings have ended, or end among them.
 abbrev pub AreSaidBy : Bool → List (List ℕ) → List Entry → Type 0

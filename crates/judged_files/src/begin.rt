@@ -1,11 +1,11 @@
-//! The beginning of a file, and whether it says how many grants there were.
+//! The beginning of a file, and whether it shows that the folder has a pool.
 
-ghost use Rattle.std.specs.Prelude.{◌≡◌, ◌&&◌, IfOk};
+ghost use Rattle.std.specs.Prelude.{◌≡◌, ◌&&◌, nat_lt, IfOk};
 ghost use Rattle.journal.specs.Recovery.{has_line_end};
-ghost use Rattle.judged_files.specs.Lines.{is_top, has_top};
+ghost use Rattle.judged_files.specs.Lines.{is_named, is_block, has_named, block_count, shows_pool};
 ghost use Rattle.judged_files.specs.Beginnings.{beginning};
 
-use crate::lines::{is_done, is_top, is_whole};
+use crate::lines::{is_block, is_done, is_named, is_whole};
 use segment_files::split_line;
 use std::alloc::{AllocError, Global};
 
@@ -26,24 +26,58 @@ pub(crate) fn beginning(alloc: Global, bytes: &[u8]) -> Result<Vec<u8>, AllocErr
     Ok(begun)
 }
 
-/// Whether a line is whole, and says how many grants there were of all rings.
-fn is_whole_top(line: &[u8]) -> bool
-    ensures { result ≡ (has_line_end line.now && is_top line.now) }
+/// Whether a line is whole, and begins as a remark about names.
+fn is_whole_remark(line: &[u8]) -> bool
+    ensures { result ≡ (has_line_end line.now && is_named line.now) }
 {
-    is_whole(line) && is_top(line)
+    is_whole(line) && is_named(line)
 }
 
-/// Whether one of the lines says how many grants there were of all rings.
-pub(crate) fn has_top(bytes: &[u8]) -> bool
-    ensures { result ≡ has_top bytes.now }
+/// Whether one of the lines begins as a remark about names.
+fn has_named(bytes: &[u8]) -> bool
+    ensures { result ≡ has_named bytes.now }
 {
     let mut rest = bytes;
     while !rest.is_empty() {
         let (line, after) = split_line(rest);
-        if is_whole_top(line) {
+        if is_whole_remark(line) {
             return true;
         }
         rest = after;
     }
     false
+}
+
+/// Whether a line is whole, and begins the block of a ring.
+fn is_whole_block(line: &[u8]) -> bool
+    ensures { result ≡ (has_line_end line.now && is_block line.now) }
+{
+    is_whole(line) && is_block(line)
+}
+
+/// Whether there are more rings than this.
+fn has_more_rings(bytes: &[u8], count: usize) -> bool
+    ensures { result ≡ nat_lt count (block_count bytes.now) }
+{
+    let mut rest = bytes;
+    let mut left = count;
+    while !rest.is_empty() {
+        let (line, after) = split_line(rest);
+        rest = after;
+        if !is_whole_block(line) {
+            continue;
+        }
+        if left == 0 {
+            return true;
+        }
+        left -= 1;
+    }
+    false
+}
+
+/// Whether a file shows that the folder has a pool, after this number of fixed locks.
+pub(crate) fn shows_pool(bytes: &[u8], fixed: usize) -> bool
+    ensures { result ≡ shows_pool fixed bytes.now }
+{
+    has_named(bytes) || has_more_rings(bytes, fixed)
 }

@@ -10,7 +10,7 @@ ghost use Rattle.judged_files.specs.declared.faults.JudgeError.{JudgeError};
 ghost use Rattle.judged_files.specs.Lines.{is_done, whole_lines, LineSays, AreSaidBy};
 ghost use Rattle.judged_files.specs.Judging.{is_passed, IsJudged, MayEnd, IsAccepted, IsLineRefused, AreLinesRefused, IsRefusedFile, IsUnaccepted};
 
-use crate::begin::has_top;
+use crate::begin::shows_pool;
 use crate::faults::{Cause, JudgeError};
 use crate::lines::{Unsaid, is_done, is_whole, line_says};
 use crate::rings::begun_rings;
@@ -126,13 +126,13 @@ fn judged(
     }
 }
 
-/// Whether a file is from before the folder had a pool.
-fn is_passed(old: &Option<Judge>, bytes: &[u8]) -> bool
-    ensures { result ≡ is_passed old.now bytes.now }
+/// Whether a file is from before the folder had a pool, after these fixed locks.
+fn is_passed(fixed: &[String], old: &Option<Judge>, bytes: &[u8]) -> bool
+    ensures { result ≡ is_passed (length (map string_bytes fixed.now)) old.now bytes.now }
 {
     match old {
         Some(_) => false,
-        None => !has_top(bytes),
+        None => !shows_pool(bytes, fixed.len()),
     }
 }
 
@@ -160,7 +160,7 @@ impl FolderJudge {
     }
 
     /// The same with the next file of a folder with these fixed locks, which may be the last one. The files before the first one that
-    /// says how many grants there were of all rings are passed over: they are from before the folder had a pool.
+    /// shows that the folder has a pool are passed over: they are from before it had one.
     ///
     /// # Errors
     ///
@@ -179,7 +179,7 @@ impl FolderJudge {
             (λ e. IsUnaccepted (map string_bytes fixed.now) self bytes.now last e) }
     {
         let old = self.judge;
-        if is_passed(&old, bytes) {
+        if is_passed(fixed, &old, bytes) {
             return Ok(FolderJudge { judge: None });
         }
         match judged(alloc, old, fixed, bytes, last) {

@@ -6,7 +6,7 @@ ghost use Rattle.journal.specs.Recovery.{has_line_end};
 ghost use Rattle.name_remarks.specs.Remarks.{IsRemark};
 ghost use Rattle.name_remarks.specs.Views.{seen};
 ghost use Rattle.name_check.specs.Kept.{entry_of};
-ghost use Rattle.judged_files.specs.Lines.{remark_says, pass_says, event_says, survey_says, call_says, is_done, is_top, IsRemarkHeard, IsCallHeard, IsHeard};
+ghost use Rattle.judged_files.specs.Lines.{remark_says, pass_says, event_says, survey_says, call_says, is_done, is_named, is_block, IsRemarkHeard, IsCallHeard, IsHeard};
 
 use crate::calls::{NoRoom, recorded};
 use journal::Call;
@@ -35,11 +35,20 @@ pub(crate) fn is_done(line: &[u8]) -> bool
     }
 }
 
-/// Whether a line says how many grants there were of all rings.
-pub(crate) fn is_top(line: &[u8]) -> bool
-    ensures { result ≡ is_top line.now }
+/// Whether a line begins as a remark about names.
+pub(crate) fn is_named(line: &[u8]) -> bool
+    ensures { result ≡ is_named line.now }
 {
     fixed_word(line, b"# floor ").is_ok()
+        || fixed_word(line, b"# name ").is_ok()
+        || fixed_word(line, b"# free ").is_ok()
+}
+
+/// Whether a line begins the block of a ring.
+pub(crate) fn is_block(line: &[u8]) -> bool
+    ensures { result ≡ is_block line.now }
+{
+    fixed_word(line, b"ring ").is_ok()
 }
 
 /// Whether a line ends.

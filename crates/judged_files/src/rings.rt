@@ -3,7 +3,7 @@
 ghost use Rattle.std.specs.Prelude.{◌≡◌, map, Ok, IfOk, IfErr};
 ghost use Rattle.saved_history.specs.Content.{block_of};
 ghost use Rattle.segment_files.specs.Chain.{IsReadSegment};
-ghost use Rattle.judged_files.specs.Beginnings.{beginning, has_open, AreRings, Begins, IsRingRead, refused_at, AreUnheld, IsUnbegun};
+ghost use Rattle.judged_files.specs.Beginnings.{beginning, open_token, AreRings, Begins, IsRingRead, refused_at, AreUnheld, IsUnbegun};
 
 use crate::begin::beginning;
 use crate::faults::JudgeError;
@@ -15,11 +15,18 @@ use saved_history::SavedRing;
 use segment_files::{Segment, SegmentError, read_segment};
 use std::alloc::Global;
 
-/// Whether one of the holds is open.
-fn has_open(holds: &[Hold]) -> bool
-    ensures { result ≡ has_open holds.now }
+/// The token of the last of these holds, if it is open: none before it is.
+fn open_token(holds: &[Hold]) -> Option<u64>
+    ensures { result ≡ open_token holds.now }
 {
-    holds.iter().any(|hold| hold.end.is_none())
+    let Some(hold) = holds.last() else {
+        return None;
+    };
+    if hold.end.is_none() {
+        Some(hold.token)
+    } else {
+        None
+    }
 }
 
 /// A ring after what is before the file and the events of its block.
@@ -38,7 +45,7 @@ fn ring_at(alloc: Global, base: &Base, ring: &SavedRing) -> Result<Ring, HoldErr
         grants: base
             .grants
             .saturating_add(count_events(&ring.events).granted),
-        held: has_open(&holds),
+        held: open_token(&holds),
     })
 }
 

@@ -7,6 +7,7 @@ use Rattle.ring_state.specs.Sizes.{Size}
 use Rattle.held_locks.specs.Kept.{LockView}
 use Rattle.line_service.specs.SegmentNames.{list_name}
 use Rattle.line_service.specs.declared.faults.LoopFault.TheVariants as loop
+use Rattle.line_service.specs.declared.folder_errors.FolderError.TheVariants as folders
 use Rattle.line_service.specs.declared.segment_numbers.SegmentNumbers.{SegmentNumbers}
 use Rattle.line_service.specs.Segments.{Moment}
 use Rattle.segment_files.specs.declared.last.LastSegment.{LastSegment}
@@ -29,7 +30,7 @@ use Rattle.lock_commands.specs.HoldersFile.{holders_word, name_of}
 use Rattle.lock_commands.specs.Locks.{folder_of, list_of}
 use Rattle.lock_commands.specs.NamesStarted.{NamesService}
 use Rattle.lock_commands.specs.NameRuns.{IsUnended, HasNotBegunFrom, AreNamesUnbegun, IsNamesRunRefused, AreNamesStartRefused, AreNamesRefusedIn, AreNamesRefusedWith, IsNamesRefusal}
-use Rattle.lock_commands.specs.Lending.{IsLendingRefusal}
+use Rattle.lock_commands.specs.Lending.{IsFolderUnknown, IsRefusedUnknown, IsLendingRefusal}
 use Rattle.lock_commands.proofs.UnreadLists.{is_word, is_list, of_rings, of_listless, of_names, of_begin, of_loop, of_holders, unread_list_keeps}
 
 -- ---- a word that is a list is not refused as none
@@ -163,9 +164,40 @@ unread_names_keep words was is (inl (same, h)) = ap (λ (w : World). w.files) sa
 unread_names_keep words was is (inr (listed, inl (same, h))) = absurd (of_holders was.files (holders_word words) h)
 unread_names_keep words was is (inr (listed, inr (holders, given, h))) = absurd (of_locks words holders was is listed h)
 
+-- ---- where it is not known whether the list has a pool
+
+of_why : (words : LocksWords) (files : Option Held) (folder file : List ℕ) (why : StartFault) → IsFolderUnknown words files why → IsStartName folder file why tool.BadList → ⊥
+of_why words files folder file (start.Folder error) found h = of_names folder error h
+of_why words files folder file (start.Word error) (inl same) h = false≢true (sym (ap is_word same))
+of_why words files folder file (start.Word error) (inr found) h = of_list_file files (folder_of words) error found
+of_why words files folder file start.NoLocks found h = h
+of_why words files folder file start.NoLocksFile found h = h
+of_why words files folder file start.UnreadLocks found h = h
+of_why words files folder file start.BadLocks found h = h
+of_why words files folder file start.ManyLocks found h = h
+of_why words files folder file (start.OtherLock i) found h = h
+of_why words files folder file (start.UnreadSegment n) found h = h
+of_why words files folder file (start.Segment n error) found h = h
+of_why words files folder file (start.OtherRing i) found h = h
+of_why words files folder file (start.Full i) found h = h
+of_why words files folder file start.NoPool found h = h
+of_why words files folder file (start.Remark n l cause) found h = h
+of_why words files folder file (start.Names cause) found h = h
+of_why words files folder file (start.Holder l) found h = h
+of_why words files folder file start.Unsaved found h = h
+of_why words files folder file start.OutOfMemory found h = h
+
+of_unknown : (words : LocksWords) (before after : Option Held) (why : StartFault) → IsFolderUnknown words before why → IsRefusedUnknown words before after why tool.BadList → ⊥
+of_unknown words before after why found (inl (same, h)) = of_holders before (holders_word words) h
+of_unknown words before after why found (inr (holders, given, inl (left, h))) = h
+of_unknown words before after why found (inr (holders, given, inr (locked, inl h))) = of_names (folder_of words) folders.Unlisted h
+of_unknown words before after why found (inr (holders, given, inr (locked, inr (inl (error, entries, lists, right, h))))) = of_names (folder_of words) error h
+of_unknown words before after why found (inr (holders, given, inr (locked, inr (inr h)))) = of_why words before (folder_of words) (name_of (holders_word words)) why found h
+
 -- ---- whichever the list is
 
 pub unread_lists_keep : (words : LocksWords) (was is : World) → IsLendingRefusal words was is tool.BadList → is.files ≡ was.files
 unread_lists_keep words was is (inl (same, h)) = ap (λ (w : World). w.files) same
-unread_lists_keep words was is (inr (inl (none, h))) = unread_list_keeps words was is h
-unread_lists_keep words was is (inr (inr (pool, h))) = unread_names_keep words was is h
+unread_lists_keep words was is (inr (inl (why, found, same, h))) = absurd (of_unknown words was.files is.files why found h)
+unread_lists_keep words was is (inr (inr (inl (none, h)))) = unread_list_keeps words was is h
+unread_lists_keep words was is (inr (inr (inr (pool, h)))) = unread_names_keep words was is h

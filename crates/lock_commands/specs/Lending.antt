@@ -1,12 +1,25 @@
 -- `locks`, by its list: locks of a list, or locks by any name (this project's own).
-use Rattle.std.specs.Prelude.{◌≡◌, ◌⊎◌, true, false, List, ℕ, Option, None, Some}
+use Rattle.std.specs.Prelude.{◌≡◌, ◌⊎◌, true, false, List, ℕ, Option, None, Some, Err}
 use Rattle.disks.specs.Held.{Held}
-use Rattle.folder_of_locks.specs.NameFolders.{IsPoolNamed, IsPoolFiled, IsPoolSaid}
+use Rattle.disks.specs.Folders.{Lists, names_of}
+use Rattle.disks.specs.declared.disk.FolderEntry.{FolderEntry}
+use Rattle.line_service.specs.SegmentNumbers.{IsRightNumbers}
+use Rattle.line_service.specs.declared.folder_errors.FolderError.{FolderError}
+use Rattle.line_service.specs.declared.folder_errors.FolderError.TheVariants as folders
+use Rattle.folder_of_locks.specs.Holders.{Hold}
+use Rattle.folder_of_locks.specs.declared.faults.StartFault.{StartFault}
+use Rattle.folder_of_locks.specs.declared.faults.StartFault.TheVariants as start
+use Rattle.folder_of_locks.specs.NameFolders.{IsPoolNamed, IsPoolFiled, IsPoolSaid, IsListFileRefusal}
 use Rattle.tool_parts.specs.declared.requests.LocksWords.{LocksWords}
 use Rattle.tool_parts.specs.declared.faults.ToolError.{ToolError}
 use Rattle.tool_parts.specs.declared.faults.ToolError.TheVariants as tool
+use Rattle.tool_parts.specs.Chained.{IsFolderFault}
+use Rattle.tool_parts.specs.Locking.{IsLocked, IsLockLeft, IsUnkeptFolder}
 use Rattle.tool_parts.specs.Worlds.{World}
-use Rattle.lock_commands.specs.Refusals.{IsNoPooledListFor}
+use Rattle.lock_commands.specs.declared.lending.Unknown.{Unknown}
+use Rattle.lock_commands.specs.declared.lending.Unknown.TheVariants as unknown
+use Rattle.lock_commands.specs.Refusals.{fault_of_list, IsStartName, IsNoPooledListFor}
+use Rattle.lock_commands.specs.HoldersFile.{holders_word, name_of, AreHoldersOf, HasNoHolders}
 use Rattle.lock_commands.specs.Locks.{folder_of, list_of, IsLocksAnswer, IsLocksRefusal}
 use Rattle.lock_commands.specs.Lasting.{ToldLocksLast}
 use Rattle.lock_commands.specs.Life.{ToldLocksLive}
@@ -26,25 +39,80 @@ HasPool words files = HasPoolBy files (folder_of words) (list_of words)
 abbrev pub HasSomePool : LocksWords → Option Held → Type 0
 HasSomePool words files = IsPoolSaid files (folder_of words) (list_of words) true
 
--- the list that is named has no pool, or none is named
-abbrev pub NamesNoPool : LocksWords → Type 0
-NamesNoPool words = IsPoolNamed (list_of words) false
+-- neither has one
+abbrev pub HasNoPool : LocksWords → Option Held → Type 0
+HasNoPool words files = IsPoolSaid files (folder_of words) (list_of words) false
 
--- The locks of a list answered all lines, where none with a pool is named; or, only where the list
--- has a pool, locks by any name did.
+-- ---- where it is not known
+
+-- by what was refused: the word, or the folder
+abbrev pub unknown_of : StartFault → Unknown
+unknown_of (start.Word error) = unknown.Word (fault_of_list error)
+unknown_of start.OutOfMemory = unknown.Word tool.OutOfMemory
+unknown_of why = unknown.Folder why
+
+-- the list that is named is none, or memory is short
+abbrev pub IsWordUnknown : LocksWords → ToolError → Type 0
+IsWordUnknown words e = IsNoPooledListFor (list_of words) e ⊎ (e ≡ tool.OutOfMemory)
+
+-- the folder cannot be listed, or its file of locks cannot be read, or is that of no list
+abbrev pub IsFolderUnknown : LocksWords → Option Held → StartFault → Type 0
+IsFolderUnknown words files why =
+    (why ≡ start.Folder folders.Unlisted) ⊎ IsListFileRefusal files (folder_of words) why
+
+abbrev pub IsUnknown : LocksWords → Option Held → Unknown → Type 0
+IsUnknown words files (unknown.Word e) = IsWordUnknown words e
+IsUnknown words files (unknown.Folder why) = IsFolderUnknown words files why
+
+-- the names in the folder are refused, as they come before its list; or that is, for this
+abbrev pub IsListRefused : List ℕ → List ℕ → Option Held → StartFault → ToolError → Type 0
+IsListRefused folder file files why e =
+    IsStartName folder file (start.Folder folders.Unlisted) e
+    ⊎ (((error : FolderError)
+    × (entries : List FolderEntry)
+    × Lists files folder (names_of entries)
+    × IsRightNumbers entries (Err error)
+    × IsFolderFault folder error e)
+    ⊎ IsStartName folder file why e)
+
+-- The folder is refused for this, after what a start looks at before: the file of the holders, and
+-- the lock of the folder.
+abbrev pub IsRefusedUnknown : LocksWords → Option Held → Option Held → StartFault → ToolError
+    → Type 0
+IsRefusedUnknown words before after why e =
+    ((after ≡ before) × HasNoHolders before (holders_word words) e)
+    ⊎ ((holders : List Hold)
+    × AreHoldersOf before (holders_word words) holders
+    × ((IsLockLeft before after (folder_of words) × IsUnkeptFolder (folder_of words) e)
+    ⊎ (IsLocked before after (folder_of words)
+    × IsListRefused (folder_of words) (name_of (holders_word words)) after why e)))
+
+-- so it is refused, and no more than the lock was made
+abbrev pub IsFolderRefused : LocksWords → World → World → ToolError → Type 0
+IsFolderRefused words was is e =
+    (why : StartFault)
+    × IsFolderUnknown words was.files why
+    × (is ≡ record was { files = is.files })
+    × IsRefusedUnknown words was.files is.files why e
+
+-- ---- the command
+
+-- The locks of a list answered all lines, only where it has no pool; or, only where it has one, locks
+-- by any name did.
 abbrev pub IsLendingAnswer : LocksWords → World → World → Type 0
 IsLendingAnswer words was is =
-    (NamesNoPool words × IsLocksAnswer words was is)
+    (HasNoPool words was.files × IsLocksAnswer words was is)
     ⊎ (HasPool words was.files × IsNamesAnswer words was is)
 
--- It is not known whether the list has a pool, and nothing has changed: the list that is named is
--- none, or there is no memory; or the locks refuse the words, where no list with a pool is named; or,
--- with a pool, the names do.
+-- The list that is named is none, or there is no memory, and nothing has changed; or that of the
+-- folder is refused. Or, only where the list has no pool, the locks refuse the words; or, with a pool,
+-- the names do.
 abbrev pub IsLendingRefusal : LocksWords → World → World → ToolError → Type 0
 IsLendingRefusal words was is e =
-    ((is ≡ was) × (IsNoPooledListFor (list_of words) e ⊎ (e ≡ tool.OutOfMemory)))
-    ⊎ ((NamesNoPool words × IsLocksRefusal words was is e)
-    ⊎ (HasSomePool words was.files × IsNamesRefusal words was is e))
+    ((is ≡ was) × IsWordUnknown words e)
+    ⊎ (IsFolderRefused words was is e
+    ⊎ ((HasNoPool words was.files × IsLocksRefusal words was is e)
+    ⊎ (HasSomePool words was.files × IsNamesRefusal words was is e)))
 
 -- what was delivered is left
 abbrev pub LentLast : LocksWords → World → World → Option Held → Type 0

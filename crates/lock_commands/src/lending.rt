@@ -1,60 +1,94 @@
 //! `locks`, by its list: locks of a list, or locks by any name.
 
-ghost use Rattle.std.specs.Prelude.{◌≡◌, ◌⊎◌, true, false, OnOk, IfOk, IfErr, IsSome};
-ghost use Rattle.std.specs.Option.{option_map};
+ghost use Rattle.std.specs.Prelude.{◌≡◌, true, false, OnOk, IfOk, IfErr, IsSome};
 ghost use Rattle.disks.specs.Lasting.{outlives};
-ghost use Rattle.folder_of_locks.specs.NameFolders.{IsPoolNamed};
+ghost use Rattle.folder_of_locks.specs.NameFolders.{IsPoolSaid};
 ghost use Rattle.tool_parts.specs.Worlds.{world};
-ghost use Rattle.lock_commands.specs.Refusals.{IsNoPooledListFor};
-ghost use Rattle.lock_commands.specs.Locks.{list_of, StaysLocked};
-ghost use Rattle.lock_commands.specs.Lending.{HasSomePool, NamesNoPool, IsLendingAnswer, IsLendingRefusal, LentLast, LentLive};
+ghost use Rattle.lock_commands.specs.Locks.{folder_of, list_of, StaysLocked};
+ghost use Rattle.lock_commands.specs.Lending.{unknown_of, IsUnknown, IsListRefused, IsRefusedUnknown, IsLendingAnswer, IsLendingRefusal, LentLast, LentLive};
 
-use crate::refusals::list_refusal;
+use crate::holders::{holders_of, name_of};
+use crate::refusals::{folder_refusal, list_refusal, start_refusal};
 use crate::{any_names, locks};
 use disks::Disk;
-use folder_of_locks::{StartFault, has_pool, read_folder_word};
+use folder_of_locks::{StartFault, has_pool};
+use line_service::numbers_among;
 use std::alloc::Global;
 use std::io::{Read, Write};
 use tool_parts::faults::ToolError;
+use tool_parts::locking::lock_folder;
 use tool_parts::requests::LocksWords;
 
-/// Whether the list that is named has a pool, if one is.
-fn names_pool(alloc: Global, word: Option<&str>) -> Result<bool, ToolError<'static>>
-    ensures ok { IfOk result (λ has. IsPoolNamed (option_map (λ w. w.now) word.entry) has) }
-    ensures err { IfErr result (λ e.
-        IsNoPooledListFor (option_map (λ w. w.now) word.entry) e) }
+/// Why it is not known whether a list has a pool.
+#[derive(Clone, Copy)]
+enum Unknown {
+    /// The list that is named is none, or memory is short.
+    Word(ToolError<'static>),
+    /// The folder cannot be listed, or its file of locks is refused.
+    Folder(StartFault),
+}
+
+/// Why that is, by what was refused.
+fn unknown_of(why: StartFault) -> Unknown
+    ensures { result ≡ unknown_of why }
 {
-    let Some(word) = word else {
-        return Ok(false);
-    };
-    match read_folder_word(alloc, word) {
-        Ok(list) => Ok(list.pool.is_some()),
-        Err(error) => Err(list_refusal(error)),
+    match why {
+        StartFault::Word(error) => Unknown::Word(list_refusal(error)),
+        StartFault::OutOfMemory => Unknown::Word(ToolError::OutOfMemory),
+        _ => Unknown::Folder(why),
     }
 }
 
-/// Whether the list that is named has a pool, or that of the folder; not if this is not known: `locks` of a fixed list says why.
-fn wants_pool<D: Disk>(
-    alloc: Global,
-    disk: &D,
-    words: &LocksWords<'_>,
-) -> Result<bool, ToolError<'static>>
-    ensures yes { IfOk result (λ has. has ≡ true → HasSomePool words.now (D.holds disk.now)) }
-    ensures no { IfOk result (λ has. has ≡ false → NamesNoPool words.now) }
-    ensures err { IfErr result (λ e.
-        IsNoPooledListFor (list_of words.now) e ⊎ (e ≡ ToolError.OutOfMemory)) }
+/// Whether the list that is named has a pool, or that of the folder.
+fn wants_pool<D: Disk>(alloc: Global, disk: &D, words: &LocksWords<'_>) -> Result<bool, Unknown>
+    ensures ok { IfOk result
+        (λ has. IsPoolSaid (D.holds disk.now) (folder_of words.now) (list_of words.now) has) }
+    ensures err { IfErr result (λ why. IsUnknown words.now (D.holds disk.now) why) }
 {
-    match names_pool(alloc, words.locks) {
-        Ok(true) => return Ok(true),
-        Ok(false) => {}
-        Err(fault) => return Err(fault),
-    }
     match has_pool(alloc, disk, words.journal, words.locks) {
         Ok(has) => Ok(has),
-        Err(StartFault::Word(error)) => Err(list_refusal(error)),
-        Err(StartFault::OutOfMemory) => Err(ToolError::OutOfMemory),
-        Err(_) => Ok(false),
+        Err(why) => Err(unknown_of(why)),
     }
+}
+
+/// The refusal of a folder that is locked, whose list is refused so: its other names come first.
+fn list_fault<'a, D: Disk>(
+    alloc: Global,
+    disk: &D,
+    folder: &'a str,
+    file: &'a str,
+    why: StartFault,
+) -> ToolError<'a>
+    ensures { IsListRefused folder.now file.now (D.holds disk.now) why result }
+{
+    let Ok(entries) = disk.list(folder) else {
+        return ToolError::Read(folder);
+    };
+    match numbers_among(alloc, &entries) {
+        Ok(_) => start_refusal(why, folder, file),
+        Err(error) => folder_refusal(error, folder),
+    }
+}
+
+/// The refusal of a folder whose list is refused so. What comes first at a start is looked at first: the file of the holders, and the
+/// lock of the folder.
+fn refused_unknown<'a, D: Disk>(
+    alloc: Global,
+    disk: &mut D,
+    words: &LocksWords<'a>,
+    why: StartFault,
+) -> ToolError<'a>
+    ensures { IsRefusedUnknown words.now (D.holds disk.old) (D.holds disk.new) why result }
+{
+    match holders_of(alloc, disk, words.holders) {
+        Ok(_holders) => {}
+        Err(fault) => return fault,
+    }
+    match lock_folder(alloc, disk, words.journal) {
+        Ok(()) => {}
+        Err(fault) => return fault,
+    }
+    list_fault(alloc, disk, words.journal, name_of(words.holders), why)
 }
 
 /// `locks`, from its words: as [`locks::run`]; or as [`any_names::run`], if the list that is named has a pool, or that of the
@@ -97,6 +131,7 @@ pub fn run<'a, D: Disk, I: Read, W: Write, E: Write>(
     match wants_pool(alloc, disk, words) {
         Ok(true) => any_names::run(alloc, disk, words, input, out, err),
         Ok(false) => locks::run(alloc, disk, words, input, out, err),
-        Err(fault) => Err(fault),
+        Err(Unknown::Word(fault)) => Err(fault),
+        Err(Unknown::Folder(why)) => Err(refused_unknown(alloc, disk, words, why)),
     }
 }

@@ -37,7 +37,7 @@ pub(crate) fn list_refusal(error: ListError) -> ToolError<'static>
 }
 
 /// Returns the refusal of the names in a folder.
-fn folder_refusal<'a>(error: FolderError, folder: &'a str) -> ToolError<'a>
+pub(crate) fn folder_refusal<'a>(error: FolderError, folder: &'a str) -> ToolError<'a>
     ensures { IsFolderFault folder.now error result }
 {
     match error {

@@ -16,7 +16,6 @@ pub mod LeftSaid
 pub mod Copied
 pub mod Grows
 pub mod HandedNames
-pub mod Reached
 pub mod Sized
 pub mod Restores
 pub mod ComingBack

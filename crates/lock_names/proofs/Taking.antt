@@ -12,17 +12,18 @@ use Rattle.held_locks.specs.declared.asks.OneAsk.TheVariants as asks
 use Rattle.held_locks.specs.Queues.{Lock, client_of, holder_of}
 use Rattle.held_locks.specs.Locks.{Ask, Acquire, Try, Release, Cancel, Leave, Corrupt, Stats, Turn, turn}
 use Rattle.held_locks.specs.Kept.{LockView, lock_of, locks_of, own_answer, other_grant, answers_of, IsDone, IsLack}
-use Rattle.held_locks.specs.Asked.{asked, IsAnswerTo}
+use Rattle.held_locks.specs.Asked.{asked, events_at, IsAnswerTo}
 use Rattle.held_locks.proofs.Asking.{asked_long}
 use Rattle.held_locks.proofs.Standing.{get_set_same}
 use Rattle.lock_names.specs.declared.replies.Reply.{Reply}
 use Rattle.lock_names.specs.declared.replies.Reply.TheVariants as reply
 use Rattle.lock_names.specs.declared.replies.NameAnswers.{NameAnswers}
+use Rattle.lock_names.specs.declared.replies.NameAsked.{NameAsked}
 use Rattle.lock_names.specs.declared.table.Counts.{Counts}
 use Rattle.lock_names.specs.Names.{Bound, Named, Of, NamedStep, of_ring, told_holder, as_told, said_of, found, free, grants_at, fresh, kept, stays, at_ring, given, at_none, at_name, step_named}
 use Rattle.lock_names.specs.Promises.{IsRightBound, IsNamed}
 use Rattle.name_bindings.specs.Bindings.{ring_of}
-use Rattle.lock_names.specs.Kept.{NamedView, named_of, top_limit, IsKeptNamed, for_hold, may_pass, unused_answer, bound_by, IsReady, told_of, IsTold, reached_from, reached, at_free, own_said, grant_said, IsRecorded, noted_at, IsTaken, HasNoRoom, IsWanting, IsAsked}
+use Rattle.lock_names.specs.Kept.{NamedView, named_of, top_limit, IsKeptNamed, for_hold, may_pass, unused_answer, bound_by, IsReady, told_of, IsTold, reached_from, reached, at_free, own_said, grant_said, IsRecorded, noted_at, IsTaken, HasNoRoom, IsWanting, IsAsked, events_of, HasEvents}
 use Rattle.name_bindings.proofs.Found.{own_name, some_same, none_some, not_some, OnlyAt, found_at, free_at}
 use Rattle.lock_names.proofs.Fitting.{Fits, name_after, at_ring_is, fits_found, fits_free, lock_at, named_step}
 use Rattle.name_bindings.proofs.Changed.{found_bound, found_forgot}
@@ -440,16 +441,24 @@ pub told_unfreed : (old new : NamedView) (c : ℕ) (x : List ℕ) (ask : Ask) (i
     r.freed ≡ is_gone x old.names new.names
 told_unfreed old new c x ask i b r t e = ap is_freed t.told ∙ sym (ap (λ (o : Option (ℕ × Bound)). is_some o && not (is_some (found x new.names))) e)
 
-pub new_by : (x : List ℕ) (os ps : List (Option Bound)) (o : Option ℕ) (q : Bool) → found x os ≡ None → o ≡ ring_of x ps → q ≡ is_some o → q ≡ is_new x os ps
-new_by x os ps o q none e s =
-    s ∙ ap (λ (z : Option ℕ). is_some z) e ∙ some_mapped (λ (p : ℕ × Bound). p.0) (found x ps) ∙ sym (ap (λ (z : Option (ℕ × Bound)). not (is_some z) && is_some (found x ps)) none)
+not_not : (q : Bool) → not (not q) ≡ q
+not_not true = refl
+not_not false = refl
+
+-- the name is new, if its ring keeps it
+pub new_settled : (x : List ℕ) (os ps : List (Option Bound)) (i : ℕ) (b : Bound) (z freed : Bool) → found x os ≡ None → slice_get os i ≡ Some None → b.name ≡ x → ps ≡ slice_set os i (kept z b) → freed ≡ not z → not freed ≡ is_new x os ps
+new_settled x os ps i b z freed none at name e f =
+    ap (λ (q : Bool). not q) f
+    ∙ not_not z
+    ∙ sym (found_given x os i b z none at name)
+    ∙ sym (ap (λ (qs : List (Option Bound)). is_some (found x qs)) e)
+    ∙ sym (ap (λ (o : Option (ℕ × Bound)). not (is_some o) && is_some (found x ps)) none)
 
 pub settled_bound : (os now later : List (Option Bound)) (i : ℕ) (b : Bound) (o : Option Bound) → now ≡ slice_set os i (Some b) → later ≡ slice_set now i o → later ≡ slice_set os i o
 settled_bound os now later i b o e f = f ∙ ap (λ (x : List (Option Bound)). slice_set x i o) e ∙ set_twice os i (Some b) o
 
 -- ---- the ring of a free name
 
--- what is so of the lowest free ring
 pub record IsFree (v : NamedView) (x : List ℕ) (ask : Ask) (i : ℕ) : Type 0 where
   pub entry : slice_get v.names i ≡ Some None
   pub lock : LockView
@@ -479,3 +488,13 @@ found_ring x os i (Some p) e f = (p.1, e ∙ ap (λ (n : ℕ). Some (n, p.1)) (s
 
 pub ring_found : (x : List ℕ) (os : List (Option Bound)) (i : ℕ) → ring_of x os ≡ Some i → (b : Bound) × (found x os ≡ Some (i, b)) × (b.name ≡ x)
 ring_found x os i e = found_ring x os i (found x os) refl e
+
+-- ---- events
+
+-- the ring that was asked says how many events its segment had and has
+pub has_events : (vs ws : List LockView) (i : ℕ) (r : NameAsked) (q d : Bool) → r.answers.ring ≡ Some i → r.before ≡ events_at (slice_get vs i) → r.after ≡ events_at (slice_get ws i) →
+    HasEvents vs ws (record { answers = with_notes q d r.answers; before = r.before; after = r.after })
+has_events vs ws i r q d e before after = record {
+  before = before ∙ sym (ap (λ (o : Option ℕ). events_of vs o) e);
+  after = after ∙ sym (ap (λ (o : Option ℕ). events_of ws o) e);
+}

@@ -9,10 +9,11 @@ use Rattle.held_locks.specs.Queues.{Lock}
 use Rattle.held_locks.specs.Locks.{Ask, Acquire, Try, Release, Cancel, Corrupt, Stats}
 use Rattle.held_locks.specs.Promises.{AreRight}
 use Rattle.held_locks.specs.Kept.{LockView, lock_of, locks_of, IsDone, IsFull}
-use Rattle.held_locks.specs.Asked.{IsAnswerTo}
+use Rattle.held_locks.specs.Asked.{events_at, IsAnswerTo}
 use Rattle.lock_names.specs.declared.replies.Reply.{Reply}
 use Rattle.lock_names.specs.declared.replies.Reply.TheVariants as reply
 use Rattle.lock_names.specs.declared.replies.NameAnswers.{NameAnswers}
+use Rattle.lock_names.specs.declared.replies.NameAsked.{NameAsked}
 use Rattle.lock_names.specs.declared.table.Counts.{Counts}
 use Rattle.lock_names.specs.declared.asks.Rings.{Rings}
 use Rattle.lock_names.specs.Names.{Bound, Named, Of, Said, token_in, of_ring, told_holder, as_told, found, free, fresh, grants_at, step_named}
@@ -211,3 +212,13 @@ pub record IsAsked (old new : NamedView) (c : ℕ) (x : List ℕ) (ask : Ask) (r
     : Type 0 where
   pub ring : r.ring ≡ option_map (λ (p : ℕ × Bound). p.0) (reached (named_of old) x ask)
   pub answer : IsTaken old new c x ask r ⊎ IsWanting old new x ask r
+
+-- how many events the segment of a ring has, if one is asked
+abbrev pub events_of : List LockView → Option ℕ → ℕ
+events_of vs None = 0
+events_of vs (Some i) = events_at (slice_get vs i)
+
+-- what comes of an ask counts the events of the ring that was asked
+pub record HasEvents (old new : List LockView) (r : NameAsked) : Type 0 where
+  pub before : r.before ≡ events_of old r.answers.ring
+  pub after : r.after ≡ events_of new r.answers.ring

@@ -1,16 +1,16 @@
 //! What is asked of a ring that has a name, and its answers with the tokens of the name.
 
 ghost use Rattle.std.specs.Prelude.{◌≡◌, ℕ, ◌+◌, ◌-◌, ◌^◌, ◌<◌, ◌≤◌, true, length, slice_get, Some, option_map};
-ghost use Rattle.held_locks.specs.Asked.{asked, IsAnswerTo};
+ghost use Rattle.held_locks.specs.Asked.{asked, events_at, IsAnswerTo};
 ghost use Rattle.held_locks.specs.Kept.{LockView};
 ghost use Rattle.lock_names.specs.Names.{of_ring, as_told, told_holder, token_in};
 ghost use Rattle.lock_names.specs.Kept.{may_pass, unused_answer, bound_by, own_number, with_number, told_of, IsReady, IsTellable, IsTold};
 ghost use Rattle.held_locks.specs.declared.answers.Answer.{Answer};
 ghost use Rattle.held_locks.specs.declared.answers.Holder.{Holder};
 
-use crate::replies::{NameAnswers, Reply};
+use crate::replies::{NameAnswers, NameAsked, Reply};
 use crate::table::Counts;
-use held_locks::{Answer, Answers, Holder, Locks, OneAsk, Refusal, Stats};
+use held_locks::{Answer, Answers, Holder, Locks, OneAnswer, OneAsk, Refusal, Stats};
 
 /// Whether the ask may make the ring pass, and not for a client that waits already.
 pub(crate) fn may_pass(ask: OneAsk) -> bool
@@ -80,17 +80,19 @@ fn with_number(counts: Counts, ask: OneAsk, holder: Option<Holder>) -> OneAsk
 }
 
 /// The lock of the ring is asked.
-fn ask_lock(locks: &mut Locks, client: u64, ring: u32, counts: Counts, ask: OneAsk) -> Answers
+fn ask_lock(locks: &mut Locks, client: u64, ring: u32, counts: Counts, ask: OneAsk) -> OneAnswer
     requires lock { ring < length locks.old }
     requires tokens { (v : LockView) (h : Holder) → slice_get locks.old ring ≡ Some v
         → v.holder ≡ Some h → token_in (bound_by counts) h.token < 2 ^ 64 }
     requires began { (v : LockView) (h : Holder) → slice_get locks.old ring ≡ Some v
         → v.holder ≡ Some h → counts.before < h.token }
-    ensures { IsAnswerTo locks.old locks.new client ring (of_ring (bound_by counts) (asked ask))
-        result }
+    ensures answer { IsAnswerTo locks.old locks.new client ring
+        (of_ring (bound_by counts) (asked ask)) result.answers }
+    ensures before { result.before ≡ events_at (slice_get locks.old ring) }
+    ensures after { result.after ≡ events_at (slice_get locks.new ring) }
 {
     let own = with_number(counts, ask, locks.holder(ring));
-    locks.ask(client, ring, own).answers
+    locks.ask(client, ring, own)
 }
 
 /// The holder, with the token of the name.
@@ -172,15 +174,21 @@ pub(crate) fn ask_ring(
     ring: u32,
     counts: Counts,
     ask: OneAsk,
-) -> NameAnswers
+) -> NameAsked
     requires { IsReady rings.old.locks rings.old.top ring (bound_by counts) (asked ask) }
     ensures told { IsTold rings.old.locks rings.new.locks rings.old.top rings.new.top client ring
-        (bound_by counts) (asked ask) result }
+        (bound_by counts) (asked ask) result.answers }
+    ensures before { result.before ≡ events_at (slice_get rings.old.locks ring) }
+    ensures after { result.after ≡ events_at (slice_get rings.new.locks ring) }
     ensures fixed { rings.new.fixed ≡ rings.old.fixed }
 {
     rings.locks.are_kept();
     let before = rings.locks.ring(ring).grants();
-    let answers = ask_lock(&mut rings.locks, client, ring, counts, ask);
+    let done = ask_lock(&mut rings.locks, client, ring, counts, ask);
     rings.top += rings.locks.ring(ring).grants() - before;
-    told(counts, ring, answers)
+    NameAsked {
+        answers: told(counts, ring, done.answers),
+        before: done.before,
+        after: done.after,
+    }
 }

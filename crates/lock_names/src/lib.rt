@@ -15,7 +15,7 @@ mod table;
 
 pub use growing::NotGrown;
 pub use names::{Names, TOP_LIMIT};
-pub use replies::{NameAnswers, Reply};
+pub use replies::{NameAnswers, NameAsked, Reply};
 pub use restoring::NotRestored;
 pub use sizes::{LEAST_POOL, wanted_pool};
 pub use starting::NotBegun;

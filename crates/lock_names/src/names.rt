@@ -7,7 +7,7 @@ ghost use Rattle.held_locks.specs.Kept.{locks_of, IsKeptRing};
 ghost use Rattle.held_locks.specs.declared.answers.Answer.{Answer};
 ghost use Rattle.lock_names.specs.Names.{Bound, kept, stays, found, free};
 ghost use Rattle.lock_names.specs.Begun.{IsBegun, CannotBegin};
-ghost use Rattle.lock_names.specs.Kept.{seen, named_of, reached, IsKeptNamed, may_pass, top_limit, IsAsked};
+ghost use Rattle.lock_names.specs.Kept.{seen, IsKeptNamed, may_pass, top_limit, IsAsked, HasEvents};
 ghost use Rattle.lock_names.specs.Handed.{IsHandedByName, CannotBeHandedByName};
 ghost use Rattle.lock_names.specs.Leaves.{IsLeftByName};
 ghost use Rattle.lock_names.specs.Restored.{IsRestored, CannotRestore};
@@ -20,7 +20,7 @@ use crate::asks::{Rings, ask_ring, may_pass, unused_answer};
 use crate::growing::{NotGrown, add_ring};
 use crate::handing::hand_among;
 use crate::leaving::leave_among;
-use crate::replies::{NameAnswers, Reply};
+use crate::replies::{NameAnswers, NameAsked, Reply};
 use crate::restoring::{NotRestored, are_counted, check_names, restored_table};
 use crate::sizes::used_among;
 use crate::starting::{NotBegun, begun_table, grants_of};
@@ -50,9 +50,9 @@ impl Model for Names {
     ghost invariant = { λ s. IsKeptNamed (seen s.rings s.table) };
 }
 
-/// A reply that changes nothing.
-fn only(ring: Option<u32>, reply: Reply) -> NameAnswers
-    ensures { result ≡ record {
+/// A reply that changes nothing, where the segment of the ring has this number of events.
+fn only(ring: Option<u32>, events: usize, reply: Reply) -> NameAsked
+    ensures answers { result.answers ≡ record {
       ring = ring;
       fresh = false;
       freed = false;
@@ -60,29 +60,38 @@ fn only(ring: Option<u32>, reply: Reply) -> NameAnswers
       ended = None;
       granted = None;
     } }
+    ensures events { (result.before ≡ events) × (result.after ≡ events) }
 {
-    NameAnswers {
+    let answers = NameAnswers {
         ring,
         fresh: false,
         freed: false,
         own: Some(reply),
         ended: None,
         granted: None,
+    };
+    NameAsked {
+        answers,
+        before: events,
+        after: events,
     }
 }
 
-/// A refusal.
-fn refused(ring: Option<u32>, why: Refusal) -> NameAnswers
-    ensures { result ≡ record {
-      ring = ring;
+/// A refusal of an ask that reaches this ring.
+fn refused(rings: &Rings, ring: u32, why: Refusal) -> NameAsked
+    requires { ring < length rings.now.locks }
+    ensures answers { result.answers ≡ record {
+      ring = Some ring;
       fresh = false;
       freed = false;
       own = Some (Reply.Lock (Answer.Refused why));
       ended = None;
       granted = None;
     } }
+    ensures events { HasEvents rings.now.locks rings.now.locks result }
 {
-    only(ring, Reply::Lock(Answer::Refused(why)))
+    let events = rings.locks.ring(ring).segment().history().len();
+    only(Some(ring), events, Reply::Lock(Answer::Refused(why)))
 }
 
 /// Whether the ask may make a ring pass, and the limit of grants is reached.
@@ -112,26 +121,23 @@ fn settle(table: &mut Table, rings: &Rings, ring: u32) -> bool
 }
 
 /// The ring of a name is asked.
-fn ask_bound(
-    rings: &mut Rings,
-    table: &mut Table,
-    client: u64,
-    ring: u32,
-    ask: OneAsk,
-) -> NameAnswers
+fn ask_bound(rings: &mut Rings, table: &mut Table, client: u64, ring: u32, ask: OneAsk) -> NameAsked
     requires kept { IsKeptNamed (seen rings.old table.old) }
     requires ring { (b : Bound) × (found b.name table.old ≡ Some (ring, b)) }
-    ensures asked { (b : Bound) → found b.name table.old ≡ Some (ring, b) → IsAsked
-        (seen rings.old table.old) (seen rings.new table.new) client b.name (asked ask) result }
+    ensures asked { (b : Bound) → found b.name table.old ≡ Some (ring, b)
+        → IsAsked (seen rings.old table.old) (seen rings.new table.new) client b.name
+        (asked ask) result.answers }
+    ensures events { HasEvents rings.old.locks rings.new.locks result }
     ensures kept { IsKeptNamed (seen rings.new table.new) }
 {
     if is_spent(rings, ask) {
-        return refused(Some(ring), Refusal::Full);
+        return refused(rings, ring, Refusal::Full);
     }
     let counts = table.counts(ring);
-    let mut answers = ask_ring(rings, client, ring, counts, ask);
-    answers.freed = settle(table, rings, ring);
-    answers
+    let mut done = ask_ring(rings, client, ring, counts, ask);
+    let freed = settle(table, rings, ring);
+    done.answers.freed = freed;
+    done
 }
 
 /// A name that no ring has is asked.
@@ -142,33 +148,34 @@ fn ask_unbound(
     client: u64,
     name: &str,
     ask: OneAsk,
-) -> NameAnswers
+) -> NameAsked
     requires kept { IsKeptNamed (seen rings.old table.old) }
     requires unused { found name.now table.old ≡ None }
     ensures asked { IsAsked (seen rings.old table.old) (seen rings.new table.new) client name.now
-        (asked ask) result }
+        (asked ask) result.answers }
+    ensures events { HasEvents rings.old.locks rings.new.locks result }
     ensures kept { IsKeptNamed (seen rings.new table.new) }
 {
     if let Some(answer) = unused_answer(ask) {
-        return only(None, Reply::Lock(answer));
+        return only(None, 0, Reply::Lock(answer));
     }
     let Some(ring) = table.lowest_free() else {
-        return only(None, Reply::Names);
+        return only(None, 0, Reply::Names);
     };
     if is_spent(rings, ask) {
-        return refused(Some(ring), Refusal::Full);
+        return refused(rings, ring, Refusal::Full);
     }
     let counts = Counts {
         before: rings.locks.ring(ring).grants(),
         floor: rings.top,
     };
     let Ok(()) = table.bind(alloc, ring, name, counts) else {
-        return refused(Some(ring), Refusal::Memory);
+        return refused(rings, ring, Refusal::Memory);
     };
-    let mut answers = ask_ring(rings, client, ring, counts, ask);
-    settle(table, rings, ring);
-    answers.fresh = table.find(name).is_some();
-    answers
+    let mut done = ask_ring(rings, client, ring, counts, ask);
+    let free_again = settle(table, rings, ring);
+    done.answers.fresh = !free_again;
+    done
 }
 
 /// A name is asked.
@@ -179,10 +186,11 @@ fn ask_among(
     client: u64,
     name: &str,
     ask: OneAsk,
-) -> NameAnswers
+) -> NameAsked
     requires { IsKeptNamed (seen rings.old table.old) }
     ensures asked { IsAsked (seen rings.old table.old) (seen rings.new table.new) client name.now
-        (asked ask) result }
+        (asked ask) result.answers }
+    ensures events { HasEvents rings.old.locks rings.new.locks result }
     ensures kept { IsKeptNamed (seen rings.new table.new) }
 {
     match table.find(name) {
@@ -380,20 +388,6 @@ impl Names {
         self.table.name(ring)
     }
 
-    /// The ring that an ask would reach: that of the name, or, if it is for a hold, the lowest free one.
-    pub fn reach(&self, name: &str, ask: OneAsk) -> Option<u32>
-        ensures { result ≡ option_map (λ (p : ℕ × Bound). p.0)
-            (reached (named_of self.now) name.now (asked ask)) }
-    {
-        if let Some(ring) = self.table.find(name) {
-            return Some(ring);
-        }
-        if unused_answer(ask).is_some() {
-            return None;
-        }
-        self.table.lowest_free()
-    }
-
     /// Hands a name's open hold of client 0 with this token to another client, as [`Locks::hand`] does: it is not an input. False if
     /// client 0 does not hold the name with this token, or a client waits for it; nothing has changed then.
     pub fn hand(&mut self, name: &str, token: u64, client: u64) -> bool
@@ -410,8 +404,11 @@ impl Names {
     /// Refused: `Names` where no ring has the name and none is free; `Holder`, `Waiter` or `Lock` where none has it and the ask is
     /// not for a hold; `Full` where the ask is for a hold, or a fault, and [`TOP_LIMIT`] grants were counted; what the lock of
     /// its ring refuses, with `Full`; or `Memory`. Nothing has changed then.
-    pub fn ask(&mut self, alloc: Global, client: u64, name: &str, ask: OneAsk) -> NameAnswers
-        ensures { IsAsked self.old self.new client name.now (asked ask) result }
+    ///
+    /// It says too how many events the segment of the ring had before that was asked, and has now.
+    pub fn ask(&mut self, alloc: Global, client: u64, name: &str, ask: OneAsk) -> NameAsked
+        ensures answer { IsAsked self.old self.new client name.now (asked ask) result.answers }
+        ensures events { HasEvents self.old.locks self.new.locks result }
     {
         ask_among(&mut self.rings, &mut self.table, alloc, client, name, ask)
     }

@@ -27,3 +27,12 @@ pub struct NameAnswers {
     /// The other client that is granted the name next, with its token.
     pub granted: Option<Holder>,
 }
+
+/// What comes of an ask of a name: its answers, and how many events the segment of the ring had before that was asked, and has
+/// after; 0, if none was.
+#[derive(Clone, Copy)]
+pub struct NameAsked {
+    pub answers: NameAnswers,
+    pub before: usize,
+    pub after: usize,
+}

@@ -9,7 +9,7 @@ use Rattle.name_check.specs.declared.lines.Due.{Due}
 use Rattle.name_check.specs.declared.lines.Due.TheVariants as due
 use Rattle.name_check.specs.declared.wrongs.Wrong.{Wrong}
 use Rattle.name_check.specs.declared.wrongs.Wrong.TheVariants as why
-use Rattle.name_check.specs.Entries.{Entry, Bind, Free, Grant, Repair, End, Judged}
+use Rattle.name_check.specs.Entries.{Entry, Bind, Free, Grant, Repair, End, Judged, is_held}
 use Rattle.name_check.specs.Judged.{spent, most_grants, taken, refused_bind, refused_free, refused_grant, refused_repair, refused_end, of_ring, refusal, passed, repaired, ended, noted, noted_all, AreRight, AreSaid}
 
 abbrev pub state : List Ring → List (Option Bound) → ℕ → ℕ → Due → Judged
@@ -43,7 +43,7 @@ pub not_spent : (top : ℕ) → top < most_grants → spent top ≡ None
 not_spent top lt = ap (λ (q : Bool). if q then Some why.Full else None) (lt-leb most_grants top lt)
 
 pub noted_grant : (rings : List Ring) (names : List (Option Bound)) (fixed top i : ℕ) (d : Due) (g : Ring) → slice_get rings i ≡ Some g →
-    noted (state rings names fixed top d) (Grant i) ≡ state (slice_set rings i (record { grants = g.grants + 1; held = true })) names fixed (top + 1) due.Nothing
+    noted (state rings names fixed top d) (Grant i) ≡ state (slice_set rings i (record { grants = g.grants + 1; held = Some (g.grants + 1) })) names fixed (top + 1) due.Nothing
 noted_grant rings names fixed top i d g there = ap (λ (o : Option Ring). state (passed o i rings) names fixed (top + 1) due.Nothing) there
 
 fixed_ok : (h q : Bool) (o : Option Wrong) → h ≡ false → q ≡ true → o ≡ None → (if h then Some why.GrantedTwice else if q then o else Some why.NoName) ≡ None
@@ -52,11 +52,11 @@ fixed_ok false false o a b e = absurd (false≢true b)
 fixed_ok false true o a b e = e
 
 -- a fixed lock that is free
-pub may_grant_fixed : (rings : List Ring) (names : List (Option Bound)) (fixed top i : ℕ) (g : Ring) → slice_get rings i ≡ Some g → g.held ≡ false → i < fixed → top < most_grants →
+pub may_grant_fixed : (rings : List Ring) (names : List (Option Bound)) (fixed top i : ℕ) (g : Ring) → slice_get rings i ≡ Some g → is_held g ≡ false → i < fixed → top < most_grants →
     refusal (state rings names fixed top due.Nothing) (Grant i) ≡ None
 may_grant_fixed rings names fixed top i g there idle lt few =
     ap (λ (o : Option Ring). of_ring (refused_grant due.Nothing fixed top i) o) there
-    ∙ fixed_ok g.held (nat_lt i fixed) (spent top) idle (lt-ltb i fixed lt) (not_spent top few)
+    ∙ fixed_ok (is_held g) (nat_lt i fixed) (spent top) idle (lt-ltb i fixed lt) (not_spent top few)
 
 if_same : (q : Bool) (w : Wrong) (o : Option Wrong) → q ≡ true → o ≡ None → (if q then o else Some w) ≡ None
 if_same true w o a e = e
@@ -79,21 +79,21 @@ new_ok false false false f fixed o a b c d z = absurd (false≢true c)
 new_ok false false true false fixed o a b c d z = absurd (false≢true d)
 new_ok false false true true fixed o a b c d z = ap (λ (y : Option ℕ). taken fixed y) z
 
-pub may_bind_new : (rings : List Ring) (names : List (Option Bound)) (fixed top i : ℕ) (b : Bound) (g : Ring) → slice_get rings i ≡ Some g → fixed ≤ i → g.held ≡ false → b.before ≡ g.grants → b.floor ≡ top →
+pub may_bind_new : (rings : List Ring) (names : List (Option Bound)) (fixed top i : ℕ) (b : Bound) (g : Ring) → slice_get rings i ≡ Some g → fixed ≤ i → is_held g ≡ false → b.before ≡ g.grants → b.floor ≡ top →
     found b.name names ≡ None → refusal (state rings names fixed top due.Nothing) (Bind i b) ≡ None
 may_bind_new rings names fixed top i b g there pool idle before floor nobody =
     ap (λ (o : Option Ring). of_ring (refused_bind due.Nothing (state rings names fixed top due.Nothing) i b) o) there
-    ∙ new_ok (nat_lt i fixed) g.held (b.before == g.grants) (b.floor == top) fixed (ring_of b.name names) (le-ltb i fixed pool) idle (eq-eqb b.before g.grants before) (eq-eqb b.floor top floor)
+    ∙ new_ok (nat_lt i fixed) (is_held g) (b.before == g.grants) (b.floor == top) fixed (ring_of b.name names) (le-ltb i fixed pool) idle (eq-eqb b.before g.grants before) (eq-eqb b.floor top floor)
     (ap (λ (o : Option (ℕ × Bound)). option_map (λ (p : ℕ × Bound). p.0) o) nobody)
 
-pub may_end : (rings : List Ring) (names : List (Option Bound)) (fixed top i : ℕ) (g : Ring) → slice_get rings i ≡ Some g → g.held ≡ true → refusal (state rings names fixed top due.Nothing) (End i) ≡ None
-may_end rings names fixed top i g there held = ap (λ (o : Option Ring). of_ring (refused_end due.Nothing) o) there ∙ if_same g.held why.NotHeld None held refl
+pub may_end : (rings : List Ring) (names : List (Option Bound)) (fixed top i : ℕ) (g : Ring) → slice_get rings i ≡ Some g → is_held g ≡ true → refusal (state rings names fixed top due.Nothing) (End i) ≡ None
+may_end rings names fixed top i g there held = ap (λ (o : Option Ring). of_ring (refused_end due.Nothing) o) there ∙ if_same (is_held g) why.NotHeld None held refl
 
 pub noted_end : (rings : List Ring) (names : List (Option Bound)) (fixed top i : ℕ) (g : Ring) (q : Bool) → slice_get rings i ≡ Some g → nat_lt i fixed ≡ q →
-    noted (state rings names fixed top due.Nothing) (End i) ≡ state (slice_set rings i (record { grants = g.grants; held = false })) names fixed top (if q then due.Nothing else due.Handed i)
+    noted (state rings names fixed top due.Nothing) (End i) ≡ state (slice_set rings i (record { grants = g.grants; held = None })) names fixed top (if q then due.Nothing else due.Handed i)
 noted_end rings names fixed top i g q there e =
     ap (λ (o : Option Ring). state (ended o i rings) names fixed top (if nat_lt i fixed then due.Nothing else due.Handed i)) there
-    ∙ ap (λ (x : Bool). state (slice_set rings i (record { grants = g.grants; held = false })) names fixed top (if x then due.Nothing else due.Handed i)) e
+    ∙ ap (λ (x : Bool). state (slice_set rings i (record { grants = g.grants; held = None })) names fixed top (if x then due.Nothing else due.Handed i)) e
 
 pub may_free : (rings : List Ring) (names : List (Option Bound)) (fixed top i : ℕ) (g : Ring) → slice_get rings i ≡ Some g → refusal (state rings names fixed top (due.Handed i)) (Free i) ≡ None
 may_free rings names fixed top i g there = ap (λ (o : Option Ring). of_ring (λ (k : Ring). refused_free (due.Handed i) i) o) there ∙ if_same (i == i) why.NotFreed None (eq-eqb i i refl) refl
@@ -108,56 +108,56 @@ noted_repair rings names fixed top i g there = ap (λ (o : Option Ring). state (
 -- ---- what a step writes
 
 -- a fixed lock is granted
-pub said_grant : (rings : List Ring) (names : List (Option Bound)) (fixed top i : ℕ) (g : Ring) → slice_get rings i ≡ Some g → g.held ≡ false → i < fixed → top < most_grants →
-    AreSaid (state rings names fixed top due.Nothing) (Grant i ∷ []) (state (slice_set rings i (record { grants = g.grants + 1; held = true })) names fixed (top + 1) due.Nothing)
+pub said_grant : (rings : List Ring) (names : List (Option Bound)) (fixed top i : ℕ) (g : Ring) → slice_get rings i ≡ Some g → is_held g ≡ false → i < fixed → top < most_grants →
+    AreSaid (state rings names fixed top due.Nothing) (Grant i ∷ []) (state (slice_set rings i (record { grants = g.grants + 1; held = Some (g.grants + 1) })) names fixed (top + 1) due.Nothing)
 said_grant rings names fixed top i g there idle lt few =
-    let t = state (slice_set rings i (record { grants = g.grants + 1; held = true })) names fixed (top + 1) due.Nothing in
+    let t = state (slice_set rings i (record { grants = g.grants + 1; held = Some (g.grants + 1) })) names fixed (top + 1) due.Nothing in
     said_first (state rings names fixed top due.Nothing) t t (Grant i) [] (may_grant_fixed rings names fixed top i g there idle lt few) (noted_grant rings names fixed top i due.Nothing g there) (nothing_said t t refl)
 
 -- a name is bound and granted
-pub said_bind : (rings : List Ring) (names : List (Option Bound)) (fixed top i : ℕ) (b : Bound) (g : Ring) → slice_get rings i ≡ Some g → fixed ≤ i → g.held ≡ false → b.before ≡ g.grants → b.floor ≡ top →
+pub said_bind : (rings : List Ring) (names : List (Option Bound)) (fixed top i : ℕ) (b : Bound) (g : Ring) → slice_get rings i ≡ Some g → fixed ≤ i → is_held g ≡ false → b.before ≡ g.grants → b.floor ≡ top →
     found b.name names ≡ None → top < most_grants →
-    AreSaid (state rings names fixed top due.Nothing) (Bind i b ∷ Grant i ∷ []) (state (slice_set rings i (record { grants = g.grants + 1; held = true })) (slice_set names i (Some b)) fixed (top + 1) due.Nothing)
+    AreSaid (state rings names fixed top due.Nothing) (Bind i b ∷ Grant i ∷ []) (state (slice_set rings i (record { grants = g.grants + 1; held = Some (g.grants + 1) })) (slice_set names i (Some b)) fixed (top + 1) due.Nothing)
 said_bind rings names fixed top i b g there pool idle before floor nobody few =
     let m = state rings (slice_set names i (Some b)) fixed top (due.Granted i) in
-    let t = state (slice_set rings i (record { grants = g.grants + 1; held = true })) (slice_set names i (Some b)) fixed (top + 1) due.Nothing in
+    let t = state (slice_set rings i (record { grants = g.grants + 1; held = Some (g.grants + 1) })) (slice_set names i (Some b)) fixed (top + 1) due.Nothing in
     said_first (state rings names fixed top due.Nothing) m t (Bind i b) (Grant i ∷ []) (may_bind_new rings names fixed top i b g there pool idle before floor nobody) refl
     (said_first m t t (Grant i) [] (may_grant_bound rings (slice_set names i (Some b)) fixed top i g there few) (noted_grant rings (slice_set names i (Some b)) fixed top i (due.Granted i) g there) (nothing_said t t refl))
 
 -- the hold of a fixed lock ends
-pub said_end : (rings : List Ring) (names : List (Option Bound)) (fixed top i : ℕ) (g : Ring) → slice_get rings i ≡ Some g → g.held ≡ true → i < fixed →
-    AreSaid (state rings names fixed top due.Nothing) (End i ∷ []) (state (slice_set rings i (record { grants = g.grants; held = false })) names fixed top due.Nothing)
+pub said_end : (rings : List Ring) (names : List (Option Bound)) (fixed top i : ℕ) (g : Ring) → slice_get rings i ≡ Some g → is_held g ≡ true → i < fixed →
+    AreSaid (state rings names fixed top due.Nothing) (End i ∷ []) (state (slice_set rings i (record { grants = g.grants; held = None })) names fixed top due.Nothing)
 said_end rings names fixed top i g there held lt =
-    let t = state (slice_set rings i (record { grants = g.grants; held = false })) names fixed top due.Nothing in
+    let t = state (slice_set rings i (record { grants = g.grants; held = None })) names fixed top due.Nothing in
     said_first (state rings names fixed top due.Nothing) t t (End i) [] (may_end rings names fixed top i g there held) (noted_end rings names fixed top i g true there (lt-ltb i fixed lt)) (nothing_said t t refl)
 
 -- that of a ring of the pool, which loses its name
-pub said_free : (rings : List Ring) (names : List (Option Bound)) (fixed top i : ℕ) (g : Ring) → slice_get rings i ≡ Some g → g.held ≡ true → fixed ≤ i →
-    AreSaid (state rings names fixed top due.Nothing) (End i ∷ Free i ∷ []) (state (slice_set rings i (record { grants = g.grants; held = false })) (slice_set names i None) fixed top due.Nothing)
+pub said_free : (rings : List Ring) (names : List (Option Bound)) (fixed top i : ℕ) (g : Ring) → slice_get rings i ≡ Some g → is_held g ≡ true → fixed ≤ i →
+    AreSaid (state rings names fixed top due.Nothing) (End i ∷ Free i ∷ []) (state (slice_set rings i (record { grants = g.grants; held = None })) (slice_set names i None) fixed top due.Nothing)
 said_free rings names fixed top i g there held pool =
-    let rs : List Ring = slice_set rings i (record { grants = g.grants; held = false }) in
+    let rs : List Ring = slice_set rings i (record { grants = g.grants; held = None }) in
     let m = state rs names fixed top (due.Handed i) in
     let t = state rs (slice_set names i None) fixed top due.Nothing in
     said_first (state rings names fixed top due.Nothing) m t (End i) (Free i ∷ []) (may_end rings names fixed top i g there held) (noted_end rings names fixed top i g false there (le-ltb i fixed pool))
-    (said_first m t t (Free i) [] (may_free rs names fixed top i (record { grants = g.grants; held = false }) (get_set_same rings i (record { grants = g.grants; held = false }) g there)) refl (nothing_said t t refl))
+    (said_first m t t (Free i) [] (may_free rs names fixed top i (record { grants = g.grants; held = None }) (get_set_same rings i (record { grants = g.grants; held = None }) g there)) refl (nothing_said t t refl))
 
 -- a hold ends, and the next client is granted
-handed_by : (rings : List Ring) (names : List (Option Bound)) (fixed top i : ℕ) (g : Ring) → slice_get rings i ≡ Some g → g.held ≡ true → top < most_grants → (q : Bool) → nat_lt i fixed ≡ q →
-    refusal (state (slice_set rings i (record { grants = g.grants; held = false })) names fixed top (if q then due.Nothing else due.Handed i)) (Grant i) ≡ None
+handed_by : (rings : List Ring) (names : List (Option Bound)) (fixed top i : ℕ) (g : Ring) → slice_get rings i ≡ Some g → is_held g ≡ true → top < most_grants → (q : Bool) → nat_lt i fixed ≡ q →
+    refusal (state (slice_set rings i (record { grants = g.grants; held = None })) names fixed top (if q then due.Nothing else due.Handed i)) (Grant i) ≡ None
 handed_by rings names fixed top i g there held few true e =
-    may_grant_fixed (slice_set rings i (record { grants = g.grants; held = false })) names fixed top i (record { grants = g.grants; held = false }) (get_set_same rings i (record { grants = g.grants; held = false }) g there) refl (ltb-true i fixed e) few
+    may_grant_fixed (slice_set rings i (record { grants = g.grants; held = None })) names fixed top i (record { grants = g.grants; held = None }) (get_set_same rings i (record { grants = g.grants; held = None }) g there) refl (ltb-true i fixed e) few
 handed_by rings names fixed top i g there held few false e =
-    may_grant_handed (slice_set rings i (record { grants = g.grants; held = false })) names fixed top i (record { grants = g.grants; held = false }) (get_set_same rings i (record { grants = g.grants; held = false }) g there) few
+    may_grant_handed (slice_set rings i (record { grants = g.grants; held = None })) names fixed top i (record { grants = g.grants; held = None }) (get_set_same rings i (record { grants = g.grants; held = None }) g there) few
 
-pub said_handed : (rings : List Ring) (names : List (Option Bound)) (fixed top i : ℕ) (g : Ring) → slice_get rings i ≡ Some g → g.held ≡ true → top < most_grants →
-    AreSaid (state rings names fixed top due.Nothing) (End i ∷ Grant i ∷ []) (state (slice_set rings i (record { grants = g.grants + 1; held = true })) names fixed (top + 1) due.Nothing)
+pub said_handed : (rings : List Ring) (names : List (Option Bound)) (fixed top i : ℕ) (g : Ring) → slice_get rings i ≡ Some g → is_held g ≡ true → top < most_grants →
+    AreSaid (state rings names fixed top due.Nothing) (End i ∷ Grant i ∷ []) (state (slice_set rings i (record { grants = g.grants + 1; held = Some (g.grants + 1) })) names fixed (top + 1) due.Nothing)
 said_handed rings names fixed top i g there held few =
-    let rs : List Ring = slice_set rings i (record { grants = g.grants; held = false }) in
+    let rs : List Ring = slice_set rings i (record { grants = g.grants; held = None }) in
     let d : Due = if nat_lt i fixed then due.Nothing else due.Handed i in
     let m = state rs names fixed top d in
-    let t = state (slice_set rings i (record { grants = g.grants + 1; held = true })) names fixed (top + 1) due.Nothing in
+    let t = state (slice_set rings i (record { grants = g.grants + 1; held = Some (g.grants + 1) })) names fixed (top + 1) due.Nothing in
     said_first (state rings names fixed top due.Nothing) m t (End i) (Grant i ∷ []) (may_end rings names fixed top i g there held) (noted_end rings names fixed top i g (nat_lt i fixed) there refl)
     (said_first m t t (Grant i) [] (handed_by rings names fixed top i g there held few (nat_lt i fixed) refl)
-    (noted_grant rs names fixed top i d (record { grants = g.grants; held = false }) (get_set_same rings i (record { grants = g.grants; held = false }) g there)
-    ∙ ap (λ (x : List Ring). state x names fixed (top + 1) due.Nothing) (set_twice rings i (record { grants = g.grants; held = false }) (record { grants = g.grants + 1; held = true })))
+    (noted_grant rs names fixed top i d (record { grants = g.grants; held = None }) (get_set_same rings i (record { grants = g.grants; held = None }) g there)
+    ∙ ap (λ (x : List Ring). state x names fixed (top + 1) due.Nothing) (set_twice rings i (record { grants = g.grants; held = None }) (record { grants = g.grants + 1; held = Some (g.grants + 1) })))
     (nothing_said t t refl))

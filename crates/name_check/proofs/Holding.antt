@@ -11,7 +11,7 @@ use Rattle.name_bindings.proofs.Found.{same_name, own_name, some_same, none_some
 use Rattle.name_check.specs.declared.lines.Ring.{Ring}
 use Rattle.name_check.specs.declared.lines.Due.{Due}
 use Rattle.name_check.specs.declared.lines.Due.TheVariants as due
-use Rattle.name_check.specs.Entries.{Entry, Top, Bind, Free, Grant, Repair, End, Other, File, Judged, fresh_rings}
+use Rattle.name_check.specs.Entries.{Entry, Top, Bind, Free, Grant, Repair, End, Other, File, Judged, fresh_rings, is_held}
 use Rattle.name_check.specs.Judged.{refused_bind, refused_free, refused_grant, refused_repair, refused_end, refusal, passed, repaired, ended, closed, noted}
 use Rattle.name_check.specs.Kept.{is_between, IsSoundRing, IsSoundDue, IsSound}
 use Rattle.name_check.specs.Laws.{Sign, Begins, Ends, bound_to, begins, ends, sign_of, signs_of, AreHolds, IsNow, JudgedAreNamed, SoundStays}
@@ -34,7 +34,7 @@ now_new x low busy s r b g d h there n entry w = record {
         let floor : b.floor ≡ s.top = n.floor in
         let token : low ≤ token_in b g.grants = omega arith in (
           subst (λ (z : Bound). low ≤ token_in z k.grants) (sym is) (subst (λ (z : Ring). low ≤ token_in b z.grants) (sym ring) token),
-          ap (λ (z : Ring). z.held) ring ∙ n.idle ∙ sym (w.none (λ j t u v. unlike b.name s.names j t n.nobody u (v ∙ sym own))),
+          ap (λ (z : Ring). is_held z) ring ∙ n.idle ∙ sym (w.none (λ j t u v. unlike b.name s.names j t n.nobody u (v ∙ sym own))),
         )
     | inr q ↦ w.each i k e f q.1 same
   ];
@@ -59,18 +59,18 @@ now_bound x low busy s r b g h there (Again d entry) w = record {
 }
 now_bound x low busy s r b g h there (Trusted d entry t) w = absurd (false≢true ((h.each r g None there entry).1 held).0)
   where
-    by : ((k : Ring) → slice_get s.rings r ≡ Some k → k.held ≡ true) → g.held ≡ true
+    by : ((k : Ring) → slice_get s.rings r ≡ Some k → is_held k ≡ true) → is_held g ≡ true
     by f = f g there
 
-    held : g.held ≡ true
+    held : is_held g ≡ true
     held = by (subst (λ (z : Due). IsSoundDue s.fixed s.rings z) d h.next)
 
 -- ---- a name that is forgotten
 
-was_idle : (s : Judged) (r : ℕ) (g : Ring) (b : Bound) → IsSound false s → s.due ≡ due.Handed r → slice_get s.rings r ≡ Some g → slice_get s.names r ≡ Some (Some b) → g.held ≡ false
+was_idle : (s : Judged) (r : ℕ) (g : Ring) (b : Bound) → IsSound false s → s.due ≡ due.Handed r → slice_get s.rings r ≡ Some g → slice_get s.names r ≡ Some (Some b) → is_held g ≡ false
 was_idle s r g b h d there entry = by (subst (λ (z : Due). IsSoundRing false s.fixed s.top z r g (Some b)) d (h.each r g (Some b) there entry))
   where
-    by : IsSoundRing false s.fixed s.top (due.Handed r) r g (Some b) → g.held ≡ false
+    by : IsSoundRing false s.fixed s.top (due.Handed r) r g (Some b) → is_held g ≡ false
     by w = w.1 (eq-eqb r r refl)
 
 -- another ring has this name
@@ -105,12 +105,12 @@ with_ring s r k top d = record { rings = slice_set s.rings r k; names = s.names;
 
 -- a ring of another name, or one that is held as before
 now_other : (x : List ℕ) (low : ℕ) (busy : Bool) (s : Judged) (r : ℕ) (g k : Ring) (top : ℕ) (d : Due) → slice_get s.rings r ≡ Some g → s.top ≤ top → IsNow x low busy s →
-    ((b : Bound) → slice_get s.names r ≡ Some (Some b) → b.name ≡ x → (low ≤ token_in b k.grants) × (k.held ≡ busy)) → IsNow x low busy (with_ring s r k top d)
+    ((b : Bound) → slice_get s.names r ≡ Some (Some b) → b.name ≡ x → (low ≤ token_in b k.grants) × (is_held k ≡ busy)) → IsNow x low busy (with_ring s r k top d)
 now_other x low busy s r g k top d there more w own = record {
   top = let le : low ≤ s.top = w.top in omega arith;
   each = λ i y b f p same. elim (get_set s.rings r i k g y there f) [
     | inl q ↦
-        subst (λ (z : Ring). (low ≤ token_in b z.grants) × (z.held ≡ busy)) (sym q.1)
+        subst (λ (z : Ring). (low ≤ token_in b z.grants) × (is_held z ≡ busy)) (sym q.1)
         (own b (subst (λ (z : ℕ). slice_get s.names z ≡ Some (Some b)) q.0 p) same)
     | inr q ↦ w.each i y b q.1 p same
   ];
@@ -119,14 +119,14 @@ now_other x low busy s r g k top d there more w own = record {
 
 -- the ring of the name, where the hold begins or ends
 now_own : (x : List ℕ) (low high : ℕ) (busy next : Bool) (s : Judged) (r : ℕ) (g k : Ring) (b : Bound) (top : ℕ) (d : Due) → IsSound false s → slice_get s.rings r ≡ Some g → slice_get s.names r ≡ Some (Some b) → b.name ≡ x →
-    high ≤ top → high ≤ token_in b k.grants → k.held ≡ next → IsNow x high next (with_ring s r k top d)
+    high ≤ top → high ≤ token_in b k.grants → is_held k ≡ next → IsNow x high next (with_ring s r k top d)
 now_own x low high busy next s r g k b top d h there entry same le token held = record {
   top = le;
   each = λ i y e f p own.
       let at : i ≡ r = h.once i r e b p entry (own ∙ sym same) in
       let bound : b ≡ e = some_same b e (some_same (Some b) (Some e) (sym entry ∙ ap (λ (z : ℕ). slice_get s.names z) (sym at) ∙ p)) in
       let ring : k ≡ y = some_same k y (sym (get_set_same s.rings r k g there) ∙ ap (λ (z : ℕ). slice_get (slice_set s.rings r k) z) (sym at) ∙ f) in
-      subst (λ (z : Ring). (high ≤ token_in e z.grants) × (z.held ≡ next)) ring (subst (λ (z : Bound). high ≤ token_in z k.grants) bound token, held);
+      subst (λ (z : Ring). (high ≤ token_in e z.grants) × (is_held z ≡ next)) ring (subst (λ (z : Bound). high ≤ token_in z k.grants) bound token, held);
   none = λ nobody. absurd (nobody r b entry same);
 }
 
@@ -139,7 +139,7 @@ Goes x low busy t (Some (Begins token)) = (busy ≡ false) × (low < token) × I
 Goes x low busy t (Some Ends) = (busy ≡ true) × IsNow x low false t
 
 -- a ring that may be granted is not held
-idle : (s : Judged) (r : ℕ) (g : Ring) (b : Bound) → IsSound false s → slice_get s.rings r ≡ Some g → slice_get s.names r ≡ Some (Some b) → MayBeGranted s.due s.fixed r g → g.held ≡ false
+idle : (s : Judged) (r : ℕ) (g : Ring) (b : Bound) → IsSound false s → slice_get s.rings r ≡ Some g → slice_get s.names r ≡ Some (Some b) → MayBeGranted s.due s.fixed r g → is_held g ≡ false
 idle s r g b h there entry (IsBound e) = (h.each r g (Some b) there entry).1 (ap (λ (d : Due). is_between d r) e ∙ eq-eqb r r refl)
 idle s r g b h there entry (IsHanded e) = (h.each r g (Some b) there entry).1 (ap (λ (d : Due). is_between d r) e ∙ eq-eqb r r refl)
 idle s r g b h there entry (IsFixed e unheld lt) = unheld
@@ -149,15 +149,15 @@ bound_is : (x : List ℕ) (b : Bound) (q : Bool) → bytes_eq x b.name ≡ q →
 bound_is x b q e = ap (λ (z : Bool). if z then Some b else None) e
 
 abbrev granted_ring : Ring → Ring
-granted_ring g = record { grants = g.grants + 1; held = true }
+granted_ring g = record { grants = g.grants + 1; held = Some (g.grants + 1) }
 
 abbrev freed_ring : Ring → Ring
-freed_ring g = record { grants = g.grants; held = false }
+freed_ring g = record { grants = g.grants; held = None }
 
 grant_goes : (x : List ℕ) (low : ℕ) (busy : Bool) (s : Judged) (r : ℕ) (g : Ring) (o : Option Bound) → IsSound false s → slice_get s.rings r ≡ Some g → slice_get s.names r ≡ Some o → MayBeGranted s.due s.fixed r g → IsNow x low busy s →
-    Goes x low busy (with_ring s r (record { grants = g.grants + 1; held = true }) (s.top + 1) due.Nothing) (begins (bound_to x (Some o)) (Some g))
+    Goes x low busy (with_ring s r (record { grants = g.grants + 1; held = Some (g.grants + 1) }) (s.top + 1) due.Nothing) (begins (bound_to x (Some o)) (Some g))
 grant_goes x low busy s r g None h there entry m w =
-    now_other x low busy s r g (record { grants = g.grants + 1; held = true }) (s.top + 1) due.Nothing there (omega arith) w (λ b p same. absurd (none_some b (some_same None (Some b) (sym entry ∙ p))))
+    now_other x low busy s r g (record { grants = g.grants + 1; held = Some (g.grants + 1) }) (s.top + 1) due.Nothing there (omega arith) w (λ b p same. absurd (none_some b (some_same None (Some b) (sym entry ∙ p))))
 grant_goes x low busy s r g (Some b) h there entry m w = by (bytes_eq x b.name) refl
   where
     by : (q : Bool) → bytes_eq x b.name ≡ q → Goes x low busy (with_ring s r (granted_ring g) (s.top + 1) due.Nothing) (begins (if q then Some b else None) (Some g))
@@ -178,10 +178,10 @@ grant_goes x low busy s r g (Some b) h there entry m w = by (bytes_eq x b.name) 
         now_other x low busy s r g (granted_ring g) (s.top + 1) due.Nothing there (omega arith) w
         (λ e p same. absurd (both_ways (bytes_eq x b.name) q (own_name x b.name (sym (ap (λ (z : Bound). z.name) (some_same b e (some_same (Some b) (Some e) (sym entry ∙ p))) ∙ same)))))
 
-end_goes : (x : List ℕ) (low : ℕ) (busy : Bool) (s : Judged) (r : ℕ) (g : Ring) (o : Option Bound) (d : Due) → IsSound false s → slice_get s.rings r ≡ Some g → slice_get s.names r ≡ Some o → g.held ≡ true → IsNow x low busy s →
-    Goes x low busy (with_ring s r (record { grants = g.grants; held = false }) s.top d) (ends (bound_to x (Some o)))
+end_goes : (x : List ℕ) (low : ℕ) (busy : Bool) (s : Judged) (r : ℕ) (g : Ring) (o : Option Bound) (d : Due) → IsSound false s → slice_get s.rings r ≡ Some g → slice_get s.names r ≡ Some o → is_held g ≡ true → IsNow x low busy s →
+    Goes x low busy (with_ring s r (record { grants = g.grants; held = None }) s.top d) (ends (bound_to x (Some o)))
 end_goes x low busy s r g None d h there entry held w =
-    now_other x low busy s r g (record { grants = g.grants; held = false }) s.top d there (omega arith) w (λ b p same. absurd (none_some b (some_same None (Some b) (sym entry ∙ p))))
+    now_other x low busy s r g (record { grants = g.grants; held = None }) s.top d there (omega arith) w (λ b p same. absurd (none_some b (some_same None (Some b) (sym entry ∙ p))))
 end_goes x low busy s r g (Some b) d h there entry held w = by (bytes_eq x b.name) refl
   where
     by : (q : Bool) → bytes_eq x b.name ≡ q → Goes x low busy (with_ring s r (freed_ring g) s.top d) (ends (if q then Some b else None))
@@ -247,7 +247,7 @@ goes x low busy s (Grant r) h e w =
     let v = no_ring (refused_grant s.due s.fixed s.top r) (slice_get s.rings r) e in
     let o = name_at false s r v.0 h v.1 in
     subst (λ (z : Option Ring). Goes x low busy (record { rings = passed z r s.rings; names = s.names; fixed = s.fixed; top = s.top + 1; due = due.Nothing }) (begins (bound_to x (slice_get s.names r)) z)) (sym v.1)
-    (subst (λ (z : Option (Option Bound)). Goes x low busy (with_ring s r (record { grants = v.0.grants + 1; held = true }) (s.top + 1) due.Nothing) (begins (bound_to x z) (Some v.0))) (sym o.1)
+    (subst (λ (z : Option (Option Bound)). Goes x low busy (with_ring s r (record { grants = v.0.grants + 1; held = Some (v.0.grants + 1) }) (s.top + 1) due.Nothing) (begins (bound_to x z) (Some v.0))) (sym o.1)
     (grant_goes x low busy s r v.0 o.0 h v.1 o.1 (grant_due s.due s.fixed s.top r v.0 v.2).0 w))
 goes x low busy s (Repair r) h e w =
     let v = no_ring (λ (g : Ring). refused_repair s.due s.top) (slice_get s.rings r) e in
@@ -258,7 +258,7 @@ goes x low busy s (End r) h e w =
     let o = name_at false s r v.0 h v.1 in
     let d = noted s (End r) in
     subst (λ (z : Option Ring). Goes x low busy (record { rings = ended z r s.rings; names = s.names; fixed = s.fixed; top = s.top; due = d.due }) (ends (bound_to x (slice_get s.names r)))) (sym v.1)
-    (subst (λ (z : Option (Option Bound)). Goes x low busy (with_ring s r (record { grants = v.0.grants; held = false }) s.top d.due) (ends (bound_to x z))) (sym o.1)
+    (subst (λ (z : Option (Option Bound)). Goes x low busy (with_ring s r (record { grants = v.0.grants; held = None }) s.top d.due) (ends (bound_to x z))) (sym o.1)
     (end_goes x low busy s r v.0 o.0 d.due h v.1 o.1 (end_due s.due v.0 v.2).1 w))
 goes x low busy s Other h e w = w
 goes x low busy s (File n) h e w = file_now x low busy s n h (file_due s.due (length s.rings) n e).0 w

@@ -10,7 +10,7 @@ use Rattle.name_bindings.proofs.Found.{some_same, none_some}
 use Rattle.name_check.specs.declared.lines.Ring.{Ring}
 use Rattle.name_check.specs.declared.lines.Due.{Due}
 use Rattle.name_check.specs.declared.lines.Due.TheVariants as due
-use Rattle.name_check.specs.Entries.{Judged, begun, grants_in}
+use Rattle.name_check.specs.Entries.{Judged, begun, grants_in, is_held}
 use Rattle.name_check.specs.Kept.{IsSoundRing, IsSound}
 use Rattle.name_check.specs.Laws.{NoneHeld, SoundBegins, TrustEnds}
 use Rattle.name_check.proofs.Starting.{begun_is}
@@ -35,7 +35,7 @@ in_sum (k ∷ gs) (suc i) g e =
     let sum : grants_in (k ∷ gs) ≡ k.grants + grants_in gs = sum_by-cons (λ (x : Ring). x.grants) k gs in
     omega arith
 
-held_known : (trust : Bool) (g : Ring) → (trust ≡ false → g.held ≡ false) → g.held ≡ true → trust ≡ true
+held_known : (trust : Bool) (g : Ring) → (trust ≡ false → is_held g ≡ false) → is_held g ≡ true → trust ≡ true
 held_known true g none held = refl
 held_known false g none held = absurd (false≢true (sym (none refl) ∙ held))
 

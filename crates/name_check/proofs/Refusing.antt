@@ -10,7 +10,7 @@ use Rattle.name_check.specs.declared.lines.Due.{Due}
 use Rattle.name_check.specs.declared.lines.Due.TheVariants as due
 use Rattle.name_check.specs.declared.wrongs.Wrong.{Wrong}
 use Rattle.name_check.specs.declared.wrongs.Wrong.TheVariants as why
-use Rattle.name_check.specs.Entries.{Judged}
+use Rattle.name_check.specs.Entries.{Judged, is_held}
 use Rattle.name_check.specs.Judged.{spent, most_grants, refused_top, taken, refused_new, same_bound, refused_trust, refused_again, refused_bind, refused_free, refused_grant, refused_repair, refused_end, refused_file, of_ring}
 
 -- a refusal is none
@@ -55,8 +55,8 @@ repair_due (due.Restated q) top e = absurd (some_none why.NotRestated e)
 repair_due (due.Granted q) top e = absurd (some_none why.NoGrant e)
 repair_due (due.Handed q) top e = absurd (some_none why.NotFreed e)
 
-pub end_due : (d : Due) (g : Ring) → refused_end d g ≡ None → (d ≡ due.Nothing) × (g.held ≡ true)
-end_due due.Nothing g e = (refl, (not_else g.held why.NotHeld None e).0)
+pub end_due : (d : Due) (g : Ring) → refused_end d g ≡ None → (d ≡ due.Nothing) × (is_held g ≡ true)
+end_due due.Nothing g e = (refl, (not_else (is_held g) why.NotHeld None e).0)
 end_due due.Top g e = absurd (some_none why.NoTop e)
 end_due (due.Restated q) g e = absurd (some_none why.NotRestated e)
 end_due (due.Granted q) g e = absurd (some_none why.NoGrant e)
@@ -66,11 +66,11 @@ end_due (due.Handed q) g e = absurd (some_none why.NotFreed e)
 pub data MayBeGranted (d : Due) (fixed r : ℕ) (g : Ring) : Type 0 where
   IsBound : d ≡ due.Granted r → MayBeGranted d fixed r g
   IsHanded : d ≡ due.Handed r → MayBeGranted d fixed r g
-  IsFixed : d ≡ due.Nothing → g.held ≡ false → r < fixed → MayBeGranted d fixed r g
+  IsFixed : d ≡ due.Nothing → is_held g ≡ false → r < fixed → MayBeGranted d fixed r g
 
 pub grant_due : (d : Due) (fixed top r : ℕ) (g : Ring) → refused_grant d fixed top r g ≡ None → MayBeGranted d fixed r g × (top < most_grants)
 grant_due due.Nothing fixed top r g e =
-    let a = not_then g.held why.GrantedTwice (if nat_lt r fixed then spent top else Some why.NoName) e in
+    let a = not_then (is_held g) why.GrantedTwice (if nat_lt r fixed then spent top else Some why.NoName) e in
     let b = not_else (nat_lt r fixed) why.NoName (spent top) a.1 in
     (IsFixed refl a.0 (ltb-true r fixed b.0), few top b.1)
 grant_due due.Top fixed top r g e = absurd (some_none why.NoTop e)
@@ -115,7 +115,7 @@ bound_same b d e =
 pub record IsNew (s : Judged) (r : ℕ) (b : Bound) (g : Ring) : Type 0 where
   pub nothing : s.due ≡ due.Nothing
   pub pool : s.fixed ≤ r
-  pub idle : g.held ≡ false
+  pub idle : is_held g ≡ false
   pub before : b.before ≡ g.grants
   pub floor : b.floor ≡ s.top
   pub nobody : found b.name s.names ≡ None
@@ -134,8 +134,8 @@ pub data MayBeBound (s : Judged) (r : ℕ) (b : Bound) (g : Ring) : Type 0 where
 new_bind : (s : Judged) (r : ℕ) (b : Bound) (g : Ring) → s.due ≡ due.Nothing → refused_new s r b g ≡ None → IsNew s r b g
 new_bind s r b g d e =
     let a = not_then (nat_lt r s.fixed) why.FixedRing
-    (if g.held then Some why.HeldRing else if b.before == g.grants then (if b.floor == s.top then taken s.fixed (ring_of b.name s.names) else Some why.WrongFloor) else Some why.WrongBefore) e in
-    let h = not_then g.held why.HeldRing
+    (if is_held g then Some why.HeldRing else if b.before == g.grants then (if b.floor == s.top then taken s.fixed (ring_of b.name s.names) else Some why.WrongFloor) else Some why.WrongBefore) e in
+    let h = not_then (is_held g) why.HeldRing
     (if b.before == g.grants then (if b.floor == s.top then taken s.fixed (ring_of b.name s.names) else Some why.WrongFloor) else Some why.WrongBefore) a.1 in
     let k = not_else (b.before == g.grants) why.WrongBefore (if b.floor == s.top then taken s.fixed (ring_of b.name s.names) else Some why.WrongFloor) h.1 in
     let m = not_else (b.floor == s.top) why.WrongFloor (taken s.fixed (ring_of b.name s.names)) k.1 in

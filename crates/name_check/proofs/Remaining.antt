@@ -13,7 +13,7 @@ use Rattle.name_check.specs.declared.lines.Due.{Due}
 use Rattle.name_check.specs.declared.lines.Due.TheVariants as due
 use Rattle.name_check.specs.declared.wrongs.Wrong.{Wrong}
 use Rattle.name_check.specs.declared.wrongs.Wrong.TheVariants as why
-use Rattle.name_check.specs.Entries.{Entry, Top, Bind, Free, Grant, Repair, End, Other, File, Judged}
+use Rattle.name_check.specs.Entries.{Entry, Top, Bind, Free, Grant, Repair, End, Other, File, Judged, is_held}
 use Rattle.name_check.specs.Judged.{taken, same_bound, refused_bind, refused_free, refused_grant, refused_repair, refused_end, refused_again, of_ring, refusal, first_held, restated, due_bound, noted, noted_all, AreRight}
 use Rattle.name_check.specs.Kept.{is_unknown, is_between, IsSoundRing, IsSoundDue, IsSound}
 use Rattle.name_check.specs.Laws.{fixed_only, RemaindersAreNamed}
@@ -70,7 +70,7 @@ goes_known s us e same r =
     subst (λ (xs : List (Option Bound)). GoesAlike s xs e) (sym same) (record { right = r; after = (noted s e).names; now = refl; alike = own_alike (noted s e) })
 
 -- a ring of the pool whose name is not known, while bindings are restated
-none_idle : (s : Judged) (i : ℕ) (o : Option Bound) (g : Ring) → IsSoundRing false s.fixed s.top s.due i g o → ((b : Bound) → is_between s.due i ≡ false) → s.fixed ≤ i → g.held ≡ false → o ≡ None
+none_idle : (s : Judged) (i : ℕ) (o : Option Bound) (g : Ring) → IsSoundRing false s.fixed s.top s.due i g o → ((b : Bound) → is_between s.due i ≡ false) → s.fixed ≤ i → is_held g ≡ false → o ≡ None
 none_idle s i None g w n le idle = refl
 none_idle s i (Some b) g w n le idle = absurd (false≢true (sym (n b) ∙ w.2 le idle))
 
@@ -82,7 +82,7 @@ still : (s : Judged) (us : List (Option Bound)) (i low : ℕ) (o : Option Bound)
     (slice_get us i ≡ Some o) ⊎ ((slice_get us i ≡ Some None) × (s.fixed ≤ i) × (is_unknown (restated (first_held low 0 s.rings)) i ≡ true))
 still s us i low o h e f pool le n =
     let g = ring_at s i o h e in
-    elim (cases_Bool g.0.held) [
+    elim (cases_Bool (is_held g.0)) [
       | inl q ↦ inr (f, pool, unknown_from low s.rings i g.0 g.1 q le)
       | inr q ↦ inl (f ∙ ap (λ (x : Option Bound). Some x) (sym (none_idle s i o g.0 (h.each i g.0 o g.1 e) (λ b. n) pool q)))
     ]
@@ -141,7 +141,7 @@ again_right s us r b g h a d there entry = elim (a.each r (Some b) entry) [
       (ap (λ (o : Option (ℕ × Bound)). option_map (λ (q : ℕ × Bound). q.0) o) (nobody_has s us r b h a entry p.0))
 ]
   where
-    by : ((k : Ring) → slice_get s.rings r ≡ Some k → k.held ≡ true) → g.held ≡ true
+    by : ((k : Ring) → slice_get s.rings r ≡ Some k → is_held k ≡ true) → is_held g ≡ true
     by f = f g there
 
 goes_again : (s : Judged) (us : List (Option Bound)) (r : ℕ) (b : Bound) (g : Ring) → IsSound false s → AreAlike s us → s.due ≡ due.Restated r → slice_get s.rings r ≡ Some g → slice_get s.names r ≡ Some (Some b) → GoesAlike s us (Bind r b)
@@ -189,7 +189,7 @@ goes_bound s us r b g h a there e (New n) = goes_known s us (Bind r b) (all_know
 goes_bound s us r b g h a there e (Again d entry) = goes_again s us r b g h a d there entry
 goes_bound s us r b g h a there e (Trusted d entry t) = absurd (false≢true ((h.each r g None there entry).1 (by (subst (λ (z : Due). IsSoundDue s.fixed s.rings z) d h.next))).0)
   where
-    by : ((k : Ring) → slice_get s.rings r ≡ Some k → k.held ≡ true) → g.held ≡ true
+    by : ((k : Ring) → slice_get s.rings r ≡ Some k → is_held k ≡ true) → is_held g ≡ true
     by f = f g there
 
 -- ---- all lines

@@ -10,7 +10,7 @@ use Rattle.name_bindings.proofs.Found.{some_same, none_some, there_is}
 use Rattle.name_check.specs.declared.lines.Ring.{Ring}
 use Rattle.name_check.specs.declared.lines.Due.{Due}
 use Rattle.name_check.specs.declared.lines.Due.TheVariants as due
-use Rattle.name_check.specs.Entries.{Entry, Top, Bind, Free, Grant, Repair, End, Other, File, Judged, fresh_ring, fresh_rings}
+use Rattle.name_check.specs.Entries.{Entry, Top, Bind, Free, Grant, Repair, End, Other, File, Judged, fresh_ring, fresh_rings, is_held}
 use Rattle.name_check.specs.Judged.{refused_bind, refused_free, refused_grant, refused_repair, refused_end, refusal, first_held, restated, due_bound, passed, repaired, ended, closed, noted}
 use Rattle.name_check.specs.declared.wrongs.Refused.{Refused}
 use Rattle.name_check.specs.declared.wrongs.Refused.TheVariants as refused
@@ -83,11 +83,11 @@ own_new trust s r b g n = (
   λ le held. never (sym n.idle ∙ held),
 )
 
-own_again : (trust : Bool) (s : Judged) (r : ℕ) (b : Bound) (g : Ring) → IsBoundWithin s.top g b → g.held ≡ true → (s.fixed ≤ r → g.held ≡ true → b.before < g.grants) → IsSoundRing trust s.fixed s.top (restated (first_held (suc r) 0 s.rings)) r g (Some b)
+own_again : (trust : Bool) (s : Judged) (r : ℕ) (b : Bound) (g : Ring) → IsBoundWithin s.top g b → is_held g ≡ true → (s.fixed ≤ r → is_held g ≡ true → b.before < g.grants) → IsSoundRing trust s.fixed s.top (restated (first_held (suc r) 0 s.rings)) r g (Some b)
 own_again trust s r b g w h more = (w, λ q. never (sym (never_between (first_held (suc r) 0 s.rings) r) ∙ q), λ le idle. never (sym idle ∙ h), more)
 
 -- a ring of the pool that nobody holds has no name, where nothing is due
-pub nameless : (trust : Bool) (fixed top i : ℕ) (g : Ring) (o : Option Bound) → fixed ≤ i → g.held ≡ false → IsSoundRing trust fixed top due.Nothing i g o → o ≡ None
+pub nameless : (trust : Bool) (fixed top i : ℕ) (g : Ring) (o : Option Bound) → fixed ≤ i → is_held g ≡ false → IsSoundRing trust fixed top due.Nothing i g o → o ≡ None
 nameless trust fixed top i g None le idle w = refl
 nameless trust fixed top i g (Some b) le idle w = never (w.2 le idle)
 
@@ -134,14 +134,14 @@ sound_new trust s r b g h there n =
     (λ i k o q e x. beside_new trust s.fixed s.top r i k o q (subst (λ (z : Due). IsSoundRing trust s.fixed s.top z i k o) n.nothing x))
     (once_bound s.names r b entry n.nobody h.once) n.pool
 
-held_due : (trust : Bool) (s : Judged) (r : ℕ) (g : Ring) → IsSound trust s → s.due ≡ due.Restated r → slice_get s.rings r ≡ Some g → g.held ≡ true
+held_due : (trust : Bool) (s : Judged) (r : ℕ) (g : Ring) → IsSound trust s → s.due ≡ due.Restated r → slice_get s.rings r ≡ Some g → is_held g ≡ true
 held_due trust s r g h d there = by (subst (λ (x : Due). IsSoundDue s.fixed s.rings x) d h.next)
   where
-    by : ((k : Ring) → slice_get s.rings r ≡ Some k → k.held ≡ true) → g.held ≡ true
+    by : ((k : Ring) → slice_get s.rings r ≡ Some k → is_held k ≡ true) → is_held g ≡ true
     by f = f g there
 
 restate : (trust : Bool) (s : Judged) (r : ℕ) (b : Bound) (g : Ring) (was : Option Bound) → IsSound trust s → s.due ≡ due.Restated r → slice_get s.rings r ≡ Some g → slice_get s.names r ≡ Some was →
-    IsBoundWithin s.top g b → (s.fixed ≤ r → g.held ≡ true → b.before < g.grants) → AreNamedOnce (slice_set s.names r (Some b)) → IsSound trust (with_name s r b (restated (first_held (suc r) 0 s.rings)))
+    IsBoundWithin s.top g b → (s.fixed ≤ r → is_held g ≡ true → b.before < g.grants) → AreNamedOnce (slice_set s.names r (Some b)) → IsSound trust (with_name s r b (restated (first_held (suc r) 0 s.rings)))
 restate trust s r b g was h d there entry within more once =
     named trust s r b g was (restated (first_held (suc r) 0 s.rings)) h there entry (own_again trust s r b g within (held_due trust s r g h d there) more)
     (λ i k o q e x. beside_again trust s.fixed s.top r i s.rings k o q e (subst (λ (z : Due). IsSoundRing trust s.fixed s.top z i k o) d x))
@@ -234,7 +234,7 @@ changed trust s r g k top d h there more few own beside next = record {
 }
 
 -- one more grant is within one more of all
-more_within : (top : ℕ) (g : Ring) (held : Bool) (b : Bound) → IsBoundWithin top g b → IsBoundWithin (top + 1) (record { grants = g.grants + 1; held = held }) b
+more_within : (top : ℕ) (g : Ring) (held : Option ℕ) (b : Bound) → IsBoundWithin top g b → IsBoundWithin (top + 1) (record { grants = g.grants + 1; held = held }) b
 more_within top g held b w =
     let before : b.before ≤ g.grants = w.before in
     let token : b.floor + (g.grants - b.before) ≤ top = w.token in
@@ -260,9 +260,9 @@ unnamed {A} d fixed r g (IsHanded e) le q = never (sym q ∙ ap (λ (x : Due). i
 unnamed {A} d fixed r g (IsFixed e idle lt) le q = absurd (omega (arith, lt, le))
 
 grant_own : (trust : Bool) (fixed top r : ℕ) (d : Due) (g : Ring) (o : Option Bound) → MayBeGranted d fixed r g → IsSoundRing trust fixed top d r g o →
-    IsSoundRing trust fixed (top + 1) due.Nothing r (record { grants = g.grants + 1; held = true }) o
+    IsSoundRing trust fixed (top + 1) due.Nothing r (record { grants = g.grants + 1; held = Some (g.grants + 1) }) o
 grant_own trust fixed top r d g None m w = unnamed d fixed r g m w.0 w.2
-grant_own trust fixed top r d g (Some b) m w = (more_within top g true b w.0, λ q. never q, λ le idle. never (sym idle), λ le held. let before : b.before ≤ g.grants = w.0.before in omega arith)
+grant_own trust fixed top r d g (Some b) m w = (more_within top g (Some (g.grants + 1)) b w.0, λ q. never q, λ le idle. never (sym idle), λ le held. let before : b.before ≤ g.grants = w.0.before in omega arith)
 
 grant_beside : (trust : Bool) (fixed top r i : ℕ) (d : Due) (g x : Ring) (o : Option Bound) → MayBeGranted d fixed r g → i ≢ r → IsSoundRing trust fixed top d i x o → IsSoundRing trust fixed (top + 1) due.Nothing i x o
 grant_beside trust fixed top r i d g x None m n w = (w.0, λ h. never (sym ((only_of d fixed r g m).known i) ∙ (w.1 h).1), refl)
@@ -272,7 +272,7 @@ sound_grant : (trust : Bool) (s : Judged) (r : ℕ) (g : Ring) → IsSound trust
 sound_grant trust s r g h there m =
     let few : g.grants ≤ s.top = h.counted r g there in
     subst (λ (o : Option Ring). IsSound trust (record { rings = passed o r s.rings; names = s.names; fixed = s.fixed; top = s.top + 1; due = due.Nothing })) (sym there)
-    (changed trust s r g (record { grants = g.grants + 1; held = true }) (s.top + 1) due.Nothing h there (omega arith) (omega arith)
+    (changed trust s r g (record { grants = g.grants + 1; held = Some (g.grants + 1) }) (s.top + 1) due.Nothing h there (omega arith) (omega arith)
     (λ o w. grant_own trust s.fixed s.top r s.due g o m w) (λ i x o n w. grant_beside trust s.fixed s.top r i s.due g x o m n w) tt)
 
 repair_own : (trust : Bool) (fixed top r : ℕ) (g : Ring) (o : Option Bound) → IsSoundRing trust fixed top due.Nothing r g o → IsSoundRing trust fixed (top + 1) due.Nothing r (record { grants = g.grants + 1; held = g.held }) o
@@ -313,8 +313,8 @@ ended_due : (r fixed : ℕ) (rings : List Ring) (q : Bool) → r < length rings 
 ended_due r fixed rings true lt e = tt
 ended_due r fixed rings false lt e = (ltb-false r fixed e, lt)
 
-end_own : (trust : Bool) (fixed top r : ℕ) (g : Ring) (o : Option Bound) → g.held ≡ true → IsSoundRing trust fixed top due.Nothing r g o →
-    IsSoundRing trust fixed top (due_ended r fixed) r (record { grants = g.grants; held = false }) o
+end_own : (trust : Bool) (fixed top r : ℕ) (g : Ring) (o : Option Bound) → is_held g ≡ true → IsSoundRing trust fixed top due.Nothing r g o →
+    IsSoundRing trust fixed top (due_ended r fixed) r (record { grants = g.grants; held = None }) o
 end_own trust fixed top r g None held w = never (w.1 held).1
 end_own trust fixed top r g (Some b) held w = (record { before = w.0.before; token = w.0.token }, λ q. refl, λ le idle. ended_between r fixed (nat_lt r fixed) refl le, λ le now. never now)
 
@@ -322,15 +322,15 @@ end_beside : (trust : Bool) (fixed top r i : ℕ) (x : Ring) (o : Option Bound) 
 end_beside trust fixed top r i x None n w = (w.0, λ h. never (w.1 h).1, ended_beside r i (nat_lt r fixed) n)
 end_beside trust fixed top r i x (Some b) n w = (w.0, λ q. never (sym (ended_beside r i (nat_lt r fixed) n) ∙ q), λ le idle. never (w.2 le idle), w.3)
 
-sound_end : (trust : Bool) (s : Judged) (r : ℕ) (g : Ring) → IsSound trust s → slice_get s.rings r ≡ Some g → s.due ≡ due.Nothing → g.held ≡ true → IsSound trust (noted s (End r))
+sound_end : (trust : Bool) (s : Judged) (r : ℕ) (g : Ring) → IsSound trust s → slice_get s.rings r ≡ Some g → s.due ≡ due.Nothing → is_held g ≡ true → IsSound trust (noted s (End r))
 sound_end trust s r g h there d held =
     let few : g.grants ≤ s.top = h.counted r g there in
     subst (λ (o : Option Ring). IsSound trust (record { rings = ended o r s.rings; names = s.names; fixed = s.fixed; top = s.top; due = due_ended r s.fixed })) (sym there)
-    (changed trust s r g (record { grants = g.grants; held = false }) s.top (due_ended r s.fixed) h there (omega arith) few
+    (changed trust s r g (record { grants = g.grants; held = None }) s.top (due_ended r s.fixed) h there (omega arith) few
     (λ o w. end_own trust s.fixed s.top r g o held (subst (λ (x : Due). IsSoundRing trust s.fixed s.top x r g o) d w))
     (λ i x o n w. end_beside trust s.fixed s.top r i x o n (subst (λ (z : Due). IsSoundRing trust s.fixed s.top z i x o) d w))
-    (ended_due r s.fixed (slice_set s.rings r (record { grants = g.grants; held = false })) (nat_lt r s.fixed)
-    (subst (λ (n : ℕ). r < n) (sym (length-set s.rings r (record { grants = g.grants; held = false }))) (slice_get_within s.rings r g there)) refl))
+    (ended_due r s.fixed (slice_set s.rings r (record { grants = g.grants; held = None })) (nat_lt r s.fixed)
+    (subst (λ (n : ℕ). r < n) (sym (length-set s.rings r (record { grants = g.grants; held = None }))) (slice_get_within s.rings r g there)) refl))
 
 -- ---- the next file
 

@@ -1,6 +1,6 @@
 -- What the lines of the files of a folder say of names, and what is known after them (this project's
 -- own).
-use Rattle.std.specs.Prelude.{ℕ, zero, suc, ◌-◌, ◌++◌, false, List, [], ◌∷◌, length, Option}
+use Rattle.std.specs.Prelude.{ℕ, zero, suc, ◌-◌, ◌++◌, Bool, List, [], ◌∷◌, length, Option, None, is_some}
 use Rattle.std.specs.List.{sum_by}
 use Rattle.name_bindings.specs.Bindings.{Bound, fixed_names, frees}
 use Rattle.name_check.specs.declared.lines.Ring.{Ring}
@@ -29,9 +29,13 @@ pub record Judged : Type 0 where
   pub top : ℕ
   pub due : Due
 
+-- a client holds its lock
+abbrev pub is_held : Ring → Bool
+is_held g = is_some g.held
+
 -- rings that were never granted
 abbrev pub fresh_ring : Ring
-fresh_ring = record { grants = 0; held = false }
+fresh_ring = record { grants = 0; held = None }
 
 abbrev pub fresh_rings : ℕ → List Ring
 fresh_rings zero = []

@@ -7,7 +7,7 @@ use Rattle.name_check.specs.declared.lines.Due.{Due}
 use Rattle.name_check.specs.declared.lines.Due.TheVariants as due
 use Rattle.name_check.specs.declared.wrongs.Wrong.{Wrong}
 use Rattle.name_check.specs.declared.wrongs.Wrong.TheVariants as why
-use Rattle.name_check.specs.Entries.{Entry, Top, Bind, Free, Grant, Repair, End, Other, File, Judged, fresh_rings}
+use Rattle.name_check.specs.Entries.{Entry, Top, Bind, Free, Grant, Repair, End, Other, File, Judged, fresh_rings, is_held}
 
 -- ---- why a line is refused
 
@@ -42,7 +42,7 @@ taken fixed (Some i) = if nat_lt i fixed then Some why.FixedName else Some why.B
 abbrev pub refused_new : Judged → ℕ → Bound → Ring → Option Wrong
 refused_new s r b g =
     if nat_lt r s.fixed then Some why.FixedRing
-    else if g.held then Some why.HeldRing
+    else if is_held g then Some why.HeldRing
     else if b.before == g.grants then (if b.floor == s.top then taken s.fixed (ring_of b.name s.names)
     else Some why.WrongFloor) else Some why.WrongBefore
 
@@ -78,7 +78,7 @@ abbrev pub refused_grant : Due → ℕ → ℕ → ℕ → Ring → Option Wrong
 refused_grant (due.Granted q) fixed top r g = if r == q then spent top else Some why.NoGrant
 refused_grant (due.Handed q) fixed top r g = if r == q then spent top else Some why.NotFreed
 refused_grant due.Nothing fixed top r g =
-    if g.held then Some why.GrantedTwice
+    if is_held g then Some why.GrantedTwice
     else if nat_lt r fixed then spent top
     else Some why.NoName
 refused_grant d fixed top r g = owed d
@@ -89,7 +89,7 @@ refused_repair d top = owed d
 
 -- a hold ends only if there is one
 abbrev pub refused_end : Due → Ring → Option Wrong
-refused_end due.Nothing g = if g.held then None else Some why.NotHeld
+refused_end due.Nothing g = if is_held g then None else Some why.NotHeld
 refused_end d g = owed d
 
 -- A file may end after the end of a hold, but not between a binding and its grant.
@@ -120,7 +120,7 @@ refusal s (File n) = refused_file s.due (length s.rings) n
 abbrev pub first_held : ℕ → ℕ → List Ring → Option ℕ
 first_held low at [] = None
 first_held low at (g ∷ gs) =
-    if nat_le low at && g.held then Some at else first_held low (suc at) gs
+    if nat_le low at && is_held g then Some at else first_held low (suc at) gs
 
 -- its binding is due
 abbrev pub restated : Option ℕ → Due
@@ -131,10 +131,11 @@ abbrev pub due_bound : Due → ℕ → List Ring → Due
 due_bound (due.Restated q) r rings = restated (first_held (suc r) 0 rings)
 due_bound d r rings = due.Granted r
 
--- a ring that is granted, is repaired, or whose hold ends
+-- a ring that is granted, is repaired, or whose hold ends: a grant's number is the token of its hold
 abbrev pub passed : Option Ring → ℕ → List Ring → List Ring
 passed None r rings = rings
-passed (Some g) r rings = slice_set rings r (record { grants = g.grants + 1; held = true })
+passed (Some g) r rings =
+    slice_set rings r (record { grants = g.grants + 1; held = Some (g.grants + 1) })
 
 abbrev pub repaired : Option Ring → ℕ → List Ring → List Ring
 repaired None r rings = rings
@@ -143,7 +144,7 @@ repaired (Some g) r rings =
 
 abbrev pub ended : Option Ring → ℕ → List Ring → List Ring
 ended None r rings = rings
-ended (Some g) r rings = slice_set rings r (record { grants = g.grants; held = false })
+ended (Some g) r rings = slice_set rings r (record { grants = g.grants; held = None })
 
 -- a ring whose hold ended with the file has no name any more
 abbrev pub closed : Due → List (Option Bound) → List (Option Bound)

@@ -13,7 +13,7 @@ use Rattle.name_check.specs.declared.wrongs.Wrong.{Wrong}
 use Rattle.name_check.specs.declared.wrongs.Wrong.TheVariants as why
 use Rattle.name_check.specs.declared.wrongs.Refused.{Refused}
 use Rattle.name_check.specs.declared.wrongs.Refused.TheVariants as refused
-use Rattle.name_check.specs.Entries.{Entry, Top, Bind, Free, Grant, Repair, End, Other, Judged, grants_in}
+use Rattle.name_check.specs.Entries.{Entry, Top, Bind, Free, Grant, Repair, End, Other, Judged, grants_in, is_held}
 use Rattle.name_check.specs.Judged.{most_grants, refusal, noted}
 
 -- what is known, as it is kept
@@ -62,18 +62,18 @@ pub record IsBoundWithin (top : ℕ) (g : Ring) (b : Bound) : Type 0 where
 abbrev pub IsSoundRing : Bool → ℕ → ℕ → Due → ℕ → Ring → Option Bound → Type 0
 IsSoundRing trust fixed top d i g None =
     (fixed ≤ i)
-    × (g.held ≡ true → (trust ≡ true) × (is_unknown d i ≡ true))
+    × (is_held g ≡ true → (trust ≡ true) × (is_unknown d i ≡ true))
     × (is_between d i ≡ false)
 IsSoundRing trust fixed top d i g (Some b) =
     IsBoundWithin top g b
-    × (is_between d i ≡ true → g.held ≡ false)
-    × (fixed ≤ i → g.held ≡ false → is_between d i ≡ true)
-    × (fixed ≤ i → g.held ≡ true → b.before < g.grants)
+    × (is_between d i ≡ true → is_held g ≡ false)
+    × (fixed ≤ i → is_held g ≡ false → is_between d i ≡ true)
+    × (fixed ≤ i → is_held g ≡ true → b.before < g.grants)
 
 -- what has to come next is of a ring of the pool; a binding is restated of a ring that is held
 abbrev pub IsSoundDue : ℕ → List Ring → Due → Type 0
 IsSoundDue fixed rings (due.Restated q) =
-    (g : Ring) → slice_get rings q ≡ Some g → g.held ≡ true
+    (g : Ring) → slice_get rings q ≡ Some g → is_held g ≡ true
 IsSoundDue fixed rings (due.Granted q) = fixed ≤ q
 IsSoundDue fixed rings (due.Handed q) = (fixed ≤ q) × (q < length rings)
 IsSoundDue fixed rings d = Unit {0}

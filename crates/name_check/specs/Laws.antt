@@ -5,7 +5,7 @@ use Rattle.std.specs.Str.{bytes_eq}
 use Rattle.name_bindings.specs.Bindings.{Bound, token_in, AreDistinct}
 use Rattle.name_check.specs.declared.lines.Ring.{Ring}
 use Rattle.name_check.specs.declared.lines.Due.TheVariants as due
-use Rattle.name_check.specs.Entries.{Entry, Grant, End, Judged, begun}
+use Rattle.name_check.specs.Entries.{Entry, Grant, End, Judged, begun, is_held}
 use Rattle.name_check.specs.Judged.{noted, noted_all, AreRight}
 use Rattle.name_check.specs.Kept.{IsSound}
 
@@ -53,7 +53,7 @@ pub record IsNow (x : List ℕ) (low : ℕ) (busy : Bool) (s : Judged) : Type 0 
   pub top : low ≤ s.top
   pub each : (i : ℕ) (g : Ring) (b : Bound) → slice_get s.rings i ≡ Some g
       → slice_get s.names i ≡ Some (Some b) → b.name ≡ x
-      → (low ≤ token_in b g.grants) × (g.held ≡ busy)
+      → (low ≤ token_in b g.grants) × (is_held g ≡ busy)
   pub none : ((i : ℕ) (b : Bound) → slice_get s.names i ≡ Some (Some b) → b.name ≡ x → ⊥)
       → busy ≡ false
 
@@ -72,7 +72,7 @@ SoundStays =
 
 -- no client holds one of the rings
 abbrev pub NoneHeld : List Ring → Type 0
-NoneHeld rings = (i : ℕ) (g : Ring) → slice_get rings i ≡ Some g → g.held ≡ false
+NoneHeld rings = (i : ℕ) (g : Ring) → slice_get rings i ≡ Some g → is_held g ≡ false
 
 -- So it is before the first file. If that begins with holds, it is so once it has restated their
 -- names.

@@ -99,7 +99,7 @@ pub(crate) fn add_rings(rings: &mut Vec<Ring>, count: usize) -> Result<(), Alloc
     while rings.len() < count {
         let fresh = Ring {
             grants: 0,
-            held: false,
+            held: None,
         };
         let Ok(()) = rings.push(fresh) else {
             return Err(AllocError);

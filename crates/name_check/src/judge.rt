@@ -63,7 +63,7 @@ fn read_grant(notes: &mut Notes, ring: usize) -> Option<Wrong>
         None => {
             notes.rings[ring] = Ring {
                 grants: known.grants + 1,
-                held: true,
+                held: Some(known.grants + 1),
             };
             notes.top += 1;
             notes.due = Due::Nothing;
@@ -118,7 +118,7 @@ fn read_end(notes: &mut Notes, ring: usize) -> Option<Wrong>
         None => {
             notes.rings[ring] = Ring {
                 grants: known.grants,
-                held: false,
+                held: None,
             };
             notes.due = due_ended(notes.fixed, ring);
             None

@@ -5,8 +5,8 @@
 pub struct Ring {
     /// How many grants it had, those of repairs too.
     pub grants: u64,
-    /// Whether a client holds its lock.
-    pub held: bool,
+    /// The token of the hold of its lock, the number of its grant among those of the ring; none if no client holds it.
+    pub held: Option<u64>,
 }
 
 /// What a line of a file says of names.

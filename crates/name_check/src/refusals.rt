@@ -65,7 +65,7 @@ fn refused_new(notes: &Notes, ring: usize, name: &str, counts: Counts, known: Ri
 {
     if ring < notes.fixed {
         Some(Wrong::FixedRing)
-    } else if known.held {
+    } else if known.held.is_some() {
         Some(Wrong::HeldRing)
     } else if counts.before != known.grants {
         Some(Wrong::WrongBefore)
@@ -195,7 +195,7 @@ pub(crate) fn refused_grant(
             }
         }
         Due::Nothing => {
-            if known.held {
+            if known.held.is_some() {
                 Some(Wrong::GrantedTwice)
             } else if ring < fixed {
                 spent(top)
@@ -225,7 +225,7 @@ pub(crate) fn refused_end(due: Due, known: Ring) -> Option<Wrong>
 {
     match due {
         Due::Nothing => {
-            if known.held {
+            if known.held.is_some() {
                 None
             } else {
                 Some(Wrong::NotHeld)

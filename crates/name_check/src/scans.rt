@@ -12,7 +12,7 @@ fn first_held(rings: &[Ring], low: usize) -> Option<usize>
     ensures { result ≡ first_held low 0 rings.now }
 {
     for at in low..rings.len() {
-        if rings[at].held {
+        if rings[at].held.is_some() {
             return Some(at);
         }
     }

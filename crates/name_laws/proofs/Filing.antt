@@ -13,7 +13,7 @@ use Rattle.lock_names.specs.Names.{Named, NamedInput, Of, Again, More, step_name
 use Rattle.lock_names.specs.Promises.{IsNamed, IsAllowed}
 use Rattle.lock_names.proofs.Fitting.{zeroth, named_step}
 use Rattle.name_check.specs.declared.lines.Ring.{Ring}
-use Rattle.name_check.specs.Entries.{Top, Bind, File, Judged, fresh_ring, fresh_rings}
+use Rattle.name_check.specs.Entries.{Top, Bind, File, Judged, is_held, fresh_ring, fresh_rings}
 use Rattle.name_check.specs.Judged.{most_grants, AreSaid, same_bound, refused_bind, refused_again, of_ring, refusal, first_held, restated, noted}
 use Rattle.name_check.proofs.Scanning.{scan_found, scan_none}
 use Rattle.name_check.proofs.Sounding.{set_same}
@@ -21,17 +21,17 @@ use Rattle.name_check.proofs.Accepting.{state, nothing_said, said_first, said_bo
 use Rattle.name_bindings.proofs.Found.{own_name, some_same, none_some, there_is}
 use Rattle.name_bindings.specs.Bindings.{Bound, found, free, frees}
 use Rattle.name_laws.proofs.Saying.{said_asked}
-use Rattle.name_laws.specs.Written.{ring_seen, state_seen, restated_lines, file_lines, lines_of, lines_after, AreFresh, LinesAreSaid, FilesAreSaid}
+use Rattle.name_laws.specs.Written.{token_of, ring_seen, state_seen, restated_lines, file_lines, lines_of, lines_after, AreFresh, LinesAreSaid, FilesAreSaid}
 use Rattle.name_check.specs.declared.wrongs.Wrong.TheVariants as why
 use Rattle.name_check.specs.declared.lines.Due.TheVariants as due
 
 -- ---- bindings that are restated
 
 -- a ring that is not held is passed over
-same_test : (low at : ℕ) (g : Ring) → (at ≡ low → g.held ≡ false) → (nat_le low at && g.held) ≡ (nat_le (suc low) at && g.held)
+same_test : (low at : ℕ) (g : Ring) → (at ≡ low → is_held g ≡ false) → (nat_le low at && is_held g) ≡ (nat_le (suc low) at && is_held g)
 same_test low at g idle = elim (cases_eq at low) [
-  | inl e ↦ and_right (nat_le low at) g.held (idle e) ∙ sym (and_right (nat_le (suc low) at) g.held (idle e))
-  | inr n ↦ ap (λ (q : Bool). q && g.held) (apart low at n)
+  | inl e ↦ and_right (nat_le low at) (is_held g) (idle e) ∙ sym (and_right (nat_le (suc low) at) (is_held g) (idle e))
+  | inr n ↦ ap (λ (q : Bool). q && is_held g) (apart low at n)
 ]
   where
     apart : (low at : ℕ) → (at ≡ low → ⊥) → nat_le low at ≡ nat_le (suc low) at
@@ -40,17 +40,17 @@ same_test low at g idle = elim (cases_eq at low) [
       | inr q ↦ let le : low ≤ at = ltb-false at low q in le-leb low at le ∙ sym (le-leb (suc low) at (omega (arith, n)))
     ]
 
-passed_over : (low at : ℕ) (gs : List Ring) → ((j : ℕ) (g : Ring) → slice_get gs j ≡ Some g → at + j ≡ low → g.held ≡ false) → first_held low at gs ≡ first_held (suc low) at gs
+passed_over : (low at : ℕ) (gs : List Ring) → ((j : ℕ) (g : Ring) → slice_get gs j ≡ Some g → at + j ≡ low → is_held g ≡ false) → first_held low at gs ≡ first_held (suc low) at gs
 passed_over low at [] idle = refl
 passed_over low at (g ∷ gs) idle =
     ap (λ (q : Bool). if q then Some at else first_held low (suc at) gs) (same_test low at g (λ e. idle zero g refl (omega (arith, e))))
-    ∙ ap (λ (o : Option ℕ). if nat_le (suc low) at && g.held then Some at else o) (passed_over low (suc at) gs (λ j k f e. idle (suc j) k f (omega (arith, e))))
+    ∙ ap (λ (o : Option ℕ). if nat_le (suc low) at && is_held g then Some at else o) (passed_over low (suc at) gs (λ j k f e. idle (suc j) k f (omega (arith, e))))
 
 -- a ring of the pool has a name just while it is held, and a fixed lock has one
 record IsPool (rings : List Ring) (names : List (Option Bound)) (fixed : ℕ) : Type 0 where
   many : length names ≡ length rings
-  held : (i : ℕ) (g : Ring) (b : Bound) → fixed ≤ i → slice_get rings i ≡ Some g → slice_get names i ≡ Some (Some b) → g.held ≡ true
-  idle : (i : ℕ) (g : Ring) → slice_get rings i ≡ Some g → slice_get names i ≡ Some None → (fixed ≤ i) × (g.held ≡ false)
+  held : (i : ℕ) (g : Ring) (b : Bound) → fixed ≤ i → slice_get rings i ≡ Some g → slice_get names i ≡ Some (Some b) → is_held g ≡ true
+  idle : (i : ℕ) (g : Ring) → slice_get rings i ≡ Some g → slice_get names i ≡ Some None → (fixed ≤ i) × (is_held g ≡ false)
 
 -- the first ring of which a binding may be due
 data IsLow (fixed k low : ℕ) : Type 0 where
@@ -129,7 +129,7 @@ restates rings names fixed top p (None ∷ os) k low r w =
     let at : low ≡ k = low_there fixed k low w idle.0 in
     let next : first_held low 0 rings ≡ first_held (suc k) 0 rings =
     ap (λ (n : ℕ). first_held n 0 rings) at
-    ∙ passed_over k 0 rings (λ j x f e. ap (λ (y : Ring). y.held) (some_same x g.0 (sym f ∙ ap (λ (n : ℕ). slice_get rings n) (zero_on j k e) ∙ g.1)) ∙ idle.1) in
+    ∙ passed_over k 0 rings (λ j x f e. ap (λ (y : Ring). is_held y) (some_same x g.0 (sym f ∙ ap (λ (n : ℕ). slice_get rings n) (zero_on j k e) ∙ g.1)) ∙ idle.1) in
     subst (λ (o : Option ℕ). AreSaid (state rings names fixed top (restated o)) (restated_lines fixed (suc k) os) (state rings names fixed top due.Nothing)) (sym next)
     (restates rings names fixed top p os (suc k) (suc k) (rest_on names k None os r) (Pool refl (let le : fixed ≤ k = idle.0 in omega arith)))
 restates rings names fixed top p (Some b ∷ os) k low r w = elim (cases_Bool (nat_lt k fixed)) [
@@ -140,7 +140,7 @@ restates rings names fixed top p (Some b ∷ os) k low r w = elim (cases_Bool (n
       let le : fixed ≤ k = ltb-false k fixed q in
       let entry = rest_here names k (Some b) os r in
       let g = ring_there rings names k (Some b) p.many entry in
-      let held : g.0.held ≡ true = p.held k g.0 b le g.1 entry in
+      let held : is_held g.0 ≡ true = p.held k g.0 b le g.1 entry in
       let at : low ≡ k = low_there fixed k low w le in
       let found_it : first_held low 0 rings ≡ Some k = ap (λ (n : ℕ). first_held n 0 rings) at ∙ scan_found k k rings g.0 g.1 held (omega arith) (λ i x from to e. absurd (omega (arith, from, to))) in
       subst (λ (x : Bool). AreSaid (state rings names fixed top (restated (first_held low 0 rings))) (if x then restated_lines fixed (suc k) os else (Bind k b ∷ restated_lines fixed (suc k) os)) (state rings names fixed top due.Nothing)) (sym q)
@@ -158,14 +158,18 @@ was_seen [] i g e = absurd (none_some g e)
 was_seen (l ∷ ls) zero g e = (l, refl, some_same (ring_seen l) g e)
 was_seen (l ∷ ls) (suc i) g e = was_seen ls i g e
 
+some_token : (o : Option Holder) → is_some (token_of o) ≡ is_some o
+some_token None = refl
+some_token (Some h) = refl
+
 pool_of : (s : Named) → IsNamed s → IsPool (map ring_seen s.locks) s.names s.fixed
 pool_of s n = record {
   many = n.many ∙ sym (length-map s.locks ring_seen);
-  held = λ i g b le e f. let w = was_seen s.locks i g e in sym (ap (λ (x : Ring). x.held) w.2) ∙ (n.each i w.0 (Some b) w.1 f).1 le;
+  held = λ i g b le e f. let w = was_seen s.locks i g e in sym (ap (λ (x : Ring). is_held x) w.2) ∙ some_token w.0.holder ∙ (n.each i w.0 (Some b) w.1 f).1 le;
   idle = λ i g e f.
       let w = was_seen s.locks i g e in
       let r = n.each i w.0 None w.1 f in
-      (r.0, sym (ap (λ (x : Ring). x.held) w.2) ∙ ap (λ (o : Option Holder). is_some o) r.1);
+      (r.0, sym (ap (λ (x : Ring). is_held x) w.2) ∙ ap (λ (o : Option Holder). is_some (token_of o)) r.1);
 }
 
 may_file : (count n : ℕ) → count ≤ n → (if nat_lt n count then Some why.FewerRings else None) ≡ None
@@ -203,14 +207,14 @@ nothing_more s =
 pub files_are_said : FilesAreSaid
 files_are_said s n = file_said s s n (omega arith) (nothing_more s)
 
-still_held : (o : Option Holder) → is_some (option_map zeroth o) ≡ is_some o
+still_held : (o : Option Holder) → token_of (option_map zeroth o) ≡ token_of o
 still_held None = refl
 still_held (Some h) = refl
 
 seen_restarted : (ls : List Lock) → map ring_seen (map restarted ls) ≡ map ring_seen ls
 seen_restarted [] = refl
 seen_restarted (l ∷ ls) =
-    ap (λ (q : Bool). record { grants = l.ring.grants; held = q } ∷ map ring_seen (map restarted ls)) (still_held l.holder)
+    ap (λ (q : Option ℕ). record { grants = l.ring.grants; held = q } ∷ map ring_seen (map restarted ls)) (still_held l.holder)
     ∙ ap (λ (gs : List Ring). ring_seen l ∷ gs) (seen_restarted ls)
 
 said_again : (s : Named) → IsNamed s → AreSaid (state_seen s) (file_lines s) (state_seen (restarted_named s))
@@ -224,7 +228,7 @@ one_ring s a none =
     let one : length (s.locks ++ free_lock a ∷ []) - length (map ring_seen s.locks) ≡ suc zero = omega arith in
     let top : s.top ≡ s.top + a.grants = omega arith in
     let rings : map ring_seen s.locks ++ fresh_ring ∷ [] ≡ map ring_seen (s.locks ++ free_lock a ∷ []) =
-    ap (λ (n : ℕ). map ring_seen s.locks ++ record { grants = n; held = false } ∷ []) (sym none) ∙ sym (map-append ring_seen s.locks (free_lock a ∷ [])) in
+    ap (λ (n : ℕ). map ring_seen s.locks ++ record { grants = n; held = None } ∷ []) (sym none) ∙ sym (map-append ring_seen s.locks (free_lock a ∷ [])) in
     ap (λ (n : ℕ). state (map ring_seen s.locks ++ fresh_rings n) (s.names ++ frees n) s.fixed s.top due.Top) one
     ∙ ap (λ (gs : List Ring). state gs (s.names ++ None ∷ []) s.fixed s.top due.Top) rings
     ∙ ap (λ (n : ℕ). state (map ring_seen (s.locks ++ free_lock a ∷ [])) (s.names ++ None ∷ []) s.fixed n due.Top) top

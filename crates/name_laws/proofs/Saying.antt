@@ -29,7 +29,7 @@ use Rattle.name_check.proofs.Sounding.{set_same}
 use Rattle.name_check.proofs.Accepting.{state, nothing_said, said_first, set_twice, may_repair, noted_repair, said_grant, said_bind, said_end, said_free, said_handed}
 use Rattle.name_bindings.proofs.Found.{none_some, free_at, found_at}
 use Rattle.name_bindings.specs.Bindings.{Bound, found, free}
-use Rattle.name_laws.specs.Written.{ring_seen, state_seen, line_of_call, line_of_mark, lines_between, asked_ring, lines_at}
+use Rattle.name_laws.specs.Written.{token_of, ring_seen, state_seen, line_of_call, line_of_mark, lines_between, asked_ring, lines_at}
 use Rattle.name_check.specs.declared.lines.Due.TheVariants as due
 use Rattle.ring_model.specs.declared.events.Op.TheVariants as op
 use Rattle.held_locks.specs.declared.answers.Answer.TheVariants as answer
@@ -91,11 +91,11 @@ repair_line : (i : ℕ) (a : State ℕ) → IsRing a.ring → line_of_call i 9 (
 repair_line i a g = ap (λ (r : Reply). line_of_call i 9 r) (grant_reply a 0 g)
 
 -- the state with this number of grants of a ring, and the grants that it has more than before among those of all rings
-abbrev mended : List Ring → List (Option Bound) → ℕ → ℕ → ℕ → Bool → ℕ → Judged
+abbrev mended : List Ring → List (Option Bound) → ℕ → ℕ → ℕ → Option ℕ → ℕ → Judged
 mended rings names fixed top i held grants = state (slice_set rings i (record { grants = grants; held = held })) names fixed top due.Nothing
 
 -- what events of repairs say
-abbrev Mends : State ℕ → List Event → List Ring → List (Option Bound) → ℕ → ℕ → ℕ → Bool → Type 0
+abbrev Mends : State ℕ → List Event → List Ring → List (Option Bound) → ℕ → ℕ → ℕ → Option ℕ → Type 0
 Mends a es rings names fixed top i held =
     top + ((after till a es).grants - a.grants) ≤ most_grants →
     AreSaid (state rings names fixed top due.Nothing) (map (line_of_mark i) (map Call es))
@@ -104,7 +104,7 @@ Mends a es rings names fixed top i held =
 abbrev mend : ℕ → State ℕ → Bool → List Event
 mend n a settled = if settled then [] else (called a 9 (first_pass a 0) ∷ repairs n (next till a (first_pass a 0)))
 
-mends_none : (a : State ℕ) (rings : List Ring) (names : List (Option Bound)) (fixed top i : ℕ) (held : Bool) → slice_get rings i ≡ Some (record { grants = a.grants; held = held }) → Mends a [] rings names fixed top i held
+mends_none : (a : State ℕ) (rings : List Ring) (names : List (Option Bound)) (fixed top i : ℕ) (held : Option ℕ) → slice_get rings i ≡ Some (record { grants = a.grants; held = held }) → Mends a [] rings names fixed top i held
 mends_none a rings names fixed top i held there le =
     let same : top ≡ top + (a.grants - a.grants) = omega arith in
     nothing_said (state rings names fixed top due.Nothing) (mended rings names fixed (top + (a.grants - a.grants)) i held a.grants)
@@ -119,7 +119,7 @@ grows : (n : ℕ) (a : State ℕ) → IsRing a.ring → a.grants ≤ (after till
 grows zero a g = omega arith
 grows (suc n) a g = grows_by n a g (grows n (next till a (first_pass a 0)) (grant_ring a 0 g)) (is_settled a.ring.values)
 
-mends_by : (n : ℕ) (a : State ℕ) (rings : List Ring) (names : List (Option Bound)) (fixed top i : ℕ) (held : Bool) → IsRing a.ring → slice_get rings i ≡ Some (record { grants = a.grants; held = held }) →
+mends_by : (n : ℕ) (a : State ℕ) (rings : List Ring) (names : List (Option Bound)) (fixed top i : ℕ) (held : Option ℕ) → IsRing a.ring → slice_get rings i ≡ Some (record { grants = a.grants; held = held }) →
     ((rs : List Ring) (more : ℕ) → slice_get rs i ≡ Some (record { grants = (next till a (first_pass a 0)).grants; held = held }) → Mends (next till a (first_pass a 0)) (repairs n (next till a (first_pass a 0))) rs names fixed more i held) →
     (q : Bool) → Mends a (mend n a q) rings names fixed top i held
 mends_by n a rings names fixed top i held g there rest true le = mends_none a rings names fixed top i held there le
@@ -153,7 +153,7 @@ mends_by n a rings names fixed top i held g there rest false le =
     added : (top x y z : ℕ) → y ≡ x + 1 → y ≤ z → (top + 1) + (z - y) ≡ top + (z - x)
     added top x y z e le = omega arith
 
-mends : (n : ℕ) (a : State ℕ) (rings : List Ring) (names : List (Option Bound)) (fixed top i : ℕ) (held : Bool) → IsRing a.ring → slice_get rings i ≡ Some (record { grants = a.grants; held = held }) →
+mends : (n : ℕ) (a : State ℕ) (rings : List Ring) (names : List (Option Bound)) (fixed top i : ℕ) (held : Option ℕ) → IsRing a.ring → slice_get rings i ≡ Some (record { grants = a.grants; held = held }) →
     Mends a (repairs n a) rings names fixed top i held
 mends zero a rings names fixed top i held g there le = mends_none a rings names fixed top i held there le
 mends (suc n) a rings names fixed top i held g there le =
@@ -166,31 +166,31 @@ faulted : (s : Named) (i : ℕ) (l : Lock) (o : Option Bound) (at v : ℕ) → I
 faulted s i l o at v g lt less there entry le =
     let a : State ℕ = next till l.ring (op.Corrupt at v) in
     let rings : List Ring = map ring_seen s.locks in
-    let rest = mends (most_passes (length l.ring.ring.values)) a rings s.names s.fixed s.top i (is_some l.holder) (set_ring l.ring.ring at v g lt less) (seen_at s.locks i l there) le in
+    let rest = mends (most_passes (length l.ring.ring.values)) a rings s.names s.fixed s.top i (token_of l.holder) (set_ring l.ring.ring at v g lt less) (seen_at s.locks i l there) le in
     said_first (state_seen s) (state_seen s) (turned_to s i l (record l { ring = after till l.ring (fault l.ring at v) }) o) Other
     (map (line_of_mark i) (map Call (repairs (most_passes (length l.ring.ring.values)) a))) refl refl
     (subst (λ (os : List (Option Bound)). AreSaid (state_seen s) (map (line_of_mark i) (map Call (repairs (most_passes (length l.ring.ring.values)) a)))
-    (state (slice_set rings i (record { grants = (after till l.ring (fault l.ring at v)).grants; held = is_some l.holder })) os s.fixed (s.top + ((after till l.ring (fault l.ring at v)).grants - l.ring.grants)) due.Nothing))
+    (state (slice_set rings i (record { grants = (after till l.ring (fault l.ring at v)).grants; held = token_of l.holder })) os s.fixed (s.top + ((after till l.ring (fault l.ring at v)).grants - l.ring.grants)) due.Nothing))
     (sym (set_same s.names i o entry)) rest)
 
 -- ---- grants and ends
 
 -- after a grant, and after an end
-to_granted : (s : Named) (i : ℕ) (l m : Lock) (o : Option Bound) (names : List (Option Bound)) → m.ring.grants ≡ l.ring.grants + 1 → is_some m.holder ≡ true → names ≡ slice_set s.names i o →
-    state (slice_set (map ring_seen s.locks) i (record { grants = l.ring.grants + 1; held = true })) names s.fixed (s.top + 1) due.Nothing ≡ turned_to s i l m o
+to_granted : (s : Named) (i : ℕ) (l m : Lock) (o : Option Bound) (names : List (Option Bound)) → m.ring.grants ≡ l.ring.grants + 1 → token_of m.holder ≡ Some (l.ring.grants + 1) → names ≡ slice_set s.names i o →
+    state (slice_set (map ring_seen s.locks) i (record { grants = l.ring.grants + 1; held = Some (l.ring.grants + 1) })) names s.fixed (s.top + 1) due.Nothing ≡ turned_to s i l m o
 to_granted s i l m o names more held e =
     let top : s.top + 1 ≡ s.top + (m.ring.grants - l.ring.grants) = omega arith in
-    ap (λ (n : ℕ). state (slice_set (map ring_seen s.locks) i (record { grants = n; held = true })) names s.fixed (s.top + 1) due.Nothing) (sym more)
-    ∙ ap (λ (q : Bool). state (slice_set (map ring_seen s.locks) i (record { grants = m.ring.grants; held = q })) names s.fixed (s.top + 1) due.Nothing) (sym held)
+    ap (λ (n : ℕ). state (slice_set (map ring_seen s.locks) i (record { grants = n; held = Some (l.ring.grants + 1) })) names s.fixed (s.top + 1) due.Nothing) (sym more)
+    ∙ ap (λ (q : Option ℕ). state (slice_set (map ring_seen s.locks) i (record { grants = m.ring.grants; held = q })) names s.fixed (s.top + 1) due.Nothing) (sym held)
     ∙ ap (λ (os : List (Option Bound)). state (slice_set (map ring_seen s.locks) i (ring_seen m)) os s.fixed (s.top + 1) due.Nothing) e
     ∙ ap (λ (n : ℕ). state (slice_set (map ring_seen s.locks) i (ring_seen m)) (slice_set s.names i o) s.fixed n due.Nothing) top
 
-to_ended : (s : Named) (i : ℕ) (l m : Lock) (o : Option Bound) (names : List (Option Bound)) → m.ring.grants ≡ l.ring.grants → is_some m.holder ≡ false → names ≡ slice_set s.names i o →
-    state (slice_set (map ring_seen s.locks) i (record { grants = l.ring.grants; held = false })) names s.fixed s.top due.Nothing ≡ turned_to s i l m o
+to_ended : (s : Named) (i : ℕ) (l m : Lock) (o : Option Bound) (names : List (Option Bound)) → m.ring.grants ≡ l.ring.grants → token_of m.holder ≡ None → names ≡ slice_set s.names i o →
+    state (slice_set (map ring_seen s.locks) i (record { grants = l.ring.grants; held = None })) names s.fixed s.top due.Nothing ≡ turned_to s i l m o
 to_ended s i l m o names more held e =
     let top : s.top ≡ s.top + (m.ring.grants - l.ring.grants) = omega arith in
-    ap (λ (n : ℕ). state (slice_set (map ring_seen s.locks) i (record { grants = n; held = false })) names s.fixed s.top due.Nothing) (sym more)
-    ∙ ap (λ (q : Bool). state (slice_set (map ring_seen s.locks) i (record { grants = m.ring.grants; held = q })) names s.fixed s.top due.Nothing) (sym held)
+    ap (λ (n : ℕ). state (slice_set (map ring_seen s.locks) i (record { grants = n; held = None })) names s.fixed s.top due.Nothing) (sym more)
+    ∙ ap (λ (q : Option ℕ). state (slice_set (map ring_seen s.locks) i (record { grants = m.ring.grants; held = q })) names s.fixed s.top due.Nothing) (sym held)
     ∙ ap (λ (os : List (Option Bound)). state (slice_set (map ring_seen s.locks) i (ring_seen m)) os s.fixed s.top due.Nothing) e
     ∙ ap (λ (n : ℕ). state (slice_set (map ring_seen s.locks) i (ring_seen m)) (slice_set s.names i o) s.fixed n due.Nothing) top
 
@@ -220,7 +220,7 @@ gets_fixed s i l b w g there entry lt idle le =
     let few : s.top < most_grants = one_more s.top l.ring.grants m.ring.grants more le in
     subst (λ (e : Entry). AreSaid (state_seen s) (e ∷ []) (turned_to s i l m (Some b))) (sym (grant_line i l.ring w.label g))
     (subst (λ (t : Judged). AreSaid (state_seen s) (Grant i ∷ []) t) (to_granted s i l m (Some b) s.names more refl (sym (set_same s.names i (Some b) entry)))
-    (said_grant (map ring_seen s.locks) s.names s.fixed s.top i (ring_seen l) (seen_at s.locks i l there) (ap (λ (o : Option Holder). is_some o) idle) lt few))
+    (said_grant (map ring_seen s.locks) s.names s.fixed s.top i (ring_seen l) (seen_at s.locks i l there) (ap (λ (o : Option Holder). is_some (token_of o)) idle) lt few))
 
 -- a free ring of the pool gets a name
 gets_name : (s : Named) (i : ℕ) (l : Lock) (b : Bound) (w : Waiter) → IsRing l.ring.ring → slice_get s.locks i ≡ Some l → s.fixed ≤ i → l.holder ≡ None → b.before ≡ l.ring.grants → b.floor ≡ s.top → found b.name s.names ≡ None →
@@ -231,7 +231,7 @@ gets_name s i l b w g there pool idle before floor nobody le =
     let few : s.top < most_grants = one_more s.top l.ring.grants m.ring.grants more le in
     subst (λ (e : Entry). AreSaid (state_seen s) (Bind i b ∷ e ∷ []) (turned_to s i l m (Some b))) (sym (grant_line i l.ring w.label g))
     (subst (λ (t : Judged). AreSaid (state_seen s) (Bind i b ∷ Grant i ∷ []) t) (to_granted s i l m (Some b) (slice_set s.names i (Some b)) more refl refl)
-    (said_bind (map ring_seen s.locks) s.names s.fixed s.top i b (ring_seen l) (seen_at s.locks i l there) pool (ap (λ (o : Option Holder). is_some o) idle) before floor nobody few))
+    (said_bind (map ring_seen s.locks) s.names s.fixed s.top i b (ring_seen l) (seen_at s.locks i l there) pool (ap (λ (o : Option Holder). is_some (token_of o)) idle) before floor nobody few))
 
 -- a hold ends
 ends_fixed : (s : Named) (i : ℕ) (l : Lock) (b : Bound) (h : Holder) (seat : ℕ) (answers : List (ℕ × Answer)) → slice_get s.locks i ≡ Some l → slice_get s.names i ≡ Some (Some b) → i < s.fixed → l.holder ≡ Some h →
@@ -239,14 +239,14 @@ ends_fixed : (s : Named) (i : ℕ) (l : Lock) (b : Bound) (h : Holder) (seat : �
 ends_fixed s i l b h seat answers there entry lt held =
     let m : Lock = (ended l.ring [] seat answers).lock in
     subst (λ (t : Judged). AreSaid (state_seen s) (End i ∷ []) t) (to_ended s i l m (Some b) s.names refl refl (sym (set_same s.names i (Some b) entry)))
-    (said_end (map ring_seen s.locks) s.names s.fixed s.top i (ring_seen l) (seen_at s.locks i l there) (ap (λ (o : Option Holder). is_some o) held) lt)
+    (said_end (map ring_seen s.locks) s.names s.fixed s.top i (ring_seen l) (seen_at s.locks i l there) (ap (λ (o : Option Holder). is_some (token_of o)) held) lt)
 
 ends_pool : (s : Named) (i : ℕ) (l : Lock) (b : Bound) (h : Holder) (seat : ℕ) (answers : List (ℕ × Answer)) → slice_get s.locks i ≡ Some l → s.fixed ≤ i → l.holder ≡ Some h →
     Says s i l (ended l.ring [] seat answers) (Some b) None
 ends_pool s i l b h seat answers there pool held =
     let m : Lock = (ended l.ring [] seat answers).lock in
     subst (λ (t : Judged). AreSaid (state_seen s) (End i ∷ Free i ∷ []) t) (to_ended s i l m None (slice_set s.names i None) refl refl refl)
-    (said_free (map ring_seen s.locks) s.names s.fixed s.top i (ring_seen l) (seen_at s.locks i l there) (ap (λ (o : Option Holder). is_some o) held) pool)
+    (said_free (map ring_seen s.locks) s.names s.fixed s.top i (ring_seen l) (seen_at s.locks i l there) (ap (λ (o : Option Holder). is_some (token_of o)) held) pool)
 
 hands_on : (s : Named) (i : ℕ) (l : Lock) (b : Bound) (h : Holder) (w : Waiter) (queue : List Waiter) (seat : ℕ) (answers : List (ℕ × Answer)) → IsRing l.ring.ring → slice_get s.locks i ≡ Some l → slice_get s.names i ≡ Some (Some b) →
     l.holder ≡ Some h → top_after s.top l (ended l.ring (w ∷ queue) seat answers) ≤ most_grants → Says s i l (ended l.ring (w ∷ queue) seat answers) (Some b) (Some b)
@@ -256,7 +256,7 @@ hands_on s i l b h w queue seat answers g there entry held le =
     let few : s.top < most_grants = one_more s.top l.ring.grants m.ring.grants more le in
     subst (λ (e : Entry). AreSaid (state_seen s) (End i ∷ e ∷ []) (turned_to s i l m (Some b))) (sym (grant_line i l.ring w.label g))
     (subst (λ (t : Judged). AreSaid (state_seen s) (End i ∷ Grant i ∷ []) t) (to_granted s i l m (Some b) s.names more refl (sym (set_same s.names i (Some b) entry)))
-    (said_handed (map ring_seen s.locks) s.names s.fixed s.top i (ring_seen l) (seen_at s.locks i l there) (ap (λ (o : Option Holder). is_some o) held) few))
+    (said_handed (map ring_seen s.locks) s.names s.fixed s.top i (ring_seen l) (seen_at s.locks i l there) (ap (λ (o : Option Holder). is_some (token_of o)) held) few))
 
 -- ---- the turn of a ring that has the name
 

@@ -1,7 +1,8 @@
 -- How the steps of the machine with names are written as lines (this project's own).
-use Rattle.std.specs.Prelude.{ℕ, suc, if◌then◌else◌, List, [], ◌∷◌, Option, Some, None, option_map, ◌≡◌, ◌≤◌, map, length, slice_get, nat_lt, ◌++◌, is_some, ◌==◌}
+use Rattle.std.specs.Prelude.{ℕ, suc, if◌then◌else◌, List, [], ◌∷◌, Option, Some, None, option_map, ◌≡◌, ◌≤◌, map, length, slice_get, nat_lt, ◌++◌, ◌==◌}
 use Rattle.ring_model.specs.LockSeats.{grant_seat}
 use Rattle.ring_model.specs.declared.events.Reply.{Reply}
+use Rattle.held_locks.specs.declared.answers.Holder.{Holder}
 use Rattle.held_locks.specs.Queues.{Lock}
 use Rattle.held_locks.specs.Locks.{Ask, Acquire, Try, Asked, step, Mark, Call, Survey}
 use Rattle.lock_names.specs.Names.{Named, NamedInput, Of, Again, More, step_named, named_after, of_ring, fresh, at_ring, grown}
@@ -13,9 +14,13 @@ use Rattle.name_bindings.specs.Bindings.{Bound, found, free}
 use Rattle.name_check.specs.declared.lines.Due.TheVariants as due
 use Rattle.ring_model.specs.declared.events.Reply.TheVariants as reply
 
+-- the token of a hold, if a client holds the lock
+abbrev pub token_of : Option Holder → Option ℕ
+token_of o = option_map (λ (h : Holder). h.token) o
+
 -- the state of the machine, as the judge knows it
 abbrev pub ring_seen : Lock → Ring
-ring_seen l = record { grants = l.ring.grants; held = is_some l.holder }
+ring_seen l = record { grants = l.ring.grants; held = token_of l.holder }
 
 abbrev pub state_seen : Named → Judged
 state_seen s = record {

@@ -284,7 +284,7 @@ due_counted old new n many = record {
   short = refl;
 }
 
-no_lack : (old new : List LockView) (c i : ℕ) (a : Ask) (raw : Answers) (strict : Bool) → IsDone old new c i a raw → (strict && is_lack raw.own) ≡ false
+pub no_lack : (old new : List LockView) (c i : ℕ) (a : Ask) (raw : Answers) (strict : Bool) → IsDone old new c i a raw → (strict && is_lack raw.own) ≡ false
 no_lack old new c i a raw strict d = elim (cases_Bool (is_lack raw.own)) [
   | inl e ↦ absurd (done_not old new c i a raw d e)
   | inr e ↦ ap (λ (q : Bool). strict && q) e ∙ and_false strict

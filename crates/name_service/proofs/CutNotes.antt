@@ -29,10 +29,10 @@ use Rattle.lock_names.specs.Names.{Bound, fresh}
 use Rattle.lock_names.specs.Kept.{NamedView, named_of, reached, noted_at, IsTaken}
 use Rattle.lock_names.specs.Leaves.{told_left, name_left, names_left}
 use Rattle.name_service.specs.declared.service.NameTerms.{NameTerms}
-use Rattle.name_service.specs.Naming.{NamingView}
+use Rattle.name_service.specs.Naming.{NamingView, is_no_lock}
 use Rattle.name_service.specs.NamesKept.{EndsWithin}
 use Rattle.name_service.specs.Noting.{binding_of, note_of_new, note_of_free, note_at, is_freed, notes_of_names_left}
-use Rattle.name_service.specs.Serving.{IsNameToldOf, IsNameToldOfLeave, IsNameTold, IsNameAnsweredIf, IsNameInputAnswered, IsNameLineAnswered}
+use Rattle.name_service.specs.Serving.{IsNameToldOf, IsNameToldIf, IsNameToldOfLeave, IsNameTold, IsNameAnsweredIf, IsNameInputAnswered, IsNameLineAnswered}
 use Rattle.name_service.specs.RightNames.{AreRightNames}
 use Rattle.name_service.proofs.AskedRings.{reaching, none_is, wanting_is}
 use Rattle.name_service.proofs.CutTexts.{nothing_first, HasFirst, front_of_both, none_within, none_or_whole, remark_is_line, plain_front}
@@ -322,14 +322,18 @@ module _ (floor : ℕ) (terms : NameTerms) (old new : NamingView) (said noted : 
     | inr w ↦ none_cut (wanting_is terms c x a old new said noted t w).notes
   ]
 
+  if_lock_cut : (q : Bool) (c : ℕ) (x : List ℕ) (a : Ask) → IsName x → IsNameToldIf q terms c x a old said noted new → IsCut
+  if_lock_cut true c x a is t = none_cut t.notes
+  if_lock_cut false c x a is t = asked_line_cut c x a is t
+
   told_cut : (c : ℕ) (ask : lines.Ask) → lines.HasName ask → IsNameTold terms c (one_ask ask) old said noted new → IsCut
-  told_cut c (lines.acquire name label) is t = asked_line_cut c name (Acquire label) is t
-  told_cut c (lines.try name label) is t = asked_line_cut c name (Try label) is t
-  told_cut c (lines.release name token) is t = asked_line_cut c name (Release token) is t
-  told_cut c (lines.cancel name) is t = asked_line_cut c name Cancel is t
+  told_cut c (lines.acquire name label) is t = if_lock_cut (is_no_lock terms.most old.named name (Acquire label)) c name (Acquire label) is t
+  told_cut c (lines.try name label) is t = if_lock_cut (is_no_lock terms.most old.named name (Try label)) c name (Try label) is t
+  told_cut c (lines.release name token) is t = if_lock_cut (is_no_lock terms.most old.named name (Release token)) c name (Release token) is t
+  told_cut c (lines.cancel name) is t = if_lock_cut (is_no_lock terms.most old.named name Cancel) c name Cancel is t
   told_cut c lines.leave is t = leave_line_cut floor terms c old new said noted t right noting text ends front
-  told_cut c (lines.corrupt name machine value) is t = asked_line_cut c name (Corrupt (in_32_bits machine) (in_32_bits value)) is t
-  told_cut c (lines.stats name) is t = asked_line_cut c name Stats is t
+  told_cut c (lines.corrupt name machine value) is t = if_lock_cut (is_no_lock terms.most old.named name (Corrupt (in_32_bits machine) (in_32_bits value))) c name (Corrupt (in_32_bits machine) (in_32_bits value)) is t
+  told_cut c (lines.stats name) is t = if_lock_cut (is_no_lock terms.most old.named name Stats) c name Stats is t
 
   if_cut : (off : Bool) (c : ℕ) (ask : lines.Ask) → lines.HasName ask → IsNameAnsweredIf off terms c ask old said noted new → IsCut
   if_cut true c ask is t = none_cut t.notes

@@ -1,6 +1,6 @@
 -- Equal lines about names give equal answers.
 use Rattle.std.proofs.Common.{◌≡◌, ℕ, ◌-◌, Bool, true, false, cond, List, [], ◌∷◌, ◌++◌, length, map, Option, Some, None, inl, inr, refl, sym, ap, subst, ◌∙◌}
-use Rattle.std.specs.Prelude.{is_some, option_map, nat_lt, not, ◌||◌, ◌&&◌}
+use Rattle.std.specs.Prelude.{is_some, option_map, nat_le, nat_lt, ◌==◌, not, ◌||◌, ◌&&◌}
 use Rattle.std.proofs.lemmas.Bool.{true≢false}
 use Rattle.disks.specs.Held.{Held}
 use Rattle.line_service.specs.Stands.{Stand, stand}
@@ -33,9 +33,9 @@ use Rattle.lock_names.specs.Leaves.{told_left, said_left}
 use Rattle.lock_names.proofs.Taking.{same_named}
 use Rattle.name_service.specs.declared.service.NameTerms.{NameTerms}
 use Rattle.name_service.specs.declared.service.NameService.{NameService}
-use Rattle.name_service.specs.Naming.{NamingView, IsNameCounted, count_at, is_wanting, reply_told, is_name_lack}
+use Rattle.name_service.specs.Naming.{NamingView, IsNameCounted, count_at, is_no_lock, is_wanting, reply_told, is_name_lack}
 use Rattle.name_service.specs.Noting.{lines_of_said, note_of_new, note_of_free, note_at, is_freed, notes_of_names_left}
-use Rattle.name_service.specs.Serving.{own_told, IsOnlySaid, IsNameToldOf, IsNameToldOfLeave, IsNameTold, IsNameAnsweredIf, IsNameInputAnswered, IsNameLineAnswered, IsNameServed, is_name_past}
+use Rattle.name_service.specs.Serving.{own_told, IsOnlySaid, IsNameToldOf, IsNameToldIf, IsNameToldOfLeave, IsNameTold, IsNameAnsweredIf, IsNameInputAnswered, IsNameLineAnswered, IsNameServed, is_name_past}
 use Rattle.name_service.specs.Life.{as_told_while}
 use Rattle.name_service.specs.NameEqual.{AreEqualNames, AreEqualServices, EqualNameLinesGiveEqualAnswers}
 use Rattle.name_service.proofs.Heard.{said_told}
@@ -50,6 +50,12 @@ wanting_equal most a b e =
     ap (λ (os : List (Option Bound)). not (is_some (free os)) && nat_lt (length b.named.locks - b.named.fixed) most) e.names
     ∙ (ap (λ (n : ℕ). not (is_some (free a.named.names)) && nat_lt (n - b.named.fixed) most) (as_many_equal a.named.locks b.named.locks e.locks)
     ∙ ap (λ (n : ℕ). not (is_some (free a.named.names)) && nat_lt (length a.named.locks - n) most) e.fixed)
+
+no_lock_equal : (most : ℕ) (a b : NamingView) (x : List ℕ) (ask : Ask) → AreEqualNames a b → is_no_lock most b.named x ask ≡ is_no_lock most a.named x ask
+no_lock_equal most a b x ask e =
+    ap (λ (s : Named). not (is_some (reached s x ask)) && (most == 0 && nat_le (length b.named.locks) b.named.fixed)) (named_equal a b e)
+    ∙ (ap (λ (n : ℕ). not (is_some (reached (named_of a.named) x ask)) && (most == 0 && nat_le n b.named.fixed)) (as_many_equal a.named.locks b.named.locks e.locks)
+    ∙ ap (λ (n : ℕ). not (is_some (reached (named_of a.named) x ask)) && (most == 0 && nat_le (length a.named.locks) n)) e.fixed)
 
 counted_equal : (a b c d : NamingView) (m n : ℕ) → AreEqualNames a b → AreEqualLocks c.named.locks d.named.locks → named_of d.named ≡ named_of c.named → n ≡ m → IsNameCounted a c m → IsNameCounted b d n → AreEqualNames c d
 counted_equal a b c d m n e f named same p q = record {
@@ -189,14 +195,22 @@ module _ (terms : NameTerms) (strict : terms.lines.strict ≡ true) (a b c d : N
             (ap (λ (ls : List Left). count_of_all d.named.locks ls) left ∙ count_left_equal c.named.locks d.named.locks r.0 c.left) p.counted q.counted;
       }
 
+  if_lock_alike : (q : Bool) (client : ℕ) (x : List ℕ) (ask : Ask) → IsNameToldIf q terms client x ask a said noted c → IsNameToldIf q terms client x ask b told kept d → AreAlike
+  if_lock_alike true client x ask p q = only_alike _ p q
+  if_lock_alike false client x ask p q = told_alike client x ask p q
+
+  named_alike : (client : ℕ) (x : List ℕ) (ask : Ask) → IsNameTold terms client (Some (x, ask)) a said noted c → IsNameTold terms client (Some (x, ask)) b told kept d → AreAlike
+  named_alike client x ask p q =
+      if_lock_alike (is_no_lock terms.most a.named x ask) client x ask p (subst (λ (z : Bool). IsNameToldIf z terms client x ask b told kept d) (no_lock_equal terms.most a b x ask e) q)
+
   asked_alike : (client : ℕ) (ask : lines.Ask) → IsNameTold terms client (one_ask ask) a said noted c → IsNameTold terms client (one_ask ask) b told kept d → AreAlike
-  asked_alike client (lines.acquire name label) p q = told_alike client name (Acquire label) p q
-  asked_alike client (lines.try name label) p q = told_alike client name (Try label) p q
-  asked_alike client (lines.release name token) p q = told_alike client name (Release token) p q
-  asked_alike client (lines.cancel name) p q = told_alike client name Cancel p q
+  asked_alike client (lines.acquire name label) p q = named_alike client name (Acquire label) p q
+  asked_alike client (lines.try name label) p q = named_alike client name (Try label) p q
+  asked_alike client (lines.release name token) p q = named_alike client name (Release token) p q
+  asked_alike client (lines.cancel name) p q = named_alike client name Cancel p q
   asked_alike client lines.leave p q = leave_alike client p q
-  asked_alike client (lines.corrupt name machine value) p q = told_alike client name (Corrupt (in_32_bits machine) (in_32_bits value)) p q
-  asked_alike client (lines.stats name) p q = told_alike client name Stats p q
+  asked_alike client (lines.corrupt name machine value) p q = named_alike client name (Corrupt (in_32_bits machine) (in_32_bits value)) p q
+  asked_alike client (lines.stats name) p q = named_alike client name Stats p q
 
   if_alike : (off : Bool) (client : ℕ) (ask : lines.Ask) → IsNameAnsweredIf off terms client ask a said noted c → IsNameAnsweredIf off terms client ask b told kept d → AreAlike
   if_alike true client ask p q = only_alike _ p q

@@ -1,6 +1,8 @@
 -- Lines about names are inputs of the machine with names.
-use Rattle.std.proofs.Common.{◌≡◌, ℕ, Bool, true, false, List, [], ◌∷◌, ◌++◌, map, Option, None, Some, ◌⊎◌, inl, inr, refl, sym, ap, subst, ◌∙◌, append-nil}
-use Rattle.std.specs.Prelude.{option_map}
+use Rattle.std.proofs.Common.{◌≡◌, ◌≤◌, length, ℕ, Bool, true, false, List, [], ◌∷◌, ◌++◌, map, Option, None, Some, ◌⊎◌, inl, inr, refl, sym, ap, subst, ◌∙◌, append-nil}
+use Rattle.std.specs.Prelude.{not, ◌&&◌, ◌==◌, nat_le, is_some, option_map}
+use Rattle.std.proofs.lemmas.Bool.{false≢true, leb-true}
+use Rattle.std.proofs.lemmas.List.{length-map}
 use Rattle.line_service.specs.Answering.{Answers}
 use Rattle.held_locks.specs.Locks.{Ask}
 use Rattle.held_locks.specs.declared.answers.Holder.{Holder}
@@ -16,16 +18,17 @@ use Rattle.lock_protocol.specs.Inputs.{IsReadAs}
 use Rattle.lock_protocol.specs.Answers.{answer_line, denial_line}
 use Rattle.lock_names.specs.declared.replies.Reply.{Reply}
 use Rattle.lock_names.specs.declared.replies.Reply.TheVariants as reply
-use Rattle.lock_names.specs.Names.{Named, NamedInput, Of, Said, step_named, named_after, said_after, leave_each}
+use Rattle.held_locks.specs.Kept.{lock_of}
+use Rattle.lock_names.specs.Names.{Bound, Named, NamedInput, Of, Said, step_named, named_after, said_after, leave_each}
 use Rattle.lock_names.specs.Promises.{AreAllowed}
-use Rattle.lock_names.specs.Kept.{NamedView, named_of, own_said, grant_said, IsTaken, IsWanting}
+use Rattle.lock_names.specs.Kept.{NamedView, named_of, reached, own_said, grant_said, IsTaken, IsWanting}
 use Rattle.lock_names.proofs.LeftNames.{leaves_allowed}
 use Rattle.lock_journal.specs.Asking.{one_ask, is_off}
 use Rattle.lock_journal.specs.Answering.{denial_of}
 use Rattle.name_service.specs.declared.service.NameTerms.{NameTerms}
-use Rattle.name_service.specs.Naming.{NamingView, reply_told, is_wanting}
+use Rattle.name_service.specs.Naming.{NamingView, reply_told, has_no_pool, is_no_lock, is_wanting}
 use Rattle.name_service.specs.Noting.{lines_of_said}
-use Rattle.name_service.specs.Serving.{IsOnlySaid, IsNameToldOf, IsNameTold, IsNameAnsweredIf, IsNameInputAnswered, IsNameLineAnswered}
+use Rattle.name_service.specs.Serving.{IsOnlySaid, IsNameToldOf, IsNameToldIf, IsNameTold, IsNameAnsweredIf, IsNameInputAnswered, IsNameLineAnswered}
 use Rattle.name_service.specs.Life.{inputs_of, as_told_while, IsHeard, IsUnheard, AreHeard, NameLinesAreHeard}
 
 -- ---- lists of inputs
@@ -65,12 +68,30 @@ lacking w c x why own g e f =
     either true = append-nil (answer_line c x (answer.Refused why))
     either false = append-nil (answer_line c x (answer.Refused why))
 
+-- ---- a list without a pool
+
+no_more : (q : Bool) (o : Option (ℕ × Bound)) → (not (is_some o) && q) ≡ true → (o ≡ None) × (q ≡ true)
+no_more q None e = (refl, e)
+no_more q (Some p) e = absurd (false≢true e)
+
+both_so : (p q : Bool) → (p && q) ≡ true → q ≡ true
+both_so true q e = e
+both_so false q e = absurd (false≢true e)
+
+none_reached : (most : ℕ) (v : NamedView) (x : List ℕ) (a : Ask) → is_no_lock most v x a ≡ true → reached (named_of v) x a ≡ None
+none_reached most v x a e = (no_more (has_no_pool most v) (reached (named_of v) x a) e).0
+
+no_ring_more : (most : ℕ) (v : NamedView) (x : List ℕ) (a : Ask) → is_no_lock most v x a ≡ true → length (named_of v).locks ≤ v.fixed
+no_ring_more most v x a e =
+    let le : length v.locks ≤ v.fixed = leb-true (length v.locks) v.fixed (both_so (most == 0) (nat_le (length v.locks) v.fixed) (no_more (has_no_pool most v) (reached (named_of v) x a) e).1) in
+    subst (λ (n : ℕ). n ≤ v.fixed) (sym (length-map v.locks lock_of)) le
+
 -- ---- a line
 
 -- what the machine took of a line, and what it has then
 record IsLineHeard (s : Named) (line said : List ℕ) (after : Named) : Type 0 where
   pub is : List NamedInput
-  pub heard : IsHeard s line said is ⊎ (IsUnheard line said × (is ≡ []))
+  pub heard : IsHeard s line said is ⊎ (IsUnheard s line said × (is ≡ []))
   pub ends : after ≡ named_after s is
   pub allowed : AreAllowed s is
 
@@ -81,7 +102,7 @@ module _ (terms : NameTerms) (old new : NamingView) (line said noted : List ℕ)
   same : new ≡ old → named_of new.named ≡ named_of old.named
   same e = ap (λ (v : NamingView). named_of v.named) e
 
-  unheard : IsUnheard line said → named_of new.named ≡ named_of old.named → Heard
+  unheard : IsUnheard (named_of old.named) line said → named_of new.named ≡ named_of old.named → Heard
   unheard u e = record { is = []; heard = inr (u, refl); ends = e; allowed = tt }
 
   denied : (c : ℕ) (why : Denial) → IsOnlySaid (denial_line c why) old said noted new → Heard
@@ -114,9 +135,30 @@ module _ (terms : NameTerms) (old new : NamingView) (line said noted : List ℕ)
       let w : Bool = is_wanting terms.most old.named in
       let stays : named_of new.named ≡ named_of old.named = ap (λ (v : NamedView). named_of v) k.same in
       elim k.why [
-        | inl p ↦ unheard (inr (inr (c, x, refusal.Full, inl refl, t.says ∙ lacking w c x refusal.Full t.answers.own t.answers.granted p.0 k.none.1))) stays
-        | inr p ↦ unheard (inr (inr (c, x, refusal.Memory, inr refl, t.says ∙ lacking w c x refusal.Memory t.answers.own t.answers.granted p k.none.1))) stays
+        | inl p ↦ unheard (inr (inr (inr (c, x, refusal.Full, inl refl, t.says ∙ lacking w c x refusal.Full t.answers.own t.answers.granted p.0 k.none.1)))) stays
+        | inr p ↦ unheard (inr (inr (inr (c, x, refusal.Memory, inr refl, t.says ∙ lacking w c x refusal.Memory t.answers.own t.answers.granted p k.none.1)))) stays
       ]
+
+  unknown : (c : ℕ) (ask : lines.Ask) (x : List ℕ) (a : Ask) → IsReadAs line (input.Asked c ask) → one_ask ask ≡ Some (x, a) → is_no_lock terms.most old.named x a ≡ true →
+      IsOnlySaid (answer_line c x (answer.Refused refusal.Lock)) old said noted new → Heard
+  unknown c ask x a r one none t = unheard (inr (inr (inl (record {
+    client = c;
+    ask = ask;
+    read = r;
+    name = x;
+    of = a;
+    one = one;
+    pool = no_ring_more terms.most old.named x a none;
+    none = none_reached terms.most old.named x a none;
+    says = t.says;
+  })))) (same t.leaves)
+
+  of_name : (q : Bool) (c : ℕ) (ask : lines.Ask) (x : List ℕ) (a : Ask) → IsReadAs line (input.Asked c ask) → one_ask ask ≡ Some (x, a) → is_no_lock terms.most old.named x a ≡ q → IsNameToldIf q terms c x a old said noted new → Heard
+  of_name true c ask x a r one none t = unknown c ask x a r one none t
+  of_name false c ask x a r one none t = elim t.done.answer [
+    | inl k ↦ taken c ask x a r one t k
+    | inr k ↦ wanting_is c x a t k
+  ]
 
   asked : (c : ℕ) (ask : lines.Ask) (o : Option (List ℕ × Ask)) → IsReadAs line (input.Asked c ask) → one_ask ask ≡ o → IsNameTold terms c o old said noted new → Heard
   asked c ask None r one t =
@@ -134,10 +176,7 @@ module _ (terms : NameTerms) (old new : NamingView) (line said noted : List ℕ)
         ends = t.done.named;
         allowed = leaves_allowed s c old.named.names;
       }
-  asked c ask (Some (x, a)) r one t = elim t.done.answer [
-    | inl k ↦ taken c ask x a r one t k
-    | inr k ↦ wanting_is c x a t k
-  ]
+  asked c ask (Some (x, a)) r one t = of_name (is_no_lock terms.most old.named x a) c ask x a r one refl t
 
   answered_if : (off : Bool) (c : ℕ) (ask : lines.Ask) → IsReadAs line (input.Asked c ask) → IsNameAnsweredIf off terms c ask old said noted new → Heard
   answered_if true c ask r t = denied c denial.Off t

@@ -33,3 +33,4 @@ pub mod Wanting
 pub mod Heard
 pub mod OtherLines
 pub mod NamedLife
+pub mod FixedNames

@@ -56,10 +56,10 @@ use Rattle.name_remarks.specs.Remarks.{Remark, bind, free, top, remark_text, Beg
 use Rattle.name_remarks.specs.Bindings.{Bindings, nothing, AreTakenIn}
 use Rattle.name_service.specs.declared.service.NameService.{NameService}
 use Rattle.name_service.specs.declared.service.NameTerms.{NameTerms}
-use Rattle.name_service.specs.Naming.{NamingView}
+use Rattle.name_service.specs.Naming.{NamingView, is_no_lock}
 use Rattle.name_service.specs.NamesText.{pool_bindings, names_text}
 use Rattle.name_service.specs.Noting.{reply_line, line_of_said, binding_of, note_of_new, note_of_free, note_at, is_freed, note_of_name_left, notes_of_names_left}
-use Rattle.name_service.specs.Serving.{IsNameToldOf, IsNameTold, IsNameAnsweredIf, IsNameInputAnswered, IsNameServed}
+use Rattle.name_service.specs.Serving.{IsNameToldOf, IsNameToldIf, IsNameTold, IsNameAnsweredIf, IsNameInputAnswered, IsNameServed}
 use Rattle.name_service.specs.RightNames.{AreRightNames}
 use Rattle.name_service.specs.NameLines.{AreNamesAnswered, begun_names}
 use Rattle.name_service.specs.NameReplicas.{named_in, begun_with_all, AreNamesReplied, LocksOfNamedReplicasComeBack, NamesOfReplicasComeBack}
@@ -117,14 +117,18 @@ module _ (terms : NameTerms) (old new : NamingView) (said noted : List ℕ) wher
   are : (text : List ℕ) → said ≡ text → AreLines text → AreLines said
   are text e p = subst (λ (u : List ℕ). AreLines u) (sym e) p
 
+  of_named : (q : Bool) (client : ℕ) (name : List ℕ) (a : Ask) → IsNameToldIf q terms client name a old said noted new → AreLines said
+  of_named true client name a t = are _ t.says (said_ends (record { client = client; name = name; reply = reply.Lock (answer.Refused refusal.Lock) }))
+  of_named false client name a t = are _ t.says (of_each line_of_said said_ends _)
+
   of_told : (client : ℕ) (ask : lines.Ask) → IsNameTold terms client (one_ask ask) old said noted new → AreLines said
-  of_told client (lines.acquire name label) t = are _ t.says (of_each line_of_said said_ends _)
-  of_told client (lines.try name label) t = are _ t.says (of_each line_of_said said_ends _)
-  of_told client (lines.release name token) t = are _ t.says (of_each line_of_said said_ends _)
-  of_told client (lines.cancel name) t = are _ t.says (of_each line_of_said said_ends _)
+  of_told client (lines.acquire name label) t = of_named (is_no_lock terms.most old.named name (Acquire label)) client name (Acquire label) t
+  of_told client (lines.try name label) t = of_named (is_no_lock terms.most old.named name (Try label)) client name (Try label) t
+  of_told client (lines.release name token) t = of_named (is_no_lock terms.most old.named name (Release token)) client name (Release token) t
+  of_told client (lines.cancel name) t = of_named (is_no_lock terms.most old.named name Cancel) client name Cancel t
   of_told client lines.leave t = are _ t.says (of_each line_of_said said_ends _)
-  of_told client (lines.corrupt name machine value) t = are _ t.says (of_each line_of_said said_ends _)
-  of_told client (lines.stats name) t = are _ t.says (of_each line_of_said said_ends _)
+  of_told client (lines.corrupt name machine value) t = of_named (is_no_lock terms.most old.named name (Corrupt (in_32_bits machine) (in_32_bits value))) client name (Corrupt (in_32_bits machine) (in_32_bits value)) t
+  of_told client (lines.stats name) t = of_named (is_no_lock terms.most old.named name Stats) client name Stats t
 
   of_if : (off : Bool) (client : ℕ) (ask : lines.Ask) → IsNameAnsweredIf off terms client ask old said noted new → AreLines said
   of_if true client ask t = are _ t.says (denied_ends client denial.Off)
@@ -263,14 +267,18 @@ module _ (terms : NameTerms) (old new : NamingView) (said noted : List ℕ) wher
   asked_lines : (client : ℕ) (x : List ℕ) (a : Ask) → IsNameToldOf terms client x a old said noted new → AreLines noted
   asked_lines client x a t = is_lines _ t.notes (ends_if terms.lines.noting (note_at t.answers.ring old.named new.named x t.answers) (note_ends t.answers.ring old.named new.named x t.answers))
 
+  if_lock_lines : (q : Bool) (client : ℕ) (x : List ℕ) (a : Ask) → IsNameToldIf q terms client x a old said noted new → AreLines noted
+  if_lock_lines true client x a t = inl t.notes
+  if_lock_lines false client x a t = asked_lines client x a t
+
   told_lines : (client : ℕ) (ask : lines.Ask) → IsNameTold terms client (one_ask ask) old said noted new → AreLines noted
-  told_lines client (lines.acquire name label) t = asked_lines client name (Acquire label) t
-  told_lines client (lines.try name label) t = asked_lines client name (Try label) t
-  told_lines client (lines.release name token) t = asked_lines client name (Release token) t
-  told_lines client (lines.cancel name) t = asked_lines client name Cancel t
+  told_lines client (lines.acquire name label) t = if_lock_lines (is_no_lock terms.most old.named name (Acquire label)) client name (Acquire label) t
+  told_lines client (lines.try name label) t = if_lock_lines (is_no_lock terms.most old.named name (Try label)) client name (Try label) t
+  told_lines client (lines.release name token) t = if_lock_lines (is_no_lock terms.most old.named name (Release token)) client name (Release token) t
+  told_lines client (lines.cancel name) t = if_lock_lines (is_no_lock terms.most old.named name Cancel) client name Cancel t
   told_lines client lines.leave t = is_lines _ t.notes (ends_if terms.lines.noting (notes_of_names_left old.named.fixed new.named.locks new.left) (left_ends old.named.fixed new.named.locks new.left))
-  told_lines client (lines.corrupt name machine value) t = asked_lines client name (Corrupt (in_32_bits machine) (in_32_bits value)) t
-  told_lines client (lines.stats name) t = asked_lines client name Stats t
+  told_lines client (lines.corrupt name machine value) t = if_lock_lines (is_no_lock terms.most old.named name (Corrupt (in_32_bits machine) (in_32_bits value))) client name (Corrupt (in_32_bits machine) (in_32_bits value)) t
+  told_lines client (lines.stats name) t = if_lock_lines (is_no_lock terms.most old.named name Stats) client name Stats t
 
   if_lines : (off : Bool) (client : ℕ) (ask : lines.Ask) → IsNameAnsweredIf off terms client ask old said noted new → AreLines noted
   if_lines true client ask t = inl t.notes

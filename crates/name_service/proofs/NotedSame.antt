@@ -7,10 +7,9 @@ use Rattle.held_locks.proofs.Standing.{get_set_same}
 use Rattle.lock_names.specs.declared.replies.NameAnswers.{NameAnswers}
 use Rattle.lock_names.specs.Bindings.{Bound, found, free}
 use Rattle.lock_names.specs.Names.{Named, fresh}
-use Rattle.lock_names.specs.Kept.{NamedView, named_of, for_hold, at_free, reached_from, reached, noted_at, IsTaken, IsAsked}
+use Rattle.lock_names.specs.Kept.{NamedView, named_of, for_hold, at_free, reached_from, reached, noted_at, IsTaken, IsAsked, events_of}
 use Rattle.lock_names.proofs.Found.{some_same, none_some, free_at}
 use Rattle.lock_journal.specs.Noting.{end_line, events_from}
-use Rattle.name_service.specs.Naming.{events_before}
 use Rattle.name_service.specs.Noting.{new_of, note_of_new, note_of_free, note_at, note_since}
 
 abbrev ring_in : Option (ℕ × Bound) → Option ℕ
@@ -50,11 +49,11 @@ module _ (old new : NamedView) (c : ℕ) (x : List ℕ) (ask : Ask) (r : NameAns
   new_by i false e f = refl
   new_by i true e f = ap (λ (o : Option (Option Bound)). new_of true i o) (named_new i e f)
 
-  noted_by : (o : Option ℕ) (place : ℕ) → r.ring ≡ o → place ≡ events_before old o → note_since o place new r ≡ note_at o old new x r
+  noted_by : (o : Option ℕ) (place : ℕ) → r.ring ≡ o → place ≡ events_of old.locks o → note_since o place new r ≡ note_at o old new x r
   noted_by None place e f = refl
   noted_by (Some i) place e f =
       ap (λ (u : List ℕ). u ++ ((end_line i r.ended ++ events_from i place (slice_get new.locks i)) ++ note_of_free i r.freed)) (new_by i r.fresh e refl)
       ∙ ap (λ (n : ℕ). note_of_new (named_of old) x i r.fresh ++ ((end_line i r.ended ++ events_from i n (slice_get new.locks i)) ++ note_of_free i r.freed)) f
 
-  pub noted_same : (place : ℕ) → place ≡ events_before old r.ring → note_since r.ring place new r ≡ note_at r.ring old new x r
+  pub noted_same : (place : ℕ) → place ≡ events_of old.locks r.ring → note_since r.ring place new r ≡ note_at r.ring old new x r
   noted_same place e = noted_by r.ring place refl e

@@ -14,16 +14,17 @@ use Rattle.held_locks.proofs.Asking.{asked_long}
 use Rattle.lock_names.specs.declared.replies.Reply.{Reply}
 use Rattle.lock_names.specs.declared.replies.Reply.TheVariants as reply
 use Rattle.lock_names.specs.declared.replies.NameAnswers.{NameAnswers}
+use Rattle.lock_names.specs.declared.replies.NameAsked.{NameAsked}
 use Rattle.lock_names.specs.Bindings.{Bound, found, free}
 use Rattle.lock_names.specs.Names.{Named, Of, Said, NamedStep, of_ring, as_told, said_of, fresh, given, at_none, at_name, at_ring, step_named}
-use Rattle.lock_names.specs.Kept.{NamedView, named_of, for_hold, at_free, reached_from, reached, own_said, grant_said, said_in, IsRecorded, noted_at, IsTaken, IsAsked}
+use Rattle.lock_names.specs.Kept.{NamedView, named_of, for_hold, at_free, reached_from, reached, own_said, grant_said, said_in, IsRecorded, noted_at, IsTaken, IsAsked, events_of, HasEvents}
 use Rattle.lock_names.proofs.Found.{some_same, none_some}
 use Rattle.lock_journal.specs.Asking.{is_lack}
 use Rattle.lock_journal.specs.Due.{is_short_at, has_short}
 use Rattle.lock_journal.specs.Counting.{IsWatched, end_count}
 use Rattle.lock_journal.proofs.Lacks.{done_not}
 use Rattle.lock_journal.proofs.Short.{none_at, short_after}
-use Rattle.name_service.specs.Naming.{reply_told, is_name_lack, is_short_asked, count_at, count_since, events_before}
+use Rattle.name_service.specs.Naming.{reply_told, is_name_lack, is_short_asked, count_at}
 
 -- ---- a step, by the ring that is reached
 
@@ -50,7 +51,7 @@ step_by s c x ask i b None e = none_by s c x ask i b e
 step_by s c x ask i b (Some p) e = ap (λ (q : ℕ × Bound). at_ring s c q.0 q.1 ask) (some_same p (i, b) e)
 
 -- the ring is asked
-step_at_ring : (s : Named) (c : ℕ) (x : List ℕ) (ask : Ask) (i : ℕ) (b : Bound) → reached s x ask ≡ Some (i, b) → step_named s (Of c x ask) ≡ at_ring s c i b ask
+pub step_at_ring : (s : Named) (c : ℕ) (x : List ℕ) (ask : Ask) (i : ℕ) (b : Bound) → reached s x ask ≡ Some (i, b) → step_named s (Of c x ask) ≡ at_ring s c i b ask
 step_at_ring s c x ask i b e = step_by s c x ask i b (found x s.names) e
 
 still_given : (s : Named) (c : ℕ) (x : List ℕ) (ask : Ask) (o : Option ℕ) → at_free s x true o ≡ None → (given s c x ask o).named ≡ s
@@ -109,6 +110,14 @@ module _ (old new : NamedView) (c : ℕ) (x : List ℕ) (ask : Ask) (r : NameAns
     | inl t ↦ unreached_taken e t
     | inr w ↦ (w.same, w.none.0)
   ]
+
+  unreached_by : (o : Option (ℕ × Bound)) → reached (named_of old) x ask ≡ o → ring_in o ≡ None → (new ≡ old) × (r.ended ≡ None)
+  unreached_by None e f = unreached e
+  unreached_by (Some p) e f = absurd (none_some p.0 (sym f))
+
+  -- an ask that reaches no ring changes nothing
+  pub unreached_same : r.ring ≡ None → (new ≡ old) × (r.ended ≡ None)
+  unreached_same e = unreached_by (reached (named_of old) x ask) refl (sym d.ring ∙ e)
 
   -- ---- the ring that was reached
 
@@ -198,12 +207,24 @@ module _ (old new : NamedView) (c : ℕ) (x : List ℕ) (ask : Ask) (r : NameAns
   pub long_asked : length new.locks ≡ length old.locks
   long_asked = long_by (reached (named_of old) x ask) refl
 
-  count_by : (o : Option ℕ) (before : ℕ) → before ≡ events_before old o → count_since o before new r ≡ count_at o old new r
-  count_by None before e = refl
-  count_by (Some i) before e = ap (λ (n : ℕ). end_count r.ended + (events_at (slice_get new.locks i) - n)) e
+  count_none : (before after : ℕ) → before ≡ 0 → after ≡ 0 → r.ended ≡ None → end_count r.ended + (after - before) ≡ 0
+  count_none before after e f g = ap (λ (h : Option HoldEnd). end_count h + (after - before)) g ∙ ap (λ (n : ℕ). 0 + (n - before)) f ∙ omega arith
 
-  pub count_asked : (before : ℕ) → before ≡ events_before old r.ring → count_since r.ring before new r ≡ count_at r.ring old new r
-  count_asked before e = count_by r.ring before e
+  count_some : (i before after : ℕ) → before ≡ events_at (slice_get old.locks i) → after ≡ events_at (slice_get new.locks i) →
+      end_count r.ended + (after - before) ≡ count_at (Some i) old new r
+  count_some i before after e f =
+      ap (λ (n : ℕ). end_count r.ended + (after - n)) e ∙ ap (λ (n : ℕ). end_count r.ended + (n - events_at (slice_get old.locks i))) f
+
+  count_by : (o : Option (ℕ × Bound)) → reached (named_of old) x ask ≡ o → (before after : ℕ) → before ≡ events_of old.locks (ring_in o) → after ≡ events_of new.locks (ring_in o) →
+      end_count r.ended + (after - before) ≡ count_at (ring_in o) old new r
+  count_by None k before after e f = count_none before after e f (unreached k).1
+  count_by (Some p) k before after e f = count_some p.0 before after e f
+
+  pub count_asked : (a : NameAsked) → a.answers ≡ r → HasEvents old.locks new.locks a → end_count r.ended + (a.after - a.before) ≡ count_at r.ring old new r
+  count_asked a e h =
+      let ring : a.answers.ring ≡ ring_in (reached (named_of old) x ask) = ap (λ (z : NameAnswers). z.ring) e ∙ d.ring in
+      count_by (reached (named_of old) x ask) refl a.before a.after (h.before ∙ ap (λ (o : Option ℕ). events_of old.locks o) ring) (h.after ∙ ap (λ (o : Option ℕ). events_of new.locks o) ring)
+      ∙ ap (λ (o : Option ℕ). count_at o old new r) (sym d.ring)
 
   -- nothing is counted of a lack
   pub none_counted : r.ended ≡ None → (o : Option ℕ) → count_at o old old r ≡ 0

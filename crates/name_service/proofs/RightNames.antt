@@ -23,8 +23,8 @@ use Rattle.lock_names.proofs.Fitting.{named_step, named_stays}
 use Rattle.lock_names.proofs.LeftNames.{left_lock, leaves_allowed}
 use Rattle.lock_names.proofs.Taking.{Reaches}
 use Rattle.name_service.specs.declared.service.NameTerms.{NameTerms}
-use Rattle.name_service.specs.Naming.{NamingView}
-use Rattle.name_service.specs.Serving.{IsNameToldOf, IsNameToldOfLeave, IsNameTold, IsNameAnsweredIf, IsNameInputAnswered, IsNameLineAnswered}
+use Rattle.name_service.specs.Naming.{NamingView, is_no_lock}
+use Rattle.name_service.specs.Serving.{IsNameToldOf, IsNameToldIf, IsNameToldOfLeave, IsNameTold, IsNameAnsweredIf, IsNameInputAnswered, IsNameLineAnswered}
 use Rattle.name_service.specs.RightNames.{AreSpelled, AreRightNames}
 use Rattle.name_service.proofs.AskedRings.{reaching, nothing_taken}
 use Rattle.name_service.proofs.LeaveOfRings.{left_many, left_state}
@@ -126,14 +126,18 @@ module _ (terms : NameTerms) (old new : NamingView) (said noted : List ℕ) (rig
   kept_right : new ≡ old → StayRight old.named new.named
   kept_right e = same_right old.named new.named right (ap (λ (v : NamingView). v.named) e)
 
+  if_lock_right : (q : Bool) (c : ℕ) (x : List ℕ) (a : Ask) → IsName x → IsNameToldIf q terms c x a old said noted new → StayRight old.named new.named
+  if_lock_right true c x a is t = kept_right t.leaves
+  if_lock_right false c x a is t = asked_right terms c x a old new said noted t is right
+
   told_right : (c : ℕ) (ask : lines.Ask) → lines.HasName ask → IsNameTold terms c (one_ask ask) old said noted new → StayRight old.named new.named
-  told_right c (lines.acquire name label) is t = asked_right terms c name (Acquire label) old new said noted t is right
-  told_right c (lines.try name label) is t = asked_right terms c name (Try label) old new said noted t is right
-  told_right c (lines.release name token) is t = asked_right terms c name (Release token) old new said noted t is right
-  told_right c (lines.cancel name) is t = asked_right terms c name Cancel old new said noted t is right
+  told_right c (lines.acquire name label) is t = if_lock_right (is_no_lock terms.most old.named name (Acquire label)) c name (Acquire label) is t
+  told_right c (lines.try name label) is t = if_lock_right (is_no_lock terms.most old.named name (Try label)) c name (Try label) is t
+  told_right c (lines.release name token) is t = if_lock_right (is_no_lock terms.most old.named name (Release token)) c name (Release token) is t
+  told_right c (lines.cancel name) is t = if_lock_right (is_no_lock terms.most old.named name Cancel) c name Cancel is t
   told_right c lines.leave is t = leave_right terms c old new said noted t right
-  told_right c (lines.corrupt name machine value) is t = asked_right terms c name (Corrupt (in_32_bits machine) (in_32_bits value)) old new said noted t is right
-  told_right c (lines.stats name) is t = asked_right terms c name Stats old new said noted t is right
+  told_right c (lines.corrupt name machine value) is t = if_lock_right (is_no_lock terms.most old.named name (Corrupt (in_32_bits machine) (in_32_bits value))) c name (Corrupt (in_32_bits machine) (in_32_bits value)) is t
+  told_right c (lines.stats name) is t = if_lock_right (is_no_lock terms.most old.named name Stats) c name Stats is t
 
   if_right : (off : Bool) (c : ℕ) (ask : lines.Ask) → lines.HasName ask → IsNameAnsweredIf off terms c ask old said noted new → StayRight old.named new.named
   if_right true c ask is t = kept_right t.leaves

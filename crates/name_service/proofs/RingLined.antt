@@ -8,8 +8,11 @@ use Rattle.held_locks.specs.Locks.{Ask, Acquire, Try, Release, Cancel, Corrupt, 
 use Rattle.text_lines.specs.LongNumbers.{in_32_bits}
 use Rattle.lock_protocol.specs.declared.answers.Denial.{Denial}
 use Rattle.lock_protocol.specs.declared.answers.Denial.TheVariants as denial
+use Rattle.held_locks.specs.declared.answers.Answer.TheVariants as answer
+use Rattle.held_locks.specs.declared.answers.Refusal.TheVariants as refusal
+use Rattle.lock_names.specs.declared.replies.Reply.TheVariants as reply
 use Rattle.lock_protocol.specs.Asks as lines
-use Rattle.lock_protocol.specs.Answers.{denial_line}
+use Rattle.lock_protocol.specs.Answers.{answer_line, denial_line}
 use Rattle.lock_protocol.specs.Names.{IsName}
 use Rattle.lock_protocol.specs.Inputs.{IsReadAs}
 use Rattle.lock_protocol.specs.Views.{Input}
@@ -20,8 +23,8 @@ use Rattle.lock_journal.proofs.WholeTexts.{of_both}
 use Rattle.lock_names.specs.Names.{Bound}
 use Rattle.lock_names.specs.Kept.{NamedView, named_of, reached, IsTaken}
 use Rattle.name_service.specs.declared.service.NameTerms.{NameTerms}
-use Rattle.name_service.specs.Naming.{NamingView}
-use Rattle.name_service.specs.Serving.{IsOnlySaid, IsNameToldOf, IsNameTold, IsNameAnsweredIf, IsNameInputAnswered, IsNameLineAnswered}
+use Rattle.name_service.specs.Naming.{NamingView, is_no_lock}
+use Rattle.name_service.specs.Serving.{IsOnlySaid, IsNameToldOf, IsNameToldIf, IsNameTold, IsNameAnsweredIf, IsNameInputAnswered, IsNameLineAnswered}
 use Rattle.name_service.specs.RightNames.{AreRightNames}
 use Rattle.name_service.specs.RingLines.{ring_segment, IsOfRing, IsOfNoRing, HaveRingLines, NameLinesAreRingLines}
 use Rattle.name_service.proofs.AskedRings.{IsOne, of_none, wanting_is, none_is, ring_is}
@@ -57,14 +60,26 @@ module _ (terms : NameTerms) (old new : NamingView) (said noted : List ℕ) (rig
     | inr w ↦ of_none terms old new line said noted (wanting_is terms c name a old new said noted t w)
   ]
 
+  unknown : (line : List ℕ) (c : ℕ) (name : List ℕ) → IsOnlySaid (answer_line c name (answer.Refused refusal.Lock)) old said noted new → IsOne terms old line said noted new
+  unknown line c name t = of_none terms old new line said noted (record {
+    same = ap (λ (v : NamingView). v.named) t.leaves;
+    notes = t.notes;
+    nothing = inr (inr (c, name, reply.Lock (answer.Refused refusal.Lock), tt, t.says));
+  })
+
+  if_lock : (q : Bool) (c : ℕ) (name : List ℕ) (a : Ask) (line : List ℕ) (ask : lines.Ask) → IsName name → one_ask ask ≡ Some (name, a) → is_off terms.lines.faults ask ≡ false → IsReadAs line (input.Asked c ask) →
+      IsNameToldIf q terms c name a old said noted new → IsOne terms old line said noted new
+  if_lock true c name a line ask named one off reads t = unknown line c name t
+  if_lock false c name a line ask named one off reads t = asked c name a line ask named one off reads t
+
   told : (c : ℕ) (line : List ℕ) (ask : lines.Ask) → is_off terms.lines.faults ask ≡ false → IsReadAs line (input.Asked c ask) → IsNameTold terms c (one_ask ask) old said noted new → IsOne terms old line said noted new
-  told c line (lines.acquire name label) off r t = asked c name (Acquire label) line (lines.acquire name label) r.1.named refl off r t
-  told c line (lines.try name label) off r t = asked c name (Try label) line (lines.try name label) r.1.named refl off r t
-  told c line (lines.release name token) off r t = asked c name (Release token) line (lines.release name token) r.1.named refl off r t
-  told c line (lines.cancel name) off r t = asked c name Cancel line (lines.cancel name) r.1.named refl off r t
+  told c line (lines.acquire name label) off r t = if_lock (is_no_lock terms.most old.named name (Acquire label)) c name (Acquire label) line (lines.acquire name label) r.1.named refl off r t
+  told c line (lines.try name label) off r t = if_lock (is_no_lock terms.most old.named name (Try label)) c name (Try label) line (lines.try name label) r.1.named refl off r t
+  told c line (lines.release name token) off r t = if_lock (is_no_lock terms.most old.named name (Release token)) c name (Release token) line (lines.release name token) r.1.named refl off r t
+  told c line (lines.cancel name) off r t = if_lock (is_no_lock terms.most old.named name Cancel) c name Cancel line (lines.cancel name) r.1.named refl off r t
   told c line lines.leave off r t = leave_is terms c old new said noted t right line r
-  told c line (lines.corrupt name machine value) off r t = asked c name (Corrupt (in_32_bits machine) (in_32_bits value)) line (lines.corrupt name machine value) r.1.named refl off r t
-  told c line (lines.stats name) off r t = asked c name Stats line (lines.stats name) r.1.named refl off r t
+  told c line (lines.corrupt name machine value) off r t = if_lock (is_no_lock terms.most old.named name (Corrupt (in_32_bits machine) (in_32_bits value))) c name (Corrupt (in_32_bits machine) (in_32_bits value)) line (lines.corrupt name machine value) r.1.named refl off r t
+  told c line (lines.stats name) off r t = if_lock (is_no_lock terms.most old.named name Stats) c name Stats line (lines.stats name) r.1.named refl off r t
 
   answered_if : (off : Bool) (c : ℕ) (line : List ℕ) (ask : lines.Ask) → is_off terms.lines.faults ask ≡ off → IsReadAs line (input.Asked c ask) → IsNameAnsweredIf off terms c ask old said noted new → IsOne terms old line said noted new
   answered_if true c line ask e r t = denied line c denial.Off t

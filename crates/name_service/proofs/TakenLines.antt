@@ -37,10 +37,10 @@ use Rattle.lock_names.proofs.Fitting.{total_set, at_ring_is, moved}
 use Rattle.lock_names.proofs.LeftNames.{left_lock}
 use Rattle.lock_names.proofs.Taking.{Reaches}
 use Rattle.name_service.specs.declared.service.NameTerms.{NameTerms}
-use Rattle.name_service.specs.Naming.{NamingView}
+use Rattle.name_service.specs.Naming.{NamingView, is_no_lock}
 use Rattle.name_service.specs.Noting.{binding_of, note_of_new, note_of_free, note_at, note_of_name_left, notes_of_names_left}
 use Rattle.name_service.specs.NamesText.{pool_bindings, names_text}
-use Rattle.name_service.specs.Serving.{IsNameToldOf, IsNameToldOfLeave, IsNameTold, IsNameAnsweredIf, IsNameInputAnswered, IsNameLineAnswered}
+use Rattle.name_service.specs.Serving.{IsNameToldOf, IsNameToldIf, IsNameToldOfLeave, IsNameTold, IsNameAnsweredIf, IsNameInputAnswered, IsNameLineAnswered}
 use Rattle.name_service.specs.RightNames.{AreRightNames}
 use Rattle.name_service.specs.RingLines.{IsOfNoRing}
 use Rattle.name_service.specs.NameLines.{begun_names}
@@ -285,14 +285,18 @@ module _ (floor : ℕ) (terms : NameTerms) (old new : NamingView) (said noted : 
     | inr w ↦ none_recorded (wanting_is terms c x a old new said noted t w)
   ]
 
+  if_lock_line : (q : Bool) (c : ℕ) (x : List ℕ) (a : Ask) → IsName x → IsNameToldIf q terms c x a old said noted new → IsRecordedSo floor old.named new.named noted
+  if_lock_line true c x a is t = same_recorded t.leaves t.notes
+  if_lock_line false c x a is t = asked_line c x a is t
+
   told_line : (c : ℕ) (ask : lines.Ask) → lines.HasName ask → IsNameTold terms c (one_ask ask) old said noted new → IsRecordedSo floor old.named new.named noted
-  told_line c (lines.acquire name label) is t = asked_line c name (Acquire label) is t
-  told_line c (lines.try name label) is t = asked_line c name (Try label) is t
-  told_line c (lines.release name token) is t = asked_line c name (Release token) is t
-  told_line c (lines.cancel name) is t = asked_line c name Cancel is t
+  told_line c (lines.acquire name label) is t = if_lock_line (is_no_lock terms.most old.named name (Acquire label)) c name (Acquire label) is t
+  told_line c (lines.try name label) is t = if_lock_line (is_no_lock terms.most old.named name (Try label)) c name (Try label) is t
+  told_line c (lines.release name token) is t = if_lock_line (is_no_lock terms.most old.named name (Release token)) c name (Release token) is t
+  told_line c (lines.cancel name) is t = if_lock_line (is_no_lock terms.most old.named name Cancel) c name Cancel is t
   told_line c lines.leave is t = leave_recorded floor terms c old new said noted t right noting
-  told_line c (lines.corrupt name machine value) is t = asked_line c name (Corrupt (in_32_bits machine) (in_32_bits value)) is t
-  told_line c (lines.stats name) is t = asked_line c name Stats is t
+  told_line c (lines.corrupt name machine value) is t = if_lock_line (is_no_lock terms.most old.named name (Corrupt (in_32_bits machine) (in_32_bits value))) c name (Corrupt (in_32_bits machine) (in_32_bits value)) is t
+  told_line c (lines.stats name) is t = if_lock_line (is_no_lock terms.most old.named name Stats) c name Stats is t
 
   if_line : (off : Bool) (c : ℕ) (ask : lines.Ask) → lines.HasName ask → IsNameAnsweredIf off terms c ask old said noted new → IsRecordedSo floor old.named new.named noted
   if_line true c ask is t = same_recorded t.leaves t.notes

@@ -19,3 +19,4 @@ pub mod NamedRuns
 pub mod NamesOfRuns
 pub mod NameEqual
 pub mod Life
+pub mod FixedNames

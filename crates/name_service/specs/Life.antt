@@ -26,7 +26,7 @@ use Rattle.lock_protocol.specs.Inputs.{IsReadAs}
 use Rattle.lock_protocol.specs.Answers.{answer_line, denial_line}
 use Rattle.lock_names.specs.Names.{Named, NamedInput, Of, More, Said, named_after, said_after, leave_each}
 use Rattle.lock_names.specs.Promises.{AreAllowed}
-use Rattle.lock_names.specs.Kept.{named_of}
+use Rattle.lock_names.specs.Kept.{named_of, reached}
 use Rattle.lock_journal.specs.Asking.{one_ask}
 use Rattle.lock_journal.specs.Replicas.{AreToldAround, AreToldAfter, others_of}
 use Rattle.name_service.specs.declared.service.NameService.{NameService}
@@ -62,17 +62,30 @@ pub record IsHeard (s : Named) (line said : List ℕ) (is : List NamedInput) : T
   pub wanting : Bool
   pub says : said ≡ lines_of_said (map (as_told_while wanting) (said_after s is))
 
--- nothing was said of a line of nobody; or a denial; or that a client is refused for lack of room or
--- of memory
-abbrev pub IsUnheard : List ℕ → List ℕ → Type 0
-IsUnheard line said =
+-- it was said that there is no lock of this name: there is no ring of a pool, and the ask reaches none
+pub record IsNoLock (s : Named) (line said : List ℕ) : Type 0 where
+  pub client : ℕ
+  pub ask : lines.Ask
+  pub read : IsReadAs line (input.Asked client ask)
+  pub name : List ℕ
+  pub of : Ask
+  pub one : one_ask ask ≡ Some (name, of)
+  pub pool : length s.locks ≤ s.fixed
+  pub none : reached s name of ≡ None
+  pub says : said ≡ answer_line client name (answer.Refused refusal.Lock)
+
+-- nothing was said of a line of nobody; or a denial; or that there is no such lock; or that a client is
+-- refused for lack of room or of memory
+abbrev pub IsUnheard : Named → List ℕ → List ℕ → Type 0
+IsUnheard s line said =
     (IsReadAs line input.Nobody × (said ≡ []))
     ⊎ (((client : ℕ) × (why : Denial) × (said ≡ denial_line client why))
+    ⊎ (IsNoLock s line said
     ⊎ ((client : ℕ)
     × (name : List ℕ)
     × (why : Refusal)
     × ((why ≡ refusal.Full) ⊎ (why ≡ refusal.Memory))
-    × (said ≡ answer_line client name (answer.Refused why))))
+    × (said ≡ answer_line client name (answer.Refused why)))))
 
 -- Lines were answered one after the other: of each the machine took all inputs, or none.
 abbrev pub AreHeard : Named → List (List ℕ) → List ℕ → List NamedInput → Type 0
@@ -80,7 +93,7 @@ AreHeard s [] said is = (said ≡ []) × (is ≡ [])
 AreHeard s (line ∷ all) said is =
     (first later : List ℕ)
     × (now next : List NamedInput)
-    × (IsHeard s line first now ⊎ (IsUnheard line first × (now ≡ [])))
+    × (IsHeard s line first now ⊎ (IsUnheard s line first × (now ≡ [])))
     × (said ≡ first ++ later)
     × (is ≡ now ++ next)
     × AreHeard (named_after s now) all later next

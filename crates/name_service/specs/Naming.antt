@@ -1,18 +1,18 @@
 -- Locks by any name in a segment, with what its journal has had (this project's own).
-use Rattle.std.specs.Prelude.{◌≡◌, ℕ, ◌+◌, ◌-◌, nat_lt, Bool, true, false, not, ◌||◌, ◌&&◌, List, length, slice_get, Option, None, Some, is_some}
+use Rattle.std.specs.Prelude.{◌≡◌, ◌==◌, ℕ, ◌-◌, nat_le, nat_lt, Bool, true, false, not, ◌||◌, ◌&&◌, List, length, slice_get, Option, None, Some, is_some}
 use Rattle.held_locks.specs.declared.answers.Answer.TheVariants as answer
 use Rattle.held_locks.specs.declared.answers.Refusal.TheVariants as refusal
 use Rattle.held_locks.specs.declared.answers.Left.{Left}
-use Rattle.held_locks.specs.Asked.{events_at}
 use Rattle.held_locks.specs.Kept.{LockView}
+use Rattle.held_locks.specs.Locks.{Ask}
 use Rattle.lock_names.specs.declared.replies.Reply.{Reply}
 use Rattle.lock_names.specs.declared.replies.Reply.TheVariants as reply
 use Rattle.lock_names.specs.declared.replies.NameAnswers.{NameAnswers}
 use Rattle.lock_names.specs.Bindings.{free}
-use Rattle.lock_names.specs.Kept.{NamedView}
+use Rattle.lock_names.specs.Kept.{NamedView, named_of, reached}
 use Rattle.lock_journal.specs.Asking.{is_lack}
 use Rattle.lock_journal.specs.Due.{is_short_at, has_short}
-use Rattle.lock_journal.specs.Counting.{end_count, count_about}
+use Rattle.lock_journal.specs.Counting.{count_about}
 
 -- the locks with their names; what the client that left last held; how many lines more the journal
 -- may have until the segment is due; and whether a ring was short after some line
@@ -34,21 +34,21 @@ abbrev pub count_at : Option ℕ → NamedView → NamedView → NameAnswers →
 count_at None old new r = 0
 count_at (Some ring) old new r = count_about ring old.locks new.locks r.ended
 
--- how many events the segment of the ring had, if one was asked
-abbrev pub events_before : NamedView → Option ℕ → ℕ
-events_before v None = 0
-events_before v (Some ring) = events_at (slice_get v.locks ring)
-
--- the same lines, if it had this number of events before
-abbrev pub count_since : Option ℕ → ℕ → NamedView → NameAnswers → ℕ
-count_since None before new r = 0
-count_since (Some ring) before new r =
-    end_count r.ended + (events_at (slice_get new.locks ring) - before)
-
 -- a ring was asked, and is short
 abbrev pub is_short_asked : List LockView → Option ℕ → Bool
 is_short_asked vs None = false
 is_short_asked vs (Some ring) = is_short_at (slice_get vs ring)
+
+-- ---- a list without a pool
+
+-- there is no ring beside those of the fixed locks, and there may be none
+abbrev pub has_no_pool : ℕ → NamedView → Bool
+has_no_pool most v = most == 0 && nat_le (length v.locks) v.fixed
+
+-- of such a list the ask reaches no ring: there is no lock of this name
+abbrev pub is_no_lock : ℕ → NamedView → List ℕ → Ask → Bool
+is_no_lock most v name ask =
+    not (is_some (reached (named_of v) name ask)) && has_no_pool most v
 
 -- ---- what is lacking
 

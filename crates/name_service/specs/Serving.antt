@@ -2,13 +2,15 @@
 use Rattle.std.specs.Prelude.{◌≡◌, ℕ, Bool, true, false, cond, ◌&&◌, ◌||◌, List, [], ◌++◌, Option, None, Some, is_some, option_map}
 use Rattle.disks.specs.Held.{Held}
 use Rattle.held_locks.specs.Locks.{Ask}
+use Rattle.held_locks.specs.declared.answers.Answer.TheVariants as answer
+use Rattle.held_locks.specs.declared.answers.Refusal.TheVariants as refusal
 use Rattle.held_locks.specs.Kept.{AreKept}
 use Rattle.lock_protocol.specs.declared.answers.Denial.TheVariants as denial
 use Rattle.lock_protocol.specs.Views.{Input}
 use Rattle.lock_protocol.specs.Views as input
 use Rattle.lock_protocol.specs.Asks as lines
 use Rattle.lock_protocol.specs.Inputs.{IsReadAs}
-use Rattle.lock_protocol.specs.Answers.{denial_line}
+use Rattle.lock_protocol.specs.Answers.{answer_line, denial_line}
 use Rattle.lock_names.specs.declared.replies.Reply.{Reply}
 use Rattle.lock_names.specs.declared.replies.NameAnswers.{NameAnswers}
 use Rattle.lock_names.specs.Kept.{own_said, grant_said, IsAsked, IsKeptNamed}
@@ -21,7 +23,7 @@ use Rattle.lock_journal.specs.Counting.{count_of_all}
 use Rattle.lock_journal.specs.Stages.{is_to_end, stage_after}
 use Rattle.lock_journal.specs.Answering.{denial_of}
 pub use Rattle.name_service.specs.Naming.{reply_told, is_name_lack}
-use Rattle.name_service.specs.Naming.{NamingView, IsNameCounted, count_at, is_wanting}
+use Rattle.name_service.specs.Naming.{NamingView, IsNameCounted, count_at, is_no_lock, is_wanting}
 use Rattle.name_service.specs.Noting.{lines_of_said, note_at, notes_of_names_left}
 
 -- nothing happens but that this is said
@@ -59,13 +61,21 @@ pub record IsNameToldOfLeave (noting : Bool) (client : ℕ) (old : NamingView)
       ≡ cond noting (notes_of_names_left old.named.fixed new.named.locks new.left) []
   pub counted : IsNameCounted old new (count_of_all new.named.locks new.left)
 
--- the name answers; or all are left
+-- the name answers; or, where no lock has it and the list has no pool, that is said and nothing happens
+abbrev pub IsNameToldIf : Bool → NameTerms → ℕ → List ℕ → Ask → NamingView → List ℕ → List ℕ
+    → NamingView → Type 0
+IsNameToldIf true terms client name ask old said noted new =
+    IsOnlySaid (answer_line client name (answer.Refused refusal.Lock)) old said noted new
+IsNameToldIf false terms client name ask old said noted new =
+    IsNameToldOf terms client name ask old said noted new
+
+-- a name is asked; or all are left
 abbrev pub IsNameTold : NameTerms → ℕ → Option (List ℕ × Ask) → NamingView → List ℕ → List ℕ
     → NamingView → Type 0
 IsNameTold terms client None old said noted new =
     IsNameToldOfLeave terms.lines.noting client old said noted new
 IsNameTold terms client (Some (name, ask)) old said noted new =
-    IsNameToldOf terms client name ask old said noted new
+    IsNameToldIf (is_no_lock terms.most old.named name ask) terms client name ask old said noted new
 
 -- an ask is answered: a fault that is not permitted is refused
 abbrev pub IsNameAnsweredIf : Bool → NameTerms → ℕ → lines.Ask → NamingView → List ℕ → List ℕ

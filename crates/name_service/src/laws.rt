@@ -1,8 +1,9 @@
 //! The laws of locks by any name whose lines are answered with a journal. Each law is the contract of a function that does
 //! nothing; the statements are in `specs/RightNames.antt`, `specs/RingLines.antt`, `specs/NameLines.antt`,
 //! `specs/NamesBack.antt`, `specs/NamesKept.antt`, `specs/NameReplicas.antt`, `specs/NamedRuns.antt`,
-//! `specs/NamesOfRuns.antt`, `specs/Life.antt` and `specs/NameEqual.antt`.
+//! `specs/NamesOfRuns.antt`, `specs/Life.antt`, `specs/NameEqual.antt` and `specs/FixedNames.antt`.
 
+ghost use Rattle.name_service.specs.FixedNames.{FixedNamesAreLocks};
 ghost use Rattle.name_service.specs.Life.{EmptyPartsGrow, NameLinesAreHeard, PartsAreNamedLife};
 ghost use Rattle.name_service.specs.NameEqual.{EqualNameLinesGiveEqualAnswers};
 ghost use Rattle.name_service.specs.NameLines.{ServedNameLinesAreAnswered, AnsweredNameLinesFollow, NamedLocksComeBack, NothingToldOfNamesIsLost};
@@ -69,6 +70,12 @@ pub fn locks_of_named_replicas_come_back()
 /// what they said.
 pub fn nothing_told_of_replicas_is_lost()
     ensures { NothingToldOfReplicasIsLost }
+{}
+
+/// Of a list without a pool the locks by names are the locks by their places: each line has the same answers, the same notes and the
+/// same step, while fewer than 2^63 grants were made.
+pub fn fixed_names_are_locks()
+    ensures { FixedNamesAreLocks }
 {}
 
 /// Lines about names are inputs of one machine with names, and what it answers to them is said. So are lines that are delivered in

@@ -1,16 +1,16 @@
 //! Locks by any name in a segment, with what its journal has had.
 
-ghost use Rattle.std.specs.Prelude.{◌≡◌, ℕ, ◌-◌, ◌||◌, [], true, slice_get, option_map, IfOk};
+ghost use Rattle.std.specs.Prelude.{◌≡◌, ℕ, ◌+◌, ◌-◌, ◌||◌, [], true, None, option_map, IfOk};
 ghost use Rattle.held_locks.specs.Asked.{asked};
-ghost use Rattle.lock_names.specs.Kept.{IsAsked};
+ghost use Rattle.lock_names.specs.Kept.{IsAsked, HasEvents};
 ghost use Rattle.lock_names.specs.Leaves.{IsLeftByName};
 ghost use Rattle.lock_journal.specs.Due.{is_due, has_short_left};
-ghost use Rattle.lock_journal.specs.Counting.{IsWatched, count_of_all};
-ghost use Rattle.name_service.specs.Naming.{IsNameCounted, count_at, events_before, count_since, is_short_asked, is_wanting, reply_told, is_name_lack};
+ghost use Rattle.lock_journal.specs.Counting.{IsWatched, end_count, count_of_all};
+ghost use Rattle.name_service.specs.Naming.{IsNameCounted, count_at, is_short_asked, has_no_pool, is_wanting, reply_told, is_name_lack};
 
 use held_locks::{Left, OneAsk};
-use lock_journal::{after_end, after_events, after_left, events_at, has_short_left, is_short_at};
-use lock_names::{NameAnswers, Names};
+use lock_journal::{after_end, after_events, after_left, has_short_left, is_short_at};
+use lock_names::{NameAsked, Names};
 use std::alloc::{AllocError, Global};
 use std::marker::Model;
 
@@ -45,18 +45,18 @@ impl Model for NameSegment {
         × IsWatched s.names.locks s.short };
 }
 
-/// What a name answers, and how many events the segment of its ring had before; 0, if no ring was asked.
-#[derive(Clone, Copy)]
-pub(crate) struct Asked {
-    pub(crate) answers: NameAnswers,
-    pub(crate) before: usize,
-}
-
 /// How much a journal may have yet, and whether a ring was short.
 #[derive(Clone, Copy)]
 struct Watch {
     remaining: u64,
     short: bool,
+}
+
+/// Whether the list has no pool: there is no ring beside those of the fixed locks, and there may be none.
+pub(crate) fn has_no_pool(names: &Names, most: u32) -> bool
+    ensures { result ≡ has_no_pool most names.now }
+{
+    most == 0 && names.count() <= names.fixed()
 }
 
 /// Whether no ring is free, and the pool may have this number of them and has fewer.
@@ -66,31 +66,27 @@ pub(crate) fn is_wanting(names: &Names, most: u32) -> bool
     names.free().is_none() && names.count().saturating_sub(names.fixed()) < most
 }
 
-/// How many events the segment of a ring has; 0, if there is none.
-fn events_of(names: &Names, ring: Option<u32>) -> usize
-    ensures { result ≡ events_before names.now ring }
+/// Whether the ring that was asked is short.
+fn is_short_asked(names: &Names, ring: Option<u32>) -> bool
+    ensures { result ≡ is_short_asked names.now.locks ring }
 {
     match ring {
-        Some(ring) => events_at(names.locks(), ring),
-        None => 0,
+        Some(ring) => is_short_at(names.locks(), ring),
+        None => false,
     }
 }
 
 /// What follows of an answer. Only the ring that was asked is looked at.
-fn after_ask(names: &Names, watch: Watch, asked: Asked) -> Watch
+fn after_ask(names: &Names, watch: Watch, asked: NameAsked) -> Watch
     ensures remaining { result.remaining ≡ watch.remaining
-        - count_since asked.answers.ring asked.before names.now asked.answers }
+        - (end_count asked.answers.ended + (asked.after - asked.before)) }
     ensures short { result.short
         ≡ (watch.short || is_short_asked names.now.locks asked.answers.ring) }
 {
-    let Some(ring) = asked.answers.ring else {
-        return watch;
-    };
     let remaining = after_end(watch.remaining, asked.answers.ended);
-    let after = events_at(names.locks(), ring);
     Watch {
-        remaining: after_events(remaining, asked.before, after),
-        short: watch.short || is_short_at(names.locks(), ring),
+        remaining: after_events(remaining, asked.before, asked.after),
+        short: watch.short || is_short_asked(names, asked.answers.ring),
     }
 }
 
@@ -161,22 +157,21 @@ impl NameSegment {
     }
 
     /// Asks a name. Only its ring is looked at, and nothing changes if the asker is refused for lack of room, of memory or of rings.
-    pub(crate) fn ask(&mut self, client: u64, name: &str, ask: OneAsk) -> Asked
+    pub(crate) fn ask(&mut self, client: u64, name: &str, ask: OneAsk) -> NameAsked
         ensures answer { IsAsked self.old.named self.new.named client name.now (asked ask)
             result.answers }
-        ensures before { result.before ≡ events_before self.old.named result.answers.ring }
+        ensures events { HasEvents self.old.named.locks self.new.named.locks result }
         ensures counted { IsNameCounted self.old self.new
             (count_at result.answers.ring self.old.named self.new.named result.answers) }
         ensures lack { is_name_lack (option_map (reply_told true) result.answers.own) ≡ true
             → self.new ≡ self.old }
+        ensures unreached { result.answers.ring ≡ None → self.new ≡ self.old }
     {
         let watch = Watch {
             remaining: self.remaining,
             short: self.short,
         };
-        let before = events_of(&self.names, self.names.reach(name, ask));
-        let answers = self.names.ask(self.alloc, client, name, ask);
-        let asked = Asked { answers, before };
+        let asked = self.names.ask(self.alloc, client, name, ask);
         let after = after_ask(&self.names, watch, asked);
         self.remaining = after.remaining;
         self.short = after.short;

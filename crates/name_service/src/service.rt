@@ -1,6 +1,6 @@
 //! Locks by any name that answer lines.
 
-ghost use Rattle.std.specs.Prelude.{◌≡◌, ◌⊎◌, ◌&&◌, List, ℕ, OnOk, OnErr, option_map};
+ghost use Rattle.std.specs.Prelude.{◌≡◌, ◌⊎◌, ◌&&◌, not, is_some, List, Some, ℕ, OnOk, OnErr, option_map};
 ghost use Rattle.held_locks.specs.Asked.{asked};
 ghost use Rattle.lock_protocol.specs.Asks.{seen, HasName};
 ghost use Rattle.lock_protocol.specs.Names.{IsName};
@@ -10,17 +10,17 @@ ghost use Rattle.lock_journal.specs.Asking.{one_ask};
 ghost use Rattle.lock_journal.specs.Answering.{Leaves};
 ghost use Rattle.lock_journal.specs.Stages.{stage_after};
 ghost use Rattle.name_service.specs.Naming.{reply_told, is_name_lack};
-ghost use Rattle.name_service.specs.Serving.{IsNameToldOf, IsNameToldOfLeave, IsNameTold, IsNamedInput, IsNameInputAnswered, AnswersNameInput, is_name_past, IsNameKept};
+ghost use Rattle.name_service.specs.Serving.{IsNameToldOfLeave, IsNameTold, IsNamedInput, IsNameInputAnswered, AnswersNameInput, is_name_past, IsNameKept};
 
 use crate::noting::{note_name_if, note_names_left_if, tell_name, tell_names_left};
-use crate::segment::{NameSegment, is_wanting};
+use crate::segment::{NameSegment, has_no_pool, is_wanting};
 use held_locks::{Answer, OneAsk, Refusal};
 use line_service::Pending;
 use lock_journal::{
     Stage, Terms, Untold, denial_of, is_lack, is_off, is_stopped, one_ask, put, stage_after,
 };
 use lock_names::{Names, Reply};
-use lock_protocol::{Ask, Denial, Input, put_denial};
+use lock_protocol::{Ask, Denial, Input, put_answer, put_denial};
 use ring_state::Params;
 use std::alloc::AllocError;
 
@@ -29,7 +29,7 @@ use std::alloc::AllocError;
 pub struct NameTerms {
     /// The terms of locks that answer lines. A segment is due too if no ring is free and the pool may get one.
     pub lines: Terms,
-    /// How many rings the pool has at most.
+    /// How many rings the pool has at most; 0, if the list has none: then a name that no lock has is refused with `lock`.
     pub most: u32,
     /// The size of its rings.
     pub size: Params,
@@ -69,6 +69,13 @@ fn own_told(wanting: bool, own: Option<Reply>) -> Option<Reply>
     }
 }
 
+/// Whether no ring was reached, of a list without a pool.
+fn is_no_lock(listed: bool, ring: Option<u32>) -> bool
+    ensures { result ≡ (not (is_some ring) && listed) }
+{
+    ring.is_none() && listed
+}
+
 /// Whether it is a refusal for lack of room or memory.
 fn is_name_lack(own: Option<Reply>) -> bool
     ensures { result ≡ is_name_lack own }
@@ -98,7 +105,7 @@ fn text_of(name: &[u8]) -> &str
     }
 }
 
-/// Asks a name, and adds the lines of the answers.
+/// Asks a name, and adds the lines of the answers; of a list without a pool: or that there is no such lock.
 fn answer_name(
     segment: &mut NameSegment,
     terms: NameTerms,
@@ -109,11 +116,17 @@ fn answer_name(
 ) -> Result<(), Untold>
     requires { IsName name.now }
     ensures { Leaves result
-        (λ said noted. IsNameToldOf terms client name.now (asked ask) segment.old said noted
+        (λ said noted. IsNameTold terms client (Some (name.now, asked ask)) segment.old said noted
         segment.new) (segment.new ≡ segment.old) pending.old pending.new }
 {
-    let wanting = is_wanting(segment.names(), terms.most);
+    let names = segment.names();
+    let listed = has_no_pool(names, terms.most);
+    let wanting = is_wanting(names, terms.most);
     let done = segment.ask(client, text_of(name), ask);
+    if is_no_lock(listed, done.answers.ring) {
+        let answer = Answer::Refused(Refusal::Lock);
+        return put(put_answer(&mut pending.answers, client, name, answer));
+    }
     let own = own_told(wanting, done.answers.own);
     if is_stop(terms.lines.strict, own) {
         return Err(Untold::Unanswered);

@@ -4,8 +4,8 @@ use name_check::{Judge, Line, NotJudged, Refused, Ring, Wrong};
 use std::alloc::Global;
 use std::process::Abort;
 
-fn ring(grants: u64, held: bool) -> Ring {
-    Ring { grants, held }
+fn ring(grants: u64) -> Ring {
+    Ring { grants, held: None }
 }
 
 fn bind(ring: u32, before: u64, floor: u64, name: &str) -> Line<'_> {
@@ -54,7 +54,7 @@ fn are_judged(
 #[test]
 fn lines_of_no_chain_are_refused(rt: HostRuntime) {
     let alloc = rt.alloc();
-    let fresh = ring(0, false);
+    let fresh = ring(0);
     let Ok(mut judge) = judged(&rt, alloc, &["deploy"], &[fresh, fresh, fresh]) else {
         panic!(&rt; "refused");
     };
@@ -67,13 +67,13 @@ fn lines_of_no_chain_are_refused(rt: HostRuntime) {
 #[test]
 fn folders_are_not_judged(rt: HostRuntime) {
     let alloc = rt.alloc();
-    let fresh = ring(0, false);
-    let most = ring(u64::MAX, false);
+    let fresh = ring(0);
+    let most = ring(u64::MAX);
     let few = judged(&rt, alloc, &["a", "b"], &[fresh]);
     assert!(&rt; few.err() == Some(NotJudged::Rings));
     let twice = judged(&rt, alloc, &["a", "a"], &[fresh, fresh]);
     assert!(&rt; twice.err() == Some(NotJudged::Twice));
-    let full = judged(&rt, alloc, &["a"], &[most, ring(1, false)]);
+    let full = judged(&rt, alloc, &["a"], &[most, ring(1)]);
     assert!(&rt; full.err() == Some(NotJudged::Full));
     let Ok(mut judge) = judged(&rt, alloc, &["a"], &[most]) else {
         panic!(&rt; "refused");

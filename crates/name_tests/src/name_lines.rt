@@ -2,6 +2,7 @@
 
 ghost use Rattle.held_locks.specs.Kept.{IsKeptRing};
 
+use crate::dialogues::texts;
 use endless_ring::EndlessRing;
 use held_locks::Locks;
 use line_service::{AnswersLines, EndFault, Pending, Segmented};
@@ -26,18 +27,20 @@ fn opened(rt: &impl Abort, alloc: Global) -> EndlessRing
     }
 }
 
-/// The lock `a` and a pool of two rings, which may have `most`.
-fn some_names(rt: &impl Abort, alloc: Global, most: u32, strict: bool) -> NameService {
+/// The locks of these names and a pool of the other rings, which may have `most`.
+fn service_of(
+    rt: &impl Abort,
+    alloc: Global,
+    fixed: &[&str],
+    rings: u32,
+    most: u32,
+    strict: bool,
+) -> NameService {
     let mut locks = Locks::none(alloc);
-    for _ in 0..3 {
+    for _ in 0..rings {
         assert!(rt; locks.add(alloc, opened(rt, alloc)).is_ok());
     }
-    let mut fixed = Vec::new(alloc);
-    let Ok(name) = String::from_str(alloc, "a") else {
-        panic!(rt; "there is memory");
-    };
-    assert!(rt; fixed.push(name).is_ok());
-    let Ok(names) = Names::begin(alloc, locks, &fixed) else {
+    let Ok(names) = Names::begin(alloc, locks, &texts(rt, alloc, fixed)) else {
         panic!(rt; "the names begin");
     };
     let Ok(size) = Params::new(3, 3) else {
@@ -53,6 +56,11 @@ fn some_names(rt: &impl Abort, alloc: Global, most: u32, strict: bool) -> NameSe
         Ok(service) => service,
         Err(_) => panic!(rt; "there is memory"),
     }
+}
+
+/// The lock `a` and a pool of two rings, which may have `most`.
+fn some_names(rt: &impl Abort, alloc: Global, most: u32, strict: bool) -> NameService {
+    service_of(rt, alloc, &["a"], 3, most, strict)
 }
 
 /// The lines are answered so, with these notes.
@@ -108,6 +116,33 @@ fn a_ring_is_wanted(rt: HostRuntime) {
         ),
     ];
     answers(&rt, alloc, &mut service, &rows);
+}
+
+// Of a list without a pool a name that no lock has is refused, whatever is asked of it; its locks answer and note as those of a list.
+#[test]
+fn a_list_without_a_pool_has_its_locks_alone(rt: HostRuntime) {
+    let alloc = rt.alloc();
+    let mut service = service_of(&rt, alloc, &["a", "b"], 2, 0, false);
+    let rows = [
+        ("1 acquire z 5\n", "1 refused lock z\n", ""),
+        ("1 try z 5\n", "1 refused lock z\n", ""),
+        ("1 release z 1\n", "1 refused lock z\n", ""),
+        ("1 cancel z\n", "1 refused lock z\n", ""),
+        ("1 stats z\n", "1 refused lock z\n", ""),
+        ("1 corrupt z 0 1\n", "1 refused off\n", ""),
+        ("1 acquire a 6\n", "1 granted a 1\n", "0 p 0 0 6 g 1 6\n"),
+        ("2 acquire a 7\n", "2 waiting a 0\n", ""),
+        ("2 release a 1\n", "2 refused holder a\n", ""),
+        (
+            "1 release a 1\n",
+            "1 released a\n2 granted a 2\n",
+            "0 s 1 1 1 1 1 0\n0 p 0 1 7 g 2 13\n",
+        ),
+        ("2 leave\n", "", "0 s 2 2 1 2 2 0\n"),
+        ("1 try b 9\n", "1 granted b 1\n", "1 p 0 0 9 g 1 9\n"),
+    ];
+    answers(&rt, alloc, &mut service, &rows);
+    assert!(&rt; !service.is_over());
 }
 
 // On strict terms nobody is refused for lack of rings, and no line is answered in a segment that is kept on.

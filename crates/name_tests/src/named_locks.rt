@@ -39,29 +39,30 @@ fn begins_with_names_of_its_own(rt: HostRuntime) {
     assert!(&rt; names.err() == Some(NotBegun::Full));
 }
 
-// An ask reaches the ring of its name; the lowest free one, if it is for a hold and no ring has the name; or none.
+// An ask reaches the ring of its name; the lowest free one, if it is for a hold and no ring has the name; or none. It says how many
+// events the segment of that ring had before, and has now.
 #[test]
 fn asks_reach_rings(rt: HostRuntime) {
     let alloc = rt.alloc();
     let Ok(mut names) = begun(&rt, alloc, three_locks(&rt, alloc), &["deploy"]) else {
         panic!(&rt; "refused");
     };
-    names.ask(alloc, 8, "order/1", acquire(10));
-    let rows: [(&str, OneAsk, Option<u32>); 7] = [
-        ("deploy", OneAsk::Stats, Some(0)),
-        ("order/1", release(9), Some(1)),
-        ("order/2", acquire(20), Some(2)),
-        ("order/2", OneAsk::Try { label: 20 }, Some(2)),
-        ("order/2", release(2), None),
-        ("order/2", OneAsk::Cancel, None),
-        ("order/2", OneAsk::Stats, None),
+    let rows: [(&str, OneAsk, Option<u32>, usize, usize); 9] = [
+        ("order/1", acquire(10), Some(1), 0, 1),
+        ("deploy", OneAsk::Stats, Some(0), 0, 0),
+        ("order/1", release(9), Some(1), 1, 1),
+        ("order/2", release(2), None, 0, 0),
+        ("order/2", OneAsk::Cancel, None, 0, 0),
+        ("order/2", OneAsk::Stats, None, 0, 0),
+        ("order/2", OneAsk::Try { label: 20 }, Some(2), 0, 1),
+        ("order/3", acquire(30), None, 0, 0),
+        ("order/2", OneAsk::Cancel, Some(2), 1, 1),
     ];
-    for (name, ask, ring) in rows {
-        assert!(&rt; names.reach(name, ask) == ring);
+    for (name, ask, ring, before, after) in rows {
+        let asked = names.ask(alloc, 8, name, ask);
+        assert!(&rt; asked.answers.ring == ring);
+        assert!(&rt; asked.before == before && asked.after == after);
     }
-    names.ask(alloc, 8, "order/2", acquire(20));
-    assert!(&rt; names.reach("order/3", acquire(30)).is_none());
-    assert!(&rt; names.reach("order/2", OneAsk::Cancel) == Some(2));
     names.are_kept();
 }
 

@@ -9,23 +9,26 @@ use ring_repairs::{Daemon, Repairs, Start, longest_repair};
 use ring_settle::bound;
 
 /// The word for which machine moves next.
-pub(crate) fn daemon_name(daemon: Daemon) -> &'static [u8]
+pub(crate) fn daemon_name(daemon: Daemon) -> &'static str
     ensures { result.now ≡ daemon_name daemon }
 {
     match daemon {
-        Daemon::First => b"first",
-        Daemon::Last => b"last",
-        Daemon::Random => b"random",
+        Daemon::First => "first",
+        Daemon::Last => "last",
+        Daemon::Random => "random",
+        Daemon::Turn => "turn",
+        Daemon::Slow => "slow",
     }
 }
 
 /// The word for where a trial starts.
-pub(crate) fn start_name(start: Start) -> &'static [u8]
+pub(crate) fn start_name(start: Start) -> &'static str
     ensures { result.now ≡ start_name start }
 {
     match start {
-        Start::Any => b"any",
-        Start::Faults(_) => b"faults",
+        Start::Any => "any",
+        Start::Faults(_) => "faults",
+        Start::All => "all",
     }
 }
 
@@ -36,6 +39,7 @@ pub(crate) fn start_faults(start: Start) -> Option<u32>
     match start {
         Start::Any => None,
         Start::Faults(faults) => Some(faults),
+        Start::All => None,
     }
 }
 

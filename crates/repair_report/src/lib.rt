@@ -3,5 +3,7 @@
 
 mod figures;
 mod report;
+mod writing;
 
-pub use crate::report::{Lines, ReportFault, report_repairs};
+pub use crate::report::{ReportFault, report_repairs};
+pub use crate::writing::Lines;

@@ -15,7 +15,7 @@ struct Row {
     numbers: [u64; 7],
 }
 
-const ROWS: [Row; 9] = [
+const ROWS: [Row; 15] = [
     Row {
         n: 5,
         k: 5,
@@ -97,6 +97,60 @@ const ROWS: [Row; 9] = [
         trials: 50,
         numbers: [0, 0, 0, 0, 0, 0, 0],
     },
+    Row {
+        n: 4,
+        k: 4,
+        start: Start::All,
+        daemon: Daemon::Slow,
+        seed: 0,
+        trials: 1,
+        numbers: [0, 457, 4, 11, 13, 13, 13],
+    },
+    Row {
+        n: 3,
+        k: 4,
+        start: Start::All,
+        daemon: Daemon::Turn,
+        seed: 0,
+        trials: 1,
+        numbers: [0, 68, 1, 2, 2, 2, 2],
+    },
+    Row {
+        n: 3,
+        k: 3,
+        start: Start::All,
+        daemon: Daemon::Random,
+        seed: 2,
+        trials: 20,
+        numbers: [0, 48, 0, 1, 2, 2, 2],
+    },
+    Row {
+        n: 8,
+        k: 11,
+        start: Start::Any,
+        daemon: Daemon::Turn,
+        seed: 7,
+        trials: 100,
+        numbers: [3, 544, 6, 6, 7, 7, 7],
+    },
+    Row {
+        n: 6,
+        k: 300,
+        start: Start::Any,
+        daemon: Daemon::Slow,
+        seed: 7,
+        trials: 50,
+        numbers: [13, 1312, 13, 13, 19, 19, 19],
+    },
+    Row {
+        n: 9,
+        k: 9,
+        start: Start::Faults(4),
+        daemon: Daemon::Slow,
+        seed: 1,
+        trials: 50,
+        numbers: [0, 2684, 27, 39, 55, 55, 55],
+    },
 ];
 
 /// The trials of a row, of which none is done.
@@ -121,8 +175,12 @@ fn numbers_of_trials(rt: HostRuntime) {
     for (place, row) in ROWS.iter().enumerate() {
         let mut repairs = repairs_of(&rt, rt.alloc(), row);
         repairs.advance(u64::MAX);
-        assert!(rt; repairs.done() == row.trials, "row {place}");
-        assert!(rt; repairs.passes().total() == row.trials, "row {place}");
+        let all = repairs.study().count();
+        assert!(rt;
+            repairs.done() == all && repairs.study().trials() == row.trials,
+            "row {place}"
+        );
+        assert!(rt; repairs.passes().total() == all, "row {place}");
         assert!(rt; has_numbers(repairs.passes(), &row.numbers), "row {place}");
     }
 }

@@ -1,6 +1,7 @@
 //! The reports on studies, as another program has them (`models/drawn_repairs.py`), and a writer that has no room for one.
 
 use repair_report::{Lines, ReportFault, report_repairs};
+use repair_texts::record;
 use ring_repairs::{Daemon, Start, Study};
 use ring_state::Params;
 use std::process::Abort;
@@ -32,9 +33,20 @@ const DRAWN: &[u8] =
 fn a_report_has_all_numbers(rt: HostRuntime) {
     let alloc = rt.alloc();
     let mut out = Vec::new(alloc);
-    let reported = report_repairs(alloc, faulty_study(&rt), Lines::Histogram, &mut out);
+    let mut rows = Vec::new(alloc);
+    let reported = report_repairs(
+        alloc,
+        faulty_study(&rt),
+        Lines::Histogram,
+        &mut rows,
+        &mut out,
+    );
     assert!(rt; reported == Ok(()));
     assert!(rt; out.as_slice() == FAULTY);
+    assert!(rt; rows.len() == 1);
+    let line = record(alloc, &rows[0]).expect(&rt, "memory");
+    let wanted: &[u8] = b"repairs,last,faults,5,5,2,300,30,24,0,274,3,5,6,6,6\n";
+    assert!(rt; line.as_slice() == wanted);
 }
 
 #[test]
@@ -45,7 +57,8 @@ fn a_report_may_have_one_line(rt: HostRuntime) {
         panic!(rt; "the study is within the limits");
     };
     let mut out = Vec::new(alloc);
-    assert!(rt; report_repairs(alloc, study, Lines::Figures, &mut out) == Ok(()));
+    let mut rows = Vec::new(alloc);
+    assert!(rt; report_repairs(alloc, study, Lines::Figures, &mut rows, &mut out) == Ok(()));
     assert!(rt; out.as_slice() == DRAWN);
 }
 
@@ -54,8 +67,31 @@ fn a_writer_without_room_is_told(rt: HostRuntime) {
     let alloc = rt.alloc();
     let mut room = [0u8; 50];
     let mut out: &mut [u8] = &mut room;
-    let reported = report_repairs(alloc, faulty_study(&rt), Lines::Histogram, &mut out);
+    let mut rows = Vec::new(alloc);
+    let reported = report_repairs(
+        alloc,
+        faulty_study(&rt),
+        Lines::Histogram,
+        &mut rows,
+        &mut out,
+    );
     assert!(rt; reported == Err(ReportFault::Write));
     assert!(rt; out.is_empty());
     assert!(rt; &room[..] == &FAULTY[..50]);
+}
+
+const OBJECT: &[u8] =
+    b"{\"bound\":9,\"daemon\":\"random\",\"faults\":0,\"from\":\"any\",\"greatest\":2,\"k\":3,\"least\":0,\"longest\":5,\"mean_hundredths\":47,\"measure\":\"repairs\",\"median\":0,\"n\":3,\"p90\":1,\"p99\":2,\"p999\":2,\"trials\":300}\n";
+
+#[test]
+fn a_report_may_be_an_object(rt: HostRuntime) {
+    let alloc = rt.alloc();
+    let size = Params::new(3, 3).expect(&rt, "a size");
+    let Ok(study) = Study::new(size, Start::Any, Daemon::Random, 300, 0) else {
+        panic!(rt; "the study is within the limits");
+    };
+    let mut out = Vec::new(alloc);
+    let mut rows = Vec::new(alloc);
+    assert!(rt; report_repairs(alloc, study, Lines::Object, &mut rows, &mut out) == Ok(()));
+    assert!(rt; out.as_slice() == OBJECT);
 }

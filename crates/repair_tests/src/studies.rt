@@ -29,6 +29,25 @@ fn studies_beyond_the_limits(rt: HostRuntime) {
 }
 
 #[test]
+fn studies_of_all_states(rt: HostRuntime) {
+    let size = Params::new(3, 4).expect(&rt, "a size within the limits");
+    let study = Study::new(size, Start::All, Daemon::Random, 20, 0).expect(&rt, "a study");
+    assert!(rt; study.trials() == 20 && study.count() == 320);
+    for (n, k, daemon, trials, refusal) in [
+        (10, 12, Daemon::Random, 1, StudyError::ManyStates),
+        (1024, 65_536, Daemon::First, 1, StudyError::ManyStates),
+        (9, 9, Daemon::Random, 1_000, StudyError::ManyTrials),
+        (3, 3, Daemon::Slow, 2, StudyError::OneTrial),
+    ] {
+        let size = Params::new(n, k).expect(&rt, "a size within the limits");
+        match Study::new(size, Start::All, daemon, trials, 0) {
+            Ok(_) => panic!(&rt; "it is refused"),
+            Err(error) => assert!(rt; error == refusal),
+        }
+    }
+}
+
+#[test]
 fn longest_repairs(rt: HostRuntime) {
     for (n, passes) in [
         (2, 0),

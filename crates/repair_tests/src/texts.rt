@@ -1,6 +1,6 @@
 //! The lines of what was measured, and writers that fail.
 
-use repair_texts::{Figures, Head, put_counts, put_figures};
+use repair_texts::{Figures, Head, Row, heading, object_line, put_counts, put_figures, record};
 use std::alloc::Global;
 use std::process::Abort;
 
@@ -19,12 +19,12 @@ const FIGURES: Figures = Figures {
 
 /// The head of a ring of this size, with this many faults at its start, if there are some.
 fn head_of(n: u32, k: u32, faults: Option<u32>) -> Head<'static> {
-    let start: &[u8] = if faults.is_some() { b"faults" } else { b"any" };
+    let start = if faults.is_some() { "faults" } else { "any" };
     Head {
-        measure: b"repairs",
+        measure: "repairs",
         n,
         k,
-        daemon: b"random",
+        daemon: "random",
         start,
         faults,
     }
@@ -64,4 +64,33 @@ fn only_numbers_that_occurred_have_a_line(rt: HostRuntime) {
     let lines: &[u8] =
         b"histogram 4 7 passes 0 trials 28\nhistogram 4 7 passes 2 trials 60\nhistogram 4 7 passes 5 trials 12\n";
     assert!(rt; out.as_slice() == lines);
+}
+
+#[test]
+fn a_row_is_a_record_of_a_table(rt: HostRuntime) {
+    let alloc = rt.alloc();
+    let row = Row {
+        head: head_of(5, 8, Some(2)),
+        figures: FIGURES,
+    };
+    let names = heading(alloc).expect(&rt, "memory");
+    let line = record(alloc, &row).expect(&rt, "memory");
+    let wanted: &[u8] =
+        b"measure,daemon,from,n,k,faults,trials,bound,longest,least,mean_hundredths,median,p90,p99,p999,greatest\n";
+    assert!(rt; names.as_slice() == wanted);
+    let wanted: &[u8] = b"repairs,random,faults,5,8,2,200,30,24,0,369,4,6,7,7,18\n";
+    assert!(rt; line.as_slice() == wanted);
+}
+
+#[test]
+fn a_row_is_an_object(rt: HostRuntime) {
+    let alloc = rt.alloc();
+    let row = Row {
+        head: head_of(5, 8, None),
+        figures: FIGURES,
+    };
+    let object = object_line(alloc, &row).expect(&rt, "memory");
+    let wanted =
+        "{\"bound\":30,\"daemon\":\"random\",\"faults\":0,\"from\":\"any\",\"greatest\":18,\"k\":8,\"least\":0,\"longest\":24,\"mean_hundredths\":369,\"measure\":\"repairs\",\"median\":4,\"n\":5,\"p90\":6,\"p99\":7,\"p999\":7,\"trials\":200}";
+    assert!(rt; object.as_str() == wanted);
 }

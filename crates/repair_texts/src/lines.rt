@@ -14,13 +14,13 @@ use text_lines::{WriteFault, put, put_all};
 #[derive(Clone, Copy)]
 pub struct Head<'a> {
     /// The first word of the line.
-    pub measure: &'a [u8],
+    pub measure: &'a str,
     pub n: u32,
     pub k: u32,
     /// The word for which machine moves next.
-    pub daemon: &'a [u8],
+    pub daemon: &'a str,
     /// Where a repair begins.
-    pub start: &'a [u8],
+    pub start: &'a str,
     /// With how many faults it begins, if it begins with some.
     pub faults: Option<u32>,
 }
@@ -46,14 +46,17 @@ pub struct Figures {
 const SHARP: u32 = 4;
 
 /// Writes where a repair begins.
-fn put_start<W: Write>(out: &mut W, start: &[u8], faults: Option<u32>) -> Result<(), WriteFault>
+fn put_start<W: Write>(out: &mut W, start: &str, faults: Option<u32>) -> Result<(), WriteFault>
     ensures { Writes (W.contents out.old) (W.contents out.new) result (start_text start.now faults) }
 {
     let Some(faults) = faults else {
-        return put(out, start);
+        return put(out, start.as_bytes());
     };
     let mut buffer = Buffer::new();
-    put_all(out, &[start, b":", buffer.format(faults).as_bytes()])
+    put_all(
+        out,
+        &[start.as_bytes(), b":", buffer.format(faults).as_bytes()],
+    )
 }
 
 /// Writes what was measured, and the size of the ring.
@@ -66,13 +69,13 @@ fn put_size<W: Write>(out: &mut W, head: &Head<'_>) -> Result<(), WriteFault>
     put_all(
         out,
         &[
-            head.measure,
+            head.measure.as_bytes(),
             b" ",
             n,
             b" ",
             k,
             b" daemon ",
-            head.daemon,
+            head.daemon.as_bytes(),
             b" from ",
         ],
     )

@@ -1,17 +1,19 @@
 -- The choices of a daemon, one by one.
 use Rattle.std.proofs.Common.{◌≡◌, ℕ, zero, suc, ◌+◌, ◌-◌, ◌%◌, ◌<◌, ◌≤◌, Bool, true, false, cond, List, [], ◌∷◌, length, refl, sym, ◌∙◌, ap, subst, inl, inr, arith}
-use Rattle.std.proofs.lemmas.Bool.{cases_Bool, cases_lt, cond-true, cond-false, both_ways}
+use Rattle.std.specs.Prelude.{nat_lt, nat_le, ◌&&◌}
+use Rattle.std.proofs.lemmas.Bool.{cases_Bool, cases_lt, cond-true, cond-false, both_ways, le-leb, lt-leb}
+use Rattle.std.proofs.Math.Dec.{leb}
 use Rattle.std.proofs.lemmas.Nat.{mod_below}
 use Rattle.rand_pcg.specs.Lcg.{Lcg}
-use Rattle.ring_model.specs.Numbers.{bit, count_below}
+use Rattle.ring_model.specs.Numbers.{bit, count_below, least}
 use Rattle.ring_model.specs.Ring.{Ring, IsRing, is_privileged, privileged_count, first_privileged, moved, is_settled}
 use Rattle.ring_model.specs.Runs.{passed, granted_passes}
 use Rattle.ring_model.proofs.Runs.{pass_granted, pass_ring, length_pass}
 use Rattle.ring_model.proofs.Settled.{first_is, count_positive}
 use Rattle.ring_repairs.specs.Draws.{word, is_fair, draw_within, draw, redraw_limit}
-use Rattle.ring_repairs.specs.Daemons.{greatest_below, nth, last_privileged, privileged_at, choice, remembered, choices, passes}
+use Rattle.ring_repairs.specs.Daemons.{greatest_below, nth, last_privileged, privileged_at, privileged_from, next_privileged, rest_after, slower, slowest_below, slowest, choice, remembered, choices, passes}
 use Rattle.ring_repairs.specs.declared.daemons.Daemon.{Daemon}
-use Rattle.ring_repairs.specs.declared.daemons.Daemon.TheVariants.{First, Last, Random}
+use Rattle.ring_repairs.specs.declared.daemons.Daemon.TheVariants.{First, Last, Random, Turn, Slow}
 use Rattle.ring_repairs.specs.declared.daemons.Memory.{Memory}
 
 -- ---- the machine is one of the ring's
@@ -97,7 +99,76 @@ pub draw_less : (m : ℕ) (g : Lcg) → 0 < m → (draw m g).0 < m
 unfolding draw
 draw_less m g some = draw_within_less redraw_limit m g some
 
+-- ---- the next one around the ring
+
+least_passes : (p : ℕ → Bool) (from turns : ℕ) → least p from turns < from + turns → p (least p from turns) ≡ true
+least_passes p from zero l = absurd (omega arith)
+least_passes p from (suc turns) l = elim (cases_Bool (p from)) [
+  | inl on ↦ ap p (cond-true (p from) from (least p (suc from) turns) on) ∙ on
+  | inr off ↦
+      let is : least p from (suc turns) ≡ least p (suc from) turns = cond-false (p from) from (least p (suc from) turns) off in
+      ap p is ∙ least_passes p (suc from) turns (omega arith)
+]
+
+record IsAble (s : List ℕ) (i : ℕ) : Type 0 where
+  below : i < length s
+  on : is_privileged s i ≡ true
+
+first_able : (s : List ℕ) → 1 ≤ length s → IsAble s (first_privileged s)
+first_able s one = let f = first_is s one in record { below = f.0; on = f.1 }
+
+able_is : (s : List ℕ) (i j : ℕ) → i ≡ j → IsAble s j → IsAble s i
+able_is s i j e h = subst (λ (x : ℕ). IsAble s x) (sym e) h
+
+next_able : (s : List ℕ) (i : ℕ) → 1 ≤ length s → i ≤ length s → IsAble s (next_privileged s i)
+next_able s i one l = elim (cases_lt (privileged_from s i) (length s)) [
+  | inl less ↦
+      let on : nat_lt (privileged_from s i) (length s) ≡ true = le-leb (suc (privileged_from s i)) (length s) (omega arith) in
+      let is : next_privileged s i ≡ privileged_from s i = cond-true (nat_lt (privileged_from s i) (length s)) (privileged_from s i) (first_privileged s) on in
+      let all : i + (length s - i) ≡ length s = omega arith in
+      able_is s (next_privileged s i) (privileged_from s i) is
+      (record { below = less; on = least_passes (is_privileged s) i (length s - i) (omega arith) })
+  | inr more ↦
+      let off : nat_lt (privileged_from s i) (length s) ≡ false = lt-leb (suc (privileged_from s i)) (length s) (omega arith) in
+      able_is s (next_privileged s i) (first_privileged s)
+      (cond-false (nat_lt (privileged_from s i) (length s)) (privileged_from s i) (first_privileged s) off) (first_able s one)
+]
+
+-- ---- the slowest one
+
+pub slower_off : (r : Ring) (i j : ℕ) → is_privileged r.values j ≡ false → slower r i j ≡ i
+slower_off r i j e = ap (λ (b : Bool). cond (b && nat_lt (rest_after r i) (rest_after r j)) j i) e
+
+pub slower_on : (r : Ring) (i j : ℕ) → is_privileged r.values j ≡ true → slower r i j ≡ cond (nat_lt (rest_after r i) (rest_after r j)) j i
+slower_on r i j e = ap (λ (b : Bool). cond (b && nat_lt (rest_after r i) (rest_after r j)) j i) e
+
+pub slower_takes : (r : Ring) (i j : ℕ) → is_privileged r.values j ≡ true → rest_after r i < rest_after r j → slower r i j ≡ j
+slower_takes r i j e l =
+    let on : leb (suc (rest_after r i)) (rest_after r j) ≡ true = le-leb (suc (rest_after r i)) (rest_after r j) (omega arith) in
+    slower_on r i j e ∙ cond-true (leb (suc (rest_after r i)) (rest_after r j)) j i on
+
+pub slower_keeps : (r : Ring) (i j : ℕ) → is_privileged r.values j ≡ true → rest_after r j ≤ rest_after r i → slower r i j ≡ i
+slower_keeps r i j e l =
+    let off : leb (suc (rest_after r i)) (rest_after r j) ≡ false = lt-leb (suc (rest_after r i)) (rest_after r j) (omega arith) in
+    slower_on r i j e ∙ cond-false (leb (suc (rest_after r i)) (rest_after r j)) j i off
+
+slowest_able : (r : Ring) (n : ℕ) → 1 ≤ length r.values → n ≤ length r.values → IsAble r.values (slowest_below r n)
+slowest_able r zero one l = first_able r.values one
+slowest_able r (suc n) one l =
+    let i : ℕ = slowest_below r n in
+    let ih : IsAble r.values i = slowest_able r n one (omega arith) in
+    elim (cases_Bool (is_privileged r.values n)) [
+      | inr off ↦ able_is r.values (slower r i n) i (slower_off r i n off) ih
+      | inl on ↦ elim (cases_lt (rest_after r i) (rest_after r n)) [
+        | inl less ↦ able_is r.values (slower r i n) n (slower_takes r i n on less) (record { below = omega arith; on = on })
+        | inr more ↦ able_is r.values (slower r i n) i (slower_keeps r i n on more) ih
+      ]
+    ]
+
 -- ---- what a daemon chooses
+
+turn_below : (m n : ℕ) → 2 ≤ n → m % n ≤ n
+turn_below m n two = let l = mod_below m n (omega arith) in omega arith
 
 pub choice_below : (d : Daemon) (m : Memory) (r : Ring) → IsRing r → choice d m r < length r.values
 unfolding choice
@@ -106,6 +177,10 @@ choice_below Last m r g = let two = g.two in greatest_less (is_privileged r.valu
 choice_below Random m r g =
     let two = g.two in
     nth_less (is_privileged r.values) 0 (length r.values) (draw (privileged_count r.values) m.words).0 (length r.values) (omega arith) (omega arith)
+choice_below Turn m r g =
+    let two = g.two in
+    (next_able r.values (m.asked % length r.values) (omega arith) (turn_below m.asked (length r.values) two)).below
+choice_below Slow m r g = let two = g.two in (slowest_able r (length r.values) (omega arith) (omega arith)).below
 
 pub choice_privileged : (d : Daemon) (m : Memory) (r : Ring) → IsRing r → is_privileged r.values (choice d m r) ≡ true
 unfolding choice
@@ -121,6 +196,10 @@ choice_privileged Random m r g =
     let all : count_below (is_privileged r.values) 0 + count_from (is_privileged r.values) 0 (length r.values) ≡ privileged_count r.values =
     count_joined (is_privileged r.values) 0 (length r.values) (length r.values) (omega arith) in
     nth_passes (is_privileged r.values) 0 (length r.values) (draw (privileged_count r.values) m.words).0 (omega arith)
+choice_privileged Turn m r g =
+    let two = g.two in
+    (next_able r.values (m.asked % length r.values) (omega arith) (turn_below m.asked (length r.values) two)).on
+choice_privileged Slow m r g = let two = g.two in (slowest_able r (length r.values) (omega arith) (omega arith)).on
 
 -- so it is granted
 pub choice_passes : (d : Daemon) (m : Memory) (r : Ring) → IsRing r → passed r (choice d m r) ≡ moved r (choice d m r)

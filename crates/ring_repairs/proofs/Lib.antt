@@ -1,5 +1,7 @@
 pub mod Drawing
 pub mod Searching
+pub mod Numbering
+pub mod AllStates
 pub mod Choices
 pub mod Bounds
 pub mod Counting

@@ -1,5 +1,5 @@
 -- The trials of a study: their starts are rings, and each is counted once.
-use Rattle.std.proofs.Common.{◌≡◌, ◌≢◌, ℕ, zero, suc, ◌+◌, ◌-◌, ◌%◌, ◌<◌, ◌≤◌, ◌==◌, Bool, true, false, cond, List, [], ◌∷◌, ◌++◌, length, get_or, refl, sym, ◌∙◌, ap, subst, inl, inr, arith, below_more}
+use Rattle.std.proofs.Common.{◌≡◌, ◌≢◌, ℕ, zero, suc, ◌+◌, ◌-◌, ◌/◌, ◌%◌, ◌<◌, ◌≤◌, ◌==◌, Bool, true, false, cond, List, [], ◌∷◌, ◌++◌, length, get_or, refl, sym, ◌∙◌, ap, subst, inl, inr, arith, below_more}
 use Rattle.std.proofs.lemmas.Bool.{cases_eq, cases_lt, cases_Bool, cond-true, cond-false, eq-eqb, ne_eqb}
 use Rattle.std.proofs.lemmas.List.{get_or-set_same, get_or-set_other, length-set}
 use Rattle.std.proofs.Math.ListN.{set}
@@ -12,17 +12,19 @@ use Rattle.ring_model.specs.RepairLaws.{longest_repair}
 use Rattle.ring_state.specs.Sizes.{Size, IsSize, size_of}
 use Rattle.ring_repairs.specs.Draws.{draw, generator}
 use Rattle.ring_repairs.specs.Daemons.{choices, passes}
-use Rattle.ring_repairs.specs.Starts.{after_values, drawn_values, settled_value, Hits, hits_with, hit_by, hits, faulty, start_values, start_left}
+use Rattle.ring_repairs.specs.Starts.{after_values, drawn_values, settled_value, Hits, hits_with, hit_by, hits, faulty, digits, numbered, start_values, start_left}
 use Rattle.ring_repairs.specs.Histograms.{counted, IsEmpty}
 use Rattle.ring_repairs.specs.Studies.{StudyData, IsStudy, trial_ring, trial_memory, trial_choices, trial_passes, IsCounted, AreRepairs, repairs_with}
 use Rattle.ring_repairs.specs.TrialLaws.{TrialsStart, TrialsSettle, TrialsSettleFirst, TrialsAreGranted, TrialsAreBounded}
 use Rattle.ring_repairs.specs.declared.daemons.Daemon.{Daemon}
 use Rattle.ring_repairs.specs.declared.daemons.Memory.{Memory}
 use Rattle.ring_repairs.specs.declared.starts.Start.{Start}
-use Rattle.ring_repairs.specs.declared.starts.Start.TheVariants.{Any, Faults}
+use Rattle.ring_repairs.specs.declared.starts.Start.TheVariants.{Any, Faults, All}
 use Rattle.ring_repairs.proofs.Choices.{draw_less}
 use Rattle.ring_repairs.proofs.Bounds.{settles_long, settles_bound, choices_settle, choices_unsettled, choices_granted, passes_within}
 use Rattle.ring_repairs.proofs.Counting.{entry, counted_none, counted_set}
+use Rattle.std.proofs.lemmas.Nat.{mod_below}
+use Rattle.ring_repairs.proofs.Numbering.{digits_long}
 use Rattle.ring_repairs.proofs.Starting.{drawn_long}
 
 -- ---- a start is a ring
@@ -94,15 +96,28 @@ long_hits size p f g (suc i) =
     let more = long_hit size.k (settled_value p i) (hits size p f g i) (draw (size.n - i) (hits size p f g i).words) in
     omega arith
 
-pub start_under : (start : Start) (size : Size) (g : Lcg) → 2 ≤ size.k → AreUnder size.k (start_values start size g)
-unfolding start_values
-start_under Any size g two = under_drawn size.k g size.n (omega arith)
-start_under (Faults f) size g two = under_hits size (draw size.n g).0 f (draw size.n g).1 size.n two
+under_digits : (k number n : ℕ) → 0 < k → AreUnder k (digits k number n)
+under_digits k number zero some = λ i l. absurd (omega arith)
+under_digits k number (suc n) some = λ i. elim i as (λ j. j < length (digits k number (suc n)) → get_or (digits k number (suc n)) j 0 < k) [
+  | zero ↦ λ l. mod_below number k some
+  | suc j ↦ λ l. under_digits k (number / k) n some j (omega arith)
+]
 
-pub start_long : (start : Start) (size : Size) (g : Lcg) → length (start_values start size g) ≡ size.n
+under_numbered : (size : Size) (number : ℕ) → 0 < size.k → AreUnder size.k (numbered size number)
+under_numbered size number some zero l = some
+under_numbered size number some (suc i) l = under_digits size.k number (size.n - 1) some i (omega arith)
+
+pub start_under : (start : Start) (size : Size) (number : ℕ) (g : Lcg) → 2 ≤ size.k → AreUnder size.k (start_values start size number g)
 unfolding start_values
-start_long Any size g = drawn_long size.k g size.n
-start_long (Faults f) size g = long_hits size (draw size.n g).0 f (draw size.n g).1 size.n
+start_under Any size number g two = under_drawn size.k g size.n (omega arith)
+start_under (Faults f) size number g two = under_hits size (draw size.n g).0 f (draw size.n g).1 size.n two
+start_under All size number g two = under_numbered size number (omega arith)
+
+pub start_long : (start : Start) (size : Size) (number : ℕ) (g : Lcg) → 2 ≤ size.n → length (start_values start size number g) ≡ size.n
+unfolding start_values
+start_long Any size number g two = drawn_long size.k g size.n
+start_long (Faults f) size number g two = long_hits size (draw size.n g).0 f (draw size.n g).1 size.n
+start_long All size number g two = let all' = digits_long size.k number (size.n - 1) in omega arith
 
 -- the start of a trial is a ring of the study's size
 pub trials_start : TrialsStart
@@ -112,8 +127,9 @@ trials_start s t is =
     let machines = size.machines in
     let values = size.values in
     let g : Lcg = generator s.seed t in
-    let long : length (start_values s.start s.size g) ≡ s.size.n = start_long s.start s.size g in
-    (record { two = omega arith; enough = omega arith; below = start_under s.start s.size g (omega arith) }, refl, long)
+    let number : ℕ = t / s.trials in
+    let long : length (start_values s.start s.size number g) ≡ s.size.n = start_long s.start s.size number g (omega arith) in
+    (record { two = omega arith; enough = omega arith; below = start_under s.start s.size number g (omega arith) }, refl, long)
 
 -- ---- its choices settle it
 
@@ -194,11 +210,11 @@ one_counted number t i h h' old is l e =
 
 -- what a repair answers, of the start that a trial has
 pub trial_is : (s : StudyData) (t most : ℕ) (d : Daemon) (w : Lcg) (r : Ring) → d ≡ s.daemon → most ≡ longest_repair s.size.n →
-    w ≡ start_left s.start s.size (generator s.seed t) → r.k ≡ s.size.k → r.values ≡ start_values s.start s.size (generator s.seed t) →
-    passes d most (record { words = w }) r ≡ trial_passes s t
+    w ≡ start_left s.start s.size (generator s.seed t) → r.k ≡ s.size.k → r.values ≡ start_values s.start s.size (t / s.trials) (generator s.seed t) →
+    passes d most (record { words = w; asked = 0 }) r ≡ trial_passes s t
 unfolding trial_passes trial_memory trial_ring
 trial_is s t most d w r ed em ew ek ev =
-    let with_words : Lcg → Memory = λ g. record { words = g } in
+    let with_words : Lcg → Memory = λ g. record { words = g; asked = 0 } in
     ap (λ (x : Daemon). passes x most (with_words w) r) ed
     ∙ ap (λ (x : ℕ). passes s.daemon x (with_words w) r) em
     ∙ ap (λ (x : Lcg). passes s.daemon (longest_repair s.size.n) (with_words x) r) ew

@@ -1,10 +1,10 @@
 -- The values with which a trial starts, as functions of the words of its generator.
-use Rattle.std.specs.Prelude.{◌≡◌, ℕ, zero, suc, ◌-◌, ◌≤◌, nat_lt, nat_le, cond, List, [], ◌∷◌, ◌++◌}
+use Rattle.std.specs.Prelude.{◌≡◌, ℕ, zero, suc, ◌-◌, ◌/◌, ◌%◌, ◌^◌, ◌≤◌, nat_lt, nat_le, cond, List, [], ◌∷◌, ◌++◌}
 use Rattle.rand_pcg.specs.Lcg.{Lcg}
 use Rattle.ring_state.specs.Sizes.{Size}
 use Rattle.ring_repairs.specs.Draws.{draw}
 use Rattle.ring_repairs.specs.declared.starts.Start.{Start}
-use Rattle.ring_repairs.specs.declared.starts.Start.TheVariants.{Any, Faults}
+use Rattle.ring_repairs.specs.declared.starts.Start.TheVariants.{Any, Faults, All}
 
 -- the generator after n drawn values below k
 unfoldable pub after_values : ℕ → Lcg → ℕ → Lcg
@@ -49,17 +49,37 @@ hits size p f g (suc i) =
 abbrev pub faulty : Size → ℕ → Lcg → Hits
 faulty size f g = hits size (draw size.n g).0 f (draw size.n g).1 size.n
 
--- the values of a start
-unfoldable pub start_values : Start → Size → Lcg → List ℕ
-start_values Any size g = drawn_values size.k g size.n
-start_values (Faults f) size g = (faulty size f g).values
+-- the digits of a number to the base k, the least first, as many as are asked for
+abbrev pub digits : ℕ → ℕ → ℕ → List ℕ
+digits k number zero = []
+digits k number (suc n) = number % k ∷ digits k (number / k) n
+
+-- the state of this number: machine 0 holds 0, and the others the digits of the number, of which the
+-- least is machine 1's
+abbrev pub numbered : Size → ℕ → List ℕ
+numbered size number = 0 ∷ digits size.k number (size.n - 1)
+
+-- how many states a start goes through: of all, those in which machine 0 holds 0, since each other is
+-- one of these with the same number added to each value; else one
+unfoldable pub states : Start → Size → ℕ
+states Any size = 1
+states (Faults f) size = 1
+states All size = size.k ^ (size.n - 1)
+
+-- the values of a start, where `number` is that of its state
+unfoldable pub start_values : Start → Size → ℕ → Lcg → List ℕ
+start_values Any size number g = drawn_values size.k g size.n
+start_values (Faults f) size number g = (faulty size f g).values
+start_values All size number g = numbered size number
 
 -- the generator after them
 unfoldable pub start_left : Start → Size → Lcg → Lcg
 start_left Any size g = after_values size.k g size.n
 start_left (Faults f) size g = (faulty size f g).words
+start_left All size g = g
 
 -- no more faults than machines
 abbrev pub AreFaultsFor : ℕ → Start → Type 0
 AreFaultsFor n Any = Unit {0}
 AreFaultsFor n (Faults f) = f ≤ n
+AreFaultsFor n All = Unit {0}

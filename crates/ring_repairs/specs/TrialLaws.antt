@@ -1,8 +1,11 @@
 -- The laws of trials.
-use Rattle.std.specs.Prelude.{◌≡◌, ℕ, ◌<◌, ◌≤◌, true, false, length, take}
+use Rattle.std.specs.Prelude.{◌≡◌, ℕ, ◌<◌, ◌≤◌, true, false, List, length, slice_index, take}
 use Rattle.ring_model.specs.Ring.{IsRing, is_settled, bound}
 use Rattle.ring_model.specs.Runs.{after_passes, granted_passes}
 use Rattle.ring_model.specs.RepairLaws.{longest_repair}
+use Rattle.ring_state.specs.Sizes.{Size, IsSize}
+use Rattle.ring_repairs.specs.Starts.{states, numbered}
+use Rattle.ring_repairs.specs.declared.starts.Start.TheVariants.{All}
 use Rattle.ring_repairs.specs.Studies.{StudyData, IsStudy, trial_ring, trial_choices, trial_passes}
 
 -- each trial starts with a ring of the study's size
@@ -37,3 +40,14 @@ abbrev pub TrialsAreBounded : Type 0
 TrialsAreBounded =
     (s : StudyData) (t : ℕ) → IsStudy s
     → (trial_passes s t ≤ longest_repair s.size.n) × (trial_passes s t ≤ bound s.size.n)
+
+-- each state in which machine 0 holds 0 has just one number, which is below how many states there are
+abbrev pub AllStatesOnce : Type 0
+AllStatesOnce =
+    (size : Size) (s : List ℕ) → IsSize size → length s ≡ size.n
+    → ((i : ℕ) → i < length s → slice_index s i < size.k)
+    → slice_index s 0 ≡ 0
+    → (number : ℕ)
+    × (number < states All size)
+    × (numbered size number ≡ s)
+    × ((other : ℕ) → other < states All size → numbered size other ≡ s → other ≡ number)

@@ -1,11 +1,12 @@
 //! Which machine moves next.
-ghost use Rattle.std.specs.Prelude.{◌≡◌, ◌<◌, length, true};
+ghost use Rattle.std.specs.Prelude.{◌≡◌, ◌+◌, ◌*◌, ◌<◌, ◌≤◌, ◌^◌, length, true, ◌%◌};
 ghost use Rattle.ring_model.specs.Ring.{is_privileged, privileged_count};
-ghost use Rattle.ring_repairs.specs.Daemons.{last_privileged, privileged_at, choice, remembered};
+ghost use Rattle.ring_repairs.specs.Daemons.{last_privileged, privileged_at, next_privileged, asked_until, rest_after, slowest, choice, remembered, draws};
 ghost use Rattle.ring_repairs.specs.Draws.{draw};
 
 use crate::draws::draw;
 use rand_pcg::Lcg64Xsh32;
+use ring_settle::rest;
 use ring_state::RingState;
 
 /// Which machine moves next, as long as the ring is not settled.
@@ -17,6 +18,11 @@ pub enum Daemon {
     Last,
     /// A drawn one of the privileged machines, each as likely as each other.
     Random,
+    /// All machines are asked in turn, from machine 0 on, and the first that is privileged moves; then the one to its right is
+    /// asked.
+    Turn,
+    /// The privileged machine whose move lowers the rest least; the least of these.
+    Slow,
 }
 
 /// What a daemon remembers between its choices.
@@ -24,6 +30,8 @@ pub enum Daemon {
 pub(crate) struct Memory {
     /// The generator of the trial.
     pub(crate) words: Lcg64Xsh32,
+    /// How many machines were asked in turn.
+    pub(crate) asked: u64,
 }
 
 /// The greatest privileged machine.
@@ -67,20 +75,115 @@ fn drawn_privileged(words: &mut Lcg64Xsh32, ring: &RingState) -> u32
     privileged_at(ring, place)
 }
 
+/// The first privileged machine that is met from this one on, around the ring.
+pub(crate) fn next_privileged(ring: &RingState, from: u32) -> u32
+    requires { from ≤ length ring.now.values }
+    ensures is { result ≡ next_privileged ring.now.values from }
+    ensures machine { result < length ring.now.values }
+{
+    for machine in from..ring.params().n() {
+        if ring.is_privileged(machine) {
+            return machine;
+        }
+    }
+    ring.first()
+}
+
+/// How many machines are asked from the first machine on, around a ring of `n`, until the second is.
+fn asked_until(n: u32, from: u32, until: u32) -> u32
+    requires n { n ≤ 2 ^ 16 }
+    requires from { from < n }
+    requires until { until < n }
+    ensures is { result ≡ asked_until n from until }
+    ensures most { result ≤ n }
+{
+    if from <= until {
+        until + 1 - from
+    } else {
+        n + until + 1 - from
+    }
+}
+
+/// The first privileged machine that is met from the one whose turn it is.
+fn machine_in_turn(asked: &mut u64, ring: &RingState) -> u32
+    requires { asked.old + 2 ^ 16 < 2 ^ 64 }
+    ensures machine { result
+        ≡ next_privileged ring.now.values (asked.old % length ring.now.values) }
+    ensures asked { asked.new ≡ asked.old + asked_until (length ring.now.values)
+        (asked.old % length ring.now.values)
+        (next_privileged ring.now.values (asked.old % length ring.now.values)) }
+    ensures most { asked.new ≤ asked.old + length ring.now.values }
+{
+    let n = ring.params().n();
+    let from = (*asked % n as u64) as u32;
+    let machine = next_privileged(ring, from);
+    *asked += asked_until(n, from, machine) as u64;
+    machine
+}
+
+/// The rest after the move of a machine. The ring is as it was then.
+fn rest_after(ring: &mut RingState, machine: u32) -> u64
+    requires machine { machine < length ring.old.values }
+    requires privileged { is_privileged ring.old.values machine ≡ true }
+    ensures rest { result ≡ rest_after ring.old machine }
+    ensures same { ring.new ≡ ring.old }
+{
+    let value = ring.get(machine);
+    ring.move_machine(machine);
+    let left = rest(ring);
+    ring.write(machine, value);
+    left
+}
+
+/// The privileged machine whose move lowers the rest least; the least of these. The ring is as it was then.
+fn slowest(ring: &mut RingState) -> u32
+    ensures slowest { result ≡ slowest ring.old }
+    ensures same { ring.new ≡ ring.old }
+{
+    let n = ring.params().n();
+    let mut slowest = ring.first();
+    let mut most = rest_after(ring, slowest);
+    for machine in 0..n {
+        if ring.is_privileged(machine) {
+            let left = rest_after(ring, machine);
+            if most < left {
+                slowest = machine;
+                most = left;
+            }
+        }
+    }
+    slowest
+}
+
 impl Daemon {
-    /// The machine that it chooses next.
+    /// Whether it draws words.
+    pub(crate) fn draws(self) -> bool
+        ensures { result ≡ draws self }
+    {
+        match self {
+            Daemon::Random => true,
+            _ => false,
+        }
+    }
+
+    /// The machine that it chooses next. The ring is as it was then.
     #[inline]
-    pub(crate) fn choose(self, memory: &mut Memory, ring: &RingState) -> u32
-        ensures choice { result ≡ choice self memory.old ring.now }
-        ensures memory { memory.new ≡ remembered self memory.old ring.now }
-        ensures machine { result < length ring.now.values }
-        ensures privileged { is_privileged ring.now.values result ≡ true }
+    pub(crate) fn choose(self, memory: &mut Memory, ring: &mut RingState) -> u32
+        requires { memory.old.asked + 2 ^ 16 < 2 ^ 64 }
+        ensures choice { result ≡ choice self memory.old ring.old }
+        ensures memory { memory.new ≡ remembered self memory.old ring.old }
+        ensures machine { result < length ring.old.values }
+        ensures privileged { is_privileged ring.old.values result ≡ true }
+        ensures same { ring.new ≡ ring.old }
+        ensures asked { memory.new.asked ≤ memory.old.asked + length ring.old.values }
     {
         ring.params(); // says: it is a ring
         match self {
             Daemon::First => ring.first(),
             Daemon::Last => last_privileged(ring),
             Daemon::Random => drawn_privileged(&mut memory.words, ring),
+            Daemon::Turn => machine_in_turn(&mut memory.asked, ring),
+            Daemon::Slow => slowest(ring),
         }
     }
 }

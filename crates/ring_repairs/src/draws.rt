@@ -9,7 +9,7 @@ use rand_pcg::Lcg64Xsh32;
 const REDRAW_LIMIT: u32 = 63;
 
 /// The generator of a trial.
-pub(crate) fn generator(seed: u64, trial: u64) -> Lcg64Xsh32
+pub fn generator(seed: u64, trial: u64) -> Lcg64Xsh32
     ensures { result ≡ generator seed trial }
 {
     Lcg64Xsh32::new(seed, trial)
@@ -25,7 +25,7 @@ fn next_word(words: &mut Lcg64Xsh32) -> u32
 
 /// A number below `below`, each as likely as each other.
 #[inline]
-pub(crate) fn draw(words: &mut Lcg64Xsh32, below: u32) -> u32
+pub fn draw(words: &mut Lcg64Xsh32, below: u32) -> u32
     requires { 0 < below }
     ensures drawn { (result, words.new) ≡ draw below words.old }
     ensures below { result < below }

@@ -1,6 +1,6 @@
 //! The laws of trials. Each is the contract of a function that does nothing; the statements are in `specs/TrialLaws.antt`.
 
-ghost use Rattle.ring_repairs.specs.TrialLaws.{TrialsStart, TrialsSettle, TrialsSettleFirst, TrialsAreGranted, TrialsAreBounded};
+ghost use Rattle.ring_repairs.specs.TrialLaws.{TrialsStart, TrialsSettle, TrialsSettleFirst, TrialsAreGranted, TrialsAreBounded, AllStatesOnce};
 
 /// Each trial starts with a ring of its study's size, and its choices settle it: no fewer of them do.
 pub fn trials_settle()
@@ -14,4 +14,10 @@ pub fn trials_settle()
 pub fn trials_are_bounded()
     ensures granted { TrialsAreGranted }
     ensures bounded { TrialsAreBounded }
+{}
+
+/// Each state in which machine 0 holds 0 has just one number below how many states there are: so a start that goes through all
+/// states tries each of them as often.
+pub fn all_states_once()
+    ensures { AllStatesOnce }
 {}

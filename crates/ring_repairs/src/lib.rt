@@ -13,6 +13,7 @@ mod studies;
 mod trials;
 
 pub use daemons::Daemon;
+pub use draws::{draw, generator};
 pub use histograms::Histogram;
 pub use repairs::Repairs;
 pub use starts::Start;

@@ -1,6 +1,6 @@
 //! The trials of a study that are done so far.
 ghost use Rattle.std.specs.Prelude.{◌≡◌, ◌+◌, ◌≤◌, min, IfOk};
-ghost use Rattle.ring_repairs.specs.Studies.{AreRepairs, repairs_with};
+ghost use Rattle.ring_repairs.specs.Studies.{AreRepairs, repairs_with, trial_count};
 
 use crate::histograms::Histogram;
 use crate::studies::Study;
@@ -65,7 +65,7 @@ impl Repairs {
     /// How many trials are done, the first ones of the study.
     pub fn done(&self) -> u64
         ensures is { result ≡ self.now.done }
-        ensures within { result ≤ self.now.study.trials }
+        ensures within { result ≤ trial_count self.now.study }
     {
         self.done
     }
@@ -82,10 +82,10 @@ impl Repairs {
     /// Does the next trials, `most` of them, or fewer where fewer are left. It takes no memory.
     pub fn advance(&mut self, most: u64)
         ensures study { self.new.study ≡ self.old.study }
-        ensures done { self.new.done ≡ min (self.old.done + most) self.old.study.trials }
+        ensures done { self.new.done ≡ min (self.old.done + most) (trial_count self.old.study) }
         ensures counted { AreRepairs self.new }
     {
-        let left = self.study.trials() - self.done;
+        let left = self.study.count() - self.done;
         let trials = if most < left { most } else { left };
         count_trials(
             &self.study,

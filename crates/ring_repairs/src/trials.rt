@@ -3,7 +3,7 @@ ghost use Rattle.std.specs.Prelude.{◌≡◌, ◌≤◌, ◌<◌, ◌+◌, leng
 ghost use Rattle.ring_model.specs.Limits.{machine_limit};
 ghost use Rattle.ring_model.specs.RepairLaws.{longest_repair};
 ghost use Rattle.ring_state.specs.Sizes.{size_of};
-ghost use Rattle.ring_repairs.specs.Studies.{trial_passes, IsCounted};
+ghost use Rattle.ring_repairs.specs.Studies.{trial_passes, trial_count, IsCounted};
 ghost use Rattle.ring_repairs.specs.Limits.{number_limit};
 
 use crate::daemons::Memory;
@@ -34,8 +34,9 @@ pub(crate) fn try_one(study: &Study, trial: u64, ring: &mut RingState) -> u64
 {
     let most = longest_repair(study.size().n());
     let mut words = generator(study.seed(), trial);
-    write_start(study.start(), &mut words, ring);
-    let mut memory = Memory { words };
+    let number = trial / study.trials();
+    write_start(study.start(), number, &mut words, ring);
+    let mut memory = Memory { words, asked: 0 };
     repair(study.daemon(), most, &mut memory, ring)
 }
 
@@ -47,7 +48,7 @@ pub(crate) fn count_trials(
     ring: &mut RingState,
     passes: &mut Histogram,
 )
-    requires all { first + trials ≤ study.now.trials }
+    requires all { first + trials ≤ trial_count study.now }
     requires size { size_of ring.old ≡ study.now.size }
     requires numbers { length passes.old ≡ longest_repair study.now.size.n + 1 }
     requires counted { IsCounted (trial_passes study.now) first passes.old }
@@ -55,7 +56,7 @@ pub(crate) fn count_trials(
     ensures numbers { length passes.new ≡ longest_repair study.now.size.n + 1 }
     ensures counted { IsCounted (trial_passes study.now) (first + trials) passes.new }
 {
-    study.trials(); // says: they are within the limit
+    study.count(); // says: they are within the limit
     for trial in first..first + trials {
         let number = try_one(study, trial, ring);
         passes.add(number as usize);

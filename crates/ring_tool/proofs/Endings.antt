@@ -5,7 +5,10 @@ use Rattle.std.proofs.lemmas.Bool.{false≢true}
 use Rattle.disks.specs.Held.{Held}
 use Rattle.tool_parts.specs.declared.requests.Request.{Request}
 use Rattle.tool_parts.specs.declared.requests.Request.TheVariants as asked
-use Rattle.ring_tool.specs.Answered.{IsAnswer, IsRefusal, IsOfLines, IsOfFile, MakesNoFile, IsSilent}
+use Rattle.tool_requests.specs.declared.wanted.Wanted.{Wanted}
+use Rattle.tool_requests.specs.declared.wanted.Wanted.TheVariants as wanted
+use Rattle.ring_tool.specs.Answered.{IsRefusal, IsOfLines}
+use Rattle.ring_tool.specs.Wanted.{IsDoing, IsRefusing, ServesLines, LeavesInput, LeavesFiles, LeavesError}
 use Rattle.ring_tool.specs.Ended.{IsRefused, HasEnded}
 use Rattle.ring_tool.specs.Left.{HasFront, HasLine, HasEndedAnswered}
 use Rattle.serve_commands.proofs.ServeRefusals.{no_list}
@@ -34,7 +37,7 @@ two false h = absurd (omega (arith, h))
 not_write : (e : ToolError) → is_bad_list e ≡ true → e ≢ tool.Write
 not_write e bad same = false≢true (sym (ap is_bad_list same) ∙ bad)
 
-bad_list : (e : ToolError) → is_bad_list e ≡ true → e ≡ tool.BadList
+pub bad_list : (e : ToolError) → is_bad_list e ≡ true → e ≡ tool.BadList
 bad_list tool.BadList h = refl
 bad_list tool.TooFew h = absurd (false≢true h)
 bad_list tool.TooMany h = absurd (false≢true h)
@@ -95,20 +98,25 @@ bad_list (tool.BadNames a) h = absurd (false≢true h)
 bad_list (tool.WrongNames a b c d) h = absurd (false≢true h)
 
 -- a request that is refused for a list has changed no file, also if it serves lines
-files_kept : (request : Request) (was is : World) → IsRefusal request was is tool.BadList → ((IsOfLines request → ⊥) → is.files ≡ was.files) → is.files ≡ was.files
-files_kept (asked.Step words) was is refused kept = kept (λ lines. lines)
-files_kept (asked.Run words) was is refused kept = kept (λ lines. lines)
-files_kept (asked.Check words) was is refused kept = kept (λ lines. lines)
-files_kept (asked.CheckAll words) was is refused kept = kept (λ lines. lines)
-files_kept (asked.Report words) was is refused kept = kept (λ lines. lines)
-files_kept (asked.Picture words) was is refused kept = kept (λ lines. lines)
-files_kept (asked.Upgrade words) was is refused kept = kept (λ lines. lines)
-files_kept (asked.Recover words) was is refused kept = kept (λ lines. lines)
-files_kept (asked.Join words) was is refused kept = kept (λ lines. lines)
-files_kept (asked.New words) was is refused kept = kept (λ lines. lines)
-files_kept (asked.Holds words) was is refused kept = kept (λ lines. lines)
-files_kept (asked.Serve words) was is refused kept = absurd (no_list words was is refused)
-files_kept (asked.Locks words) was is refused kept = unread_lists_keep words was is refused
+request_kept : (request : Request) (was is : World) → IsRefusal request was is tool.BadList → ((IsOfLines request → ⊥) → is.files ≡ was.files) → is.files ≡ was.files
+request_kept (asked.Step words) was is refused kept = kept (λ lines. lines)
+request_kept (asked.Run words) was is refused kept = kept (λ lines. lines)
+request_kept (asked.Check words) was is refused kept = kept (λ lines. lines)
+request_kept (asked.CheckAll words) was is refused kept = kept (λ lines. lines)
+request_kept (asked.Report words) was is refused kept = kept (λ lines. lines)
+request_kept (asked.Picture words) was is refused kept = kept (λ lines. lines)
+request_kept (asked.Upgrade words) was is refused kept = kept (λ lines. lines)
+request_kept (asked.Recover words) was is refused kept = kept (λ lines. lines)
+request_kept (asked.Join words) was is refused kept = kept (λ lines. lines)
+request_kept (asked.New words) was is refused kept = kept (λ lines. lines)
+request_kept (asked.Holds words) was is refused kept = kept (λ lines. lines)
+request_kept (asked.Serve words) was is refused kept = absurd (no_list words was is refused)
+request_kept (asked.Locks words) was is refused kept = unread_lists_keep words was is refused
+
+files_kept : (asked : Wanted) (was is : World) → IsRefusing asked was is tool.BadList → ((ServesLines asked → ⊥) → is.files ≡ was.files) → is.files ≡ was.files
+files_kept (wanted.Tool request) was is refused kept = request_kept request was is refused kept
+files_kept (wanted.ReportRepairs words) was is refused kept = kept (λ lines. lines)
+files_kept (wanted.States words) was is refused kept = kept (λ lines. lines)
 
 -- what holds of an answer, or of a refusal
 pub of_ok : {E : Type 0} (P : Type 0) (r : Result (Unit {0}) E) (u : Unit {0}) → r ≡ Ok u → OnOk r P → P
@@ -117,15 +125,15 @@ of_ok {E} P r u is h = subst (λ (x : Result (Unit {0}) E). OnOk x P) is h
 pub of_err : {E : Type 0} (P : E → Type 0) (r : Result (Unit {0}) E) (e : E) → r ≡ Err e → IfErr r P → P e
 of_err {E} P r e is h = subst (λ (x : Result (Unit {0}) E). IfErr x P) is h
 
--- the end of a request that was answered
-pub ended_answered : (request : Request) (was : World) (status : ℕ) (told : Bool) (files : Option Held) (input printed out said err : Option (List ℕ)) →
-    IsAnswer request was (world files input printed said) → (IsSilent request → said ≡ was.err) → (IsOfFile request → input ≡ was.input) → (MakesNoFile request → files ≡ was.files) → status ≤ 1 →
-    HasEndedAnswered status told printed out said err → HasEnded request status told was (world files input out err)
-ended_answered request was status told files input printed out said err answered silent unread made bound ends = record {
+-- the end of what was wanted, if it was answered
+pub ended_answered : (asked : Wanted) (was : World) (status : ℕ) (told : Bool) (files : Option Held) (input printed out said err : Option (List ℕ)) →
+    IsDoing asked was (world files input printed said) → (LeavesError asked → said ≡ was.err) → (LeavesInput asked → input ≡ was.input) → (LeavesFiles asked → files ≡ was.files) → status ≤ 1 →
+    HasEndedAnswered status told printed out said err → HasEnded asked status told was (world files input out err)
+ended_answered asked was status told files input printed out said err answered silent unread made bound ends = record {
   most = omega (arith, bound);
   done = λ s.
       let whole = ends.whole s in
-      (printed, subst (λ (e : Option (List ℕ)). IsAnswer request was (world files input printed e)) (sym whole.1) answered, (λ q. whole.1 ∙ silent q), whole.0);
+      (printed, subst (λ (e : Option (List ℕ)). IsDoing asked was (world files input printed e)) (sym whole.1) answered, (λ q. whole.1 ∙ silent q), whole.0);
   failed = λ s.
       let cut = ends.cut s in
       inl (printed, said, answered, silent, cut.0, cut.1);
@@ -134,21 +142,21 @@ ended_answered request was status told files input printed out said err answered
   made = made;
 }
 
--- the end of a request that was refused
-pub ended_refused : (request : Request) (was : World) (e : ToolError) (status : ℕ) (told : Bool) (files : Option Held) (input printed out said err : Option (List ℕ)) →
-    status ≡ status_of e → IsRefusal request was (world files input printed said) e → (IsSilent request → said ≡ was.err) → (IsOfFile request → input ≡ was.input) → (MakesNoFile request → files ≡ was.files) →
-    ((IsOfLines request → ⊥) → e ≢ tool.Write → files ≡ was.files) → HasFront printed out → HasLine e told said err → HasEnded request status told was (world files input out err)
-ended_refused request was e status told files input printed out said err same refused silent unread made kept front line =
+-- the end of what was wanted, if it was refused
+pub ended_refused : (asked : Wanted) (was : World) (e : ToolError) (status : ℕ) (told : Bool) (files : Option Held) (input printed out said err : Option (List ℕ)) →
+    status ≡ status_of e → IsRefusing asked was (world files input printed said) e → (LeavesError asked → said ≡ was.err) → (LeavesInput asked → input ≡ was.input) → (LeavesFiles asked → files ≡ was.files) →
+    ((ServesLines asked → ⊥) → e ≢ tool.Write → files ≡ was.files) → HasFront printed out → HasLine e told said err → HasEnded asked status told was (world files input out err)
+ended_refused asked was e status told files input printed out said err same refused silent unread made kept front line =
     let is = world files input out err in
-    let all : IsRefused request e told was is = (printed, said, refused, silent, front, line, kept) in
+    let all : IsRefused asked e told was is = (printed, said, refused, silent, front, line, kept) in
     record {
       most = subst (λ (s : ℕ). s ≤ 2) (sym same) (most (is_bad_list e));
       done = λ s. absurd (some (is_bad_list e) (sym same ∙ s));
       failed = λ s. inr (e, one (is_bad_list e) (sym same ∙ s), all);
       unread = λ s.
           let bad = two (is_bad_list e) (sym same ∙ s) in (
-            subst (λ (x : ToolError). IsRefused request x told was is) (bad_list e bad) all,
-            files_kept request was (world files input printed said) (subst (λ (x : ToolError). IsRefusal request was (world files input printed said) x) (bad_list e bad) refused)
+            subst (λ (x : ToolError). IsRefused asked x told was is) (bad_list e bad) all,
+            files_kept asked was (world files input printed said) (subst (λ (x : ToolError). IsRefusing asked was (world files input printed said) x) (bad_list e bad) refused)
                 (λ other. kept other (not_write e bad)),
           );
       kept = unread;

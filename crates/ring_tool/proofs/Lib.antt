@@ -1,3 +1,4 @@
 pub mod Requested
 pub mod CutTexts
 pub mod Endings
+pub mod RepairEndings

@@ -1,15 +1,17 @@
 -- How a run of the program ends, by what its words ask for: the world that it met, and the one that
 -- it leaves.
-use Rattle.std.specs.Prelude.{◌≡◌, ◌≤◌, ◌⊎◌, ℕ, Bool, Result, Ok, Err, string_bytes}
+use Rattle.std.specs.Prelude.{◌≡◌, ◌≤◌, ◌⊎◌, ℕ, Bool, None, Result, Ok, Err, string_bytes}
 use Rattle.std.specs.Io.KnownBytes.{append_known}
 use Rattle.clap.specs.Values.{kind_of}
 use Rattle.clap.specs.declared.error.Error.{Error}
 use Rattle.clap.specs.declared.error.kind.ErrorKind.TheVariants as kind
-use Rattle.tool_parts.specs.declared.requests.Request.{Request}
-use Rattle.tool_parts.specs.Worlds.{World}
+use Rattle.command_line.specs.declared.words.Words.{Words}
+use Rattle.command_line.specs.declared.words.Words.TheVariants as words
+use Rattle.tool_parts.specs.Worlds.{World, world}
 use Rattle.tool_parts.specs.declared.faults.ToolError.TheVariants as tool
 use Rattle.ring_tool.specs.Ended.{HasEnded}
 use Rattle.ring_tool.specs.Left.{HasFront, HasText, HasLine, HasEndedAnswered}
+use Rattle.ring_tool.specs.Repaired.{HasRepaired}
 use Rattle.ring_tool.specs.declared.asked.Asked.{Asked}
 use Rattle.ring_tool.specs.declared.asked.Asked.TheVariants as asked
 
@@ -18,10 +20,12 @@ abbrev pub IsShown : Error → Type 0
 IsShown e = (kind_of e ≡ kind.DisplayHelp) ⊎ (kind_of e ≡ kind.DisplayVersion)
 
 -- what the words ask for, by how they read: where memory is short, nothing is known
-abbrev pub IsAskedBy : Result Request Error → Asked → Type 0
-IsAskedBy (Ok request) (asked.Command named) = named ≡ request
-IsAskedBy (Ok request) _ = ⊥
+abbrev pub IsAskedBy : Result Words Error → Asked → Type 0
+IsAskedBy (Ok (words.Tool wanted)) (asked.Command named) = named ≡ wanted
+IsAskedBy (Ok (words.Repairs wanted)) (asked.Repairs named) = named ≡ wanted
+IsAskedBy (Ok wanted) _ = ⊥
 IsAskedBy (Err e) (asked.Command named) = ⊥
+IsAskedBy (Err e) (asked.Repairs named) = ⊥
 IsAskedBy (Err e) (asked.Text text) = IsShown e
 IsAskedBy (Err e) (asked.Unread text) = (IsShown e → ⊥) × (kind_of e ≡ kind.OutOfMemory → ⊥)
 IsAskedBy (Err e) asked.OutOfMemory = Unit {0}
@@ -30,10 +34,17 @@ IsAskedBy (Err e) asked.OutOfMemory = Unit {0}
 abbrev pub IsIdle : World → World → Type 0
 IsIdle was is = (is.files ≡ was.files) × (is.input ≡ was.input)
 
--- A request ends as that command does. The help and the version are printed. Words that cannot be
+-- a world apart from its input
+abbrev pub without_input : World → World
+without_input w = world w.files None w.out w.err
+
+-- What is wanted ends as its command does; `repairs` reads no input. The help and the version are printed. Words that cannot be
 -- read have status 2, and standard error has the text.
 abbrev pub HasRun : Asked → ℕ → Bool → World → World → Type 0
-HasRun (asked.Command request) status told was is = HasEnded request status told was is
+HasRun (asked.Command wanted) status told was is = HasEnded wanted status told was is
+HasRun (asked.Repairs words) status told was is =
+    HasRepaired words status told (without_input was) (without_input is)
+    × (is.input ≡ was.input)
 HasRun (asked.Text text) status told was is =
     (status ≤ 1)
     × HasEndedAnswered status told (append_known was.out (string_bytes text)) is.out was.err is.err

@@ -4,15 +4,18 @@ ghost use Rattle.ring_tool.specs.Run.{IsAskedBy};
 
 use clap::Error;
 use clap::error::ErrorKind;
-use command_line::read_words;
+use command_line::{Words, read_words};
+use repair_requests::RepairsWords;
 use std::alloc::Global;
-use tool_parts::requests::Request;
+use tool_requests::Wanted;
 
 /// What words ask of the program.
 #[derive(Drop)]
 pub enum Asked<'a> {
     /// A command.
-    Command(Request<'a>),
+    Command(Wanted<'a>),
+    /// Repairs of rings, counted.
+    Repairs(RepairsWords<'a>),
     /// The help or the version: this text.
     Text(String),
     /// They cannot be read, as this text says.
@@ -22,11 +25,12 @@ pub enum Asked<'a> {
 }
 
 /// What words ask for, by the answer of `clap`.
-fn asked_by<'a>(alloc: Global, read: Result<Request<'a>, Error>) -> Asked<'a>
+fn asked_by<'a>(alloc: Global, read: Result<Words<'a>, Error>) -> Asked<'a>
     ensures { IsAskedBy read.entry result }
 {
     let error = match read {
-        Ok(request) => return Asked::Command(request),
+        Ok(Words::Tool(wanted)) => return Asked::Command(wanted),
+        Ok(Words::Repairs(words)) => return Asked::Repairs(words),
         Err(error) => error,
     };
     if error.kind() == ErrorKind::OutOfMemory {

@@ -48,10 +48,10 @@ fn line_of(alloc: Global, fault: &ToolError<'_>) -> Option<Vec<u8>>
 }
 
 /// What standard error gets where there is no memory for the line of a refusal.
-const NO_MEMORY: &str = "out of memory\n";
+pub(crate) const NO_MEMORY: &str = "out of memory\n";
 
 /// Writes a text, and returns whether each byte of it is written.
-fn put_whole<E: Write>(err: &mut E, text: &[u8]) -> bool
+pub(crate) fn put_whole<E: Write>(err: &mut E, text: &[u8]) -> bool
     ensures { HasText text.now result (E.contents err.old) (E.contents err.new) }
 {
     match put(err, text) {
@@ -62,7 +62,7 @@ fn put_whole<E: Write>(err: &mut E, text: &[u8]) -> bool
 
 /// Writes the line of a refusal, or where there is no memory for it that of a lack of memory. Returns whether each byte of it is
 /// written.
-fn tell<E: Write>(alloc: Global, fault: &ToolError<'_>, err: &mut E) -> bool
+pub(crate) fn tell<E: Write>(alloc: Global, fault: &ToolError<'_>, err: &mut E) -> bool
     ensures { HasLine fault.now result (E.contents err.old) (E.contents err.new) }
 {
     match line_of(alloc, fault) {

@@ -5,7 +5,9 @@ mod asked;
 mod ends;
 mod process;
 mod program;
+mod repairs;
 mod requests;
+mod wanted;
 
 use crate::process::{CommandLine, SystemProcess, run_process};
 use disks::{SystemDisk, take_low};

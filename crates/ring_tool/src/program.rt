@@ -7,7 +7,8 @@ ghost use Rattle.tool_parts.specs.Worlds.{world};
 
 use crate::asked::Asked;
 use crate::ends::{Ending, fail, refuse, show};
-use crate::requests::do_request;
+use crate::repairs::do_repairs;
+use crate::wanted::do_wanted;
 use disks::Disk;
 use std::io::{BufWriter, Read, Write};
 use std::sync::Wait;
@@ -43,7 +44,8 @@ pub fn run_asked<
         (O.contents result.out) (E.contents err.new)) }
 {
     match asked {
-        Asked::Command(request) => do_request(rt, disk, &request, input, out, err),
+        Asked::Command(wanted) => do_wanted(rt, disk, &wanted, input, out, err),
+        Asked::Repairs(words) => do_repairs(rt.alloc(), disk, &words, out, err),
         Asked::Text(text) => show(rt.alloc(), text.as_str(), out, err),
         Asked::Unread(text) => refuse(text.as_str(), out, err),
         Asked::OutOfMemory => fail(rt.alloc(), &ToolError::OutOfMemory, out, err),

@@ -1,18 +1,14 @@
-//! Does the command that the program was asked for.
+//! Does a request of `tool_parts`.
 
-ghost use Rattle.std.specs.Prelude.{◌≤◌};
-ghost use Rattle.std.specs.Io.Buffered.{writer_contents};
 ghost use Rattle.ring_tool.specs.Answered.{HasAnswered};
-ghost use Rattle.ring_tool.specs.Ended.{HasEnded};
 ghost use Rattle.tool_parts.specs.Worlds.{world};
 
-use crate::ends::{Ending, done, fail};
 use disks::Disk;
 use folder_commands::{join, recover};
 use lock_commands::{holds, lending};
 use run_commands::{fresh, run, step};
 use serve_commands::serve;
-use std::io::{BufWriter, Read, Write};
+use std::io::{Read, Write};
 use std::sync::Wait;
 use std::thread::Threads;
 use text_commands::{check, check_all, picture, report, upgrade};
@@ -53,38 +49,5 @@ pub fn answer<'a, R: AllocGlobal + Threads + Wait + Sync, D: Disk, I: Read, O: W
         Request::Serve(words) => serve::run(rt.alloc(), disk, words, input, out, err),
         Request::Locks(words) => lending::run(rt.alloc(), disk, words, input, out, err),
         Request::Holds(words) => holds::run(rt.alloc(), disk, words, input, out),
-    }
-}
-
-/// Does the command and ends the run: what it printed leaves the buffer of `out`, and a refusal is reported on `err`. Words,
-/// files and streams are those of [`answer`].
-///
-/// The status is 0 if the command was done and every byte of its answer is in the writer below; 1 if one is missing there,
-/// or the command was refused; 2 if a list cannot be read.
-pub fn do_request<
-    'a,
-    R: AllocGlobal + Threads + Wait + Sync,
-    D: Disk,
-    I: Read,
-    O: Write + Drop,
-    E: Write,
->(
-    rt: &R,
-    disk: &mut D,
-    request: &Request<'a>,
-    input: &mut I,
-    mut out: BufWriter<O>,
-    err: &mut E,
-) -> Ending<O>
-    ensures status { result.status ≤ 2 }
-    ensures ended { HasEnded request.now result.status result.told
-        (world (D.holds disk.old) (I.remaining input.old)
-        (writer_contents O.contents out) (E.contents err.old))
-        (world (D.holds disk.new) (I.remaining input.new)
-        (O.contents result.out) (E.contents err.new)) }
-{
-    match answer(rt, disk, request, input, &mut out, err) {
-        Ok(()) => done(rt.alloc(), out, err),
-        Err(fault) => fail(rt.alloc(), &fault, out, err),
     }
 }

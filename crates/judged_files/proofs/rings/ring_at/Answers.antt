@@ -8,7 +8,7 @@ use Rattle.chain_readers.specs.declared.holds.Hold.{Hold}
 use Rattle.chain_readers.specs.Holds.{AreLaterHolds}
 use Rattle.chain_readers.specs.Known.{Known, known, read}
 use Rattle.chain_readers.specs.Signs.{signs_of}
-use Rattle.judged_files.specs.Beginnings.{has_open}
+use Rattle.judged_files.specs.Beginnings.{open_token}
 use Rattle.judged_files.proofs.rings.ring_at.Goals as goal
 
 pub returns : goal.returns
@@ -22,5 +22,5 @@ returns c =
           ∙ ap (λ (n : ℕ). capped (base.grants + n)) (c.count_events.ensures.granted ∙ ap (λ (es : List SavedEvent). granted_count (map event_of es)) c.deref.ensures.value);
       holds = c.in-Ok-holds.holds.items;
       are = subst (λ (hs : List Hold). AreLaterHolds hs signs) (sym c.in-Ok-holds.ensures) ((c.holds_of_signs.ensures.read signs reader).1 read_so);
-      held = c.has_open.ensures ∙ ap (λ (hs : List Hold). has_open hs) c.deref-2.ensures.value;
+      held = c.open_token.ensures ∙ ap (λ (hs : List Hold). open_token hs) c.deref-2.ensures.value;
     }

@@ -10,8 +10,8 @@ use Rattle.lock_names.proofs.asks.ask_lock.Goals as goal
 pub with_number-own-requires : goal.with_number-own-requires
 with_number-own-requires c = λ h e. let w = there_is c.args.locks.now c.args.ring c.requires.lock in c.requires.tokens w.0 h w.1 (sym (c.holder.ensures w.0 w.1) ∙ e)
 
-pub returns : goal.returns
-returns c =
+pub returns-clause-answer : goal.returns-clause-answer
+returns-clause-answer c =
     let w = there_is c.args.locks.now c.args.ring c.requires.lock in
     let b = bound_by c.args.counts in
     let own : asked c.with_number-own.result ≡ with_number b (asked c.args.ask) w.0.holder =

@@ -1,5 +1,9 @@
+use Rattle.std.proofs.Common.{◌*◌, ◌≤◌}
 use Rattle.ring_repairs.proofs.Choices.{Repairs}
 use Rattle.ring_repairs.proofs.repairing.repair.Given as goal
 
 abbrev pub invariant-loop : goal.invariant-loop
-invariant-loop l = Repairs l.daemon l.most l.passes l.initial.memory l.memory l.initial.ring l.ring l.counter
+invariant-loop l = record {
+  run : Repairs l.daemon l.most l.passes l.initial.memory l.memory l.initial.ring l.ring l.counter;
+  asked : l.memory.asked ≤ 1024 * l.passes;
+}

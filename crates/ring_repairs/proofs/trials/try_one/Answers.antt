@@ -1,4 +1,4 @@
-use Rattle.std.proofs.Common.{◌≡◌, ℕ, length, sym, ◌∙◌, ap, arith}
+use Rattle.std.proofs.Common.{◌≡◌, ℕ, ◌/◌, length, sym, ◌∙◌, ap, arith}
 use Rattle.std.specs.Prelude.{List}
 use Rattle.rand_pcg.specs.Lcg.{Lcg}
 use Rattle.ring_model.specs.Ring.{Ring}
@@ -20,11 +20,13 @@ returns-clause-passes c =
     let words : c.generator-words.result ≡ g = c.generator-words.ensures ∙ ap (λ (x : ℕ). generator x c.args.trial) c.seed.ensures in
     let size : size_of c.args.ring.now ≡ s.size = c.requires in
     let start : c.start.result ≡ s.start = c.start.ensures in
-    let values : c.write_start.new.ring.values ≡ start_values s.start s.size g =
+    let number : c.args.trial / c.trials.result ≡ c.args.trial / s.trials = ap (λ (x : ℕ). c.args.trial / x) c.trials.ensures.is in
+    let values : c.write_start.new.ring.values ≡ start_values s.start s.size (c.args.trial / s.trials) g =
     c.write_start.ensures.values
-    ∙ ap (λ (x : Start). start_values x (size_of c.args.ring.now) c.generator-words.result) start
-    ∙ ap (λ (x : Size). start_values s.start x c.generator-words.result) size
-    ∙ ap (start_values s.start s.size) words in
+    ∙ ap (λ (x : Start). start_values x (size_of c.args.ring.now) (c.args.trial / c.trials.result) c.generator-words.result) start
+    ∙ ap (λ (x : Size). start_values s.start x (c.args.trial / c.trials.result) c.generator-words.result) size
+    ∙ ap (λ (x : ℕ). start_values s.start s.size x c.generator-words.result) number
+    ∙ ap (start_values s.start s.size (c.args.trial / s.trials)) words in
     let left : c.write_start.new.words ≡ start_left s.start s.size g =
     c.write_start.ensures.words
     ∙ ap (λ (x : Start). start_left x (size_of c.args.ring.now) c.generator-words.result) start
@@ -37,7 +39,10 @@ returns-clause-passes c =
 pub returns-clause-size : goal.returns-clause-size
 returns-clause-size c =
     let size : size_of c.args.ring.now ≡ c.args.study.now.size = c.requires in
+    let two = c.size.ensures.study.size.machines in
+    let same = ap (λ (x : Size). x.n) size in
     let written : length c.write_start.new.ring.values ≡ length c.args.ring.now.values =
-    ap (λ (x : List ℕ). length x) c.write_start.ensures.values ∙ start_long c.start.result (size_of c.args.ring.now) c.generator-words.result in
+    ap (λ (x : List ℕ). length x) c.write_start.ensures.values
+    ∙ start_long c.start.result (size_of c.args.ring.now) (c.args.trial / c.trials.result) c.generator-words.result (omega arith) in
     same_size c.args.ring.now c.args.study.now.size size c.repair.new.ring (c.repair.ensures.size ∙ written)
     (c.repair.ensures.same ∙ c.write_start.ensures.same)

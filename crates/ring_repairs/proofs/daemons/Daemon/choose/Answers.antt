@@ -1,4 +1,4 @@
-use Rattle.std.proofs.Common.{◌≡◌, ◌<◌, true, length, refl, sym, ◌∙◌, ap, subst, arith}
+use Rattle.std.proofs.Common.{◌≡◌, ℕ, ◌<◌, true, length, refl, sym, ◌∙◌, ap, subst, arith}
 use Rattle.rand_pcg.specs.Lcg.{Lcg}
 use Rattle.ring_model.specs.Ring.{is_privileged}
 use Rattle.ring_repairs.specs.Daemons.{choice, remembered}
@@ -47,7 +47,7 @@ returns-in-Random-clause-choice c =
 pub returns-in-Random-clause-memory : goal.returns-in-Random-clause-memory
 unfolding remembered
 returns-in-Random-clause-memory c =
-    let with_words : Lcg → Memory = λ g. record { words = g } in
+    let with_words : Lcg → Memory = λ g. record { words = g; asked = c.args.memory.now.asked } in
     subst (λ (d : Daemon). with_words c.drawn_privileged.new.words ≡ remembered d c.args.memory.now c.args.ring.now) (sym c.in-Random.is)
     (ap with_words c.drawn_privileged.ensures.words)
 
@@ -60,4 +60,49 @@ returns-in-Random-clause-machine c =
 pub returns-in-Random-clause-privileged : goal.returns-in-Random-clause-privileged
 returns-in-Random-clause-privileged c =
     ap (is_privileged c.args.ring.now.values) (returns-in-Random-clause-choice c)
+    ∙ choice_privileged c.args.self c.args.memory.now c.args.ring.now c.params.ensures.ring.ring
+
+pub returns-in-Turn-clause-choice : goal.returns-in-Turn-clause-choice
+unfolding choice
+returns-in-Turn-clause-choice c =
+    subst (λ (d : Daemon). c.machine_in_turn.result ≡ choice d c.args.memory.now c.args.ring.now) (sym c.in-Turn.is)
+    c.machine_in_turn.ensures.machine
+
+pub returns-in-Turn-clause-memory : goal.returns-in-Turn-clause-memory
+unfolding remembered
+returns-in-Turn-clause-memory c =
+    let with_asked : ℕ → Memory = λ a. record { words = c.args.memory.now.words; asked = a } in
+    subst (λ (d : Daemon). with_asked c.machine_in_turn.new.asked ≡ remembered d c.args.memory.now c.args.ring.now) (sym c.in-Turn.is)
+    (ap with_asked c.machine_in_turn.ensures.asked)
+
+pub returns-in-Turn-clause-machine : goal.returns-in-Turn-clause-machine
+returns-in-Turn-clause-machine c =
+    let e = returns-in-Turn-clause-choice c in
+    let l = choice_below c.args.self c.args.memory.now c.args.ring.now c.params.ensures.ring.ring in
+    omega arith
+
+pub returns-in-Turn-clause-privileged : goal.returns-in-Turn-clause-privileged
+returns-in-Turn-clause-privileged c =
+    ap (is_privileged c.args.ring.now.values) (returns-in-Turn-clause-choice c)
+    ∙ choice_privileged c.args.self c.args.memory.now c.args.ring.now c.params.ensures.ring.ring
+
+pub returns-in-Slow-clause-choice : goal.returns-in-Slow-clause-choice
+unfolding choice
+returns-in-Slow-clause-choice c =
+    subst (λ (d : Daemon). c.slowest.result ≡ choice d c.args.memory.now c.args.ring.now) (sym c.in-Slow.is) c.slowest.ensures.slowest
+
+pub returns-in-Slow-clause-memory : goal.returns-in-Slow-clause-memory
+unfolding remembered
+returns-in-Slow-clause-memory c =
+    subst (λ (d : Daemon). c.args.memory.now ≡ remembered d c.args.memory.now c.args.ring.now) (sym c.in-Slow.is) refl
+
+pub returns-in-Slow-clause-machine : goal.returns-in-Slow-clause-machine
+returns-in-Slow-clause-machine c =
+    let e = returns-in-Slow-clause-choice c in
+    let l = choice_below c.args.self c.args.memory.now c.args.ring.now c.params.ensures.ring.ring in
+    omega arith
+
+pub returns-in-Slow-clause-privileged : goal.returns-in-Slow-clause-privileged
+returns-in-Slow-clause-privileged c =
+    ap (is_privileged c.args.ring.now.values) (returns-in-Slow-clause-choice c)
     ∙ choice_privileged c.args.self c.args.memory.now c.args.ring.now c.params.ensures.ring.ring

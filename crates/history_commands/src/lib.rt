@@ -1,0 +1,8 @@
+//! The commands that show what a saved history holds: `states`, and `report` with repairs.
+//!
+//! They take any disk, reader and writer, and say the content of files before and after, by their names. The command line itself
+//! is the matter of `command_line`: nothing here knows of it.
+#![tactic(auto)]
+
+pub mod repairs;
+pub mod states;

@@ -1,0 +1,10 @@
+mod Starting
+mod Looking
+mod Redoing
+mod Going
+mod Stepping
+mod Coming
+mod Again
+mod Refusing
+mod Returning
+mod Living

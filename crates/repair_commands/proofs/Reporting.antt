@@ -1,0 +1,68 @@
+-- Reports, one after the other.
+use Rattle.std.proofs.Common.{◌≡◌, ℕ, List, [], ◌∷◌, ◌++◌, ◌+◌, ◌<◌, length, map, take, drop, get_or, Option, refl, sym, ◌∙◌, ap, append_assoc}
+use Rattle.std.specs.Io.KnownBytes.{Appends}
+use Rattle.std.proofs.lemmas.List.{append-nil, take-append-drop, drop_more}
+use Rattle.text_lines.proofs.Writing.{appends_nil, appends_then}
+use Rattle.text_lines.specs.Writing.{Wrote}
+use Rattle.ring_repairs.specs.Studies.{StudyData}
+use Rattle.repair_texts.specs.declared.columns.Row.{Row}
+use Rattle.repair_report.specs.Reports.{IsReport, IsCutShort}
+use Rattle.repair_report.specs.declared.writing.Lines.{Lines}
+use Rattle.repair_commands.specs.Repaired.{AreReports, HavePrinted, IsCut}
+
+-- one report more
+pub reports_more : (wanted : Lines) (ss : List StudyData) (rows : List Row) (text : List ℕ) (s : StudyData) (added : List Row) (line : List ℕ) →
+    AreReports wanted ss rows text → IsReport s wanted added line → AreReports wanted (ss ++ s ∷ []) (rows ++ added) (text ++ line)
+reports_more wanted [] rows text s added line (er, et) h = (
+  added,
+  [],
+  line,
+  [],
+  h,
+  (refl, refl),
+  ap (λ (x : List Row). x ++ added) er ∙ sym (append-nil added),
+  ap (λ (x : List ℕ). x ++ line) et ∙ sym (append-nil line),
+)
+reports_more wanted (s0 ∷ ss) rows text s added line (first, more, l0, ls, h0, rest, er, et) h = (
+  first,
+  more ++ added,
+  l0,
+  ls ++ line,
+  h0,
+  reports_more wanted ss more ls s added line rest h,
+  ap (λ (x : List Row). x ++ added) er ∙ append_assoc first more added,
+  ap (λ (x : List ℕ). x ++ line) et ∙ append_assoc l0 ls line,
+)
+
+pub printed_none : (wanted : Lines) (rows : List Row) (a : Option (List ℕ)) → rows ≡ [] → HavePrinted wanted [] rows a a
+printed_none wanted rows a e = ([], (e, refl), appends_nil a)
+
+pub printed_more : (wanted : Lines) (ss : List StudyData) (rows rows' : List Row) (a b c : Option (List ℕ)) (s : StudyData) (added : List Row) (line : List ℕ) →
+    HavePrinted wanted ss rows a b → IsReport s wanted added line → rows' ≡ rows ++ added → Appends b c line → HavePrinted wanted (ss ++ s ∷ []) rows' a c
+printed_more wanted ss rows rows' a b c s added line (text, are, at) h e al =
+    (text ++ line, rw e (reports_more wanted ss rows text s added line are h), appends_then a b c text line at al)
+
+pub printed_cut : (wanted : Lines) (all ss : List StudyData) (rows : List Row) (a b c : Option (List ℕ)) (s : StudyData) (back : List StudyData) (added : List Row) (line : List ℕ) →
+    HavePrinted wanted ss rows a b → IsReport s wanted added line → IsCutShort b c line → all ≡ ss ++ s ∷ back → IsCut wanted all a c
+printed_cut wanted all ss rows a b c s back added line (text, are, at) h (left, some, (front, split, af)) e = (
+  ss ++ s ∷ [],
+  back,
+  rows ++ added,
+  text ++ line,
+  e ∙ sym (append_assoc ss (s ∷ []) back),
+  reports_more wanted ss rows text s added line are h,
+  (left, some, (text ++ front, ap (λ (x : List ℕ). text ++ x) split ∙ sym (append_assoc text front left), appends_then a b c text front at af)),
+)
+
+-- ---- studies, one after the other
+
+map_same : (ss : List StudyData) → map (λ s. s) ss ≡ ss
+map_same [] = refl
+map_same (s ∷ ss) = ap (λ (x : List StudyData). s ∷ x) (map_same ss)
+
+-- the studies are those so far, the next one and the rest
+pub split_at_turn : (all ss : List StudyData) (s : StudyData) → map (λ x. x) ss ≡ take (length ss) all → length ss < length all → s ≡ get_or all (length ss) s →
+    all ≡ ss ++ s ∷ drop (length ss + 1) all
+split_at_turn all ss s far l here =
+    sym (take-append-drop (length ss) all) ∙ ap (λ (x : List StudyData). x ++ drop (length ss) all) (sym far ∙ map_same ss)
+    ∙ ap (λ (x : List StudyData). ss ++ x) (drop_more all (length ss) s l) ∙ ap (λ (x : StudyData). ss ++ x ∷ drop (length ss + 1) all) (sym here)

@@ -1,0 +1,82 @@
+//! `repairs`: many repairs of rings, counted.
+
+ghost use Rattle.std.specs.Prelude.{◌≡◌, ℕ, List, None, OnOk, OnErr, IfOk, IfErr};
+ghost use Rattle.std.specs.Io.KnownBytes.{Appends};
+ghost use Rattle.std.specs.List.{All};
+ghost use Rattle.ring_repairs.specs.Studies.{StudyData, IsStudy};
+ghost use Rattle.repair_texts.specs.declared.columns.Row.{Row};
+ghost use Rattle.repair_commands.specs.Repaired.{AreReports, IsRepairsAnswer, IsRepairsRefusal, HavePrinted, IsPrintRefusal};
+ghost use Rattle.tool_parts.specs.Worlds.{world};
+
+use crate::studies::studies_of;
+use crate::tables::save;
+use disks::Disk;
+use repair_report::{Lines, ReportFault, report_repairs};
+use repair_requests::{Refusal, RepairsWords};
+use repair_texts::Row;
+use ring_repairs::Study;
+use std::alloc::Global;
+use std::io::Write;
+use tool_parts::faults::ToolError;
+
+/// Does the trials of each study, and prints the reports on them, each as soon as its trials are done. Returns their rows.
+///
+/// # Errors
+///
+/// `OutOfMemory`, and `Write` where the writer fails: the bytes written until then are a prefix of the reports on the first studies.
+fn print_all<W: Write>(
+    alloc: Global,
+    studies: Vec<Study>,
+    lines: Lines,
+    out: &mut W,
+) -> Result<Vec<Row<'static>>, Refusal<'static>>
+    ensures ok { IfOk result (λ rows.
+        HavePrinted lines studies.items rows.items (W.contents out.old) (W.contents out.new)) }
+    ensures err { IfErr result (λ e.
+        IsPrintRefusal lines studies.items (W.contents out.old) (W.contents out.new) e) }
+{
+    let mut rows = Vec::new(alloc);
+    for study in studies {
+        match report_repairs(alloc, study, lines, &mut rows, out) {
+            Ok(()) => {}
+            Err(ReportFault::Write) => return Err(Refusal::Tool(ToolError::Write)),
+            Err(ReportFault::OutOfMemory) => return Err(Refusal::Tool(ToolError::OutOfMemory)),
+        }
+    }
+    Ok(rows)
+}
+
+/// `repairs`, from its words: does the trials of each size, and prints the report on them as soon as they are done; then replaces the
+/// file for the table, if one is wanted.
+///
+/// # Errors
+///
+/// `NoRing` if there is no size, the refusal of the first study that is refused: nothing is printed then. `OutOfMemory`. `Write` if the
+/// writer fails: the bytes written until then are a prefix of the reports. `Stream` and `Save` with the name of the file. Every file is
+/// as it was then.
+pub fn run<'a, D: Disk, W: Write>(
+    alloc: Global,
+    disk: &mut D,
+    words: &RepairsWords<'a>,
+    out: &mut W,
+) -> Result<(), Refusal<'a>>
+    ensures ok { OnOk result (IsRepairsAnswer words.now
+        (world (D.holds disk.old) None (W.contents out.old) None)
+        (world (D.holds disk.new) None (W.contents out.new) None)) }
+    ensures err { IfErr result (λ e. IsRepairsRefusal words.now
+        (world (D.holds disk.old) None (W.contents out.old) None)
+        (world (D.holds disk.new) None (W.contents out.new) None) e) }
+{
+    let studies = match studies_of(alloc, words) {
+        Ok(studies) => studies,
+        Err(refusal) => return Err(refusal),
+    };
+    let rows = match print_all(alloc, studies, words.lines, out) {
+        Ok(rows) => rows,
+        Err(refusal) => return Err(refusal),
+    };
+    match save(alloc, disk, words.csv, rows.as_slice()) {
+        Ok(()) => Ok(()),
+        Err(refusal) => Err(refusal),
+    }
+}

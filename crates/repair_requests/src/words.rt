@@ -1,0 +1,23 @@
+//! The words of `repairs`.
+
+use repair_report::Lines;
+use ring_repairs::{Daemon, Start};
+use tool_parts::requests::RingSize;
+
+/// The words of `repairs`.
+#[derive(Drop)]
+pub struct RepairsWords<'a> {
+    /// The size of each ring, in their order.
+    pub sizes: Vec<RingSize>,
+    /// Where each trial starts.
+    pub start: Start,
+    /// Which machine moves next.
+    pub daemon: Daemon,
+    /// How many trials there are of each size, or of each state; if it is not said, 1,000, or 1 of each state.
+    pub trials: Option<u64>,
+    pub seed: u64,
+    /// What is printed.
+    pub lines: Lines,
+    /// The name of the file for the table, if one is wanted.
+    pub csv: Option<&'a str>,
+}

@@ -1,0 +1,39 @@
+use Rattle.std.proofs.Common.{refl}
+use Rattle.ring_tool.proofs.Requested.{told_with, refused_with, kept_anyhow}
+use Rattle.ring_tool.proofs.wanted.do_it.Goals as goal
+
+pub returns-in-Tool : goal.returns-in-Tool
+returns-in-Tool g c =
+    let h = c.answer.ensures in
+    rw c.in-Tool.is (record {
+      answered = h.answered;
+      refused = h.refused;
+      kept = h.kept;
+      made = h.made;
+      silent = h.silent;
+      unread = h.unread;
+    })
+
+pub returns-in-ReportRepairs : goal.returns-in-ReportRepairs
+returns-in-ReportRepairs g c =
+    let h = c.run.ensures in
+    rw c.in-ReportRepairs.is (record {
+      answered = told_with _ _ _ refl h.ok;
+      refused = refused_with _ _ _ refl h.err;
+      kept = λ _. kept_anyhow c.run.result _ _ refl;
+      made = λ _. refl;
+      silent = λ _. refl;
+      unread = h.unread;
+    })
+
+pub returns-in-States : goal.returns-in-States
+returns-in-States g c =
+    let h = c.run-in-States.ensures in
+    rw c.in-States.is (record {
+      answered = told_with _ _ _ refl h.ok;
+      refused = refused_with _ _ _ refl h.err;
+      kept = λ _. kept_anyhow c.run-in-States.result _ _ refl;
+      made = λ _. refl;
+      silent = λ _. refl;
+      unread = h.unread;
+    })

@@ -1,0 +1,63 @@
+-- What is done of what words want: by the world that it met, and the one that it leaves.
+use Rattle.std.specs.Prelude.{◌≡◌, ◌≢◌, false, Result, OnOk, IfErr}
+use Rattle.history_commands.specs.Stated.{IsStatesAnswer, IsStatesRefusal}
+use Rattle.history_commands.specs.WithRepairs.{IsRepairsAnswer, IsRepairsRefusal}
+use Rattle.tool_parts.specs.Reading.{names_stream}
+use Rattle.tool_parts.specs.Worlds.{World}
+use Rattle.tool_parts.specs.declared.faults.ToolError.{ToolError}
+use Rattle.tool_parts.specs.declared.faults.ToolError.TheVariants as tool
+use Rattle.tool_requests.specs.declared.wanted.Wanted.{Wanted}
+use Rattle.tool_requests.specs.declared.wanted.Wanted.TheVariants as wanted
+use Rattle.ring_tool.specs.Answered.{unheard, IsAnswer, IsRefusal, IsOfLines, IsOfFile, MakesNoFile, IsSilent}
+
+-- what was wanted is done; `report --repairs` and `states` change no file
+abbrev pub IsDoing : Wanted → World → World → Type 0
+IsDoing (wanted.Tool request) was is = IsAnswer request was is
+IsDoing (wanted.ReportRepairs words) was is =
+    IsRepairsAnswer words (unheard was) (unheard is) × (is.files ≡ was.files)
+IsDoing (wanted.States words) was is =
+    IsStatesAnswer words (unheard was) (unheard is) × (is.files ≡ was.files)
+
+-- or it is refused
+abbrev pub IsRefusing : Wanted → World → World → ToolError → Type 0
+IsRefusing (wanted.Tool request) was is e = IsRefusal request was is e
+IsRefusing (wanted.ReportRepairs words) was is e =
+    IsRepairsRefusal words (unheard was) (unheard is) e × (is.files ≡ was.files)
+IsRefusing (wanted.States words) was is e =
+    IsStatesRefusal words (unheard was) (unheard is) e × (is.files ≡ was.files)
+
+-- it serves lines, which may change files before it is refused
+abbrev pub ServesLines : Wanted → Type 0
+ServesLines (wanted.Tool request) = IsOfLines request
+ServesLines (wanted.ReportRepairs words) = ⊥
+ServesLines (wanted.States words) = ⊥
+
+-- it names a file, or nothing that is read, so standard input stays as it is
+abbrev pub LeavesInput : Wanted → Type 0
+LeavesInput (wanted.Tool request) = IsOfFile request
+LeavesInput (wanted.ReportRepairs words) = names_stream words.file.now ≡ false
+LeavesInput (wanted.States words) = names_stream words.file.now ≡ false
+
+-- it names no file that is made, so every file stays as it is
+abbrev pub LeavesFiles : Wanted → Type 0
+LeavesFiles (wanted.Tool request) = MakesNoFile request
+LeavesFiles (wanted.ReportRepairs words) = Unit {0}
+LeavesFiles (wanted.States words) = Unit {0}
+
+-- it prints nothing on standard error, which stays as it is
+abbrev pub LeavesError : Wanted → Type 0
+LeavesError (wanted.Tool request) = IsSilent request
+LeavesError (wanted.ReportRepairs words) = Unit {0}
+LeavesError (wanted.States words) = Unit {0}
+
+-- How it is done: it is answered, or refused. After a refusal but that of the output every file is as
+-- it was, unless lines were served; if no file is named that is made, every file is as it was anyhow.
+-- Standard error and standard input stay as they are where the words say so.
+pub record HasDone {I E : Type 0} (asked : Wanted) (result : Result (Unit {0}) ToolError)
+    (was is : World) (input rest : I) (err said : E) : Type 0 where
+  pub answered : OnOk result (IsDoing asked was is)
+  pub refused : IfErr result (λ e. IsRefusing asked was is e)
+  pub kept : (ServesLines asked → ⊥) → IfErr result (λ e. e ≢ tool.Write → is.files ≡ was.files)
+  pub made : LeavesFiles asked → is.files ≡ was.files
+  pub silent : LeavesError asked → said ≡ err
+  pub unread : LeavesInput asked → rest ≡ input

@@ -1,0 +1,8 @@
+//! What words can ask of the program, as plain data: the requests of `tool_parts`, and those about states and repairs.
+//!
+//! The commands do what is wanted, and `command_line` makes it.
+#![tactic(auto)]
+
+mod wanted;
+
+pub use wanted::{StatesWords, Wanted};

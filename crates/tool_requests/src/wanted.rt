@@ -1,0 +1,27 @@
+//! What words ask for.
+
+use tool_parts::requests::{ReportWords, Request};
+
+/// The words of `states`.
+#[derive(Clone, Copy)]
+pub struct StatesWords<'a> {
+    /// The name of the file with the saved text; `-` is standard input.
+    pub file: &'a str,
+    /// The place of the ring whose states are wanted, if it is one ring.
+    pub ring: Option<u32>,
+    /// Whether the rows are comma-separated values.
+    pub csv: bool,
+    /// Whether they are JSON objects.
+    pub json: bool,
+}
+
+/// What words ask for.
+#[derive(Drop)]
+pub enum Wanted<'a> {
+    /// A command of [`Request`].
+    Tool(Request<'a>),
+    /// `report` with the repairs of each ring.
+    ReportRepairs(ReportWords<'a>),
+    /// The states of a saved history.
+    States(StatesWords<'a>),
+}
