@@ -1,9 +1,11 @@
 """Tries what the documents say. Words: the top of the tree; and the program, for tools/documents.sh.
 
 Without a program it only reads, in a few seconds, for ./test. Of each page, man pages too: no word or form of `page_words.py` is
-in it; each link leads to a file, and to a heading of it; each clause that it names is one of the crates (`page_clauses.py`). The first
-page has at most 150 lines of 120 characters, and cells of 200. Nor is such a word in help texts, in what the server logs and answers, in
-comments, or in the names of the proved crates (`source_words.py`). The last line is `N passed, M failed`, one for each page and each kind of source.
+in it; each link leads to a file, and to a heading of it; each clause that it names is one of the crates (`page_clauses.py`); a table
+of definitions is the one that `reading_order.py` prints, and a sum that a page gives is that of its table (`page_sums.py`). The first
+page has at most 150 lines of 120 characters, and cells of 200. Nor is such a word in help texts, in what the server logs and answers,
+in comments, or in the names of the proved crates (`source_words.py`). The last line is `N passed, M failed`, one for each page and
+each kind of source.
 
 With a program, of each page (README, CHANGELOG, docs/, each crate's README; of the others only links and names):
 
@@ -166,8 +168,9 @@ class Trial:
         self.play_blocks(page)
         for table in page.tables:
             self.play_table(page, table)
-        for number, word in page.orders:
-            self.compare_order(page, number, word)
+        for number, said in page_sums.wrong_orders(page):
+            self.differs(page, number, said)
+        self.counts["outputs"] += len(page.orders)
         for number, word in page.journals:
             self.play_journal(page, number, int(word))
 
@@ -374,14 +377,6 @@ class Trial:
             if option not in told:
                 self.differs(page, number, f"{command} has no {option}")
 
-    def compare_order(self, page, number, word):
-        """A table of reading_order.py: which files, how many definitions and lines."""
-        self.counts["outputs"] += 1
-        wanted = reading_order.table(self.top, *word.split())
-        there = page.lines[number - 1:number - 1 + len(wanted)]
-        if [cells(it)[:3] for it in there] != [cells(it)[:3] for it in wanted]:
-            self.differs(page, number, "the reading order is\n" + "\n".join(wanted))
-
     def play_journal(self, page, number, count):
         """The rows of a table: lines that are added to the first lines of the journal before it, and what `recover` says."""
         journal = [it for it in page.blocks if it.number < number and it.text().startswith("ringjournal 1\n")][-1]
@@ -481,7 +476,7 @@ def read_only(top):
         page = Page(top, path)
         said = [(number, f"\"{found}\": say {better}") for number, found, better in page_words.wrong_words(path, page.lines, excuses)]
         if path.endswith(".md"):
-            said += [*page.wrong_links(), *page_clauses.wrong_clauses(page, functions), *page_sums.wrong_sums(page)]
+            said += [*page.wrong_links(), *page_clauses.wrong_clauses(page, functions), *page_sums.wrong_orders(page), *page_sums.wrong_sums(page)]
         said += wrong_form(page) if path == "README.md" else ()
         print("".join(f"{path}:{number}: {it}\n" for number, it in sorted(said)), end="")
         passed, failed = (passed, failed + 1) if said else (passed + 1, failed)

@@ -14,6 +14,9 @@ import edits
 TOP = edits.TOP
 # What a check over kept work takes of memory, of what the kit reckons for one from nothing
 OVER = 1.2
+# By how much an edit's check counts for less than a proof of as many lines where the kit chooses what comes first. So the proofs of
+# the tests, which take minutes for few lines, begin as soon as they can, and the edits fill the processors behind them
+EDIT = 20
 
 
 def load():
@@ -74,7 +77,7 @@ def with_edits(rt, wanted):
 def add_groups(rt, tasks, crate, groups, verdicts):
     """Adds the tasks that try a crate's edits, which are joined in these groups: what they begin with, each group, and the end."""
     first, seed = [(crate.name, "proof"), (crate.name, "tests")], (crate.name, "seed", "joined")
-    lines, needs, keys = crate.count(rb"\n"), OVER * rt.need(crate), []
+    lines, needs, keys = crate.count(rb"\n") // EDIT, OVER * rt.need(crate), []
 
     def begin(given, jobs):
         return edit_checks.begun(rt, crate, jobs) if all(given[it] for it in first) else None

@@ -1,12 +1,16 @@
-"""Whether the sums of definitions that pages give are those of the table of definitions that they speak of. For tools/documents.py.
+"""Whether the tables of definitions on pages are what `reading_order.py` prints, and the sums that pages give are those of the table that
+they speak of. For tools/documents.py.
 
+- `<!-- order: DEFINITIONS -->` before a table says of which definitions it is: it has the files, and of each how many definitions and lines.
 - A link whose text is `N lines of definitions` leads to a heading, and N is the last row's sum of the first table of definitions there.
 - Where prose before such a table says `in this table: N lines`, N is its sum too.
 
-That the table is what `reading_order.py` prints is looked at by tools/documents.sh."""
+`reading_order.py` needs rt: without it the tables are taken as they are."""
 
+import importlib
 import os
 import re
+import shutil
 
 from page import Page, cells
 
@@ -27,6 +31,18 @@ def sum_from(page, line):
             table = next(it for it in page.tables if it[0][0] == number)
             return number_of(cells(table[-1][1])[LINES])
     return None
+
+
+def wrong_orders(page):
+    """The number of the line of a table of definitions that is not the one which is printed, and that one."""
+    if not page.orders or not shutil.which("rt"):
+        return
+    reading_order = importlib.import_module("reading_order")
+    for number, words in page.orders:
+        wanted = reading_order.table(page.top, *words.split())
+        there = page.lines[number - 1:number - 1 + len(wanted)]
+        if [cells(it)[:3] for it in there] != [cells(it)[:3] for it in wanted]:
+            yield number, "the reading order is\n" + "\n".join(wanted)
 
 
 def wrong_sums(page):

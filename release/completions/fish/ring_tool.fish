@@ -1,11 +1,12 @@
 # fish completion for ring_tool
 
-set -l none "not __fish_seen_subcommand_from step run check picture upgrade new serve locks recover join holds report help"
+set -l none "not __fish_seen_subcommand_from step run check picture upgrade new repairs serve locks recover join holds report states help"
 set -l words step "Let chosen machines of one ring ask to pass" run "Run the rings of a settings file" \
     check "Check a saved history" picture "Draw a ring of a saved history" upgrade "Save a history in the latest version" \
-    new "Print a saved history of settled rings" serve "Serve rings by lines" locks "Lend locks by lines" \
+    new "Print a saved history of settled rings" repairs "Repair many rings and count the passes" serve "Serve rings by lines" locks "Lend locks by lines" \
     recover "Save the history that a journal records" join "Save the whole history of a folder of segments" \
-    holds "List who held which lock" report "Print the report of a saved history" help "Print the help of a command"
+    holds "List who held which lock" report "Print the report of a saved history" \
+    states "Print the states of a saved history" help "Print the help of a command"
 
 complete -c ring_tool -n $none -f
 for i in (seq 1 2 (count $words))
@@ -13,13 +14,24 @@ for i in (seq 1 2 (count $words))
 end
 complete -c ring_tool -s h -l help -d "Print the help"
 complete -c ring_tool -n $none -s V -l version -d "Print the version"
-complete -c ring_tool -n "__fish_seen_subcommand_from help" -f -a "step run check picture upgrade new serve locks recover join holds report"
+complete -c ring_tool -n "__fish_seen_subcommand_from help" -f -a "step run check picture upgrade new repairs serve locks recover join holds report states"
 complete -c ring_tool -n "__fish_seen_subcommand_from run" -l history -rF -d "Save the history as"
 complete -c ring_tool -n "__fish_seen_subcommand_from run" -l quiet -d "Only the last line of the report"
 complete -c ring_tool -n "__fish_seen_subcommand_from check" -l all -d "Each bad line, with what should be there"
+complete -c ring_tool -n "__fish_seen_subcommand_from report" -l repairs -d "What the repairs took too"
+complete -c ring_tool -n "__fish_seen_subcommand_from states" -l ring -x -d "The ring"
+complete -c ring_tool -n "__fish_seen_subcommand_from states" -l csv -d "Comma-separated values"
+complete -c ring_tool -n "__fish_seen_subcommand_from states" -l json -d "A JSON object for each row"
 complete -c ring_tool -n "__fish_seen_subcommand_from picture" -l ring -x -d "The ring"
 complete -c ring_tool -n "__fish_seen_subcommand_from picture" -l from -x -d "How many events before"
 complete -c ring_tool -n "__fish_seen_subcommand_from picture" -l events -x -d "How many events"
+complete -c ring_tool -n "__fish_seen_subcommand_from repairs" -l from -x -a "any all faults:" -d "Where each trial starts"
+complete -c ring_tool -n "__fish_seen_subcommand_from repairs" -l daemon -x -a "random first last turn slow" -d "Which machine moves next"
+complete -c ring_tool -n "__fish_seen_subcommand_from repairs" -l trials -x -d "How many trials"
+complete -c ring_tool -n "__fish_seen_subcommand_from repairs" -l seed -x -d "The seed of the generators"
+complete -c ring_tool -n "__fish_seen_subcommand_from repairs" -l histogram -d "How many trials took each number of passes"
+complete -c ring_tool -n "__fish_seen_subcommand_from repairs" -l json -d "An object of JSON for each line"
+complete -c ring_tool -n "__fish_seen_subcommand_from repairs" -l csv -rF -d "Also write the figures to this file"
 complete -c ring_tool -n "__fish_seen_subcommand_from serve" -l journal -rF -d "Keep a journal in this file or folder"
 complete -c ring_tool -n "__fish_seen_subcommand_from serve" -l segment -x -d "Lines of a segment"
 complete -c ring_tool -n "__fish_seen_subcommand_from serve" -l sync -d "The journal is on the disk before an answer"
