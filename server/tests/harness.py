@@ -145,7 +145,7 @@ def stop_all():
         server.process.kill()
         server.process.wait()
         if server.is_own:
-            shutil.rmtree(server.folder, ignore_errors=True)
+            remove(server.folder)
 
 
 #: a server that was just started, and that nobody could end yet; and whether this program is to end as soon as somebody can
@@ -162,6 +162,14 @@ def unwind_at_sigterm():
     signal.signal(signal.SIGTERM, end)
 
 
+def remove(folder):
+    """Removes a folder. An engine whose server was killed ends by itself, and may until then make files in it while others are removed."""
+    end = time.monotonic() + PATIENCE
+    while os.path.exists(folder):
+        shutil.rmtree(folder, ignore_errors=time.monotonic() < end)
+        time.sleep(0.001)
+
+
 @contextlib.contextmanager
 def room(name):
     """A folder for a trial. However that ends, the servers that it started end before the folder is removed."""
@@ -171,7 +179,7 @@ def room(name):
         yield folder
     finally:
         stop_all()
-        shutil.rmtree(folder, ignore_errors=True)
+        remove(folder)
 
 
 def children(process):

@@ -7,7 +7,7 @@ import sys
 import tempfile
 import unittest
 
-from harness import FOLDER, NO_ANY_NAME, PATIENCE, needs_programs, takes_any_name, wait_until
+from harness import FOLDER, NO_ANY_NAME, PATIENCE, needs_programs, remove, takes_any_name, wait_until
 
 HERE = os.path.dirname(os.path.abspath(__file__))
 #: A test that makes a folder, and then waits.
@@ -18,6 +18,10 @@ class Waits(unittest.TestCase):
         open(folder + "/begun", "w").close()
         time.sleep(60)
 """
+
+
+#: a process that makes files in a folder, as an engine may whose server was killed
+MAKES_FILES = 'for number in $(seq 3000); do : >"$0/$number" || exit; done'
 
 
 def files_in(folder):
@@ -83,6 +87,16 @@ class EndedEarly(unittest.TestCase):
     @needs_programs
     def test_load(self):
         self.leaves_nothing("lock.sock", "load.py")
+
+
+class Removed(unittest.TestCase):
+    def test_a_folder_in_which_files_are_still_made(self):
+        folder = tempfile.mkdtemp(dir=FOLDER)
+        with subprocess.Popen(["sh", "-c", MAKES_FILES, folder], stderr=subprocess.DEVNULL) as makes:
+            self.addCleanup(makes.kill)
+            wait_until(lambda: files_in(folder))
+            remove(folder)
+            self.assertFalse(os.path.exists(folder))
 
 
 class LeftOut(unittest.TestCase):
