@@ -1,5 +1,5 @@
 -- Sums over the entries of a histogram.
-use Rattle.std.proofs.Common.{◌≡◌, ℕ, zero, suc, ◌+◌, ◌-◌, ◌*◌, ◌<◌, ◌≤◌, ◌^◌, Bool, true, false, List, [], ◌∷◌, length, get_or, refl, sym, ◌∙◌, ap, subst, inl, inr, arith}
+use Rattle.std.proofs.Common.{◌≡◌, ℕ, zero, suc, ◌+◌, ◌-◌, ◌*◌, ◌<◌, ◌≤◌, List, [], ◌∷◌, length, get_or, refl, sym, ◌∙◌, ap, inl, inr, arith}
 use Rattle.std.proofs.lemmas.Bool.{cases_lt}
 use Rattle.std.proofs.lemmas.Nat.{mul-le}
 use Rattle.std.proofs.lemmas.List.{get_or-set_same, get_or-set_other, length-set, length-replicate}
@@ -120,3 +120,8 @@ pub entry_at : (h : List ℕ) (v d : ℕ) → v < length h → get_or h v d ≡ 
 entry_at [] v d l = absurd (omega arith)
 entry_at (x ∷ xs) zero d l = refl
 entry_at (x ∷ xs) (suc v) d l = entry_at xs v d (omega arith)
+
+-- two entries
+pub counted_two : (a b : ℕ) → counted (a ∷ b ∷ []) ≡ a + b
+unfolding counted
+counted_two a b = let is : 0 + a + b ≡ a + b = omega arith in is

@@ -2,8 +2,11 @@ pub mod Drawing
 pub mod Searching
 pub mod Numbering
 pub mod AllStates
+pub mod Remembering
 pub mod Choices
 pub mod Bounds
 pub mod Counting
 pub mod Starting
+pub mod Turns
 pub mod TrialFacts
+pub mod RoundFacts

@@ -1,14 +1,13 @@
 -- What is tried, and what it gives: each trial is a function of the study and of the trial's number.
-use Rattle.std.specs.Prelude.{◌≡◌, ℕ, ◌+◌, ◌-◌, ◌*◌, ◌<◌, ◌≤◌, ◌/◌, ◌==◌, ◌⊎◌, false, List, length, slice_index}
-use Rattle.rand_pcg.specs.Lcg.{Lcg}
+use Rattle.std.specs.Prelude.{◌≡◌, ℕ, ◌+◌, ◌*◌, ◌<◌, ◌≤◌, ◌/◌, ◌==◌, ◌⊎◌, false, List, length, slice_index}
 use Rattle.ring_model.specs.Numbers.{count_below}
-use Rattle.ring_model.specs.Ring.{Ring, ring_with, is_settled, bound}
-use Rattle.ring_model.specs.Runs.{after_passes}
+use Rattle.ring_model.specs.Ring.{Ring, ring_with}
 use Rattle.ring_model.specs.RepairLaws.{longest_repair}
 use Rattle.ring_state.specs.Sizes.{Size, IsSize}
 use Rattle.ring_repairs.specs.Limits.{trial_limit, state_limit}
 use Rattle.ring_repairs.specs.Draws.{generator}
 use Rattle.ring_repairs.specs.Daemons.{choices, passes, draws}
+use Rattle.ring_repairs.specs.Rounds.{memory_after, rounds_of}
 use Rattle.ring_repairs.specs.Starts.{states, start_values, start_left, AreFaultsFor}
 use Rattle.ring_repairs.specs.Histograms.{counted}
 use Rattle.ring_repairs.specs.declared.daemons.Daemon.{Daemon}
@@ -94,6 +93,15 @@ trial_choices s t = choices s.daemon (longest_repair s.size.n) (trial_memory s t
 -- the number of a trial: the granted passes until its ring is first settled
 unfoldable pub trial_passes : StudyData → ℕ → ℕ
 trial_passes s t = passes s.daemon (longest_repair s.size.n) (trial_memory s t) (trial_ring s t)
+
+-- how many machines its daemon has asked in turn by then; none, if it is another one than `Turn`
+unfoldable pub trial_turns : StudyData → ℕ → ℕ
+trial_turns s t =
+    (memory_after s.daemon (longest_repair s.size.n) (trial_memory s t) (trial_ring s t)).asked
+
+-- how many rounds it has begun by then
+unfoldable pub trial_rounds : StudyData → ℕ → ℕ
+trial_rounds s t = rounds_of s.size.n (trial_turns s t)
 
 -- the histogram counts the first `done` trials, each once, where trial t has the number `number t`
 pub record IsCounted (number : ℕ → ℕ) (done : ℕ) (h : List ℕ) : Type 0 where

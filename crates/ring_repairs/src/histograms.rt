@@ -1,5 +1,5 @@
 //! How many trials had each number, and what follows from that.
-ghost use Rattle.std.specs.Prelude.{◌≡◌, ◌+◌, ◌*◌, ◌/◌, ◌<◌, ◌≤◌, MatchOption, IfOk, length, slice_index, slice_set};
+ghost use Rattle.std.specs.Prelude.{◌≡◌, ◌+◌, ◌*◌, ◌/◌, ◌<◌, ◌≤◌, ◌∷◌, [], MatchOption, IfOk, length, slice_index, slice_set};
 ghost use Rattle.ring_repairs.specs.Limits.{trial_limit, number_limit};
 ghost use Rattle.ring_repairs.specs.Histograms.{counted, summed, IsEmpty, IsLeast, IsGreatest, IsQuantile};
 
@@ -93,6 +93,18 @@ impl Histogram {
     {
         let counts = vec![in alloc; 0; numbers as usize]?;
         Ok(Histogram { counts, total: 0 })
+    }
+
+    /// A histogram of the numbers 0 and 1, each with how many trials had it.
+    pub(crate) fn of_two(alloc: Global, zeros: u64, ones: u64) -> Result<Histogram, AllocError>
+        requires { zeros + ones ≤ trial_limit }
+        ensures { IfOk result (λ h. h ≡ zeros ∷ ones ∷ []) }
+    {
+        let counts = Vec::from_slice(alloc, &[zeros, ones])?;
+        Ok(Histogram {
+            counts,
+            total: zeros + ones,
+        })
     }
 
     /// Counts one trial with this number.
