@@ -1,11 +1,12 @@
-pub mod Drawing
-pub mod Searching
-pub mod Numbering
 pub mod AllStates
 pub mod Remembering
 pub mod Choices
 pub mod Bounds
 pub mod Counting
+pub mod Drawing
+pub mod Marks
+pub mod Numbering
+pub mod Searching
 pub mod Starting
 pub mod Turns
 pub mod TrialFacts

@@ -1,10 +1,12 @@
 //! Which machine moves next.
 ghost use Rattle.std.specs.Prelude.{◌≡◌, ◌+◌, ◌*◌, ◌<◌, ◌≤◌, ◌^◌, length, true, ◌%◌};
-ghost use Rattle.ring_model.specs.Ring.{is_privileged, privileged_count};
+ghost use Rattle.ring_model.specs.Ring.{is_privileged, privileged_count, first_privileged};
 ghost use Rattle.ring_repairs.specs.Daemons.{last_privileged, privileged_at, next_privileged, asked_until, rest_after, slowest, choice, remembered, draws};
 ghost use Rattle.ring_repairs.specs.Draws.{draw};
+ghost use Rattle.ring_repairs.specs.Privileges.{AreMarked};
 
 use crate::draws::draw;
+use machine_masks::Machines;
 use rand_pcg::Lcg64Xsh32;
 use ring_settle::rest;
 use ring_state::RingState;
@@ -34,59 +36,63 @@ pub(crate) struct Memory {
     pub(crate) asked: u64,
 }
 
+/// The least privileged machine.
+#[inline]
+fn first_privileged(ring: &RingState, privileged: &Machines) -> u32
+    requires { AreMarked ring.now.values privileged.now }
+    ensures { result ≡ first_privileged ring.now.values }
+{
+    privileged.first_from(0, ring.params().n())
+}
+
 /// The greatest privileged machine.
-pub(crate) fn last_privileged(ring: &RingState) -> u32
+#[inline]
+pub(crate) fn last_privileged(ring: &RingState, privileged: &Machines) -> u32
+    requires { AreMarked ring.now.values privileged.now }
     ensures { result ≡ last_privileged ring.now.values }
 {
-    let n = ring.params().n();
-    for below in 0..n {
-        let machine = n - 1 - below;
-        if ring.is_privileged(machine) {
-            return machine;
-        }
-    }
-    0
+    privileged.last(ring.params().n())
 }
 
 /// The privileged machine with `place` privileged machines below it.
-pub(crate) fn privileged_at(ring: &RingState, place: u32) -> u32
+#[inline]
+pub(crate) fn privileged_at(ring: &RingState, privileged: &Machines, place: u32) -> u32
+    requires marked { AreMarked ring.now.values privileged.now }
+    requires place { place < privileged_count ring.now.values }
     ensures { result ≡ privileged_at ring.now.values place }
 {
-    let mut left = place;
-    for machine in 0..ring.params().n() {
-        if ring.is_privileged(machine) {
-            if left == 0 {
-                return machine;
-            }
-            left -= 1;
-        }
-    }
-    0
+    ring.params(); // says: it is a ring
+    privileged.nth(place)
 }
 
 /// A drawn one of the privileged machines.
-fn drawn_privileged(words: &mut Lcg64Xsh32, ring: &RingState) -> u32
+#[inline]
+fn drawn_privileged(words: &mut Lcg64Xsh32, ring: &RingState, privileged: &Machines) -> u32
+    requires { AreMarked ring.now.values privileged.now }
     ensures machine { result
         ≡ privileged_at ring.now.values (draw (privileged_count ring.now.values) words.old).0 }
     ensures words { words.new ≡ (draw (privileged_count ring.now.values) words.old).1 }
 {
     ring.params(); // says: it is a ring
-    let place = draw(words, ring.privileged());
-    privileged_at(ring, place)
+    let place = draw(words, privileged.count());
+    privileged_at(ring, privileged, place)
 }
 
 /// The first privileged machine that is met from this one on, around the ring.
-pub(crate) fn next_privileged(ring: &RingState, from: u32) -> u32
-    requires { from ≤ length ring.now.values }
+#[inline]
+pub(crate) fn next_privileged(ring: &RingState, privileged: &Machines, from: u32) -> u32
+    requires marked { AreMarked ring.now.values privileged.now }
+    requires from { from < length ring.now.values }
     ensures is { result ≡ next_privileged ring.now.values from }
     ensures machine { result < length ring.now.values }
 {
-    for machine in from..ring.params().n() {
-        if ring.is_privileged(machine) {
-            return machine;
-        }
+    let n = ring.params().n();
+    let machine = privileged.first_from(from, n);
+    if machine < n {
+        machine
+    } else {
+        first_privileged(ring, privileged)
     }
-    ring.first()
 }
 
 /// How many machines are asked from the first machine on, around a ring of `n`, until the second is.
@@ -105,8 +111,10 @@ fn asked_until(n: u32, from: u32, until: u32) -> u32
 }
 
 /// The first privileged machine that is met from the one whose turn it is.
-fn machine_in_turn(asked: &mut u64, ring: &RingState) -> u32
-    requires { asked.old + 2 ^ 16 < 2 ^ 64 }
+#[inline]
+fn machine_in_turn(asked: &mut u64, ring: &RingState, privileged: &Machines) -> u32
+    requires asked { asked.old + 2 ^ 16 < 2 ^ 64 }
+    requires marked { AreMarked ring.now.values privileged.now }
     ensures machine { result
         ≡ next_privileged ring.now.values (asked.old % length ring.now.values) }
     ensures asked { asked.new ≡ asked.old + asked_until (length ring.now.values)
@@ -116,7 +124,7 @@ fn machine_in_turn(asked: &mut u64, ring: &RingState) -> u32
 {
     let n = ring.params().n();
     let from = (*asked % n as u64) as u32;
-    let machine = next_privileged(ring, from);
+    let machine = next_privileged(ring, privileged, from);
     *asked += asked_until(n, from, machine) as u64;
     machine
 }
@@ -166,10 +174,16 @@ impl Daemon {
         }
     }
 
-    /// The machine that it chooses next. The ring is as it was then.
+    /// The machine that it chooses next, where `privileged` are the privileged machines. The ring is as it was then.
     #[inline]
-    pub(crate) fn choose(self, memory: &mut Memory, ring: &mut RingState) -> u32
-        requires { memory.old.asked + 2 ^ 16 < 2 ^ 64 }
+    pub(crate) fn choose(
+        self,
+        memory: &mut Memory,
+        ring: &mut RingState,
+        privileged: &Machines,
+    ) -> u32
+        requires asked { memory.old.asked + 2 ^ 16 < 2 ^ 64 }
+        requires marked { AreMarked ring.old.values privileged.now }
         ensures choice { result ≡ choice self memory.old ring.old }
         ensures memory { memory.new ≡ remembered self memory.old ring.old }
         ensures machine { result < length ring.old.values }
@@ -179,10 +193,10 @@ impl Daemon {
     {
         ring.params(); // says: it is a ring
         match self {
-            Daemon::First => ring.first(),
-            Daemon::Last => last_privileged(ring),
-            Daemon::Random => drawn_privileged(&mut memory.words, ring),
-            Daemon::Turn => machine_in_turn(&mut memory.asked, ring),
+            Daemon::First => first_privileged(ring, privileged),
+            Daemon::Last => last_privileged(ring, privileged),
+            Daemon::Random => drawn_privileged(&mut memory.words, ring, privileged),
+            Daemon::Turn => machine_in_turn(&mut memory.asked, ring, privileged),
             Daemon::Slow => slowest(ring),
         }
     }

@@ -6,6 +6,7 @@ mod draws;
 mod histograms;
 pub mod laws;
 pub mod limits;
+mod privileges;
 mod repairing;
 mod repairs;
 mod rounds;

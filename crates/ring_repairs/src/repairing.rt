@@ -4,6 +4,7 @@ ghost use Rattle.ring_repairs.specs.Daemons.{passes};
 ghost use Rattle.ring_repairs.specs.Limits.{number_limit};
 
 use crate::daemons::{Daemon, Memory};
+use crate::privileges::{pass, privileged_machines};
 use ring_state::RingState;
 
 /// Lets the machines pass that the daemon chooses until the ring is settled, at most `most` of them, and answers how many passed.
@@ -17,13 +18,14 @@ pub(crate) fn repair(daemon: Daemon, most: u64, memory: &mut Memory, ring: &mut 
     ensures same { ring.new.k ≡ ring.old.k }
 {
     ring.params(); // says: it is a ring
+    let mut privileged = privileged_machines(ring);
     let mut passes = 0;
     for _ in 0..most {
-        if ring.privileged() == 1 {
+        if privileged.count() == 1 {
             break;
         }
-        let machine = daemon.choose(memory, ring);
-        ring.move_machine(machine);
+        let machine = daemon.choose(memory, ring, &privileged);
+        pass(ring, &mut privileged, machine);
         passes += 1;
     }
     passes

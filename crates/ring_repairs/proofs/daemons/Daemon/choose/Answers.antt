@@ -1,4 +1,4 @@
-use Rattle.std.proofs.Common.{◌≡◌, ℕ, ◌<◌, true, length, refl, sym, ◌∙◌, ap, subst, arith}
+use Rattle.std.proofs.Common.{◌≡◌, ℕ, refl, sym, ◌∙◌, ap, subst, arith}
 use Rattle.rand_pcg.specs.Lcg.{Lcg}
 use Rattle.ring_model.specs.Ring.{is_privileged}
 use Rattle.ring_repairs.specs.Daemons.{choice, remembered}
@@ -10,12 +10,23 @@ use Rattle.ring_repairs.proofs.daemons.Daemon.choose.Goals as goal
 pub returns-in-First-clause-choice : goal.returns-in-First-clause-choice
 unfolding choice
 returns-in-First-clause-choice c =
-    subst (λ (d : Daemon). c.first.result ≡ choice d c.args.memory.now c.args.ring.now) (sym c.in-First.is) c.first.ensures.is
+    subst (λ (d : Daemon). c.first_privileged.result ≡ choice d c.args.memory.now c.args.ring.now) (sym c.in-First.is) c.first_privileged.ensures
 
 pub returns-in-First-clause-memory : goal.returns-in-First-clause-memory
 unfolding remembered
 returns-in-First-clause-memory c =
     subst (λ (d : Daemon). c.args.memory.now ≡ remembered d c.args.memory.now c.args.ring.now) (sym c.in-First.is) refl
+
+pub returns-in-First-clause-machine : goal.returns-in-First-clause-machine
+returns-in-First-clause-machine c =
+    let e = returns-in-First-clause-choice c in
+    let l = choice_below c.args.self c.args.memory.now c.args.ring.now c.params.ensures.ring.ring in
+    omega arith
+
+pub returns-in-First-clause-privileged : goal.returns-in-First-clause-privileged
+returns-in-First-clause-privileged c =
+    ap (is_privileged c.args.ring.now.values) (returns-in-First-clause-choice c)
+    ∙ choice_privileged c.args.self c.args.memory.now c.args.ring.now c.params.ensures.ring.ring
 
 pub returns-in-Last-clause-choice : goal.returns-in-Last-clause-choice
 unfolding choice

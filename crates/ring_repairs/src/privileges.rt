@@ -1,0 +1,42 @@
+//! The privileged machines of a ring, from pass to pass.
+ghost use Rattle.std.specs.Prelude.{◌≡◌, ◌+◌, ◌<◌, true, length};
+ghost use Rattle.ring_model.specs.Ring.{is_privileged, moved};
+ghost use Rattle.ring_repairs.specs.Privileges.{AreMarked};
+
+use machine_masks::Machines;
+use ring_state::RingState;
+
+/// The privileged machines.
+pub(crate) fn privileged_machines(ring: &RingState) -> Machines
+    ensures { AreMarked ring.now.values result }
+{
+    let mut words = [0; 16];
+    ring.mask(&mut words);
+    Machines::new(words)
+}
+
+/// The machine to the right of one of `n` machines.
+#[inline]
+fn right_of(n: u32, machine: u32) -> u32
+    requires { machine < n }
+    ensures last { machine + 1 ≡ n → result ≡ 0 }
+    ensures inner { machine + 1 < n → result ≡ machine + 1 }
+{
+    if machine + 1 == n { 0 } else { machine + 1 }
+}
+
+/// Lets a privileged machine move. Then it is not privileged, and the one to its right may be; no other one changes.
+#[inline]
+pub(crate) fn pass(ring: &mut RingState, privileged: &mut Machines, machine: u32)
+    requires marked { AreMarked ring.old.values privileged.old }
+    requires machine { machine < length ring.old.values }
+    requires privileged { is_privileged ring.old.values machine ≡ true }
+    ensures is { ring.new ≡ moved ring.old machine }
+    ensures marked { AreMarked ring.new.values privileged.new }
+{
+    let n = ring.params().n();
+    let right = right_of(n, machine);
+    ring.move_machine(machine);
+    privileged.set(machine, false);
+    privileged.set(right, ring.is_privileged(right));
+}
