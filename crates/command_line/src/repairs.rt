@@ -26,7 +26,7 @@ it does). Then one machine moves after the other, until one machine is privilege
   random  each privileged machine as often as each other
   first   the first privileged machine
   last    the last one
-  turn    the first privileged one, where all machines are asked in turn, from machine 0 on
+  turn    the first privileged one, where all machines are asked in turn, from machine 0 on; a line of rounds follows
   slow    the one whose move lowers the rest least, the first of these
 
 Example:

@@ -5,8 +5,7 @@ ghost use Rattle.ring_repairs.specs.Histograms.{counted};
 ghost use Rattle.repair_report.specs.Reports.{IsFigures, daemon_name, start_name, start_faults};
 
 use repair_texts::Figures;
-use ring_repairs::{Daemon, Repairs, Start, longest_repair};
-use ring_settle::bound;
+use ring_repairs::{Daemon, Histogram, Start};
 
 /// The word for which machine moves next.
 pub(crate) fn daemon_name(daemon: Daemon) -> &'static str
@@ -43,22 +42,20 @@ pub(crate) fn start_faults(start: Start) -> Option<u32>
     }
 }
 
-/// The figures of the trials that are done; none if none is.
-pub(crate) fn figures_of(repairs: &Repairs) -> Option<Figures>
-    ensures { MatchOption result (counted repairs.now.passes ≡ 0) (IsFigures repairs.now) }
+/// The figures of the trials that are counted, with these bounds of their numbers; none if none is.
+pub(crate) fn figures_of(counts: &Histogram, bound: u64, longest: u64) -> Option<Figures>
+    ensures { MatchOption result (counted counts.now ≡ 0) (IsFigures bound longest counts.now) }
 {
-    let n = repairs.study().size().n(); // says: it is a size within the limits
-    let passes = repairs.passes();
     Some(Figures {
-        trials: passes.total(),
-        bound: bound(n),
-        longest: longest_repair(n),
-        least: passes.least()?,
-        mean: passes.mean_hundredths()?,
-        median: passes.quantile(50, 100)?,
-        p90: passes.quantile(90, 100)?,
-        p99: passes.quantile(99, 100)?,
-        p999: passes.quantile(999, 1_000)?,
-        greatest: passes.greatest()?,
+        trials: counts.total(),
+        bound,
+        longest,
+        least: counts.least()?,
+        mean: counts.mean_hundredths()?,
+        median: counts.quantile(50, 100)?,
+        p90: counts.quantile(90, 100)?,
+        p99: counts.quantile(99, 100)?,
+        p999: counts.quantile(999, 1_000)?,
+        greatest: counts.greatest()?,
     })
 }

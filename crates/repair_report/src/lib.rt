@@ -2,6 +2,7 @@
 #![tactic(auto)]
 
 mod figures;
+mod parts;
 mod report;
 mod writing;
 

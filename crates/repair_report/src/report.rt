@@ -1,14 +1,15 @@
 //! The report on the repairs of a study.
 
-ghost use Rattle.std.specs.Prelude.{◌≡◌, ◌++◌, ℕ, List, OnOk, IfErr};
+ghost use Rattle.std.specs.Prelude.{◌≡◌, ◌++◌, ℕ, List, map, OnOk, IfErr};
 ghost use Rattle.std.specs.Io.KnownBytes.{Appends};
+ghost use Rattle.ring_repairs.specs.Studies.{trial_count, trial_rounds, IsCounted};
 ghost use Rattle.repair_texts.specs.declared.columns.Row.{Row};
-ghost use Rattle.repair_report.specs.Reports.{IsHeadOf, IsReport, IsCutShort};
+ghost use Rattle.repair_report.specs.Reports.{IsReport, IsReported, IsPartReported, IsCutShort, report_text, row_of};
 
-use crate::figures::{daemon_name, figures_of, start_faults, start_name};
-use crate::writing::{Lines, put_row};
-use repair_texts::{Head, Row};
-use ring_repairs::{Repairs, Study};
+use crate::parts::{Part, add_rows, passes_of, rounds_of};
+use crate::writing::{Lines, put_parts};
+use repair_texts::Row;
+use ring_repairs::{Daemon, Histogram, Repairs, Study, count_rounds};
 use std::alloc::Global;
 use std::io::Write;
 
@@ -19,24 +20,104 @@ pub enum ReportFault {
     OutOfMemory,
 }
 
-/// The words at which the line of a study begins.
-fn head_of(study: &Study) -> Head<'static>
-    ensures { IsHeadOf study.now result }
+/// Adds the rows of the parts to those that are given, and writes what is wanted of the parts.
+fn put_report<W: Write>(
+    alloc: Global,
+    parts: &[Part<'_>],
+    lines: Lines,
+    rows: &mut Vec<Row<'static>>,
+    out: &mut W,
+) -> Result<(), ReportFault>
+    ensures ok { OnOk result ((rows.new.items ≡ rows.old.items ++ map row_of parts.now)
+        × Appends (W.contents out.old) (W.contents out.new) (report_text lines parts.now)) }
+    ensures err { IfErr result (λ e. e ≡ ReportFault.Write
+        → IsCutShort (W.contents out.old) (W.contents out.new) (report_text lines parts.now)) }
+    ensures nothing { IfErr result (λ e. e ≡ ReportFault.OutOfMemory → out.new ≡ out.old) }
 {
-    let size = study.size();
-    let start = study.start();
-    Head {
-        measure: "repairs",
-        n: size.n(),
-        k: size.k(),
-        daemon: daemon_name(study.daemon()),
-        start: start_name(start),
-        faults: start_faults(start),
-    }
+    let Ok(()) = add_rows(rows, parts) else {
+        return Err(ReportFault::OutOfMemory);
+    };
+    put_parts(alloc, out, parts, lines)
 }
 
-/// Does all trials of a study, adds their row to those that are given, and writes what is wanted of it: the line of the figures, and
-/// a line for each number of passes that occurred; or the figures as an object.
+/// Reports on the passes of all trials of a study, in which the machines are not asked in turn.
+fn report_passes<W: Write>(
+    alloc: Global,
+    repairs: &Repairs,
+    lines: Lines,
+    rows: &mut Vec<Row<'static>>,
+    out: &mut W,
+) -> Result<(), ReportFault>
+    requires done { repairs.now.done ≡ trial_count repairs.now.study }
+    requires other { repairs.now.study.daemon ≡ Daemon.Turn → ⊥ }
+    ensures ok { OnOk result (IsReported repairs.now.study lines rows.old.items rows.new.items
+        (W.contents out.old) (W.contents out.new)) }
+    ensures err { IfErr result (λ e. e ≡ ReportFault.Write
+        → IsPartReported repairs.now.study lines (W.contents out.old) (W.contents out.new)) }
+    ensures nothing { IfErr result (λ e. e ≡ ReportFault.OutOfMemory → out.new ≡ out.old) }
+{
+    repairs.passes(); // says: each trial is counted once
+    let Some(passes) = passes_of(repairs) else {
+        unreachable!();
+    };
+    put_report(alloc, &[passes], lines, rows, out)
+}
+
+/// Reports on the passes of all trials of a study, and on their rounds, which are counted here.
+fn report_in_turn<'a, W: Write>(
+    alloc: Global,
+    repairs: &'a Repairs,
+    counts: &'a Histogram,
+    lines: Lines,
+    rows: &mut Vec<Row<'static>>,
+    out: &mut W,
+) -> Result<(), ReportFault>
+    requires done { repairs.now.done ≡ trial_count repairs.now.study }
+    requires turn { repairs.now.study.daemon ≡ Daemon.Turn }
+    requires counts { IsCounted (trial_rounds repairs.now.study) repairs.now.done counts.now }
+    ensures ok { OnOk result (IsReported repairs.now.study lines rows.old.items rows.new.items
+        (W.contents out.old) (W.contents out.new)) }
+    ensures err { IfErr result (λ e. e ≡ ReportFault.Write
+        → IsPartReported repairs.now.study lines (W.contents out.old) (W.contents out.new)) }
+    ensures nothing { IfErr result (λ e. e ≡ ReportFault.OutOfMemory → out.new ≡ out.old) }
+{
+    repairs.passes(); // says: each trial is counted once
+    let Some(passes) = passes_of(repairs) else {
+        unreachable!();
+    };
+    let Some(rounds) = rounds_of(repairs.study(), counts) else {
+        unreachable!();
+    };
+    put_report(alloc, &[passes, rounds], lines, rows, out)
+}
+
+/// Reports on the trials of a study, which are all done.
+fn report_done<W: Write>(
+    alloc: Global,
+    repairs: &Repairs,
+    lines: Lines,
+    rows: &mut Vec<Row<'static>>,
+    out: &mut W,
+) -> Result<(), ReportFault>
+    requires done { repairs.now.done ≡ trial_count repairs.now.study }
+    ensures ok { OnOk result (IsReported repairs.now.study lines rows.old.items rows.new.items
+        (W.contents out.old) (W.contents out.new)) }
+    ensures err { IfErr result (λ e. e ≡ ReportFault.Write
+        → IsPartReported repairs.now.study lines (W.contents out.old) (W.contents out.new)) }
+    ensures nothing { IfErr result (λ e. e ≡ ReportFault.OutOfMemory → out.new ≡ out.old) }
+{
+    let Daemon::Turn = repairs.study().daemon() else {
+        return report_passes(alloc, repairs, lines, rows, out);
+    };
+    let Ok(counts) = count_rounds(alloc, repairs) else {
+        return Err(ReportFault::OutOfMemory);
+    };
+    report_in_turn(alloc, repairs, &counts, lines, rows, out)
+}
+
+/// Does all trials of a study, adds their rows to those that are given, and writes what is wanted of them: the line of the figures of
+/// their passes, and if the machines are asked in turn, that of their rounds; and after each of these lines, a line for each number
+/// that occurred; or the figures as objects.
 ///
 /// # Errors
 ///
@@ -65,16 +146,5 @@ pub fn report_repairs<W: Write>(
     };
     let trials = repairs.study().count();
     repairs.advance(trials);
-    let Some(figures) = figures_of(&repairs) else {
-        unreachable!();
-    };
-    let row = Row {
-        head: head_of(repairs.study()),
-        figures,
-    };
-    let Ok(()) = rows.push(row) else {
-        return Err(ReportFault::OutOfMemory);
-    };
-    let passes = repairs.passes();
-    put_row(alloc, out, &row, lines, passes.counts())
+    report_done(alloc, &repairs, lines, rows, out)
 }

@@ -9,6 +9,8 @@ mod repairs;
 #[cfg(test)]
 mod reports;
 #[cfg(test)]
+mod rounds;
+#[cfg(test)]
 mod studies;
 #[cfg(test)]
 mod texts;
