@@ -5,6 +5,8 @@
 #[cfg(test)]
 mod commands;
 #[cfg(test)]
+mod groups;
+#[cfg(test)]
 mod repairs;
 #[cfg(test)]
 mod reports;

@@ -1,0 +1,4 @@
+pub mod Drawn
+pub mod Groups
+pub mod GroupLaws
+pub mod Turns
