@@ -16,3 +16,5 @@ mod rounds;
 mod studies;
 #[cfg(test)]
 mod texts;
+#[cfg(test)]
+mod threads;

@@ -11,3 +11,4 @@ pub mod Starting
 pub mod Turns
 pub mod TrialFacts
 pub mod RoundFacts
+pub mod Joining

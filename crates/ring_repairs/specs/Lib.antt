@@ -6,4 +6,5 @@ pub mod Starts
 pub mod Limits
 pub mod Histograms
 pub mod Studies
+pub mod Parts
 pub mod TrialLaws

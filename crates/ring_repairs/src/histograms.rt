@@ -2,6 +2,7 @@
 ghost use Rattle.std.specs.Prelude.{◌≡◌, ◌+◌, ◌*◌, ◌/◌, ◌<◌, ◌≤◌, ◌∷◌, [], MatchOption, IfOk, length, slice_index, slice_set};
 ghost use Rattle.ring_repairs.specs.Limits.{trial_limit, number_limit};
 ghost use Rattle.ring_repairs.specs.Histograms.{counted, summed, IsEmpty, IsLeast, IsGreatest, IsQuantile};
+ghost use Rattle.ring_repairs.specs.Parts.{IsJoined};
 
 use std::alloc::{AllocError, Global};
 use std::marker::Model;
@@ -66,6 +67,18 @@ fn quantile_of(counts: &[u64], total: u64, part: u64, whole: u64) -> Option<u64>
     None
 }
 
+/// Adds to each entry the one of `more` at its place.
+fn add_each(counts: &mut [u64], more: &[u64])
+    requires length { length more.now ≡ length counts.old }
+    requires room { counted counts.old + counted more.now ≤ trial_limit }
+    ensures joined { IsJoined counts.old more.now counts.new }
+    ensures counted { counted counts.new ≡ counted counts.old + counted more.now }
+{
+    for number in 0..counts.len() {
+        counts[number] += more[number];
+    }
+}
+
 /// How many trials had each number, from 0 on. It has an entry for each number that a trial can have, so that its memory does not
 /// grow with the trials. Contracts see the list of its entries.
 #[derive(Drop)]
@@ -115,6 +128,17 @@ impl Histogram {
     {
         self.counts[number] += 1;
         self.total += 1;
+    }
+
+    /// Counts the trials of another one of the same length too.
+    pub(crate) fn join(&mut self, other: &Histogram)
+        requires length { length other.now ≡ length self.old }
+        requires room { counted self.old + counted other.now ≤ trial_limit }
+        ensures joined { IsJoined self.old other.now self.new }
+        ensures counted { counted self.new ≡ counted self.old + counted other.now }
+    {
+        add_each(self.counts.as_mut_slice(), other.counts.as_slice());
+        self.total += other.total;
     }
 
     /// How many trials had each number: entry v is for the number v.

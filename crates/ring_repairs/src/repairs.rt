@@ -1,10 +1,12 @@
 //! The trials of a study that are done so far.
 ghost use Rattle.std.specs.Prelude.{◌≡◌, ◌+◌, ◌≤◌, min, IfOk};
+ghost use Rattle.ring_repairs.specs.Parts.{IsPart};
 ghost use Rattle.ring_repairs.specs.Studies.{AreRepairs, repairs_with, trial_count};
 
 use crate::histograms::Histogram;
+use crate::parts::place_for;
 use crate::studies::Study;
-use crate::trials::{count_trials, longest_repair};
+use crate::trials::count_trials;
 use ring_state::RingState;
 use std::alloc::{AllocError, Global};
 use std::marker::Model;
@@ -41,12 +43,8 @@ impl Repairs {
         ensures none { IfOk result (λ r. (r.study ≡ study) × (r.done ≡ 0)) }
         ensures counted { IfOk result (λ r. AreRepairs r) }
     {
-        let size = study.size();
-        let passes = Histogram::new(alloc, longest_repair(size.n()) as u32 + 1)?;
-        let values = vec![in alloc; 0u32; size.n() as usize]?;
-        let Ok(ring) = RingState::from_values(alloc, &size, values.as_slice()) else {
-            return Err(AllocError);
-        };
+        study.count(); // says: it is within the limits
+        let (passes, ring) = place_for(alloc, &study)?;
         Ok(Repairs {
             study,
             done: 0,
@@ -94,6 +92,18 @@ impl Repairs {
             &mut self.ring,
             &mut self.passes,
         );
+        self.done += trials;
+    }
+
+    /// The next trials are done, `trials` of them, which are counted in this histogram.
+    pub fn join(&mut self, trials: u64, part: &Histogram)
+        requires { IsPart self.old.study self.old.done trials part.now }
+        ensures study { self.new.study ≡ self.old.study }
+        ensures done { self.new.done ≡ self.old.done + trials }
+        ensures counted { AreRepairs self.new }
+    {
+        self.study.count(); // says: they are within the limit
+        self.passes.join(part);
         self.done += trials;
     }
 }

@@ -3,8 +3,10 @@ ghost use Rattle.std.specs.Prelude.{◌≡◌, ◌≤◌, ◌<◌, ◌+◌, leng
 ghost use Rattle.ring_model.specs.Limits.{machine_limit};
 ghost use Rattle.ring_model.specs.RepairLaws.{longest_repair};
 ghost use Rattle.ring_state.specs.Sizes.{size_of};
-ghost use Rattle.ring_repairs.specs.Studies.{trial_passes, trial_count, IsCounted};
-ghost use Rattle.ring_repairs.specs.Limits.{number_limit};
+ghost use Rattle.ring_repairs.specs.Studies.{trial_passes, trial_count};
+ghost use Rattle.ring_repairs.specs.Parts.{IsCountedOn};
+ghost use Rattle.ring_repairs.specs.Histograms.{counted};
+ghost use Rattle.ring_repairs.specs.Limits.{number_limit, trial_limit};
 
 use crate::daemons::Memory;
 use crate::draws::generator;
@@ -51,14 +53,13 @@ pub(crate) fn count_trials(
     requires all { first + trials ≤ trial_count study.now }
     requires size { size_of ring.old ≡ study.now.size }
     requires numbers { length passes.old ≡ longest_repair study.now.size.n + 1 }
-    requires counted { IsCounted (trial_passes study.now) first passes.old }
+    requires room { counted passes.old + trials ≤ trial_limit }
     ensures size { size_of ring.new ≡ study.now.size }
-    ensures numbers { length passes.new ≡ longest_repair study.now.size.n + 1 }
-    ensures counted { IsCounted (trial_passes study.now) (first + trials) passes.new }
+    ensures counted { IsCountedOn (trial_passes study.now) first trials passes.old passes.new }
 {
     study.count(); // says: they are within the limit
-    for trial in first..first + trials {
-        let number = try_one(study, trial, ring);
+    for turn in 0..trials {
+        let number = try_one(study, first + turn, ring);
         passes.add(number as usize);
     }
 }

@@ -1,19 +1,20 @@
-use Rattle.std.proofs.Common.{◌≡◌, ℕ, ◌+◌, ◌<◌, List, length, get_or, ◌∙◌, ap, arith}
-use Rattle.std.proofs.lemmas.List.{length-set}
+use Rattle.std.proofs.Common.{◌≡◌, ℕ, ◌+◌, ◌<◌, List, length, arith}
 use Rattle.ring_repairs.specs.Studies.{trial_passes}
-use Rattle.ring_repairs.proofs.TrialFacts.{one_counted}
+use Rattle.ring_repairs.proofs.Joining.{none_on, one_on}
 use Rattle.ring_repairs.proofs.trials.count_trials.Goals as goal
 
-pub loop-trial-preserved : goal.loop-trial-preserved
-loop-trial-preserved c =
-    let h : List ℕ = c.loop-trial.passes in
-    let i : ℕ = c.try_one-number.result in
+pub loop-turn-init : goal.loop-turn-init
+loop-turn-init c = record { size = c.requires.size; counted = none_on (trial_passes c.args.study.now) c.args.first c.args.passes.now }
+
+pub loop-turn-preserved : goal.loop-turn-preserved
+loop-turn-preserved c =
+    let on = c.loop-turn.invariant.counted in
     let few = c.try_one-number.ensures.few in
-    let numbers' = c.loop-trial.invariant.numbers in
+    let numbers' = c.requires.numbers in
+    let long = on.numbers in
     record {
       size = c.try_one-number.ensures.size;
-      numbers = ap (λ (x : List ℕ). length x) c.add.ensures ∙ length-set h i (get_or h i 0 + 1) ∙ numbers';
       counted =
-          one_counted (trial_passes c.args.study.now) c.loop-trial.trial i h c.add.new.self c.loop-trial.invariant.counted c.try_one-number.ensures.passes
-          (omega arith) c.add.ensures;
+          one_on (trial_passes c.args.study.now) c.args.first c.loop-turn.turn c.try_one-number.result c.args.passes.now c.loop-turn.passes c.add.new.self on
+          c.try_one-number.ensures.passes (omega arith) c.add.ensures;
     }

@@ -1,0 +1,35 @@
+//! Threads count what one thread does.
+
+use repair_threads::{THREAD_LIMIT, advance_on};
+use ring_repairs::{Daemon, Repairs, Start, Study};
+use ring_state::Params;
+use std::alloc::Global;
+use std::process::Abort;
+
+/// 40 trials of four machines with four values.
+fn forty(rt: &impl Abort, alloc: Global) -> Repairs {
+    let size = Params::new(4, 4).expect(rt, "a size within the limits");
+    let study = Study::new(size, Start::Any, Daemon::Random, 40, 11).expect(rt, "a study");
+    Repairs::new(alloc, study).expect(rt, "memory")
+}
+
+/// How many of them take each number of passes, up to that of the longest repair.
+const COUNTS: [u64; 14] = [8, 15, 12, 3, 2, 0, 0, 0, 0, 0, 0, 0, 0, 0];
+
+#[test]
+fn any_number_of_threads_counts_each_trial_once(rt: HostRuntime) {
+    for threads in [1, 2, 3, 7, 40, THREAD_LIMIT] {
+        assert!(rt; threads >= 1 && threads <= THREAD_LIMIT);
+        for block in [1, 13, 40] {
+            let mut repairs = forty(&rt, rt.alloc());
+            for _ in 0..40 {
+                assert!(rt; advance_on(&rt, rt.alloc(), &mut repairs, threads, block).is_ok());
+            }
+            assert!(rt; repairs.done() == 40);
+            assert!(rt;
+                repairs.passes().counts() == COUNTS.as_slice(),
+                "{threads} threads, blocks of {block}"
+            );
+        }
+    }
+}

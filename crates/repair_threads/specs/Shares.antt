@@ -1,0 +1,15 @@
+-- How trials are split among threads (this project's own way).
+use Rattle.std.specs.Prelude.{◌≡◌, ℕ, ◌+◌, ◌-◌, ◌*◌, ◌/◌}
+
+-- the most threads that may be asked for
+abbrev pub thread_limit : ℕ
+thread_limit = 64
+
+-- how many of the trials come before the part at a place, where the parts are as equal as they
+-- can be
+abbrev pub before : ℕ → ℕ → ℕ → ℕ
+before trials parts place = place * trials / parts
+
+-- how many trials the part at a place has
+abbrev pub share : ℕ → ℕ → ℕ → ℕ
+share trials parts place = before trials parts (place + 1) - before trials parts place
