@@ -1,0 +1,6 @@
+use Rattle.std.proofs.Common.{◌≡◌, drop, map}
+use Rattle.strict_settings.specs.Unread.{is_one_of}
+use Rattle.strict_settings.proofs.members.is_one_of.Given as goal
+
+abbrev pub invariant-loop-name : goal.invariant-loop-name
+invariant-loop-name l = is_one_of (map (λ name. name.now) l.names) l.key ≡ is_one_of (map (λ name. name.now) (drop l.name-index l.names)) l.key
