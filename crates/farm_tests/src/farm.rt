@@ -58,7 +58,7 @@ fn refusal(ran: Result<Outcome, FarmError>) -> Option<FarmError> {
 }
 
 /// The settings that a text is.
-fn settings_of(rt: &impl Abort, alloc: Global, text: &str) -> Settings {
+pub(crate) fn settings_of(rt: &impl Abort, alloc: Global, text: &str) -> Settings {
     match read_settings(alloc, text.as_bytes()) {
         Ok(settings) => settings,
         Err(e) => panic!(rt; "refused: {e}"),

@@ -9,6 +9,8 @@ mod events;
 #[cfg(test)]
 mod farm;
 #[cfg(test)]
+mod in_turn;
+#[cfg(test)]
 mod names;
 #[cfg(test)]
 mod scripted;

@@ -1,0 +1,4 @@
+pub mod Turns
+pub mod InTurn
+pub mod Rings
+pub mod Refusals
