@@ -17,7 +17,7 @@ use clap::{ArgMatches, Command, Error};
 use repair_requests::RepairsWords;
 use std::alloc::Global;
 use tool_parts::requests::{CheckWords, Request, RunWords, StepWords, UpgradeWords};
-use tool_requests::Wanted;
+use tool_requests::{InTurnWords, Wanted};
 
 const ABOUT: &str =
     "A verified arbiter: rings of machines that pass a token, after E. W. Dijkstra (1974)";
@@ -46,7 +46,7 @@ Example:
 Exit status: 0 if it was done, 2 after a usage error or if a list cannot be read, 1 after each other refusal.";
 
 const RUN_ABOUT: &str =
-    "Runs the rings of a settings file, driven by clients on threads, and prints a report";
+    "Runs the rings of a settings file, driven by clients on threads or in turns, and prints a report";
 
 const RUN_HELP: &str = "\
 Each client of the settings, and the injector of faults, has a thread of its own on each ring. When all have
@@ -54,6 +54,10 @@ done their actions, the report has four lines for each ring and one for the farm
 and then replaces it: an old FILE is whole after a refusal or an interrupt. FILE cannot be the settings file. If
 a file is a pipe, the program waits until its other end is opened. Write `./-` for a file whose name is `-`; a name
 that begins with a dash comes after `--`, or as `--history=FILE`.
+
+With threads the same settings give other histories at each run. With --in-turn there is one thread, and one history
+for each seed: on each ring the next action is that of a client, or of the injector, that is drawn among those that
+have an action left.
 
 Example, where settings.json is {\"rings\":[{\"n\":3,\"k\":3,\"start\":[0,2,0]}],
 \"workers\":[{\"script\":[[\"pass\",0,0,5],[\"pass\",0,0,1],[\"pass\",0,2,4],[\"survey\",0]]}]}:
@@ -206,7 +210,7 @@ fn step_command<'a>(alloc: Global) -> Result<Command<'a>, Error> {
 }
 
 /// The arguments of `run`.
-static RUN_ARGUMENTS: [Argument; 3] = [
+static RUN_ARGUMENTS: [Argument; 4] = [
     Argument {
         id: "SETTINGS",
         long: None,
@@ -230,6 +234,14 @@ static RUN_ARGUMENTS: [Argument; 3] = [
         takes: Takes::Nothing,
         presence: Presence::Optional,
         help: "Prints only the report's last line, the sums over all rings",
+    },
+    Argument {
+        id: "SEED",
+        long: Some("in-turn"),
+        value_names: &["SEED"],
+        takes: Takes::LongNumber,
+        presence: Presence::Optional,
+        help: "Runs all on one thread, in turns that the seed draws: the same SETTINGS and SEED always give the same history",
     },
 ];
 
@@ -338,12 +350,16 @@ fn step_words<'a>(words: &ArgMatches<'a>) -> Option<Request<'a>> {
 }
 
 /// `run`, where the settings' file is there.
-fn run_words<'a>(words: &ArgMatches<'a>) -> Option<Request<'a>> {
-    Some(Request::Run(RunWords {
+fn run_words<'a>(words: &ArgMatches<'a>) -> Option<Wanted<'a>> {
+    let run = RunWords {
         settings: words.get_str("SETTINGS")?,
         history: words.get_str("HISTORY"),
         quiet: words.get_flag("QUIET"),
-    }))
+    };
+    match words.get_one::<u64>("SEED") {
+        Some(seed) => Some(Wanted::RunInTurn(InTurnWords { run, seed })),
+        None => Some(Wanted::Tool(Request::Run(run))),
+    }
 }
 
 /// `check`, where its word is there.
@@ -370,7 +386,6 @@ fn upgrade_words<'a>(words: &ArgMatches<'a>) -> Option<Request<'a>> {
 fn request_named<'a>(name: &str, words: &ArgMatches<'a>) -> Option<Request<'a>> {
     match name {
         "step" => step_words(words),
-        "run" => run_words(words),
         "check" => check_words(words),
         "picture" => picture_words(words),
         "upgrade" => upgrade_words(words),
@@ -386,6 +401,7 @@ fn request_named<'a>(name: &str, words: &ArgMatches<'a>) -> Option<Request<'a>> 
 /// What the command of this name wants, where its words are there; `new` and `repairs` apart.
 fn wanted_named<'a>(name: &str, words: &ArgMatches<'a>) -> Option<Wanted<'a>> {
     match name {
+        "run" => run_words(words),
         "report" => report_words(words),
         "states" => states_words(words),
         _ => Some(Wanted::Tool(request_named(name, words)?)),

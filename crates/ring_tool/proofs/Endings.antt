@@ -115,6 +115,7 @@ request_kept (asked.Locks words) was is refused kept = unread_lists_keep words w
 
 files_kept : (asked : Wanted) (was is : World) → IsRefusing asked was is tool.BadList → ((ServesLines asked → ⊥) → is.files ≡ was.files) → is.files ≡ was.files
 files_kept (wanted.Tool request) was is refused kept = request_kept request was is refused kept
+files_kept (wanted.RunInTurn words) was is refused kept = kept (λ lines. lines)
 files_kept (wanted.ReportRepairs words) was is refused kept = kept (λ lines. lines)
 files_kept (wanted.States words) was is refused kept = kept (λ lines. lines)
 

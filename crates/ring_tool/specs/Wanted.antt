@@ -1,5 +1,7 @@
 -- What is done of what words want: by the world that it met, and the one that it leaves.
-use Rattle.std.specs.Prelude.{◌≡◌, ◌≢◌, false, Result, OnOk, IfErr}
+use Rattle.std.specs.Prelude.{◌≡◌, ◌≢◌, false, None, Result, OnOk, IfErr}
+use Rattle.run_commands.specs.Ran.{history_file}
+use Rattle.run_commands.specs.InTurn.{IsTurnsAnswer, IsTurnsRunRefusal}
 use Rattle.history_commands.specs.Stated.{IsStatesAnswer, IsStatesRefusal}
 use Rattle.history_commands.specs.WithRepairs.{IsRepairsAnswer, IsRepairsRefusal}
 use Rattle.tool_parts.specs.Reading.{names_stream}
@@ -13,6 +15,8 @@ use Rattle.ring_tool.specs.Answered.{unheard, IsAnswer, IsRefusal, IsOfLines, Is
 -- what was wanted is done; `report --repairs` and `states` change no file
 abbrev pub IsDoing : Wanted → World → World → Type 0
 IsDoing (wanted.Tool request) was is = IsAnswer request was is
+IsDoing (wanted.RunInTurn words) was is =
+    IsTurnsAnswer words.run words.seed (unheard was) (unheard is)
 IsDoing (wanted.ReportRepairs words) was is =
     IsRepairsAnswer words (unheard was) (unheard is) × (is.files ≡ was.files)
 IsDoing (wanted.States words) was is =
@@ -21,6 +25,8 @@ IsDoing (wanted.States words) was is =
 -- or it is refused
 abbrev pub IsRefusing : Wanted → World → World → ToolError → Type 0
 IsRefusing (wanted.Tool request) was is e = IsRefusal request was is e
+IsRefusing (wanted.RunInTurn words) was is e =
+    IsTurnsRunRefusal words.run words.seed (unheard was) (unheard is) e
 IsRefusing (wanted.ReportRepairs words) was is e =
     IsRepairsRefusal words (unheard was) (unheard is) e × (is.files ≡ was.files)
 IsRefusing (wanted.States words) was is e =
@@ -29,24 +35,28 @@ IsRefusing (wanted.States words) was is e =
 -- it serves lines, which may change files before it is refused
 abbrev pub ServesLines : Wanted → Type 0
 ServesLines (wanted.Tool request) = IsOfLines request
+ServesLines (wanted.RunInTurn words) = ⊥
 ServesLines (wanted.ReportRepairs words) = ⊥
 ServesLines (wanted.States words) = ⊥
 
 -- it names a file, or nothing that is read, so standard input stays as it is
 abbrev pub LeavesInput : Wanted → Type 0
 LeavesInput (wanted.Tool request) = IsOfFile request
+LeavesInput (wanted.RunInTurn words) = names_stream words.run.settings.now ≡ false
 LeavesInput (wanted.ReportRepairs words) = names_stream words.file.now ≡ false
 LeavesInput (wanted.States words) = names_stream words.file.now ≡ false
 
 -- it names no file that is made, so every file stays as it is
 abbrev pub LeavesFiles : Wanted → Type 0
 LeavesFiles (wanted.Tool request) = MakesNoFile request
+LeavesFiles (wanted.RunInTurn words) = history_file words.run ≡ None
 LeavesFiles (wanted.ReportRepairs words) = Unit {0}
 LeavesFiles (wanted.States words) = Unit {0}
 
 -- it prints nothing on standard error, which stays as it is
 abbrev pub LeavesError : Wanted → Type 0
 LeavesError (wanted.Tool request) = IsSilent request
+LeavesError (wanted.RunInTurn words) = Unit {0}
 LeavesError (wanted.ReportRepairs words) = Unit {0}
 LeavesError (wanted.States words) = Unit {0}
 

@@ -33,7 +33,7 @@ use tool_parts::reading::{keep_apart, names_stream, read_named};
 use tool_parts::requests::RunWords;
 
 /// The refusal of the program for one of a farm.
-fn farm_fault(fault: FarmError) -> ToolError<'static>
+pub(crate) fn farm_fault(fault: FarmError) -> ToolError<'static>
     ensures { result ≡ fault_of_farm fault }
 {
     match fault {
@@ -72,7 +72,10 @@ pub fn run_settings<R: Threads + Wait + Sync>(
 /// # Errors
 ///
 /// Those of [`keep_apart`].
-fn keep_history_apart<'a, D: Disk>(disk: &D, words: &RunWords<'a>) -> Result<(), ToolError<'a>>
+pub(crate) fn keep_history_apart<'a, D: Disk>(
+    disk: &D,
+    words: &RunWords<'a>,
+) -> Result<(), ToolError<'a>>
     ensures ok { OnOk result
         (IsApart (D.holds disk.now) words.now.settings.now (history_file words.now)) }
     ensures err { IfErr result (λ e. IsApartRefusal (history_file words.now) e) }
@@ -236,7 +239,7 @@ pub fn save_and_report<'a, D: Disk, W: Write>(
 /// # Errors
 ///
 /// Those of [`save_and_report`].
-fn hand_out<'a, D: Disk, W: Write>(
+pub(crate) fn hand_out<'a, D: Disk, W: Write>(
     alloc: Global,
     disk: &mut D,
     outcome: &Outcome,

@@ -5,4 +5,4 @@
 
 mod wanted;
 
-pub use wanted::{StatesWords, Wanted};
+pub use wanted::{InTurnWords, StatesWords, Wanted};

@@ -1,6 +1,14 @@
 //! What words ask for.
 
-use tool_parts::requests::{ReportWords, Request};
+use tool_parts::requests::{ReportWords, Request, RunWords};
+
+/// The words of `run --in-turn`.
+#[derive(Clone, Copy)]
+pub struct InTurnWords<'a> {
+    pub run: RunWords<'a>,
+    /// The seed of the generators by which the turns are drawn.
+    pub seed: u64,
+}
 
 /// The words of `states`.
 #[derive(Clone, Copy)]
@@ -20,6 +28,8 @@ pub struct StatesWords<'a> {
 pub enum Wanted<'a> {
     /// A command of [`Request`].
     Tool(Request<'a>),
+    /// `run` on one thread, in turns.
+    RunInTurn(InTurnWords<'a>),
     /// `report` with the repairs of each ring.
     ReportRepairs(ReportWords<'a>),
     /// The states of a saved history.

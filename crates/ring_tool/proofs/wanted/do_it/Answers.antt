@@ -1,4 +1,4 @@
-use Rattle.std.proofs.Common.{refl}
+use Rattle.std.proofs.Common.{refl, ap}
 use Rattle.ring_tool.proofs.Requested.{told_with, refused_with, kept_anyhow}
 use Rattle.ring_tool.proofs.wanted.do_it.Goals as goal
 
@@ -34,6 +34,18 @@ returns-in-States g c =
       refused = refused_with _ _ _ refl h.err;
       kept = λ _. kept_anyhow c.run-in-States.result _ _ refl;
       made = λ _. refl;
+      silent = λ _. refl;
+      unread = h.unread;
+    })
+
+pub returns-in-RunInTurn : goal.returns-in-RunInTurn
+returns-in-RunInTurn g c =
+    let h = c.run-in-RunInTurn.ensures in
+    rw c.in-RunInTurn.is (record {
+      answered = h.ok;
+      refused = h.err;
+      kept = λ _. h.kept;
+      made = λ none. ap g.D.Disk.holds (h.printed none);
       silent = λ _. refl;
       unread = h.unread;
     })
