@@ -28,6 +28,7 @@ it does). Then one machine moves after the other, until one machine is privilege
   last    the last one
   turn    the first privileged one, where all machines are asked in turn, from machine 0 on; a line of rounds follows
   slow    the one whose move lowers the rest least, the first of these
+  groups  a drawn group of privileged machines, not empty and not all, moves at once; each member's pass counts
 
 Example:
   $ ring_tool repairs 3 5:8 --trials 100
@@ -59,7 +60,7 @@ static REPAIRS_ARGUMENTS: [Argument; 8] = [
         id: "daemon",
         long: Some("daemon"),
         value_names: &["WHO"],
-        takes: Takes::OneOf(&["random", "first", "last", "turn", "slow"]),
+        takes: Takes::OneOf(&["random", "first", "last", "turn", "slow", "groups"]),
         presence: Presence::Optional,
         help: "Which machine moves next [default: random]",
     },
@@ -143,6 +144,7 @@ fn daemon_named(word: &str) -> Daemon {
         "last" => Daemon::Last,
         "turn" => Daemon::Turn,
         "slow" => Daemon::Slow,
+        "groups" => Daemon::Groups,
         _ => Daemon::Random,
     }
 }

@@ -5,7 +5,7 @@ use Rattle.ring_repairs.specs.Rounds.{most_rounds}
 use Rattle.ring_repairs.specs.Histograms.{counted}
 use Rattle.ring_repairs.specs.Studies.{StudyData, RepairsData, AreRepairs, IsCounted, trial_count, trial_rounds}
 use Rattle.ring_repairs.specs.declared.daemons.Daemon.{Daemon}
-use Rattle.ring_repairs.specs.declared.daemons.Daemon.TheVariants.{First, Last, Random, Turn, Slow}
+use Rattle.ring_repairs.specs.declared.daemons.Daemon.TheVariants.{First, Last, Random, Turn, Slow, Groups}
 use Rattle.ring_repairs.proofs.Numbering.{trials_within}
 use Rattle.repair_texts.specs.declared.columns.Row.{Row}
 use Rattle.repair_report.specs.declared.parts.Part.{Part}
@@ -35,6 +35,7 @@ parts_else Last r p other is = (p, refl, is)
 parts_else Random r p other is = (p, refl, is)
 parts_else Turn r p other is = absurd (other refl)
 parts_else Slow r p other is = (p, refl, is)
+parts_else Groups r p other is = (p, refl, is)
 
 parts_in_turn : (d : Daemon) (r : RepairsData) (p q : Part) → d ≡ Turn → ArePasses r p → AreRounds r q → AreParts d r (p ∷ q ∷ [])
 parts_in_turn Turn r p q e is is' = (p, q, refl, is, is')
@@ -42,6 +43,7 @@ parts_in_turn First r p q e is is' = absurd (cc e)
 parts_in_turn Last r p q e is is' = absurd (cc e)
 parts_in_turn Random r p q e is is' = absurd (cc e)
 parts_in_turn Slow r p q e is is' = absurd (cc e)
+parts_in_turn Groups r p q e is is' = absurd (cc e)
 
 pub passes_report : (r : RepairsData) (wanted : Lines) (p : Part) → AreRepairs r → r.done ≡ trial_count r.study → (r.study.daemon ≡ Turn → ⊥) → ArePasses r p →
     IsReport r.study wanted (map row_of (p ∷ [])) (report_text wanted (p ∷ []))

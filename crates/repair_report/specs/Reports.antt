@@ -9,7 +9,7 @@ use Rattle.ring_repairs.specs.Histograms.{counted, summed, IsLeast, IsGreatest, 
 use Rattle.ring_repairs.specs.Rounds.{most_rounds}
 use Rattle.ring_repairs.specs.Studies.{StudyData, RepairsData, AreRepairs, IsCounted, trial_count, trial_rounds}
 use Rattle.ring_repairs.specs.declared.daemons.Daemon.{Daemon}
-use Rattle.ring_repairs.specs.declared.daemons.Daemon.TheVariants.{First, Last, Random, Turn, Slow}
+use Rattle.ring_repairs.specs.declared.daemons.Daemon.TheVariants.{First, Last, Random, Turn, Slow, Groups}
 use Rattle.ring_repairs.specs.declared.starts.Start.{Start}
 use Rattle.ring_repairs.specs.declared.starts.Start.TheVariants.{Any, Faults, All}
 use Rattle.repair_texts.specs.Columns.{object_of}
@@ -28,6 +28,7 @@ daemon_name Last = codes "last"
 daemon_name Random = codes "random"
 daemon_name Turn = codes "turn"
 daemon_name Slow = codes "slow"
+daemon_name Groups = codes "groups"
 
 -- the word for where a trial starts
 abbrev pub start_name : Start → List ℕ

@@ -17,6 +17,7 @@ pub(crate) fn daemon_name(daemon: Daemon) -> &'static str
         Daemon::Random => "random",
         Daemon::Turn => "turn",
         Daemon::Slow => "slow",
+        Daemon::Groups => "groups",
     }
 }
 

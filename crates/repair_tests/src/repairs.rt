@@ -15,7 +15,7 @@ struct Row {
     numbers: [u64; 7],
 }
 
-const ROWS: [Row; 15] = [
+const ROWS: [Row; 17] = [
     Row {
         n: 5,
         k: 5,
@@ -150,6 +150,24 @@ const ROWS: [Row; 15] = [
         seed: 1,
         trials: 50,
         numbers: [0, 2684, 27, 39, 55, 55, 55],
+    },
+    Row {
+        n: 5,
+        k: 5,
+        start: Start::Any,
+        daemon: Daemon::Groups,
+        seed: 1,
+        trials: 200,
+        numbers: [0, 433, 4, 7, 12, 14, 14],
+    },
+    Row {
+        n: 40,
+        k: 40,
+        start: Start::Faults(3),
+        daemon: Daemon::Groups,
+        seed: 7,
+        trials: 50,
+        numbers: [3, 4794, 40, 102, 154, 154, 154],
     },
 ];
 

@@ -13,7 +13,7 @@ use Rattle.ring_model.proofs.Settled.{first_is, count_positive}
 use Rattle.ring_repairs.specs.Draws.{word, is_fair, draw_within, draw, redraw_limit}
 use Rattle.ring_repairs.specs.Daemons.{greatest_below, nth, last_privileged, privileged_at, privileged_from, next_privileged, rest_after, slower, slowest_below, slowest, choice, remembered, choices, passes}
 use Rattle.ring_repairs.specs.declared.daemons.Daemon.{Daemon}
-use Rattle.ring_repairs.specs.declared.daemons.Daemon.TheVariants.{First, Last, Random, Turn, Slow}
+use Rattle.ring_repairs.specs.declared.daemons.Daemon.TheVariants.{First, Last, Random, Turn, Slow, Groups}
 use Rattle.ring_repairs.specs.declared.daemons.Memory.{Memory}
 
 -- ---- the machine is one of the ring's
@@ -181,6 +181,7 @@ choice_below Turn m r g =
     let two = g.two in
     (next_able r.values (m.asked % length r.values) (omega arith) (turn_below m.asked (length r.values) two)).below
 choice_below Slow m r g = let two = g.two in (slowest_able r (length r.values) (omega arith) (omega arith)).below
+choice_below Groups m r g = let two = g.two in (first_is r.values (omega arith)).0
 
 pub choice_privileged : (d : Daemon) (m : Memory) (r : Ring) → IsRing r → is_privileged r.values (choice d m r) ≡ true
 unfolding choice
@@ -200,6 +201,7 @@ choice_privileged Turn m r g =
     let two = g.two in
     (next_able r.values (m.asked % length r.values) (omega arith) (turn_below m.asked (length r.values) two)).on
 choice_privileged Slow m r g = let two = g.two in (slowest_able r (length r.values) (omega arith) (omega arith)).on
+choice_privileged Groups m r g = let two = g.two in (first_is r.values (omega arith)).1
 
 -- so it is granted
 pub choice_passes : (d : Daemon) (m : Memory) (r : Ring) → IsRing r → passed r (choice d m r) ≡ moved r (choice d m r)

@@ -2,6 +2,7 @@ pub mod AllStates
 pub mod Remembering
 pub mod Choices
 pub mod Bounds
+pub mod Passing
 pub mod Counting
 pub mod Drawing
 pub mod Marks

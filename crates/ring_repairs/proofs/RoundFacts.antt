@@ -5,7 +5,7 @@ use Rattle.ring_model.specs.Numbers.{bit, count_below}
 use Rattle.ring_model.specs.Ring.{Ring, is_settled}
 use Rattle.ring_model.specs.Runs.{after_passes, granted_passes}
 use Rattle.ring_model.specs.RepairLaws.{longest_repair}
-use Rattle.ring_repairs.specs.Daemons.{choices}
+use Rattle.ring_repairs.specs.Daemons.{choices, daemon_choices}
 use Rattle.ring_repairs.specs.Rounds.{memory_after, asked_from, rounds_of}
 use Rattle.ring_repairs.specs.Studies.{StudyData, IsStudy, trial_ring, trial_memory, trial_choices, trial_passes, trial_turns, trial_rounds, IsCounted}
 use Rattle.ring_repairs.specs.TrialLaws.{TurnsAreAsked, OneRoundIsEnough, RoundsAreBounded}
@@ -31,7 +31,7 @@ trial_turns_are s t is e =
 
 choices_are : (s : StudyData) (t : ℕ) → s.daemon ≡ Turn → choices Turn (longest_repair s.size.n) (trial_memory s t) (trial_ring s t) ≡ trial_choices s t
 unfolding trial_choices
-choices_are s t e = ap (λ (d : Daemon). choices d (longest_repair s.size.n) (trial_memory s t) (trial_ring s t)) (sym e)
+choices_are s t e = ap (λ (d : Daemon). daemon_choices d (longest_repair s.size.n) (trial_memory s t) (trial_ring s t)) (sym e)
 
 pub turns_asked : TurnsAreAsked
 turns_asked s t is e =

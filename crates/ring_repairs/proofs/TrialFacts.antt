@@ -11,7 +11,9 @@ use Rattle.ring_model.specs.Runs.{after_passes, granted_passes}
 use Rattle.ring_model.specs.RepairLaws.{longest_repair}
 use Rattle.ring_state.specs.Sizes.{Size, IsSize, size_of}
 use Rattle.ring_repairs.specs.Draws.{draw, generator}
-use Rattle.ring_repairs.specs.Daemons.{choices, passes}
+use Rattle.drawn_groups.specs.Groups.{group_choices}
+use Rattle.drawn_groups.proofs.Choices.{groups_settle}
+use Rattle.ring_repairs.specs.Daemons.{passes, daemon_choices}
 use Rattle.ring_repairs.specs.Starts.{after_values, drawn_values, settled_value, Hits, hits_with, hit_by, hits, faulty, digits, numbered, start_values, start_left}
 use Rattle.ring_repairs.specs.Histograms.{counted, IsEmpty}
 use Rattle.ring_repairs.specs.Studies.{StudyData, IsStudy, trial_ring, trial_memory, trial_choices, trial_passes, IsCounted, AreRepairs, repairs_with}
@@ -21,7 +23,8 @@ use Rattle.ring_repairs.specs.declared.daemons.Memory.{Memory}
 use Rattle.ring_repairs.specs.declared.starts.Start.{Start}
 use Rattle.ring_repairs.specs.declared.starts.Start.TheVariants.{Any, Faults, All}
 use Rattle.ring_repairs.proofs.Choices.{draw_less}
-use Rattle.ring_repairs.proofs.Bounds.{settles_long, settles_bound, choices_settle, choices_unsettled, choices_granted, passes_within}
+use Rattle.ring_repairs.specs.declared.daemons.Daemon.TheVariants.{Groups}
+use Rattle.ring_repairs.proofs.Passing.{IsPassing, daemon_passing, daemon_unsettled, choices_else, choices_groups}
 use Rattle.ring_repairs.proofs.Counting.{entry, counted_none, counted_set}
 use Rattle.std.proofs.lemmas.Nat.{mod_below}
 use Rattle.ring_repairs.proofs.Numbering.{digits_long}
@@ -133,23 +136,26 @@ trials_start s t is =
 
 -- ---- its choices settle it
 
-pub trials_settle : TrialsSettle
+-- the machines that pass
+trial_passing : (s : StudyData) (t : ℕ) → IsStudy s → IsPassing (trial_ring s t) (trial_choices s t)
 unfolding trial_choices
-trials_settle s t is =
+trial_passing s t is =
     let start = trials_start s t is in
     let n : length (trial_ring s t).values ≡ s.size.n = start.2 in
-    choices_settle s.daemon (longest_repair s.size.n) (longest_repair (length (trial_ring s t).values)) (trial_memory s t) (trial_ring s t) start.0
-    (settles_long (trial_ring s t) start.0) (let e : longest_repair (length (trial_ring s t).values) ≡ longest_repair s.size.n = ap longest_repair n in omega arith)
+    subst (λ (x : ℕ). IsPassing (trial_ring s t) (daemon_choices s.daemon (longest_repair x) (trial_memory s t) (trial_ring s t))) n
+    (daemon_passing s.daemon (trial_memory s t) (trial_ring s t) start.0)
+
+pub trials_settle : TrialsSettle
+trials_settle s t is = (trial_passing s t is).settled
 
 pub trials_settle_first : TrialsSettleFirst
 unfolding trial_choices
-trials_settle_first s t p l = choices_unsettled s.daemon (longest_repair s.size.n) p (trial_memory s t) (trial_ring s t) l
+trials_settle_first s t p l = daemon_unsettled s.daemon (longest_repair s.size.n) p (trial_memory s t) (trial_ring s t) l
 
 pub trials_are_granted : TrialsAreGranted
-unfolding trial_choices trial_passes passes
+unfolding trial_passes
 trials_are_granted s t is =
-    let start = trials_start s t is in
-    let all = choices_granted s.daemon (longest_repair s.size.n) (trial_memory s t) (trial_ring s t) start.0 in
+    let all = (trial_passing s t is).granted in
     (all, ap (λ (x : List ℕ). length x) all)
 
 pub trials_are_bounded : TrialsAreBounded
@@ -157,12 +163,10 @@ unfolding trial_passes
 trials_are_bounded s t is =
     let start = trials_start s t is in
     let n : length (trial_ring s t).values ≡ s.size.n = start.2 in
-    let long = passes_within s.daemon (longest_repair s.size.n) (longest_repair (length (trial_ring s t).values)) (trial_memory s t) (trial_ring s t) start.0
-    (settles_long (trial_ring s t) start.0) in
-    let most = passes_within s.daemon (longest_repair s.size.n) (bound (length (trial_ring s t).values)) (trial_memory s t) (trial_ring s t) start.0
-    (settles_bound (trial_ring s t) start.0) in
     let e : longest_repair (length (trial_ring s t).values) ≡ longest_repair s.size.n = ap longest_repair n in
     let b : bound (length (trial_ring s t).values) ≡ bound s.size.n = ap bound n in
+    let long' = (trial_passing s t is).long in
+    let within' = (trial_passing s t is).within in
     (omega arith, omega arith)
 
 -- ---- each is counted once
@@ -211,15 +215,30 @@ one_counted number t i h h' old is l e =
 -- what a repair answers, of the start that a trial has
 pub trial_is : (s : StudyData) (t most : ℕ) (d : Daemon) (w : Lcg) (r : Ring) → d ≡ s.daemon → most ≡ longest_repair s.size.n →
     w ≡ start_left s.start s.size (generator s.seed t) → r.k ≡ s.size.k → r.values ≡ start_values s.start s.size (t / s.trials) (generator s.seed t) →
-    passes d most (record { words = w; asked = 0 }) r ≡ trial_passes s t
-unfolding trial_passes trial_memory trial_ring
+    length (granted_passes r (daemon_choices d most (record { words = w; asked = 0 }) r)) ≡ trial_passes s t
+unfolding trial_passes trial_choices trial_memory trial_ring
 trial_is s t most d w r ed em ew ek ev =
     let with_words : Lcg → Memory = λ g. record { words = g; asked = 0 } in
-    ap (λ (x : Daemon). passes x most (with_words w) r) ed
-    ∙ ap (λ (x : ℕ). passes s.daemon x (with_words w) r) em
-    ∙ ap (λ (x : Lcg). passes s.daemon (longest_repair s.size.n) (with_words x) r) ew
-    ∙ ap (λ (x : ℕ). passes s.daemon (longest_repair s.size.n) (trial_memory s t) (ring_with x r.values)) ek
-    ∙ ap (λ (x : List ℕ). passes s.daemon (longest_repair s.size.n) (trial_memory s t) (ring_with s.size.k x)) ev
+    let all : Daemon → ℕ → Memory → Ring → ℕ = λ x y m u. length (granted_passes u (daemon_choices x y m u)) in
+    ap (λ (x : Daemon). all x most (with_words w) r) ed
+    ∙ ap (λ (x : ℕ). all s.daemon x (with_words w) r) em
+    ∙ ap (λ (x : Lcg). all s.daemon (longest_repair s.size.n) (with_words x) r) ew
+    ∙ ap (λ (x : ℕ). all s.daemon (longest_repair s.size.n) (trial_memory s t) (ring_with x r.values)) ek
+    ∙ ap (λ (x : List ℕ). all s.daemon (longest_repair s.size.n) (trial_memory s t) (ring_with s.size.k x)) ev
+
+-- of a daemon that chooses machines, and of groups
+pub one_by_one : (d : Daemon) (most : ℕ) (m : Memory) (r : Ring) → (d ≡ Groups → ⊥) →
+    passes d most m r ≡ length (granted_passes r (daemon_choices d most m r))
+unfolding passes
+one_by_one d most m r other = ap (λ (x : List ℕ). length (granted_passes r x)) (sym (choices_else d most m r other))
+
+pub in_groups : (d : Daemon) (most : ℕ) (m : Memory) (r : Ring) → d ≡ Groups → IsRing r → most ≡ longest_repair (length r.values) →
+    length (group_choices most [] m.words r) ≡ length (granted_passes r (daemon_choices d most m r))
+in_groups d most m r e g em =
+    let with_most : ℕ → ℕ = λ x. length (group_choices x [] m.words r) in
+    ap with_most em ∙ sym (ap (λ (x : List ℕ). length x) (groups_settle r m.words g).0)
+    ∙ ap (λ (x : ℕ). length (granted_passes r (group_choices x [] m.words r))) (sym em)
+    ∙ ap (λ (x : List ℕ). length (granted_passes r x)) (sym (choices_groups d most m r e))
 
 -- a ring of a size, by its parts
 pub same_size : (r : Ring) (s : Size) → size_of r ≡ s → (t : Ring) → length t.values ≡ length r.values → t.k ≡ r.k → size_of t ≡ s

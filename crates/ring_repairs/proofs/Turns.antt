@@ -15,7 +15,7 @@ use Rattle.ring_model.proofs.Settled.{first_is}
 use Rattle.ring_repairs.specs.Daemons.{privileged_from, next_privileged, asked_until, choice, remembered, choices}
 use Rattle.ring_repairs.specs.Rounds.{memory_after, asked_from, rounds_of}
 use Rattle.ring_repairs.specs.declared.daemons.Daemon.{Daemon}
-use Rattle.ring_repairs.specs.declared.daemons.Daemon.TheVariants.{First, Last, Random, Turn, Slow}
+use Rattle.ring_repairs.specs.declared.daemons.Daemon.TheVariants.{First, Last, Random, Turn, Slow, Groups}
 use Rattle.ring_repairs.specs.declared.daemons.Memory.{Memory}
 use Rattle.ring_repairs.proofs.Remembering.{memory_none, memory_settled, memory_goes_on}
 use Rattle.ring_repairs.proofs.Choices.{choice_privileged, choice_ring, choices_none, choices_settled, choices_go_on, granted_next}
@@ -30,6 +30,7 @@ asks_nobody Last other m r = refl
 asks_nobody Random other m r = refl
 asks_nobody Turn other m r = absurd (other refl)
 asks_nobody Slow other m r = refl
+asks_nobody Groups other m r = refl
 
 pub nobody_asked : (d : Daemon) (most : ℕ) (m : Memory) (r : Ring) → (d ≡ Turn → ⊥) → (memory_after d most m r).asked ≡ m.asked
 nobody_asked d zero m r other = ap (λ (x : Memory). x.asked) (memory_none d m r)
@@ -388,3 +389,4 @@ is_turn Last = inr (λ e. cc e)
 is_turn Random = inr (λ e. cc e)
 is_turn Turn = inl refl
 is_turn Slow = inr (λ e. cc e)
+is_turn Groups = inr (λ e. cc e)

@@ -3,9 +3,10 @@ use Rattle.std.specs.Prelude.{ℕ, zero, suc, ◌+◌, ◌-◌, ◌%◌, Bool, t
 use Rattle.ring_model.specs.Numbers.{count_below, least}
 use Rattle.ring_model.specs.Ring.{Ring, is_privileged, privileged_count, first_privileged, is_settled, moved, rest}
 use Rattle.ring_model.specs.Runs.{passed, granted_passes}
+use Rattle.drawn_groups.specs.Groups.{group_choices}
 use Rattle.ring_repairs.specs.Draws.{draw}
 use Rattle.ring_repairs.specs.declared.daemons.Daemon.{Daemon}
-use Rattle.ring_repairs.specs.declared.daemons.Daemon.TheVariants.{First, Last, Random, Turn, Slow}
+use Rattle.ring_repairs.specs.declared.daemons.Daemon.TheVariants.{First, Last, Random, Turn, Slow, Groups}
 use Rattle.ring_repairs.specs.declared.daemons.Memory.{Memory}
 
 -- the greatest number below n that passes, 0 if none does
@@ -59,13 +60,15 @@ slowest_below r (suc n) = slower r (slowest_below r n) n
 abbrev pub slowest : Ring → ℕ
 slowest r = slowest_below r (length r.values)
 
--- the machine that a daemon chooses, where the ring is r and its memory m
+-- the machine that a daemon chooses, where the ring is r and its memory m; `Groups` chooses groups
+-- (`daemon_choices`), and of single machines the first
 unfoldable pub choice : Daemon → Memory → Ring → ℕ
 choice First m r = first_privileged r.values
 choice Last m r = last_privileged r.values
 choice Random m r = privileged_at r.values (draw (privileged_count r.values) m.words).0
 choice Turn m r = next_privileged r.values (m.asked % length r.values)
 choice Slow m r = slowest r
+choice Groups m r = first_privileged r.values
 
 abbrev pub memory_with : Memory → ℕ → Memory
 memory_with m more = record { words = m.words; asked = m.asked + more }
@@ -80,6 +83,7 @@ remembered Turn m r =
     memory_with m (asked_until (length r.values) (m.asked % length r.values)
     (next_privileged r.values (m.asked % length r.values)))
 remembered Slow m r = m
+remembered Groups m r = m
 
 -- whether a daemon draws words
 abbrev pub draws : Daemon → Bool
@@ -88,6 +92,7 @@ draws Last = false
 draws Random = true
 draws Turn = false
 draws Slow = false
+draws Groups = true
 
 -- the machines that it chooses until the ring is settled, at most `most` of them
 unfoldable pub choices : Daemon → ℕ → Memory → Ring → List ℕ
@@ -99,3 +104,13 @@ choices d (suc most) m r =
 -- how many of these choices are granted
 unfoldable pub passes : Daemon → ℕ → Memory → Ring → ℕ
 passes d most m r = length (granted_passes r (choices d most m r))
+
+-- the machines that pass until the ring is settled, at most `most`: those that a daemon chooses, and of
+-- `Groups` the members of drawn groups
+abbrev pub daemon_choices : Daemon → ℕ → Memory → Ring → List ℕ
+daemon_choices First most m r = choices First most m r
+daemon_choices Last most m r = choices Last most m r
+daemon_choices Random most m r = choices Random most m r
+daemon_choices Turn most m r = choices Turn most m r
+daemon_choices Slow most m r = choices Slow most m r
+daemon_choices Groups most m r = group_choices most [] m.words r

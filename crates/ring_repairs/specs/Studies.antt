@@ -2,11 +2,12 @@
 use Rattle.std.specs.Prelude.{◌≡◌, ℕ, ◌+◌, ◌*◌, ◌<◌, ◌≤◌, ◌/◌, ◌==◌, ◌⊎◌, false, List, length, slice_index}
 use Rattle.ring_model.specs.Numbers.{count_below}
 use Rattle.ring_model.specs.Ring.{Ring, ring_with}
+use Rattle.ring_model.specs.Runs.{granted_passes}
 use Rattle.ring_model.specs.RepairLaws.{longest_repair}
 use Rattle.ring_state.specs.Sizes.{Size, IsSize}
 use Rattle.ring_repairs.specs.Limits.{trial_limit, state_limit}
 use Rattle.ring_repairs.specs.Draws.{generator}
-use Rattle.ring_repairs.specs.Daemons.{choices, passes, draws}
+use Rattle.ring_repairs.specs.Daemons.{daemon_choices, draws}
 use Rattle.ring_repairs.specs.Rounds.{memory_after, rounds_of}
 use Rattle.ring_repairs.specs.Starts.{states, start_values, start_left, AreFaultsFor}
 use Rattle.ring_repairs.specs.Histograms.{counted}
@@ -85,14 +86,15 @@ trial_ring s t =
 unfoldable pub trial_memory : StudyData → ℕ → Memory
 trial_memory s t = record { words = start_left s.start s.size (generator s.seed t); asked = 0 }
 
--- the machines that the daemon chooses until the ring is settled: as many as the longest repair has
--- passes are enough (`TrialsSettle`)
+-- the machines that pass until the ring is settled: as many as the longest repair has passes are
+-- enough (`TrialsSettle`)
 unfoldable pub trial_choices : StudyData → ℕ → List ℕ
-trial_choices s t = choices s.daemon (longest_repair s.size.n) (trial_memory s t) (trial_ring s t)
+trial_choices s t =
+    daemon_choices s.daemon (longest_repair s.size.n) (trial_memory s t) (trial_ring s t)
 
 -- the number of a trial: the granted passes until its ring is first settled
 unfoldable pub trial_passes : StudyData → ℕ → ℕ
-trial_passes s t = passes s.daemon (longest_repair s.size.n) (trial_memory s t) (trial_ring s t)
+trial_passes s t = length (granted_passes (trial_ring s t) (trial_choices s t))
 
 -- how many machines its daemon has asked in turn by then; none, if it is another one than `Turn`
 unfoldable pub trial_turns : StudyData → ℕ → ℕ

@@ -25,6 +25,8 @@ pub enum Daemon {
     Turn,
     /// The privileged machine whose move lowers the rest least; the least of these.
     Slow,
+    /// A drawn group of privileged machines, not empty and not all, each as likely as each other: they move at once.
+    Groups,
 }
 
 /// What a daemon remembers between its choices.
@@ -170,6 +172,7 @@ impl Daemon {
     {
         match self {
             Daemon::Random => true,
+            Daemon::Groups => true,
             _ => false,
         }
     }
@@ -198,6 +201,8 @@ impl Daemon {
             Daemon::Random => drawn_privileged(&mut memory.words, ring, privileged),
             Daemon::Turn => machine_in_turn(&mut memory.asked, ring, privileged),
             Daemon::Slow => slowest(ring),
+            // Nobody asks: of a group each member passes.
+            Daemon::Groups => first_privileged(ring, privileged),
         }
     }
 }

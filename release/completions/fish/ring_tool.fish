@@ -27,7 +27,7 @@ complete -c ring_tool -n "__fish_seen_subcommand_from picture" -l ring -x -d "Th
 complete -c ring_tool -n "__fish_seen_subcommand_from picture" -l from -x -d "How many events before"
 complete -c ring_tool -n "__fish_seen_subcommand_from picture" -l events -x -d "How many events"
 complete -c ring_tool -n "__fish_seen_subcommand_from repairs" -l from -x -a "any all faults:" -d "Where each trial starts"
-complete -c ring_tool -n "__fish_seen_subcommand_from repairs" -l daemon -x -a "random first last turn slow" -d "Which machine moves next"
+complete -c ring_tool -n "__fish_seen_subcommand_from repairs" -l daemon -x -a "random first last turn slow groups" -d "Which machine moves next"
 complete -c ring_tool -n "__fish_seen_subcommand_from repairs" -l trials -x -d "How many trials"
 complete -c ring_tool -n "__fish_seen_subcommand_from repairs" -l seed -x -d "The seed of the generators"
 complete -c ring_tool -n "__fish_seen_subcommand_from repairs" -l histogram -d "How many trials took each number of passes"

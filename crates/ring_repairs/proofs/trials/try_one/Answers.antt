@@ -33,7 +33,7 @@ returns-clause-passes c =
     ∙ ap (λ (x : Size). start_left s.start x c.generator-words.result) size
     ∙ ap (start_left s.start s.size) words in
     let k : c.write_start.new.ring.k ≡ s.size.k = c.write_start.ensures.same ∙ ap (λ (x : Size). x.k) size in
-    c.repair.ensures.passes
+    c.pass_all.ensures.passes
     ∙ trial_is s c.args.trial c.longest_repair-most.result c.daemon.result c.write_start.new.words c.write_start.new.ring c.daemon.ensures most left k values
 
 pub returns-clause-size : goal.returns-clause-size
@@ -44,5 +44,17 @@ returns-clause-size c =
     let written : length c.write_start.new.ring.values ≡ length c.args.ring.now.values =
     ap (λ (x : List ℕ). length x) c.write_start.ensures.values
     ∙ start_long c.start.result (size_of c.args.ring.now) (c.args.trial / c.trials.result) c.generator-words.result (omega arith) in
-    same_size c.args.ring.now c.args.study.now.size size c.repair.new.ring (c.repair.ensures.size ∙ written)
-    (c.repair.ensures.same ∙ c.write_start.ensures.same)
+    same_size c.args.ring.now c.args.study.now.size size c.pass_all.new.ring (c.pass_all.ensures.size ∙ written)
+    (c.pass_all.ensures.same ∙ c.write_start.ensures.same)
+
+pub pass_all-requires-clause-most : goal.pass_all-requires-clause-most
+pass_all-requires-clause-most c =
+    let s : StudyData = c.args.study.now in
+    let size : size_of c.args.ring.now ≡ s.size = c.requires in
+    let two = c.size.ensures.study.size.machines in
+    let n : c.n.result ≡ s.size.n = c.n.ensures.is ∙ ap (λ (x : Size). x.n) c.size.ensures.is in
+    let same : length c.args.ring.now.values ≡ s.size.n = ap (λ (x : Size). x.n) size in
+    let written : length c.write_start.new.ring.values ≡ length c.args.ring.now.values =
+    ap (λ (x : List ℕ). length x) c.write_start.ensures.values
+    ∙ start_long c.start.result (size_of c.args.ring.now) (c.args.trial / c.trials.result) c.generator-words.result (omega arith) in
+    c.longest_repair-most.ensures.is ∙ ap longest_repair (n ∙ sym same ∙ sym written)

@@ -117,3 +117,24 @@ pub returns-in-Slow-clause-privileged : goal.returns-in-Slow-clause-privileged
 returns-in-Slow-clause-privileged c =
     ap (is_privileged c.args.ring.now.values) (returns-in-Slow-clause-choice c)
     ∙ choice_privileged c.args.self c.args.memory.now c.args.ring.now c.params.ensures.ring.ring
+
+pub returns-in-Groups-clause-choice : goal.returns-in-Groups-clause-choice
+unfolding choice
+returns-in-Groups-clause-choice c =
+    subst (λ (d : Daemon). c.first_privileged-in-Groups.result ≡ choice d c.args.memory.now c.args.ring.now) (sym c.in-Groups.is) c.first_privileged-in-Groups.ensures
+
+pub returns-in-Groups-clause-memory : goal.returns-in-Groups-clause-memory
+unfolding remembered
+returns-in-Groups-clause-memory c =
+    subst (λ (d : Daemon). c.args.memory.now ≡ remembered d c.args.memory.now c.args.ring.now) (sym c.in-Groups.is) refl
+
+pub returns-in-Groups-clause-machine : goal.returns-in-Groups-clause-machine
+returns-in-Groups-clause-machine c =
+    let e = returns-in-Groups-clause-choice c in
+    let l = choice_below c.args.self c.args.memory.now c.args.ring.now c.params.ensures.ring.ring in
+    omega arith
+
+pub returns-in-Groups-clause-privileged : goal.returns-in-Groups-clause-privileged
+returns-in-Groups-clause-privileged c =
+    ap (is_privileged c.args.ring.now.values) (returns-in-Groups-clause-choice c)
+    ∙ choice_privileged c.args.self c.args.memory.now c.args.ring.now c.params.ensures.ring.ring
