@@ -18,7 +18,7 @@ Each N:K is a size: N machines that can hold K values each; N is N:N. For each s
 asked for, and prints a line: how many trials there were, the bound that is proved, how long the longest repair is (`sharp`
 if some repair is as long), and of the passes that the trials took the least, the mean, the median, the numbers that 90,
 99 and 99.9 in 100 trials do not exceed, and the greatest. The mean is rounded down to hundredths. What is printed
-depends on nothing but the words. A line is printed as soon as its trials are done.
+depends on nothing but the words, and not on --threads. A line is printed as soon as its trials are done.
 
 A trial starts with a ring whose values are drawn (`any`), or with a settled ring in which F machines then get drawn
 values (`faults:F`), or each state has its trials (`all`; each state in which machine 0 does not hold 0 is as one in which
@@ -39,7 +39,7 @@ Exit status: 0 if all was printed and written, 1 if a number is out of its limit
 fails, 2 after a usage error: a number is a decimal without a sign or leading zeros.";
 
 /// The arguments of `repairs`.
-static REPAIRS_ARGUMENTS: [Argument; 8] = [
+static REPAIRS_ARGUMENTS: [Argument; 9] = [
     Argument {
         id: "RINGS",
         long: None,
@@ -79,6 +79,14 @@ static REPAIRS_ARGUMENTS: [Argument; 8] = [
         takes: Takes::LongNumber,
         presence: Presence::Optional,
         help: "The seed of the generators: trial T draws from stream T of PCG32 [default: 0]",
+    },
+    Argument {
+        id: "threads",
+        long: Some("threads"),
+        value_names: &["P"],
+        takes: Takes::Number,
+        presence: Presence::Optional,
+        help: "How many threads do the trials, 1 to 64; they print the same [default: 1]",
     },
     Argument {
         id: "histogram",
@@ -214,6 +222,7 @@ pub(crate) fn repairs_words<'a>(
         daemon: daemon_named(words.get_str("daemon").unwrap_or("random")),
         trials: words.get_one::<u64>("trials"),
         seed: words.get_one::<u64>("seed").unwrap_or(0),
+        threads: words.get_one::<u32>("threads").unwrap_or(1),
         lines: lines_of(words),
         csv: words.get_str("csv"),
     })))

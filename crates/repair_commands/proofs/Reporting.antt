@@ -1,8 +1,8 @@
 -- Reports, one after the other.
 use Rattle.std.proofs.Common.{◌≡◌, ℕ, List, [], ◌∷◌, ◌++◌, ◌+◌, ◌<◌, length, map, take, drop, get_or, Option, refl, sym, ◌∙◌, ap, append_assoc}
-use Rattle.std.specs.Io.KnownBytes.{Appends}
+use Rattle.std.specs.Io.KnownBytes.{Appends, Keeps}
 use Rattle.std.proofs.lemmas.List.{append-nil, take-append-drop, drop_more}
-use Rattle.text_lines.proofs.Writing.{appends_nil, appends_then}
+use Rattle.text_lines.proofs.Writing.{appends_nil, appends_then, keeps_then}
 use Rattle.text_lines.specs.Writing.{Wrote}
 use Rattle.ring_repairs.specs.Studies.{StudyData}
 use Rattle.repair_texts.specs.declared.columns.Row.{Row}
@@ -53,6 +53,10 @@ printed_cut wanted all ss rows a b c s back added line (text, are, at) h (left, 
   reports_more wanted ss rows text s added line are h,
   (left, some, (text ++ front, ap (λ (x : List ℕ). text ++ x) split ∙ sym (append_assoc text front left), appends_then a b c text front at af)),
 )
+
+pub printed_kept : (wanted : Lines) (ss : List StudyData) (rows : List Row) (a b c : Option (List ℕ)) → HavePrinted wanted ss rows a b → Keeps b c →
+    HavePrinted wanted ss rows a c
+printed_kept wanted ss rows a b c (text, are, at) kept = (text, are, keeps_then a b c text at kept)
 
 -- ---- studies, one after the other
 

@@ -8,7 +8,7 @@ use Rattle.repair_report.specs.Reports.{IsReport}
 use Rattle.repair_report.specs.declared.writing.Lines.{Lines}
 use Rattle.repair_texts.specs.Columns.{table_of}
 use Rattle.repair_texts.specs.declared.columns.Row.{Row}
-use Rattle.repair_commands.specs.Wanted.{studies_given, IsWordsRefusal}
+use Rattle.repair_commands.specs.Wanted.{studies_given, AreThreads, IsWordsRefusal, IsThreadsRefusal}
 use Rattle.tool_parts.specs.Named.{IsStored}
 use Rattle.tool_parts.specs.Worlds.{World}
 use Rattle.tool_parts.specs.Written.{AppendsFront}
@@ -63,6 +63,7 @@ table_file words = option_map (λ name. name.now) words.csv
 pub record IsRepairsAnswer (words : RepairsWords) (was is : World) : Type 0 where
   pub some : 1 ≤ length (studies_given words)
   pub studies : All IsStudy (studies_given words)
+  pub threads : AreThreads words.threads
   pub rows : List Row
   pub printed : HavePrinted words.lines (studies_given words) rows was.out is.out
   pub stored : IsStored (table_file words) was.files is.files (table_of rows)
@@ -74,10 +75,12 @@ IsFileRefusal file (refusal.Tool (tool.Save named)) = Some named.now ≡ file
 IsFileRefusal file (refusal.Tool tool.OutOfMemory) = Unit {0}
 IsFileRefusal file _ = ⊥
 
--- Which refusals `repairs` may meet: those of its words, and nothing is printed then; those of
--- printing; and those of the file for the table. No file has changed.
+-- Which refusals `repairs` may meet: those of its words, or else those of the number of threads, and
+-- nothing is printed then; those of printing; and those of the file for the table. No file has
+-- changed.
 pub record IsRepairsRefusal (words : RepairsWords) (was is : World) (e : Refusal) : Type 0 where
   pub why : (IsWordsRefusal words e × (is.out ≡ was.out))
-      ⊎ (IsPrintRefusal words.lines (studies_given words) was.out is.out e
-      ⊎ IsFileRefusal (table_file words) e)
+      ⊎ (All IsStudy (studies_given words) × IsThreadsRefusal words e × (is.out ≡ was.out))
+      ⊎ IsPrintRefusal words.lines (studies_given words) was.out is.out e
+      ⊎ IsFileRefusal (table_file words) e
   pub kept : is.files ≡ was.files

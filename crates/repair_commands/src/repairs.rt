@@ -5,10 +5,11 @@ ghost use Rattle.std.specs.Io.KnownBytes.{Appends};
 ghost use Rattle.std.specs.List.{All};
 ghost use Rattle.ring_repairs.specs.Studies.{StudyData, IsStudy};
 ghost use Rattle.repair_texts.specs.declared.columns.Row.{Row};
+ghost use Rattle.repair_commands.specs.Wanted.{AreThreads};
 ghost use Rattle.repair_commands.specs.Repaired.{AreReports, IsRepairsAnswer, IsRepairsRefusal, HavePrinted, IsPrintRefusal};
 ghost use Rattle.tool_parts.specs.Worlds.{world};
 
-use crate::studies::studies_of;
+use crate::studies::{studies_of, threads_of};
 use crate::tables::save;
 use disks::Disk;
 use repair_report::{Lines, ReportFault, report_repairs};
@@ -17,19 +18,23 @@ use repair_texts::Row;
 use ring_repairs::Study;
 use std::alloc::Global;
 use std::io::Write;
+use std::thread::Threads;
 use tool_parts::faults::ToolError;
 
-/// Does the trials of each study, and prints the reports on them, each as soon as its trials are done. Returns their rows.
+/// Does the trials of each study, by as many threads, and prints the reports on them: each leaves the writer's buffer as soon as its trials are done. Returns their rows.
 ///
 /// # Errors
 ///
 /// `OutOfMemory`, and `Write` where the writer fails: the bytes written until then are a prefix of the reports on the first studies.
 fn print_all<W: Write>(
+    rt: &(impl Threads + Sync),
     alloc: Global,
     studies: Vec<Study>,
+    threads: u32,
     lines: Lines,
     out: &mut W,
 ) -> Result<Vec<Row<'static>>, Refusal<'static>>
+    requires { AreThreads threads }
     ensures ok { IfOk result (λ rows.
         HavePrinted lines studies.items rows.items (W.contents out.old) (W.contents out.new)) }
     ensures err { IfErr result (λ e.
@@ -37,8 +42,11 @@ fn print_all<W: Write>(
 {
     let mut rows = Vec::new(alloc);
     for study in studies {
-        match report_repairs(alloc, study, lines, &mut rows, out) {
-            Ok(()) => {}
+        match report_repairs(rt, alloc, study, threads, lines, &mut rows, out) {
+            Ok(()) => {
+                // So that an interrupt leaves the lines of what is done. A fault is met again where the buffer is emptied.
+                let _ = out.flush();
+            }
             Err(ReportFault::Write) => return Err(Refusal::Tool(ToolError::Write)),
             Err(ReportFault::OutOfMemory) => return Err(Refusal::Tool(ToolError::OutOfMemory)),
         }
@@ -51,10 +59,12 @@ fn print_all<W: Write>(
 ///
 /// # Errors
 ///
-/// `NoRing` if there is no size, the refusal of the first study that is refused: nothing is printed then. `OutOfMemory`. `Write` if the
+/// `NoRing` if there is no size, the refusal of the first study that is refused, `NoThreads` and `ManyThreads`: nothing is printed then.
+/// `OutOfMemory`. `Write` if the
 /// writer fails: the bytes written until then are a prefix of the reports. `Stream` and `Save` with the name of the file. Every file is
 /// as it was then.
-pub fn run<'a, D: Disk, W: Write>(
+pub fn run<'a, R: Threads + Sync, D: Disk, W: Write>(
+    rt: &R,
     alloc: Global,
     disk: &mut D,
     words: &RepairsWords<'a>,
@@ -71,7 +81,11 @@ pub fn run<'a, D: Disk, W: Write>(
         Ok(studies) => studies,
         Err(refusal) => return Err(refusal),
     };
-    let rows = match print_all(alloc, studies, words.lines, out) {
+    let threads = match threads_of(words) {
+        Ok(threads) => threads,
+        Err(refusal) => return Err(refusal),
+    };
+    let rows = match print_all(rt, alloc, studies, threads, words.lines, out) {
         Ok(rows) => rows,
         Err(refusal) => return Err(refusal),
     };

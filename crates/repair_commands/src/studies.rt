@@ -5,9 +5,10 @@ ghost use Rattle.std.specs.List.{All};
 ghost use Rattle.ring_settings.specs.Rings.{size_fault};
 ghost use Rattle.ring_state.specs.Sizes.{IsSize};
 ghost use Rattle.ring_repairs.specs.Studies.{IsStudy};
-ghost use Rattle.repair_commands.specs.Wanted.{size_given, trials_given, study_given, studies_given, IsStudyRefusal, IsWordsRefusal};
+ghost use Rattle.repair_commands.specs.Wanted.{size_given, trials_given, study_given, studies_given, AreThreads, IsStudyRefusal, IsWordsRefusal, IsThreadsRefusal};
 
 use repair_requests::{Refusal, RepairsWords};
+use repair_threads::THREAD_LIMIT;
 use ring_repairs::{Start, Study, StudyError};
 use ring_settings::RingCause;
 use ring_state::{Params, ParamsError};
@@ -104,4 +105,23 @@ pub(crate) fn studies_of(
         };
     }
     Ok(studies)
+}
+
+/// How many threads do the trials.
+///
+/// # Errors
+///
+/// `NoThreads` for none, and `ManyThreads` for more than there may be.
+pub(crate) fn threads_of(words: &RepairsWords<'_>) -> Result<u32, Refusal<'static>>
+    ensures ok { IfOk result (λ threads. (threads ≡ words.now.threads) × AreThreads threads) }
+    ensures err { IfErr result (λ e. IsThreadsRefusal words.now e) }
+{
+    let threads = words.threads;
+    if threads == 0 {
+        return Err(Refusal::NoThreads);
+    }
+    if threads > THREAD_LIMIT {
+        return Err(Refusal::ManyThreads);
+    }
+    Ok(threads)
 }

@@ -19,6 +19,10 @@ pub enum Refusal<'a> {
     ManyStates(usize),
     /// More than one trial of each state is asked for, which would all be the same.
     OneTrial,
+    /// No thread is to do the trials.
+    NoThreads,
+    /// More threads are to do the trials than may.
+    ManyThreads,
 }
 
 impl Refusal<'_> {
@@ -51,6 +55,8 @@ impl fmt::Display for Refusal<'_> {
             Refusal::OneTrial => {
                 f.write_str("a daemon that draws nothing makes one trial of each state")
             }
+            Refusal::NoThreads => f.write_str("there are no threads"),
+            Refusal::ManyThreads => f.write_str("there are more than 64 threads"),
         }
     }
 }

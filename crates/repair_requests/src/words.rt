@@ -16,6 +16,8 @@ pub struct RepairsWords<'a> {
     /// How many trials there are of each size, or of each state; if it is not said, 1,000, or 1 of each state.
     pub trials: Option<u64>,
     pub seed: u64,
+    /// How many threads do them, 1 to 64. The answer does not depend on it.
+    pub threads: u32,
     /// What is printed.
     pub lines: Lines,
     /// The name of the file for the table, if one is wanted.

@@ -25,6 +25,7 @@ fn faulty_words<'a>(
         daemon: Daemon::Last,
         trials: Some(300),
         seed: 7,
+        threads: 3,
         lines: Lines::Figures,
         csv,
     })
@@ -48,7 +49,7 @@ fn each_size_has_a_line_and_a_record(rt: HostRuntime) -> Result<(), Fail> {
     let sizes = [RingSize { n: 3, k: 3 }, RingSize { n: 5, k: 5 }];
     let words = faulty_words(alloc, &sizes, Some("table.csv"))?;
     let mut out = Vec::new(alloc);
-    assert!(rt; repairs::run(alloc, &mut disk, &words, &mut out).is_ok());
+    assert!(rt; repairs::run(&rt, alloc, &mut disk, &words, &mut out).is_ok());
     assert!(rt; out.as_slice() == LINES);
     let table = bytes_of(alloc, &disk, "table.csv")?;
     assert!(rt; table.as_slice() == TABLE);
@@ -63,7 +64,7 @@ fn a_size_with_fewer_machines_than_faults_is_refused_first(rt: HostRuntime) -> R
     let mut words = faulty_words(alloc, &sizes, None)?;
     words.start = Start::Faults(3);
     let mut out = Vec::new(alloc);
-    match repairs::run(alloc, &mut disk, &words, &mut out) {
+    match repairs::run(&rt, alloc, &mut disk, &words, &mut out) {
         Err(Refusal::ManyFaults(place)) => assert!(rt; place == 1),
         _ => panic!(rt; "it is refused"),
     }
@@ -71,8 +72,27 @@ fn a_size_with_fewer_machines_than_faults_is_refused_first(rt: HostRuntime) -> R
     Ok(())
 }
 
+#[test]
+fn threads_are_counted_last(rt: HostRuntime) -> Result<(), Fail> {
+    let alloc = rt.alloc();
+    let mut disk = no_files(alloc);
+    let sizes = [RingSize { n: 3, k: 3 }];
+    for (threads, many) in [(0, false), (65, true)] {
+        let mut words = faulty_words(alloc, &sizes, None)?;
+        words.threads = threads;
+        let mut out = Vec::new(alloc);
+        match repairs::run(&rt, alloc, &mut disk, &words, &mut out) {
+            Err(Refusal::NoThreads) => assert!(rt; !many),
+            Err(Refusal::ManyThreads) => assert!(rt; many),
+            _ => panic!(rt; "it is refused"),
+        }
+        assert!(rt; out.is_empty());
+    }
+    Ok(())
+}
+
 /// Each refusal that no other command has, and its line.
-const LINES_OF_REFUSALS: [(Refusal<'static>, &str); 5] = [
+const LINES_OF_REFUSALS: [(Refusal<'static>, &str); 7] = [
     (Refusal::NoTrials, "there are no trials"),
     (
         Refusal::ManyTrials,
@@ -90,6 +110,8 @@ const LINES_OF_REFUSALS: [(Refusal<'static>, &str); 5] = [
         Refusal::OneTrial,
         "a daemon that draws nothing makes one trial of each state",
     ),
+    (Refusal::NoThreads, "there are no threads"),
+    (Refusal::ManyThreads, "there are more than 64 threads"),
 ];
 
 #[test]

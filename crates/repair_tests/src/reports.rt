@@ -35,8 +35,10 @@ fn a_report_has_all_numbers(rt: HostRuntime) {
     let mut out = Vec::new(alloc);
     let mut rows = Vec::new(alloc);
     let reported = report_repairs(
+        &rt,
         alloc,
         faulty_study(&rt),
+        4,
         Lines::Histogram,
         &mut rows,
         &mut out,
@@ -58,7 +60,9 @@ fn a_report_may_have_one_line(rt: HostRuntime) {
     };
     let mut out = Vec::new(alloc);
     let mut rows = Vec::new(alloc);
-    assert!(rt; report_repairs(alloc, study, Lines::Figures, &mut rows, &mut out) == Ok(()));
+    assert!(rt;
+        report_repairs(&rt, alloc, study, 1, Lines::Figures, &mut rows, &mut out) == Ok(())
+    );
     assert!(rt; out.as_slice() == DRAWN);
 }
 
@@ -69,8 +73,10 @@ fn a_writer_without_room_is_told(rt: HostRuntime) {
     let mut out: &mut [u8] = &mut room;
     let mut rows = Vec::new(alloc);
     let reported = report_repairs(
+        &rt,
         alloc,
         faulty_study(&rt),
+        4,
         Lines::Histogram,
         &mut rows,
         &mut out,
@@ -92,6 +98,6 @@ fn a_report_may_be_an_object(rt: HostRuntime) {
     };
     let mut out = Vec::new(alloc);
     let mut rows = Vec::new(alloc);
-    assert!(rt; report_repairs(alloc, study, Lines::Object, &mut rows, &mut out) == Ok(()));
+    assert!(rt; report_repairs(&rt, alloc, study, 2, Lines::Object, &mut rows, &mut out) == Ok(()));
     assert!(rt; out.as_slice() == OBJECT);
 }

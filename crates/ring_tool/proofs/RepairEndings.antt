@@ -15,13 +15,14 @@ use Rattle.ring_tool.specs.Repaired.{HasRepaired, HasRefusalLine}
 use Rattle.ring_tool.proofs.Endings.{bad_list}
 
 -- it reads no list
-none_of : {A B C : Type 0} → (A → ⊥) → (B → ⊥) → (C → ⊥) → A ⊎ (B ⊎ C) → ⊥
-none_of f g h (inl a) = f a
-none_of f g h (inr (inl b)) = g b
-none_of f g h (inr (inr c)) = h c
+none_of : {A B C D : Type 0} → (A → ⊥) → (B → ⊥) → (C → ⊥) → (D → ⊥) → A ⊎ B ⊎ C ⊎ D → ⊥
+none_of f g h k (inl a) = f a
+none_of f g h k (inr (inl b)) = g b
+none_of f g h k (inr (inr (inl c))) = h c
+none_of f g h k (inr (inr (inr d))) = k d
 
 no_list : (words : RepairsWords) (was is : World) → IsRepairsRefusal words was is (refusal.Tool tool.BadList) → ⊥
-no_list words was is refused = none_of (λ unasked. unasked.0.5) (λ printing. printing) (λ filing. filing) refused.why
+no_list words was is refused = none_of (λ unasked. unasked.0.5) (λ unthreaded. unthreaded.1) (λ printing. printing) (λ filing. filing) refused.why
 
 not_read : (words : RepairsWords) (was is : World) (e : Refusal) → is_bad_list e ≡ true → IsRepairsRefusal words was is e → ⊥
 not_read words was is (refusal.Tool t) h refused = no_list words was is (subst (λ (x : ToolError). IsRepairsRefusal words was is (refusal.Tool x)) (bad_list t h) refused)
@@ -30,6 +31,8 @@ not_read words was is refusal.ManyTrials h refused = absurd (false≢true h)
 not_read words was is (refusal.ManyFaults p) h refused = absurd (false≢true h)
 not_read words was is (refusal.ManyStates p) h refused = absurd (false≢true h)
 not_read words was is refusal.OneTrial h refused = absurd (false≢true h)
+not_read words was is refusal.NoThreads h refused = absurd (false≢true h)
+not_read words was is refusal.ManyThreads h refused = absurd (false≢true h)
 
 one_unless : (b : Bool) → (b ≡ true → ⊥) → cond {A = ℕ} b 2 1 ≡ 1
 one_unless true other = absurd (other refl)

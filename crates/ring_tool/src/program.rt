@@ -45,7 +45,7 @@ pub fn run_asked<
 {
     match asked {
         Asked::Command(wanted) => do_wanted(rt, disk, &wanted, input, out, err),
-        Asked::Repairs(words) => do_repairs(rt.alloc(), disk, &words, out, err),
+        Asked::Repairs(words) => do_repairs(rt, disk, &words, out, err),
         Asked::Text(text) => show(rt.alloc(), text.as_str(), out, err),
         Asked::Unread(text) => refuse(text.as_str(), out, err),
         Asked::OutOfMemory => fail(rt.alloc(), &ToolError::OutOfMemory, out, err),

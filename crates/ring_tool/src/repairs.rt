@@ -13,6 +13,7 @@ use repair_commands::repairs;
 use repair_requests::{Refusal, RepairsWords};
 use std::alloc::Global;
 use std::io::{BufWriter, Write};
+use std::thread::Threads;
 
 /// The line of a refusal, with its end; `None` if there is no memory for it.
 fn line_of(alloc: Global, refusal: &Refusal<'_>) -> Option<Vec<u8>>
@@ -63,8 +64,8 @@ fn fail_repairs<O: Write + Drop, E: Write>(
 /// table is one of `disk`.
 ///
 /// The status is 0 if it was done and every byte of the answer is in the writer below, and else 1.
-pub fn do_repairs<D: Disk, O: Write + Drop, E: Write>(
-    alloc: Global,
+pub fn do_repairs<R: AllocGlobal + Threads + Sync, D: Disk, O: Write + Drop, E: Write>(
+    rt: &R,
     disk: &mut D,
     words: &RepairsWords<'_>,
     mut out: BufWriter<O>,
@@ -74,7 +75,8 @@ pub fn do_repairs<D: Disk, O: Write + Drop, E: Write>(
         (world (D.holds disk.old) None (writer_contents O.contents out) (E.contents err.old))
         (world (D.holds disk.new) None (O.contents result.out) (E.contents err.new)) }
 {
-    match repairs::run(alloc, disk, words, &mut out) {
+    let alloc = rt.alloc();
+    match repairs::run(rt, alloc, disk, words, &mut out) {
         Ok(()) => done(alloc, out, err),
         Err(refusal) => fail_repairs(alloc, &refusal, out, err),
     }

@@ -30,6 +30,7 @@ complete -c ring_tool -n "__fish_seen_subcommand_from repairs" -l from -x -a "an
 complete -c ring_tool -n "__fish_seen_subcommand_from repairs" -l daemon -x -a "random first last turn slow groups" -d "Which machine moves next"
 complete -c ring_tool -n "__fish_seen_subcommand_from repairs" -l trials -x -d "How many trials"
 complete -c ring_tool -n "__fish_seen_subcommand_from repairs" -l seed -x -d "The seed of the generators"
+complete -c ring_tool -n "__fish_seen_subcommand_from repairs" -l threads -x -d "How many threads do the trials"
 complete -c ring_tool -n "__fish_seen_subcommand_from repairs" -l histogram -d "How many trials took each number of passes"
 complete -c ring_tool -n "__fish_seen_subcommand_from repairs" -l json -d "An object of JSON for each line"
 complete -c ring_tool -n "__fish_seen_subcommand_from repairs" -l csv -rF -d "Also write the figures to this file"

@@ -2,14 +2,16 @@ use Rattle.std.proofs.Common.{◌≡◌, ◌∷◌, ◌++◌, List, length, get_
 use Rattle.std.proofs.lemmas.Iterator.Adapters.{YieldsList-from_vec}
 use Rattle.std.proofs.lemmas.Iterator.Consumers.{YieldsList-so_far, YieldsList-turn}
 use Rattle.ring_repairs.specs.Studies.{StudyData}
-use Rattle.repair_commands.proofs.Reporting.{printed_more, printed_cut, split_at_turn}
+use Rattle.repair_commands.proofs.Reporting.{printed_more, printed_kept, printed_cut, split_at_turn}
 use Rattle.repair_commands.proofs.repairs.print_all.Goals as goal
 
 pub loop-study-preserved : goal.loop-study-preserved
 loop-study-preserved g c =
     let h = c.in-Ok.ensures.ok in
-    printed_more c.args.lines c.loop-study.yielded c.loop-study.rows.items c.report_repairs.new.rows.items _ _ _ c.in-Some.study h.0 h.1 c.loop-study.invariant
-    h.2 h.3 h.4
+    printed_kept c.args.lines _ c.report_repairs.new.rows.items _ _ _
+    (printed_more c.args.lines c.loop-study.yielded c.loop-study.rows.items c.report_repairs.new.rows.items _ _ _ c.in-Some.study h.0 h.1
+    c.loop-study.invariant h.2 h.3 h.4)
+    c.flush.ensures
 
 pub returns-in-Err-Write-clause-err : goal.returns-in-Err-Write-clause-err
 returns-in-Err-Write-clause-err g c =
