@@ -9,7 +9,7 @@ ghost use Rattle.tool_parts.specs.Worlds.{world};
 use crate::ends::{Ending, done, fail};
 use crate::requests::answer;
 use disks::Disk;
-use history_commands::{repairs, states};
+use history_commands::{repairs, states, step};
 use std::io::{BufWriter, Read, Write};
 use std::sync::Wait;
 use std::thread::Threads;
@@ -39,6 +39,7 @@ pub fn do_it<'a, R: AllocGlobal + Threads + Wait + Sync, D: Disk, I: Read, O: Wr
         Wanted::Tool(request) => answer(rt, disk, request, input, out, err),
         Wanted::ReportRepairs(words) => repairs::run(rt.alloc(), disk, words, input, out),
         Wanted::States(words) => states::run(rt.alloc(), disk, words, input, out),
+        Wanted::StepStates(words) => step::run(rt.alloc(), words, out),
     }
 }
 

@@ -1,6 +1,6 @@
 //! What words ask for.
 
-use tool_parts::requests::{ReportWords, Request};
+use tool_parts::requests::{ReportWords, Request, StepWords};
 
 /// The words of `states`.
 #[derive(Clone, Copy)]
@@ -24,4 +24,6 @@ pub enum Wanted<'a> {
     ReportRepairs(ReportWords<'a>),
     /// The states of a saved history.
     States(StatesWords<'a>),
+    /// `step` with the state after each choice.
+    StepStates(StepWords<'a>),
 }
