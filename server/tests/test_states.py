@@ -1,8 +1,9 @@
-"""The states of saved histories: the program beside `models/states.py`, which is written from FORMATS alone, and `examples/repairs.py`,
-which plots them."""
+"""The states of saved histories and after choices: the program beside `models/states.py` and `models/steps.py`, which are written from
+FORMATS alone, and `examples/repairs.py`, which plots them."""
 
 import glob
 import os
+import random
 import subprocess
 import sys
 import tempfile
@@ -13,6 +14,7 @@ from harness import ENGINE, IS_DOUBLE, TOP, needs_programs
 
 HISTORIES = [os.path.join(TOP, "examples", "repair.txt"), *glob.glob(os.path.join(TOP, "tests", "rows", "data", "*.txt"))]
 MODEL = [sys.executable, "-B", os.path.join(TOP, "models", "states.py")]
+STEPS = [sys.executable, "-B", os.path.join(TOP, "models", "steps.py")]
 
 
 def printed(*words, text=None):
@@ -46,6 +48,16 @@ class Beside(unittest.TestCase):
                     self.assertEqual(printed(ENGINE, "states", history, *form), printed(*MODEL, history, *form))
             lines = printed(ENGINE, "report", history, "--repairs").split("\nrepairs ring", 1)
             self.assertEqual(f"repairs ring{lines[1]}", printed(*MODEL, history, "--repairs"))
+
+    def test_the_model_of_choices(self):
+        drawn = random.Random(93)
+        for n in (2, 3, 4, 7, 30, 1024):
+            for k in (n, n + 1, 65536):
+                start = ",".join(str(drawn.randrange(k)) for _ in range(n))
+                choices = ",".join(str(drawn.randrange(n)) for _ in range(20))
+                with self.subTest(n=n, k=k):
+                    words = (str(n), str(k), start, choices)
+                    self.assertEqual(printed(ENGINE, "step", *words, "--states"), printed(*STEPS, *words))
 
 
 if __name__ == "__main__":

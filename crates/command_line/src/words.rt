@@ -35,6 +35,10 @@ const STEP_HELP: &str = "\
 For each choice it prints `M granted NUMBER` if machine M was privileged and moved, else
 `M not privileged`. Then it prints the last values, how many machines are privileged, and the first of them.
 
+With --states it prints rows instead, as `states` does of a saved history: one for the values to begin with, and one for
+the state after each choice. A row has how many choices there were, what came of the last one (start, granted, refused),
+its machine, the number of the grant; the values, how many machines are privileged, and which; the rest and the calm.
+
 Example:
   $ ring_tool step 3 3 0,2,0 0,0,2
   0 granted 1
@@ -42,6 +46,10 @@ Example:
   2 granted 2
   states 1,2,2
   privileged 1 first 1
+  $ ring_tool step 3 3 0,2,0 0,0 --states
+  event 0 kind start states 0,2,0 privileged 3 at 0,1,2 rest 6 calm 0
+  event 1 kind granted machine 0 number 1 states 1,2,0 privileged 2 at 1,2 rest 3 calm 1
+  event 2 kind refused machine 0 states 1,2,0 privileged 2 at 1,2 rest 3 calm 1
 
 Exit status: 0 if it was done, 2 after a usage error or if a list cannot be read, 1 after each other refusal.";
 
@@ -169,7 +177,7 @@ pub(crate) const SAVED_HISTORY: Argument = Argument {
 };
 
 /// The arguments of `step`.
-static STEP_ARGUMENTS: [Argument; 4] = [
+static STEP_ARGUMENTS: [Argument; 5] = [
     Argument {
         id: "N",
         long: None,
@@ -201,6 +209,14 @@ static STEP_ARGUMENTS: [Argument; 4] = [
         takes: Takes::Text,
         presence: Presence::Optional,
         help: "The machines that ask to pass, in order, each below N, as 0,0,2 [default: none]",
+    },
+    Argument {
+        id: "STATES_TOO",
+        long: Some("states"),
+        value_names: &[],
+        takes: Takes::Nothing,
+        presence: Presence::Optional,
+        help: "Prints a row with the state after each choice, instead of the replies",
     },
 ];
 
@@ -340,13 +356,18 @@ fn command_line<'a>(alloc: Global) -> Result<Command<'a>, Error> {
 }
 
 /// `step`, where all its words are there.
-fn step_words<'a>(words: &ArgMatches<'a>) -> Option<Request<'a>> {
-    Some(Request::Step(StepWords {
+fn step_words<'a>(words: &ArgMatches<'a>) -> Option<Wanted<'a>> {
+    let step = StepWords {
         n: words.get_one::<u32>("N")?,
         k: words.get_one::<u32>("K")?,
         states: words.get_str("STATES")?,
         choices: words.get_str("CHOICES"),
-    }))
+    };
+    if words.get_flag("STATES_TOO") {
+        Some(Wanted::StepStates(step))
+    } else {
+        Some(Wanted::Tool(Request::Step(step)))
+    }
 }
 
 /// `run`, where the settings' file is there.
@@ -385,7 +406,6 @@ fn upgrade_words<'a>(words: &ArgMatches<'a>) -> Option<Request<'a>> {
 /// The request of the command of this name, where its words are there; `new` apart, which takes memory.
 fn request_named<'a>(name: &str, words: &ArgMatches<'a>) -> Option<Request<'a>> {
     match name {
-        "step" => step_words(words),
         "check" => check_words(words),
         "picture" => picture_words(words),
         "upgrade" => upgrade_words(words),
@@ -401,6 +421,7 @@ fn request_named<'a>(name: &str, words: &ArgMatches<'a>) -> Option<Request<'a>> 
 /// What the command of this name wants, where its words are there; `new` and `repairs` apart.
 fn wanted_named<'a>(name: &str, words: &ArgMatches<'a>) -> Option<Wanted<'a>> {
     match name {
+        "step" => step_words(words),
         "run" => run_words(words),
         "report" => report_words(words),
         "states" => states_words(words),

@@ -1,2 +1,3 @@
 pub mod Stated
+pub mod Stepped
 pub mod WithRepairs

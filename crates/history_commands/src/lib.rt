@@ -1,4 +1,4 @@
-//! The commands that show what a saved history holds: `states`, and `report` with repairs.
+//! The commands that show states and repairs: `states`, `report` with repairs, and `step` with states.
 //!
 //! They take any disk, reader and writer, and say the content of files before and after, by their names. The command line itself
 //! is the matter of `command_line`: nothing here knows of it.
@@ -6,3 +6,4 @@
 
 pub mod repairs;
 pub mod states;
+pub mod step;

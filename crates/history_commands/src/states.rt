@@ -20,7 +20,7 @@ use tool_parts::reading::read_named;
 use tool_requests::StatesWords;
 
 /// The answer of the program for that of a table's writer.
-fn told(written: Result<(), StatesFault>) -> Result<(), ToolError<'static>>
+pub(crate) fn told(written: Result<(), StatesFault>) -> Result<(), ToolError<'static>>
     ensures { result ≡ told_by written }
 {
     match written {

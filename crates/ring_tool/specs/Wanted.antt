@@ -3,6 +3,7 @@ use Rattle.std.specs.Prelude.{◌≡◌, ◌≢◌, false, None, Result, OnOk, I
 use Rattle.run_commands.specs.Ran.{history_file}
 use Rattle.run_commands.specs.InTurn.{IsTurnsAnswer, IsTurnsRunRefusal}
 use Rattle.history_commands.specs.Stated.{IsStatesAnswer, IsStatesRefusal}
+use Rattle.history_commands.specs.Stepped.{IsStepStatesAnswer, IsStepStatesRefusal}
 use Rattle.history_commands.specs.WithRepairs.{IsRepairsAnswer, IsRepairsRefusal}
 use Rattle.tool_parts.specs.Reading.{names_stream}
 use Rattle.tool_parts.specs.Worlds.{World}
@@ -12,7 +13,7 @@ use Rattle.tool_requests.specs.declared.wanted.Wanted.{Wanted}
 use Rattle.tool_requests.specs.declared.wanted.Wanted.TheVariants as wanted
 use Rattle.ring_tool.specs.Answered.{unheard, IsAnswer, IsRefusal, IsOfLines, IsOfFile, MakesNoFile, IsSilent}
 
--- what was wanted is done; `report --repairs` and `states` change no file
+-- what was wanted is done; `report --repairs`, `states` and `step --states` change no file
 abbrev pub IsDoing : Wanted → World → World → Type 0
 IsDoing (wanted.Tool request) was is = IsAnswer request was is
 IsDoing (wanted.RunInTurn words) was is =
@@ -21,6 +22,8 @@ IsDoing (wanted.ReportRepairs words) was is =
     IsRepairsAnswer words (unheard was) (unheard is) × (is.files ≡ was.files)
 IsDoing (wanted.States words) was is =
     IsStatesAnswer words (unheard was) (unheard is) × (is.files ≡ was.files)
+IsDoing (wanted.StepStates words) was is =
+    IsStepStatesAnswer words was.out is.out × (is.files ≡ was.files)
 
 -- or it is refused
 abbrev pub IsRefusing : Wanted → World → World → ToolError → Type 0
@@ -31,6 +34,8 @@ IsRefusing (wanted.ReportRepairs words) was is e =
     IsRepairsRefusal words (unheard was) (unheard is) e × (is.files ≡ was.files)
 IsRefusing (wanted.States words) was is e =
     IsStatesRefusal words (unheard was) (unheard is) e × (is.files ≡ was.files)
+IsRefusing (wanted.StepStates words) was is e =
+    IsStepStatesRefusal words was.out is.out e × (is.files ≡ was.files)
 
 -- it serves lines, which may change files before it is refused
 abbrev pub ServesLines : Wanted → Type 0
@@ -38,6 +43,7 @@ ServesLines (wanted.Tool request) = IsOfLines request
 ServesLines (wanted.RunInTurn words) = ⊥
 ServesLines (wanted.ReportRepairs words) = ⊥
 ServesLines (wanted.States words) = ⊥
+ServesLines (wanted.StepStates words) = ⊥
 
 -- it names a file, or nothing that is read, so standard input stays as it is
 abbrev pub LeavesInput : Wanted → Type 0
@@ -45,6 +51,7 @@ LeavesInput (wanted.Tool request) = IsOfFile request
 LeavesInput (wanted.RunInTurn words) = names_stream words.run.settings.now ≡ false
 LeavesInput (wanted.ReportRepairs words) = names_stream words.file.now ≡ false
 LeavesInput (wanted.States words) = names_stream words.file.now ≡ false
+LeavesInput (wanted.StepStates words) = Unit {0}
 
 -- it names no file that is made, so every file stays as it is
 abbrev pub LeavesFiles : Wanted → Type 0
@@ -52,6 +59,7 @@ LeavesFiles (wanted.Tool request) = MakesNoFile request
 LeavesFiles (wanted.RunInTurn words) = history_file words.run ≡ None
 LeavesFiles (wanted.ReportRepairs words) = Unit {0}
 LeavesFiles (wanted.States words) = Unit {0}
+LeavesFiles (wanted.StepStates words) = Unit {0}
 
 -- it prints nothing on standard error, which stays as it is
 abbrev pub LeavesError : Wanted → Type 0
@@ -59,6 +67,7 @@ LeavesError (wanted.Tool request) = IsSilent request
 LeavesError (wanted.RunInTurn words) = Unit {0}
 LeavesError (wanted.ReportRepairs words) = Unit {0}
 LeavesError (wanted.States words) = Unit {0}
+LeavesError (wanted.StepStates words) = Unit {0}
 
 -- How it is done: it is answered, or refused. After a refusal but that of the output every file is as
 -- it was, unless lines were served; if no file is named that is made, every file is as it was anyhow.

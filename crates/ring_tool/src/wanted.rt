@@ -9,7 +9,7 @@ ghost use Rattle.tool_parts.specs.Worlds.{world};
 use crate::ends::{Ending, done, fail};
 use crate::requests::answer;
 use disks::Disk;
-use history_commands::{repairs, states};
+use history_commands::{repairs, states, step};
 use run_commands::in_turn;
 use std::io::{BufWriter, Read, Write};
 use std::sync::Wait;
@@ -43,6 +43,7 @@ pub fn do_it<'a, R: AllocGlobal + Threads + Wait + Sync, D: Disk, I: Read, O: Wr
         Wanted::RunInTurn(words) => {
             in_turn::run(rt.alloc(), disk, &words.run, words.seed, input, out)
         }
+        Wanted::StepStates(words) => step::run(rt.alloc(), words, out),
     }
 }
 

@@ -115,6 +115,31 @@ fn first_beyond(n: u32, choices: &[u32]) -> Option<usize>
     choices.iter().position(|choice| *choice >= n)
 }
 
+/// Returns the ring before any choice, where all that `step` was given is allowed.
+///
+/// # Errors
+///
+/// The first that applies: a size that is not allowed, start values of another number than n, the first start value that is not below
+/// `k`, the first choice that is not below `n`. `OutOfMemory` comes where memory is asked for.
+pub fn opening_of(
+    alloc: Global,
+    n: u32,
+    k: u32,
+    states: &[u32],
+    choices: &[u32],
+) -> Result<RingState, ToolError<'static>>
+    ensures ok { IfOk result (λ r. (r ≡ ring_with k states.now)
+        × (length states.now ≡ n) × (fault_of n k states.now choices.now ≡ None)) }
+    ensures start { IfOk result (λ r. start_fault n k states.now ≡ None) }
+    ensures err { IfErr result (λ e. IsOpeningRefusal n k states.now choices.now e) }
+{
+    let state = state_of(alloc, n, k, states)?;
+    if let Some(index) = first_beyond(n, choices) {
+        return Err(ToolError::Choice(index));
+    }
+    Ok(state)
+}
+
 /// The ring with no events yet, where all that `step` was given is allowed.
 fn book_of(
     alloc: Global,
@@ -127,10 +152,10 @@ fn book_of(
         × (length states.now ≡ n) × (fault_of n k states.now choices.now ≡ None)) }
     ensures err { IfErr result (λ e. IsOpeningRefusal n k states.now choices.now e) }
 {
-    let state = state_of(alloc, n, k, states)?;
-    if let Some(index) = first_beyond(n, choices) {
-        return Err(ToolError::Choice(index));
-    }
+    let state = match opening_of(alloc, n, k, states, choices) {
+        Ok(state) => state,
+        Err(fault) => return Err(fault),
+    };
     match Book::new(alloc, state, Idle) {
         Ok(book) => Ok(book),
         Err(_) => Err(ToolError::OutOfMemory),
@@ -176,8 +201,12 @@ pub fn step_lines<W: Write>(
     Ok(())
 }
 
-/// The numbers of a list that may be left out.
-fn choices_of(alloc: Global, word: Option<&str>) -> Result<Vec<u32>, ToolError<'static>>
+/// Returns the numbers of a list that may be left out.
+///
+/// # Errors
+///
+/// `BadList` where it is not well written, and `OutOfMemory`.
+pub fn choices_of(alloc: Global, word: Option<&str>) -> Result<Vec<u32>, ToolError<'static>>
     ensures ok { IfOk result
         (λ choices. AreChoices (option_map (λ word. word.now) word.entry) choices.items) }
     ensures err { IfErr result

@@ -1,6 +1,6 @@
 //! What words ask for.
 
-use tool_parts::requests::{ReportWords, Request, RunWords};
+use tool_parts::requests::{ReportWords, Request, RunWords, StepWords};
 
 /// The words of `run --in-turn`.
 #[derive(Clone, Copy)]
@@ -34,4 +34,6 @@ pub enum Wanted<'a> {
     ReportRepairs(ReportWords<'a>),
     /// The states of a saved history.
     States(StatesWords<'a>),
+    /// `step` with the state after each choice.
+    StepStates(StepWords<'a>),
 }

@@ -15,6 +15,7 @@ end
 complete -c ring_tool -s h -l help -d "Print the help"
 complete -c ring_tool -n $none -s V -l version -d "Print the version"
 complete -c ring_tool -n "__fish_seen_subcommand_from help" -f -a "step run check picture upgrade new repairs serve locks recover join holds report states"
+complete -c ring_tool -n "__fish_seen_subcommand_from step" -l states -d "The state after each choice"
 complete -c ring_tool -n "__fish_seen_subcommand_from run" -l history -rF -d "Save the history as"
 complete -c ring_tool -n "__fish_seen_subcommand_from run" -l quiet -d "Only the last line of the report"
 complete -c ring_tool -n "__fish_seen_subcommand_from run" -l in-turn -x -d "On one thread, in turns that the seed draws"

@@ -49,3 +49,15 @@ returns-in-RunInTurn g c =
       silent = λ _. refl;
       unread = h.unread;
     })
+
+pub returns-in-StepStates : goal.returns-in-StepStates
+returns-in-StepStates g c =
+    let h = c.run-in-StepStates.ensures in
+    rw c.in-StepStates.is (record {
+      answered = told_with _ _ _ refl h.ok;
+      refused = refused_with _ _ _ refl h.err;
+      kept = λ _. kept_anyhow c.run-in-StepStates.result _ _ refl;
+      made = λ _. refl;
+      silent = λ _. refl;
+      unread = λ _. refl;
+    })
