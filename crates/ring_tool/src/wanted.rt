@@ -10,6 +10,7 @@ use crate::ends::{Ending, done, fail};
 use crate::requests::answer;
 use disks::Disk;
 use history_commands::{repairs, states};
+use setup_commands::{drawn, settings};
 use std::io::{BufWriter, Read, Write};
 use std::sync::Wait;
 use std::thread::Threads;
@@ -39,6 +40,8 @@ pub fn do_it<'a, R: AllocGlobal + Threads + Wait + Sync, D: Disk, I: Read, O: Wr
         Wanted::Tool(request) => answer(rt, disk, request, input, out, err),
         Wanted::ReportRepairs(words) => repairs::run(rt.alloc(), disk, words, input, out),
         Wanted::States(words) => states::run(rt.alloc(), disk, words, input, out),
+        Wanted::Drawn(words) => drawn::run(rt.alloc(), words, out),
+        Wanted::Settings(words) => settings::run(rt.alloc(), words, out),
     }
 }
 

@@ -50,4 +50,8 @@ pub enum Wanted<'a> {
     ReportRepairs(ReportWords<'a>),
     /// The states of a saved history.
     States(StatesWords<'a>),
+    /// `new` with drawn values.
+    Drawn(DrawnWords),
+    /// The text of settings.
+    Settings(SettingsWords),
 }
