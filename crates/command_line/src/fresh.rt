@@ -5,32 +5,51 @@ use clap::error::ErrorKind;
 use clap::{ArgMatches, Command, Error};
 use std::alloc::Global;
 use tool_parts::requests::{NewWords, Request, RingSize};
-use tool_requests::Wanted;
+use tool_requests::{DrawnWords, Wanted};
 
-const ABOUT: &str = "Prints a saved history of settled rings that have no events yet";
+const ABOUT: &str = "Prints a saved history of rings that have no events yet";
 
 const HELP: &str = "\
 Each N:K is a ring of N machines that can hold K values each; the first is ring 0. Every machine begins with the value
 0, so just machine 0 is privileged. What is printed is a whole saved history in the latest version: `serve` resumes from
 it, and `check` accepts it. If a word is refused, nothing is printed.
 
+With --drawn each value is drawn, each state of a ring as likely as each other. Ring I has the state with which trial I of
+`repairs N:K --seed SEED` starts. What is printed depends on nothing but the words.
+
 Example:
   $ ring_tool new 3:3 5:6 > fresh.txt
   $ ring_tool check fresh.txt
   legal rings 2 events 0 granted 0 corrupted 0 surveys 0
+  $ ring_tool new --drawn 1 3:3
+  ringfarm 2
+  ring 0 3 3
+  start 1 1 0
+  end 0
+  done 1
 
 Exit status: 0 if it was printed, 1 if a number is out of its limits, memory runs out or printing fails, 2 after a usage
 error: each N:K is two decimals below 2^32 with a colon between, without signs or leading zeros.";
 
 /// The arguments of `new`.
-static NEW_ARGUMENTS: [Argument; 1] = [Argument {
-    id: "RINGS",
-    long: None,
-    value_names: &["N:K"],
-    takes: Takes::Texts,
-    presence: Presence::Required,
-    help: "A ring: how many machines it has, 2 to 1024, and how many values each can hold, N to 65536",
-}];
+static NEW_ARGUMENTS: [Argument; 2] = [
+    Argument {
+        id: "RINGS",
+        long: None,
+        value_names: &["N:K"],
+        takes: Takes::Texts,
+        presence: Presence::Required,
+        help: "A ring: how many machines it has, 2 to 1024, and how many values each can hold, N to 65536",
+    },
+    Argument {
+        id: "drawn",
+        long: Some("drawn"),
+        value_names: &["SEED"],
+        takes: Takes::LongNumber,
+        presence: Presence::Optional,
+        help: "Draws the value of each machine: those of ring I from stream I of PCG32 with this seed [default: all 0]",
+    },
+];
 
 /// The command `new`.
 pub(crate) fn new_command<'a>(alloc: Global) -> Result<Command<'a>, Error> {
@@ -63,6 +82,14 @@ fn no_size(alloc: Global, word: &str) -> Result<Error, Error> {
     Ok(command.error(ErrorKind::ValueValidation, text.as_str())?)
 }
 
+/// `new` for these rings: with drawn values, if a seed is given.
+fn new_wanted<'a>(drawn: Option<u64>, rings: Vec<RingSize>) -> Wanted<'a> {
+    match drawn {
+        Some(seed) => Wanted::Drawn(DrawnWords { seed, rings }),
+        None => Wanted::Tool(Request::New(NewWords { rings })),
+    }
+}
+
 /// `new`, if a ring is there.
 ///
 /// # Errors
@@ -82,5 +109,5 @@ pub(crate) fn new_words<'a>(
         };
         rings.push(size)?;
     }
-    Ok(Some(Wanted::Tool(Request::New(NewWords { rings }))))
+    Ok(Some(new_wanted(words.get_one::<u64>("drawn"), rings)))
 }

@@ -9,6 +9,8 @@ mod locks;
 mod picture;
 mod repairs;
 mod report;
+mod settings;
+mod sizes;
 mod states;
 mod version;
 mod words;

@@ -2,6 +2,7 @@
 
 use crate::arguments::{Argument, Presence, Takes, command_of};
 use crate::fresh::read_number;
+use crate::sizes::sizes_of;
 use crate::words::Words;
 use clap::error::ErrorKind;
 use clap::{ArgMatches, Command, Error};
@@ -9,7 +10,6 @@ use repair_report::Lines;
 use repair_requests::RepairsWords;
 use ring_repairs::{Daemon, Start};
 use std::alloc::Global;
-use tool_parts::requests::RingSize;
 
 const ABOUT: &str = "Repairs many rings, and counts how many passes each repair takes";
 
@@ -119,18 +119,6 @@ pub(crate) fn repairs_command<'a>(alloc: Global) -> Result<Command<'a>, Error> {
     command_of(alloc, "repairs", ABOUT, HELP, &REPAIRS_ARGUMENTS)
 }
 
-/// The size that a word spells.
-fn read_size(word: &str) -> Option<RingSize> {
-    let Some((n, k)) = word.split_once(':') else {
-        let n = read_number(word)?;
-        return Some(RingSize { n, k: n });
-    };
-    Some(RingSize {
-        n: read_number(n)?,
-        k: read_number(k)?,
-    })
-}
-
 /// Where a trial starts, by its word.
 fn read_start(word: &str) -> Option<Start> {
     match word {
@@ -175,26 +163,6 @@ fn no_value(alloc: Global, word: &str, argument: &str, wanted: &str) -> Result<E
     Ok(command.error(ErrorKind::ValueValidation, text.as_str())?)
 }
 
-/// The sizes that are given, if a word is there.
-fn sizes_of(alloc: Global, words: &ArgMatches<'_>) -> Result<Option<Vec<RingSize>>, Error> {
-    let Some(given) = words.get_strs("RINGS") else {
-        return Ok(None);
-    };
-    let mut sizes = Vec::new(alloc);
-    for word in given {
-        let Some(size) = read_size(word) else {
-            return Err(no_value(
-                alloc,
-                word,
-                "<N[:K]>...",
-                "a decimal, or two with a colon between, are wanted",
-            )?);
-        };
-        sizes.push(size)?;
-    }
-    Ok(Some(sizes))
-}
-
 /// `repairs`, if a size is there.
 ///
 /// # Errors
@@ -204,7 +172,8 @@ pub(crate) fn repairs_words<'a>(
     alloc: Global,
     words: &ArgMatches<'a>,
 ) -> Result<Option<Words<'a>>, Error> {
-    let Some(sizes) = sizes_of(alloc, words)? else {
+    let command = repairs_command(alloc)?.bin_name("ring_tool repairs")?;
+    let Some(sizes) = sizes_of(alloc, command, words)? else {
         return Ok(None);
     };
     let from = words.get_str("from").unwrap_or("any");

@@ -10,6 +10,7 @@ use crate::locks::{locks_command, locks_words};
 use crate::picture::{picture_command, picture_words};
 use crate::repairs::{repairs_command, repairs_words};
 use crate::report::{report_command, report_words};
+use crate::settings::{settings_command, settings_words};
 use crate::states::{states_command, states_words};
 use crate::version::VERSION;
 use clap::error::ErrorKind;
@@ -140,6 +141,7 @@ enum CommandName {
     Picture,
     Upgrade,
     New,
+    Settings,
     Repairs,
     Serve,
     Locks,
@@ -149,7 +151,7 @@ enum CommandName {
 }
 
 /// The commands, in the order in which help lists them.
-static COMMANDS: [CommandName; 14] = [
+static COMMANDS: [CommandName; 15] = [
     CommandName::Step,
     CommandName::Run,
     CommandName::Check,
@@ -158,6 +160,7 @@ static COMMANDS: [CommandName; 14] = [
     CommandName::Picture,
     CommandName::Upgrade,
     CommandName::New,
+    CommandName::Settings,
     CommandName::Repairs,
     CommandName::Serve,
     CommandName::Locks,
@@ -326,6 +329,7 @@ fn command_named<'a>(alloc: Global, name: CommandName) -> Result<Command<'a>, Er
         CommandName::Picture => picture_command(alloc),
         CommandName::Upgrade => upgrade_command(alloc),
         CommandName::New => new_command(alloc),
+        CommandName::Settings => settings_command(alloc),
         CommandName::Repairs => repairs_command(alloc),
         CommandName::Serve => serve_command(alloc),
         CommandName::Locks => locks_command(alloc),
@@ -418,7 +422,7 @@ fn request_named<'a>(name: &str, words: &ArgMatches<'a>) -> Option<Request<'a>> 
     }
 }
 
-/// What the command of this name wants, where its words are there; `new` and `repairs` apart.
+/// What the command of this name wants, where its words are there; `new`, `settings` and `repairs` apart.
 fn wanted_named<'a>(name: &str, words: &ArgMatches<'a>) -> Option<Wanted<'a>> {
     match name {
         "step" => step_words(words),
@@ -441,6 +445,7 @@ fn words_of<'a>(alloc: Global, matches: &ArgMatches<'a>) -> Result<Option<Words<
     };
     match name {
         "new" => Ok(tool_words(new_words(alloc, words)?)),
+        "settings" => Ok(tool_words(settings_words(alloc, words)?)),
         "repairs" => repairs_words(alloc, words),
         _ => Ok(tool_words(wanted_named(name, words))),
     }

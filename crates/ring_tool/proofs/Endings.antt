@@ -119,6 +119,8 @@ files_kept (wanted.RunInTurn words) was is refused kept = kept (λ lines. lines)
 files_kept (wanted.ReportRepairs words) was is refused kept = kept (λ lines. lines)
 files_kept (wanted.States words) was is refused kept = kept (λ lines. lines)
 files_kept (wanted.StepStates words) was is refused kept = kept (λ lines. lines)
+files_kept (wanted.Drawn words) was is refused kept = kept (λ lines. lines)
+files_kept (wanted.Settings words) was is refused kept = kept (λ lines. lines)
 
 -- what holds of an answer, or of a refusal
 pub of_ok : {E : Type 0} (P : Type 0) (r : Result (Unit {0}) E) (u : Unit {0}) → r ≡ Ok u → OnOk r P → P

@@ -11,6 +11,7 @@ use crate::requests::answer;
 use disks::Disk;
 use history_commands::{repairs, states, step};
 use run_commands::in_turn;
+use setup_commands::{drawn, settings};
 use std::io::{BufWriter, Read, Write};
 use std::sync::Wait;
 use std::thread::Threads;
@@ -44,6 +45,8 @@ pub fn do_it<'a, R: AllocGlobal + Threads + Wait + Sync, D: Disk, I: Read, O: Wr
             in_turn::run(rt.alloc(), disk, &words.run, words.seed, input, out)
         }
         Wanted::StepStates(words) => step::run(rt.alloc(), words, out),
+        Wanted::Drawn(words) => drawn::run(rt.alloc(), words, out),
+        Wanted::Settings(words) => settings::run(rt.alloc(), words, out),
     }
 }
 

@@ -1,6 +1,6 @@
 //! What words ask for.
 
-use tool_parts::requests::{ReportWords, Request, RunWords, StepWords};
+use tool_parts::requests::{ReportWords, Request, RingSize, RunWords, StepWords};
 
 /// The words of `run --in-turn`.
 #[derive(Clone, Copy)]
@@ -23,6 +23,32 @@ pub struct StatesWords<'a> {
     pub json: bool,
 }
 
+/// The words of `new` with drawn values.
+#[derive(Drop)]
+pub struct DrawnWords {
+    /// The seed of the generators.
+    pub seed: u64,
+    /// The size of each ring, in their order.
+    pub rings: Vec<RingSize>,
+}
+
+/// The words of `settings`.
+#[derive(Drop)]
+pub struct SettingsWords {
+    /// The size of each ring, in their order.
+    pub rings: Vec<RingSize>,
+    /// How many workers there are.
+    pub workers: u32,
+    /// How many actions each worker draws.
+    pub actions: u32,
+    /// How many actions the injector draws, if there is one.
+    pub injector: Option<u32>,
+    /// The seed of the actions.
+    pub seed: u64,
+    /// The seed of the machines' values, if these are drawn.
+    pub drawn: Option<u64>,
+}
+
 /// What words ask for.
 #[derive(Drop)]
 pub enum Wanted<'a> {
@@ -36,4 +62,8 @@ pub enum Wanted<'a> {
     States(StatesWords<'a>),
     /// `step` with the state after each choice.
     StepStates(StepWords<'a>),
+    /// `new` with drawn values.
+    Drawn(DrawnWords),
+    /// The text of settings.
+    Settings(SettingsWords),
 }

@@ -1,9 +1,9 @@
 # fish completion for ring_tool
 
-set -l none "not __fish_seen_subcommand_from step run check picture upgrade new repairs serve locks recover join holds report states help"
+set -l none "not __fish_seen_subcommand_from step run check picture upgrade new settings repairs serve locks recover join holds report states help"
 set -l words step "Let chosen machines of one ring ask to pass" run "Run the rings of a settings file" \
     check "Check a saved history" picture "Draw a ring of a saved history" upgrade "Save a history in the latest version" \
-    new "Print a saved history of settled rings" repairs "Repair many rings and count the passes" serve "Serve rings by lines" locks "Lend locks by lines" \
+    new "Print a saved history without events" settings "Print a settings file" repairs "Repair many rings and count the passes" serve "Serve rings by lines" locks "Lend locks by lines" \
     recover "Save the history that a journal records" join "Save the whole history of a folder of segments" \
     holds "List who held which lock" report "Print the report of a saved history" \
     states "Print the states of a saved history" help "Print the help of a command"
@@ -14,7 +14,7 @@ for i in (seq 1 2 (count $words))
 end
 complete -c ring_tool -s h -l help -d "Print the help"
 complete -c ring_tool -n $none -s V -l version -d "Print the version"
-complete -c ring_tool -n "__fish_seen_subcommand_from help" -f -a "step run check picture upgrade new repairs serve locks recover join holds report states"
+complete -c ring_tool -n "__fish_seen_subcommand_from help" -f -a "step run check picture upgrade new settings repairs serve locks recover join holds report states"
 complete -c ring_tool -n "__fish_seen_subcommand_from step" -l states -d "The state after each choice"
 complete -c ring_tool -n "__fish_seen_subcommand_from run" -l history -rF -d "Save the history as"
 complete -c ring_tool -n "__fish_seen_subcommand_from run" -l quiet -d "Only the last line of the report"
@@ -27,6 +27,12 @@ complete -c ring_tool -n "__fish_seen_subcommand_from states" -l json -d "A JSON
 complete -c ring_tool -n "__fish_seen_subcommand_from picture" -l ring -x -d "The ring"
 complete -c ring_tool -n "__fish_seen_subcommand_from picture" -l from -x -d "How many events before"
 complete -c ring_tool -n "__fish_seen_subcommand_from picture" -l events -x -d "How many events"
+complete -c ring_tool -n "__fish_seen_subcommand_from new" -l drawn -x -d "Draw the values, by this seed"
+complete -c ring_tool -n "__fish_seen_subcommand_from settings" -l workers -x -d "How many workers"
+complete -c ring_tool -n "__fish_seen_subcommand_from settings" -l actions -x -d "How many actions of each"
+complete -c ring_tool -n "__fish_seen_subcommand_from settings" -l injector -x -d "How many faults"
+complete -c ring_tool -n "__fish_seen_subcommand_from settings" -l seed -x -d "The seed of the actions"
+complete -c ring_tool -n "__fish_seen_subcommand_from settings" -l drawn -x -d "Draw the values, by this seed"
 complete -c ring_tool -n "__fish_seen_subcommand_from repairs" -l from -x -a "any all faults:" -d "Where each trial starts"
 complete -c ring_tool -n "__fish_seen_subcommand_from repairs" -l daemon -x -a "random first last turn slow groups" -d "Which machine moves next"
 complete -c ring_tool -n "__fish_seen_subcommand_from repairs" -l trials -x -d "How many trials"

@@ -61,3 +61,27 @@ returns-in-StepStates g c =
       silent = λ _. refl;
       unread = λ _. refl;
     })
+
+pub returns-in-Drawn : goal.returns-in-Drawn
+returns-in-Drawn g c =
+    let h = c.run-in-Drawn.ensures in
+    rw c.in-Drawn.is (record {
+      answered = told_with _ _ _ refl h.ok;
+      refused = refused_with _ _ _ refl h.err;
+      kept = λ _. kept_anyhow c.run-in-Drawn.result _ _ refl;
+      made = λ _. refl;
+      silent = λ _. refl;
+      unread = λ _. refl;
+    })
+
+pub returns-in-Settings : goal.returns-in-Settings
+returns-in-Settings g c =
+    let h = c.run-in-Settings.ensures in
+    rw c.in-Settings.is (record {
+      answered = told_with _ _ _ refl h.ok;
+      refused = refused_with _ _ _ refl h.err;
+      kept = λ _. kept_anyhow c.run-in-Settings.result _ _ refl;
+      made = λ _. refl;
+      silent = λ _. refl;
+      unread = λ _. refl;
+    })
