@@ -103,6 +103,9 @@ pub(crate) fn settings_words<'a>(
     let command = settings_command(alloc)?.bin_name("ring_tool settings")?;
     match sizes_of(alloc, command, words)? {
         None => Ok(None),
-        Some(rings) => Ok(settings_of(words, rings).map(Wanted::Settings)),
+        Some(rings) => match settings_of(words, rings) {
+            None => Ok(None),
+            Some(settings) => Ok(Some(Wanted::Settings(settings))),
+        },
     }
 }

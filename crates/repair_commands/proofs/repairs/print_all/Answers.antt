@@ -11,7 +11,7 @@ loop-study-preserved g c =
     printed_kept c.args.lines _ c.report_repairs.new.rows.items _ _ _
     (printed_more c.args.lines c.loop-study.yielded c.loop-study.rows.items c.report_repairs.new.rows.items _ _ _ c.in-Some.study h.0 h.1
     c.loop-study.invariant h.2 h.3 h.4)
-    c.flush.ensures
+    c.flush.ensures.bytes
 
 pub returns-in-Err-Write-clause-err : goal.returns-in-Err-Write-clause-err
 returns-in-Err-Write-clause-err g c =
