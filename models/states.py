@@ -117,4 +117,5 @@ def main():
         print(*[repairs_line(ring, n, k, rows)] if asked.form == "repairs" else [line_of(row, asked.form) for row in rows], sep="\n")
 
 
-main()
+if __name__ == "__main__":
+    main()

@@ -135,8 +135,12 @@ pub(crate) fn last_event(ring: &SavedRing, place: usize) -> Option<SavedEvent>
     ring.events.get(place - 1).copied()
 }
 
-/// The privileged machines, in their order.
-pub(crate) fn privileged_of(alloc: Global, values: &[u32]) -> Result<Vec<u32>, AllocError>
+/// Returns the privileged machines of a ring with these values, in their order.
+///
+/// # Errors
+///
+/// If there is no room for them.
+pub fn privileged_of(alloc: Global, values: &[u32]) -> Result<Vec<u32>, AllocError>
     requires { length values.now ≤ machine_limit }
     ensures { IfOk result (λ found. found.items ≡ privileged_of values.now) }
 {

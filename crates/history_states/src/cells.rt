@@ -13,11 +13,14 @@ use itoa::Buffer;
 use std::io::Write;
 use text_lines::{WriteFault, put, put_all, put_numbers};
 
-/// A cell, by its name.
+/// A cell of a row, by its name.
 #[derive(Clone, Copy)]
-pub(crate) enum Cell<'a> {
+pub enum Cell<'a> {
+    /// A number, or none.
     Number(&'static [u8], Option<u64>),
+    /// A word.
     Word(&'static [u8], &'static [u8]),
+    /// A list of numbers.
     Numbers(&'static [u8], &'a [u32]),
 }
 
@@ -154,12 +157,12 @@ fn put_cell<W: Write>(out: &mut W, form: Form, cell: Cell<'_>) -> Result<(), Wri
     }
 }
 
-/// Writes cells, one after the other.
-pub(crate) fn put_cells<W: Write>(
-    out: &mut W,
-    form: Form,
-    cells: &[Cell<'_>],
-) -> Result<(), WriteFault>
+/// Writes cells, one after the other. It takes no memory.
+///
+/// # Errors
+///
+/// As [`put`]: the writer holds a prefix of the cells then, but not all of them.
+pub fn put_cells<W: Write>(out: &mut W, form: Form, cells: &[Cell<'_>]) -> Result<(), WriteFault>
     ensures { Writes (W.contents out.old) (W.contents out.new) result
         (flat_map (λ cell. cell_text form (cell_of cell)) cells.now) }
 {

@@ -7,5 +7,7 @@ mod form;
 mod rows;
 mod tables;
 
+pub use calls::privileged_of;
+pub use cells::{Cell, put_cells};
 pub use form::Form;
 pub use tables::{StatesFault, write_ring, write_states};

@@ -1,0 +1,7 @@
+use Rattle.std.proofs.Common.{◌≡◌}
+use Rattle.saved_history.specs.Content.{block_of}
+use Rattle.history_motion.specs.Motion.{flags, hit_in}
+use Rattle.history_motion.proofs.seen.hits_in.Given as goal
+
+abbrev pub invariant-loop-column : goal.invariant-loop-column
+invariant-loop-column l = l.found.items ≡ flags (hit_in (block_of l.ring) l.from l.machine) l.column
