@@ -1,5 +1,5 @@
 -- The settings that words give are such as a farm can run.
-use Rattle.std.proofs.Common.{◌≡◌, ◌∙◌, ℕ, ◌+◌, ◌<◌, ◌≤◌, List, [], ◌∷◌, ◌++◌, length, map, replicate, Option, None, Some, refl, sym, ap, subst, arith, length-append}
+use Rattle.std.proofs.Common.{◌≡◌, ◌∙◌, ℕ, ◌+◌, ◌≤◌, List, [], ◌∷◌, length, map, replicate, Option, None, Some, refl, ap, arith, length-append}
 use Rattle.std.specs.Prelude.{IfSome, codes}
 use Rattle.std.specs.List.{All}
 use Rattle.std.proofs.lemmas.List.{length-replicate}
@@ -12,7 +12,7 @@ use Rattle.saved_history.specs.Content.{Block, block_of}
 use Rattle.saved_history.specs.declared.saved.SavedRing.{SavedRing}
 use Rattle.serde_json.specs.Data.{Data, array, object, member, no_members}
 use Rattle.serde_json.specs.View.{items_of}
-use Rattle.setup_commands.specs.Rings.{ring_of, rings_from, block_at, blocks_from}
+use Rattle.setup_commands.specs.Rings.{ring_of, rings_from, blocks_from}
 use Rattle.setup_commands.specs.Settings.{settings_given, injector_of, ring_in, ring_json, injector_json, workers_json, document_of, sizes_of, AreSettingsWords}
 use Rattle.setup_commands.proofs.LegalStarts.{rings_count}
 use Rattle.setup_commands.proofs.Starting.{is_setting}

@@ -1,5 +1,5 @@
 -- A history of rings to which nothing has happened yet is legal.
-use Rattle.std.proofs.Common.{◌≡◌, ◌∙◌, ℕ, suc, map, ◌+◌, ◌<◌, ◌≤◌, ◌^◌, List, [], ◌∷◌, length, Option, refl, ap, sym, arith}
+use Rattle.std.proofs.Common.{◌≡◌, ◌∙◌, ℕ, suc, map, ◌+◌, ◌<◌, ◌^◌, List, [], ◌∷◌, length, Option, refl, ap, sym, arith}
 use Rattle.std.specs.List.{All, AllByRecursion}
 use Rattle.std.proofs.lemmas.List.{length-map}
 use Rattle.std.proofs.lemmas.List.Elements.{All-nil, All-cons, All-head, All-tail}

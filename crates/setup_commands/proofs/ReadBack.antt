@@ -1,5 +1,5 @@
 -- The document of settings reads back as these settings.
-use Rattle.std.proofs.Common.{◌≡◌, ◌∙◌, ℕ, zero, suc, ◌+◌, ◌<◌, ◌≤◌, ◌^◌, ◌==◌, Bool, true, false, cond, List, [], ◌∷◌, ◌++◌, length, map, replicate, append-nil, Option, None, Some, Result, Ok, refl, sym, ap, subst, arith, eq-eqb}
+use Rattle.std.proofs.Common.{◌≡◌, ◌∙◌, ℕ, zero, suc, ◌+◌, ◌<◌, ◌≤◌, ◌^◌, ◌==◌, Bool, true, false, cond, List, [], ◌∷◌, ◌++◌, length, map, replicate, append-nil, Option, None, Some, Result, Ok, refl, sym, ap, arith, eq-eqb}
 use Rattle.std.specs.Prelude.{nat_lt, nat_le, codes, IfSome, ◌&&◌}
 use Rattle.std.specs.List.{All, list_all}
 use Rattle.std.specs.Option.{option_map}
@@ -11,16 +11,15 @@ use Rattle.ring_settings.specs.Contents.{RingData, SeatData, drawing, SettingsDa
 use Rattle.ring_settings.specs.Limits.{ring_limit, worker_limit, action_limit}
 use Rattle.ring_settings.specs.Rings.{start_entry, start_values, start_member, size_fault, first_over, values_fault, size_from, unless_fault, ring_from, rings_member}
 use Rattle.ring_settings.specs.Seats.{seat_from, injector_after, seats_member, settings_of_object}
-use Rattle.ring_settings.specs.Walk.{then_with, each_from, items_count, number_member, limited, u32_member}
+use Rattle.ring_settings.specs.Walk.{then_with, each_from, items_count, limited, u32_member}
 use Rattle.ring_settings.specs.declared.actions.Role.{Role}
 use Rattle.ring_settings.specs.declared.actions.Role.TheVariants as role
 use Rattle.ring_settings.specs.declared.faults.Field.TheVariants as field
 use Rattle.ring_settings.specs.declared.faults.RingCause.{RingCause}
 use Rattle.ring_settings.specs.declared.faults.RingCause.TheVariants as cause
 use Rattle.ring_settings.specs.declared.faults.SettingsError.{SettingsError}
-use Rattle.ring_settings.specs.declared.faults.SettingsError.TheVariants.{Shape, Limit}
 use Rattle.ring_state.specs.Sizes.{Size, IsSize}
-use Rattle.serde_json.specs.Data.{Data, Items}
+use Rattle.serde_json.specs.Data.{Data}
 use Rattle.serde_json.specs.View.{items_of}
 use Rattle.setup_commands.specs.Settings.{number_json, ring_json, seat_json, injector_json, workers_json, document_of, settings_given, injector_of, sizes_of, AreSettingsWords}
 use Rattle.tool_requests.specs.declared.wanted.SettingsWords.{SettingsWords}

@@ -1,5 +1,5 @@
 -- The text of settings reads back as these.
-use Rattle.std.proofs.Common.{◌≡◌, ◌∙◌, ℕ, ◌≤◌, List, Option, Some, Result, Ok, Err, IsUtf8, sym, ap, subst}
+use Rattle.std.proofs.Common.{◌≡◌, ◌∙◌, ℕ, ◌≤◌, List, Some, Result, Ok, Err, IsUtf8, sym, ap, subst}
 use Rattle.std.specs.Prelude.{IfOk}
 use Rattle.ring_settings.specs.Seats.{settings_of, settings_of_json}
 use Rattle.ring_settings.specs.Walk.{json_of}

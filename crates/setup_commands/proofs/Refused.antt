@@ -1,12 +1,12 @@
 -- The refusals of the words of `settings`.
-use Rattle.std.proofs.Common.{◌≡◌, ℕ, ◌<◌, ◌≤◌, ◌^◌, List, length, map, sym, subst, arith}
+use Rattle.std.proofs.Common.{◌<◌, ◌≤◌, List, length, map, arith}
 use Rattle.std.proofs.lemmas.List.{length-map}
 use Rattle.ring_settings.specs.Limits.{ring_limit}
 use Rattle.ring_settings.specs.declared.faults.Field.{Field}
 use Rattle.ring_settings.specs.declared.faults.Field.TheVariants as field
 use Rattle.ring_state.specs.Sizes.{Size}
 use Rattle.setup_commands.specs.Rings.{size_given, AreSizes, IsRingsRefusal}
-use Rattle.setup_commands.specs.Settings.{sizes_of, AreRings, IsSeatFault, IsOutOfLimits, IsWordsRefusal}
+use Rattle.setup_commands.specs.Settings.{sizes_of, AreRings, IsSeatFault, IsWordsRefusal}
 use Rattle.tool_parts.specs.declared.faults.ToolError.{ToolError}
 use Rattle.tool_parts.specs.declared.faults.ToolError.TheVariants as tool
 use Rattle.tool_parts.specs.declared.requests.RingSize.{RingSize}
