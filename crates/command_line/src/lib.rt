@@ -16,4 +16,4 @@ mod version;
 mod words;
 
 pub use version::VERSION;
-pub use words::{Words, read_words};
+pub use words::{StrictWords, Words, read_words};

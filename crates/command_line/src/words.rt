@@ -121,6 +121,14 @@ Example, where old.txt begins with `ringfarm 1`:
 
 Exit status: 0 if NEW was written, 1 if FILE is not legal or a file fails, 2 after a usage error.";
 
+/// The words of `run --strict`.
+#[derive(Clone, Copy)]
+pub struct StrictWords<'a> {
+    pub run: RunWords<'a>,
+    /// The seed by which the turns are drawn, if all is run on one thread.
+    pub seed: Option<u64>,
+}
+
 /// What words ask for.
 #[derive(Drop)]
 pub enum Words<'a> {
@@ -128,6 +136,8 @@ pub enum Words<'a> {
     Tool(Wanted<'a>),
     /// Repairs of rings, counted.
     Repairs(RepairsWords<'a>),
+    /// `run` with settings that are read strictly.
+    Strict(StrictWords<'a>),
 }
 
 /// The name of a command.
@@ -229,7 +239,7 @@ fn step_command<'a>(alloc: Global) -> Result<Command<'a>, Error> {
 }
 
 /// The arguments of `run`.
-static RUN_ARGUMENTS: [Argument; 4] = [
+static RUN_ARGUMENTS: [Argument; 5] = [
     Argument {
         id: "SETTINGS",
         long: None,
@@ -261,6 +271,14 @@ static RUN_ARGUMENTS: [Argument; 4] = [
         takes: Takes::LongNumber,
         presence: Presence::Optional,
         help: "Runs all on one thread, in turns that the seed draws: the same SETTINGS and SEED always give the same history",
+    },
+    Argument {
+        id: "STRICT",
+        long: Some("strict"),
+        value_names: &[],
+        takes: Takes::Nothing,
+        presence: Presence::Optional,
+        help: "Refuses settings with a member that nothing reads, as a misspelled one, and names the first",
     },
 ];
 
@@ -374,17 +392,26 @@ fn step_words<'a>(words: &ArgMatches<'a>) -> Option<Wanted<'a>> {
     }
 }
 
+/// What is wanted of `run`: in turns if there is a seed for these.
+fn run_wanted<'a>(run: RunWords<'a>, seed: Option<u64>) -> Wanted<'a> {
+    match seed {
+        Some(seed) => Wanted::RunInTurn(InTurnWords { run, seed }),
+        None => Wanted::Tool(Request::Run(run)),
+    }
+}
+
 /// `run`, where the settings' file is there.
-fn run_words<'a>(words: &ArgMatches<'a>) -> Option<Wanted<'a>> {
+fn run_words<'a>(words: &ArgMatches<'a>) -> Option<Words<'a>> {
     let run = RunWords {
         settings: words.get_str("SETTINGS")?,
         history: words.get_str("HISTORY"),
         quiet: words.get_flag("QUIET"),
     };
-    match words.get_one::<u64>("SEED") {
-        Some(seed) => Some(Wanted::RunInTurn(InTurnWords { run, seed })),
-        None => Some(Wanted::Tool(Request::Run(run))),
+    let seed = words.get_one::<u64>("SEED");
+    if words.get_flag("STRICT") {
+        return Some(Words::Strict(StrictWords { run, seed }));
     }
+    Some(Words::Tool(run_wanted(run, seed)))
 }
 
 /// `check`, where its word is there.
@@ -422,11 +449,10 @@ fn request_named<'a>(name: &str, words: &ArgMatches<'a>) -> Option<Request<'a>> 
     }
 }
 
-/// What the command of this name wants, where its words are there; `new`, `settings` and `repairs` apart.
+/// What the command of this name wants, where its words are there; `run`, `new`, `settings` and `repairs` apart.
 fn wanted_named<'a>(name: &str, words: &ArgMatches<'a>) -> Option<Wanted<'a>> {
     match name {
         "step" => step_words(words),
-        "run" => run_words(words),
         "report" => report_words(words),
         "states" => states_words(words),
         _ => Some(Wanted::Tool(request_named(name, words)?)),
@@ -444,6 +470,7 @@ fn words_of<'a>(alloc: Global, matches: &ArgMatches<'a>) -> Result<Option<Words<
         return Ok(None);
     };
     match name {
+        "run" => Ok(run_words(words)),
         "new" => Ok(tool_words(new_words(alloc, words)?)),
         "settings" => Ok(tool_words(settings_words(alloc, words)?)),
         "repairs" => repairs_words(alloc, words),

@@ -12,6 +12,7 @@ use Rattle.tool_parts.specs.declared.faults.ToolError.TheVariants as tool
 use Rattle.ring_tool.specs.Ended.{HasEnded}
 use Rattle.ring_tool.specs.Left.{HasFront, HasText, HasLine, HasEndedAnswered}
 use Rattle.ring_tool.specs.Repaired.{HasRepaired}
+use Rattle.ring_tool.specs.Strictly.{HasRunStrictly}
 use Rattle.ring_tool.specs.declared.asked.Asked.{Asked}
 use Rattle.ring_tool.specs.declared.asked.Asked.TheVariants as asked
 
@@ -23,9 +24,11 @@ IsShown e = (kind_of e ≡ kind.DisplayHelp) ⊎ (kind_of e ≡ kind.DisplayVers
 abbrev pub IsAskedBy : Result Words Error → Asked → Type 0
 IsAskedBy (Ok (words.Tool wanted)) (asked.Command named) = named ≡ wanted
 IsAskedBy (Ok (words.Repairs wanted)) (asked.Repairs named) = named ≡ wanted
+IsAskedBy (Ok (words.Strict wanted)) (asked.Strict named) = named ≡ wanted
 IsAskedBy (Ok wanted) _ = ⊥
 IsAskedBy (Err e) (asked.Command named) = ⊥
 IsAskedBy (Err e) (asked.Repairs named) = ⊥
+IsAskedBy (Err e) (asked.Strict named) = ⊥
 IsAskedBy (Err e) (asked.Text text) = IsShown e
 IsAskedBy (Err e) (asked.Unread text) = (IsShown e → ⊥) × (kind_of e ≡ kind.OutOfMemory → ⊥)
 IsAskedBy (Err e) asked.OutOfMemory = Unit {0}
@@ -38,13 +41,14 @@ IsIdle was is = (is.files ≡ was.files) × (is.input ≡ was.input)
 abbrev pub without_input : World → World
 without_input w = world w.files None w.out w.err
 
--- What is wanted ends as its command does; `repairs` reads no input. The help and the version are printed. Words that cannot be
+-- What is wanted ends as its command does, with strict settings too; `repairs` reads no input. The help and the version are printed. Words that cannot be
 -- read have status 2, and standard error has the text.
 abbrev pub HasRun : Asked → ℕ → Bool → World → World → Type 0
 HasRun (asked.Command wanted) status told was is = HasEnded wanted status told was is
 HasRun (asked.Repairs words) status told was is =
     HasRepaired words status told (without_input was) (without_input is)
     × (is.input ≡ was.input)
+HasRun (asked.Strict words) status told was is = HasRunStrictly words status told was is
 HasRun (asked.Text text) status told was is =
     (status ≤ 1)
     × HasEndedAnswered status told (append_known was.out (string_bytes text)) is.out was.err is.err

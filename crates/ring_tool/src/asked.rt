@@ -4,7 +4,7 @@ ghost use Rattle.ring_tool.specs.Run.{IsAskedBy};
 
 use clap::Error;
 use clap::error::ErrorKind;
-use command_line::{Words, read_words};
+use command_line::{StrictWords, Words, read_words};
 use repair_requests::RepairsWords;
 use std::alloc::Global;
 use tool_requests::Wanted;
@@ -16,6 +16,8 @@ pub enum Asked<'a> {
     Command(Wanted<'a>),
     /// Repairs of rings, counted.
     Repairs(RepairsWords<'a>),
+    /// `run` with settings that are read strictly.
+    Strict(StrictWords<'a>),
     /// The help or the version: this text.
     Text(String),
     /// They cannot be read, as this text says.
@@ -31,6 +33,7 @@ fn asked_by<'a>(alloc: Global, read: Result<Words<'a>, Error>) -> Asked<'a>
     let error = match read {
         Ok(Words::Tool(wanted)) => return Asked::Command(wanted),
         Ok(Words::Repairs(words)) => return Asked::Repairs(words),
+        Ok(Words::Strict(words)) => return Asked::Strict(words),
         Err(error) => error,
     };
     if error.kind() == ErrorKind::OutOfMemory {

@@ -7,6 +7,7 @@ mod process;
 mod program;
 mod repairs;
 mod requests;
+mod strict;
 mod wanted;
 
 use crate::process::{CommandLine, SystemProcess, run_process};

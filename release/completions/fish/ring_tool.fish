@@ -19,6 +19,7 @@ complete -c ring_tool -n "__fish_seen_subcommand_from step" -l states -d "The st
 complete -c ring_tool -n "__fish_seen_subcommand_from run" -l history -rF -d "Save the history as"
 complete -c ring_tool -n "__fish_seen_subcommand_from run" -l quiet -d "Only the last line of the report"
 complete -c ring_tool -n "__fish_seen_subcommand_from run" -l in-turn -x -d "On one thread, in turns that the seed draws"
+complete -c ring_tool -n "__fish_seen_subcommand_from run" -l strict -d "Refuse a member that nothing reads"
 complete -c ring_tool -n "__fish_seen_subcommand_from check" -l all -d "Each bad line, with what should be there"
 complete -c ring_tool -n "__fish_seen_subcommand_from report" -l repairs -d "What the repairs took too"
 complete -c ring_tool -n "__fish_seen_subcommand_from states" -l ring -x -d "The ring"
