@@ -38,7 +38,8 @@ const ROWS: [Row; 4] = [
 ];
 
 fn ring_of(rt: &impl Abort, alloc: Global, k: u32, values: &[u32]) -> RingState {
-    let size = Params::new(values.len() as u32, k).expect(rt, "a size");
+    let machines = u32::try_from(values.len()).expect(rt, "few machines");
+    let size = Params::new(machines, k).expect(rt, "a size");
     let Ok(ring) = RingState::from_values(alloc, &size, values) else {
         panic!(rt; "the values are below K");
     };
