@@ -1,4 +1,5 @@
 pub mod Requested
 pub mod CutTexts
 pub mod Endings
+pub mod MotionEndings
 pub mod RepairEndings

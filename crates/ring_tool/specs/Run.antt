@@ -11,6 +11,7 @@ use Rattle.tool_parts.specs.Worlds.{World, world}
 use Rattle.tool_parts.specs.declared.faults.ToolError.TheVariants as tool
 use Rattle.ring_tool.specs.Ended.{HasEnded}
 use Rattle.ring_tool.specs.Left.{HasFront, HasText, HasLine, HasEndedAnswered}
+use Rattle.ring_tool.specs.Moved.{HasMoved}
 use Rattle.ring_tool.specs.Repaired.{HasRepaired}
 use Rattle.ring_tool.specs.declared.asked.Asked.{Asked}
 use Rattle.ring_tool.specs.declared.asked.Asked.TheVariants as asked
@@ -23,9 +24,11 @@ IsShown e = (kind_of e ≡ kind.DisplayHelp) ⊎ (kind_of e ≡ kind.DisplayVers
 abbrev pub IsAskedBy : Result Words Error → Asked → Type 0
 IsAskedBy (Ok (words.Tool wanted)) (asked.Command named) = named ≡ wanted
 IsAskedBy (Ok (words.Repairs wanted)) (asked.Repairs named) = named ≡ wanted
+IsAskedBy (Ok (words.Motion wanted)) (asked.Motion named) = named ≡ wanted
 IsAskedBy (Ok wanted) _ = ⊥
 IsAskedBy (Err e) (asked.Command named) = ⊥
 IsAskedBy (Err e) (asked.Repairs named) = ⊥
+IsAskedBy (Err e) (asked.Motion named) = ⊥
 IsAskedBy (Err e) (asked.Text text) = IsShown e
 IsAskedBy (Err e) (asked.Unread text) = (IsShown e → ⊥) × (kind_of e ≡ kind.OutOfMemory → ⊥)
 IsAskedBy (Err e) asked.OutOfMemory = Unit {0}
@@ -45,6 +48,7 @@ HasRun (asked.Command wanted) status told was is = HasEnded wanted status told w
 HasRun (asked.Repairs words) status told was is =
     HasRepaired words status told (without_input was) (without_input is)
     × (is.input ≡ was.input)
+HasRun (asked.Motion words) status told was is = HasMoved words status told was is
 HasRun (asked.Text text) status told was is =
     (status ≤ 1)
     × HasEndedAnswered status told (append_known was.out (string_bytes text)) is.out was.err is.err

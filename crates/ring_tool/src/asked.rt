@@ -7,6 +7,7 @@ use clap::error::ErrorKind;
 use command_line::{Words, read_words};
 use repair_requests::RepairsWords;
 use std::alloc::Global;
+use tool_parts::requests::PictureWords;
 use tool_requests::Wanted;
 
 /// What words ask of the program.
@@ -16,6 +17,8 @@ pub enum Asked<'a> {
     Command(Wanted<'a>),
     /// Repairs of rings, counted.
     Repairs(RepairsWords<'a>),
+    /// A ring of a saved history in motion.
+    Motion(PictureWords<'a>),
     /// The help or the version: this text.
     Text(String),
     /// They cannot be read, as this text says.
@@ -31,6 +34,7 @@ fn asked_by<'a>(alloc: Global, read: Result<Words<'a>, Error>) -> Asked<'a>
     let error = match read {
         Ok(Words::Tool(wanted)) => return Asked::Command(wanted),
         Ok(Words::Repairs(words)) => return Asked::Repairs(words),
+        Ok(Words::Motion(words)) => return Asked::Motion(words),
         Err(error) => error,
     };
     if error.kind() == ErrorKind::OutOfMemory {
