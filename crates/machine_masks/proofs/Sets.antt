@@ -1,5 +1,5 @@
 -- The machines of a set, word by word.
-use Rattle.std.proofs.Common.{◌≡◌, ◌≢◌, ℕ, zero, suc, ◌+◌, ◌-◌, ◌*◌, ◌/◌, ◌%◌, ◌^◌, ◌<◌, ◌≤◌, min, Bool, true, false, eqb, cond, List, length, set, get_or, count_ones, refl, sym, ◌∙◌, ap, subst, inl, inr, arith}
+use Rattle.std.proofs.Common.{◌≡◌, ◌≢◌, ℕ, zero, suc, ◌+◌, ◌-◌, ◌*◌, ◌/◌, ◌%◌, ◌^◌, ◌<◌, ◌≤◌, min, Bool, true, false, eqb, cond, List, length, set, replicate, get_or, count_ones, refl, sym, ◌∙◌, ap, subst, inl, inr, arith}
 use Rattle.std.specs.Int.{bit_at, w64, trailing_zeros, leading_zeros}
 use Rattle.std.proofs.lemmas.Bool.{cases_lt, cases_eq, cases_Bool, both_ways}
 use Rattle.std.proofs.lemmas.Nat.{shr-shr, shr_le, leading_top}
@@ -7,7 +7,7 @@ use Rattle.std.proofs.lemmas.List.{get_or-set_same, get_or-set_other}
 use Rattle.std.proofs.lemmas.Nat.Bits.{bit_at-suc, bit_at-zero, bit_at-trailing_zeros, bit_at_above}
 use Rattle.ring_model.specs.Numbers.{bit, count_below, least}
 use Rattle.ring_model.specs.Limits.{machine_limit}
-use Rattle.ring_model.proofs.Below.{least_from, least_le, least_passes, count_le, sum_but_one, sum_one_le}
+use Rattle.ring_model.proofs.Below.{least_from, least_le, least_passes, count_le, sum_but_one, sum_one_le, sum_zero}
 use Rattle.machine_masks.specs.Members.{is_set, is_in, members_below, members}
 use Rattle.machine_masks.proofs.Ones.{count_same, count_split, ones_count}
 
@@ -267,3 +267,16 @@ others_same ws m v i l same ne = elim (cases_eq (i / 64) (m / 64)) [
       ∙ ap (λ (x : ℕ). is_set (get_or ws x 0) (i % 64)) (sym e)
   | inr other ↦ other_word ws (m / 64) i v other
 ]
+
+-- ---- the set with no machine in it
+
+zero_word : (n w : ℕ) → get_or (replicate {A = ℕ} n 0) w 0 ≡ 0
+zero_word zero w = refl
+zero_word (suc n) zero = refl
+zero_word (suc n) (suc w) = zero_word n w
+
+pub nobody_in : (n i : ℕ) → is_in (replicate {A = ℕ} n 0) i ≡ false
+nobody_in n i = ap (λ (x : ℕ). is_set x (i % 64)) (zero_word n (i / 64)) ∙ ap (λ (x : ℕ). eqb x 1) (bit_at-zero (i % 64))
+
+pub nobody_counts : (n m : ℕ) → members_below (replicate {A = ℕ} n 0) m ≡ 0
+nobody_counts n m = members_is (replicate {A = ℕ} n 0) m ∙ sum_zero (λ i. bit (is_in (replicate {A = ℕ} n 0) i)) m (λ i l. ap bit (nobody_in n i))

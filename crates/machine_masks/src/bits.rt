@@ -17,14 +17,6 @@ pub(crate) fn nth_bit(word: u64, place: u32) -> u32
     left.trailing_zeros()
 }
 
-/// How many bits of the word are set.
-#[inline]
-pub(crate) fn ones(word: u64) -> u32
-    ensures { result ≡ count_below (is_set word) 64 }
-{
-    word.count_ones()
-}
-
 /// Whether a bit of the word is set.
 #[inline]
 pub(crate) fn is_set(word: u64, bit: u32) -> bool

@@ -4,7 +4,7 @@ ghost use Rattle.ring_model.specs.Numbers.{least};
 ghost use Rattle.ring_model.specs.Limits.{machine_limit};
 ghost use Rattle.machine_masks.specs.Members.{is_in, members, members_below};
 
-use crate::searches::{count, first_from, last, nth, put};
+use crate::searches::{first_from, last, nth, put};
 use std::marker::Model;
 
 /// A set of machines of a ring, at most 1,024: a bit for each, and how many they are. Contracts see the words.
@@ -26,12 +26,15 @@ impl Model for Machines {
 }
 
 impl Machines {
-    /// The set whose machines have their bits set: machine i has bit i % 64 of word i / 64.
-    pub fn new(words: [u64; 16]) -> Machines
-        ensures { result ≡ words }
+    /// The set with no machine in it.
+    #[inline]
+    pub fn new() -> Machines
+        ensures { (i : ℕ) → is_in result i ≡ false }
     {
-        let count = count(&words);
-        Machines { words, count }
+        Machines {
+            words: [0; 16],
+            count: 0,
+        }
     }
 
     /// How many machines are in the set.

@@ -4,18 +4,7 @@ ghost use Rattle.ring_model.specs.Numbers.{least};
 ghost use Rattle.ring_model.specs.Limits.{machine_limit};
 ghost use Rattle.machine_masks.specs.Members.{is_in, members, members_below};
 
-use crate::bits::{is_set, nth_bit, ones, with_bit};
-
-/// How many machines are in the set.
-pub(crate) fn count(words: &[u64; 16]) -> u32
-    ensures { result ≡ members words.now }
-{
-    let mut count = 0;
-    for w in 0..16usize {
-        count += ones(words[w]);
-    }
-    count
-}
+use crate::bits::{is_set, nth_bit, with_bit};
 
 /// The machine of the set that has `place` others below it.
 #[inline]

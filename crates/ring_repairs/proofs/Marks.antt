@@ -1,7 +1,6 @@
 -- The privileged machines in a set: how many they are, which is the k-th, the next, the last, and which they are after a move.
-use Rattle.std.proofs.Common.{◌≡◌, ◌≢◌, ℕ, zero, suc, ◌+◌, ◌-◌, ◌<◌, ◌≤◌, ◌&&◌, Bool, true, false, cond, eqb, ◌/◌, ◌%◌, List, length, get_or, refl, sym, ◌∙◌, ap, inl, inr, arith}
+use Rattle.std.proofs.Common.{◌≡◌, ◌≢◌, ℕ, zero, suc, ◌+◌, ◌-◌, ◌<◌, ◌≤◌, ◌&&◌, Bool, true, false, cond, List, length, refl, sym, ◌∙◌, ap, subst, inl, inr, arith}
 use Rattle.std.specs.Prelude.{nat_lt}
-use Rattle.std.specs.Int.{bit_at}
 use Rattle.std.proofs.lemmas.Bool.{cases_lt, cases_eq, cases_Bool, cond-true, cond-false, both_ways, le-leb, lt-leb}
 use Rattle.ring_model.specs.Numbers.{bit, count_below, least}
 use Rattle.ring_model.specs.Limits.{machine_limit}
@@ -10,7 +9,6 @@ use Rattle.ring_model.specs.Closure.{IsClosed}
 use Rattle.ring_model.proofs.Below.{sum_same, sum_zero}
 use Rattle.ring_model.proofs.Moves.{next_is}
 use Rattle.ring_model.proofs.Settled.{first_is}
-use Rattle.ring_lanes.specs.Masks.{IsMaskOf}
 use Rattle.machine_masks.specs.Members.{is_in, members_below, members}
 use Rattle.machine_masks.proofs.Ones.{count_split}
 use Rattle.machine_masks.proofs.Sets.{members_is}
@@ -21,13 +19,33 @@ use Rattle.ring_repairs.proofs.Searching.{nth_here, nth_over, nth_past}
 
 -- ---- the set
 
-set_as : (b : Bool) (x : ℕ) → x ≡ cond {A = ℕ} b 1 0 → eqb x 1 ≡ b
-set_as true x e = ap (λ (y : ℕ). eqb y 1) e
-set_as false x e = ap (λ (y : ℕ). eqb y 1) e
+-- of the machines below m just the privileged ones are in the set, and no other
+abbrev pub AreMarkedTo : List ℕ → List ℕ → ℕ → Type 0
+AreMarkedTo s words m = (i : ℕ) → i < machine_limit → is_in words i ≡ (nat_lt i m && is_privileged s i)
 
--- the mask of a ring is the set of its privileged machines
-pub mask_marks : (s words : List ℕ) → IsMaskOf machine_limit s words → AreMarked s words
-mask_marks s words mask i l = set_as (nat_lt i (length s) && is_privileged s i) (bit_at (get_or words (i / 64) 0) (i % 64)) (mask i l)
+pub none_marked : (s words : List ℕ) → ((i : ℕ) → is_in words i ≡ false) → AreMarkedTo s words 0
+none_marked s words none i l = none i ∙ sym (ap (λ (b : Bool). b && is_privileged s i) (lt-leb (suc i) 0 (omega arith)))
+
+same_side : (i m : ℕ) → i ≢ m → nat_lt i m ≡ nat_lt i (m + 1)
+same_side i m ne = elim (cases_lt i m) [
+  | inl below ↦ le-leb (suc i) m (omega arith) ∙ sym (le-leb (suc i) (m + 1) (omega arith))
+  | inr above ↦ elim (cases_lt m i) [
+    | inl over ↦ lt-leb (suc i) m (omega arith) ∙ sym (lt-leb (suc i) (m + 1) (omega arith))
+    | inr same ↦ absurd (ne (omega arith))
+  ]
+]
+
+pub one_marked : (s words more : List ℕ) (m : ℕ) → AreMarkedTo s words m → is_in more m ≡ is_privileged s m →
+    ((i : ℕ) → i < machine_limit → i ≢ m → is_in more i ≡ is_in words i) → AreMarkedTo s more (m + 1)
+one_marked s words more m marked at others = λ i l. elim (cases_eq i m) [
+  | inl same ↦
+      ap (is_in more) same ∙ at ∙ ap (is_privileged s) (sym same)
+      ∙ sym (ap (λ (b : Bool). b && is_privileged s i) (le-leb (suc i) (m + 1) (omega arith)))
+  | inr other ↦ others i l other ∙ marked i l ∙ ap (λ (b : Bool). b && is_privileged s i) (same_side i m other)
+]
+
+pub whole_marked : (s words : List ℕ) (m : ℕ) → AreMarkedTo s words m → m ≡ length s → AreMarked s words
+whole_marked s words m marked e = subst (λ (n : ℕ). AreMarkedTo s words n) e marked
 
 within : (s : List ℕ) (i : ℕ) → i < length s → (nat_lt i (length s) && is_privileged s i) ≡ is_privileged s i
 within s i l = ap (λ (b : Bool). b && is_privileged s i) (le-leb (suc i) (length s) (omega arith))

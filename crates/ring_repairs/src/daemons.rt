@@ -112,6 +112,20 @@ fn asked_until(n: u32, from: u32, until: u32) -> u32
     }
 }
 
+/// The machine whose turn it is, of `n`, where `asked` machines were asked.
+#[inline]
+fn whose_turn(asked: u64, n: u32) -> u32
+    requires { 0 < n }
+    ensures { result ≡ asked % n }
+{
+    // A division takes as long as the rest of a pass, and one round is mostly enough.
+    if asked < n as u64 {
+        asked as u32
+    } else {
+        (asked % n as u64) as u32
+    }
+}
+
 /// The first privileged machine that is met from the one whose turn it is.
 #[inline]
 fn machine_in_turn(asked: &mut u64, ring: &RingState, privileged: &Machines) -> u32
@@ -125,7 +139,7 @@ fn machine_in_turn(asked: &mut u64, ring: &RingState, privileged: &Machines) -> 
     ensures most { asked.new ≤ asked.old + length ring.now.values }
 {
     let n = ring.params().n();
-    let from = (*asked % n as u64) as u32;
+    let from = whose_turn(*asked, n);
     let machine = next_privileged(ring, privileged, from);
     *asked += asked_until(n, from, machine) as u64;
     machine

@@ -7,12 +7,15 @@ use machine_masks::Machines;
 use ring_state::RingState;
 
 /// The privileged machines.
+#[inline]
 pub(crate) fn privileged_machines(ring: &RingState) -> Machines
     ensures { AreMarked ring.now.values result }
 {
-    let mut words = [0; 16];
-    ring.mask(&mut words);
-    Machines::new(words)
+    let mut privileged = Machines::new();
+    for machine in 0..ring.params().n() {
+        privileged.set(machine, ring.is_privileged(machine));
+    }
+    privileged
 }
 
 /// The machine to the right of one of `n` machines.

@@ -9,6 +9,8 @@ use ring_state::RingState;
 
 /// Lets the machines pass that the daemon chooses until the ring is settled, at most `most` of them, and answers how many passed.
 /// No machine was asked before.
+// Apart from its callers, so that the loop has the processor's registers for itself.
+#[inline(never)]
 pub(crate) fn repair(daemon: Daemon, most: u64, memory: &mut Memory, ring: &mut RingState) -> u64
     requires few { most ≤ number_limit }
     requires asked { memory.old.asked ≡ 0 }
