@@ -7,7 +7,7 @@ use crate::words::Words;
 use clap::error::ErrorKind;
 use clap::{ArgMatches, Command, Error};
 use repair_report::Lines;
-use repair_requests::RepairsWords;
+use repair_requests::{Made, RepairsWords};
 use ring_repairs::{Daemon, Start};
 use std::alloc::Global;
 
@@ -39,7 +39,7 @@ Exit status: 0 if all was printed and written, 1 if a number is out of its limit
 fails, 2 after a usage error: a number is a decimal without a sign or leading zeros.";
 
 /// The arguments of `repairs`.
-static REPAIRS_ARGUMENTS: [Argument; 9] = [
+static REPAIRS_ARGUMENTS: [Argument; 10] = [
     Argument {
         id: "RINGS",
         long: None,
@@ -112,6 +112,14 @@ static REPAIRS_ARGUMENTS: [Argument; 9] = [
         presence: Presence::Optional,
         help: "Also writes the figures to FILE, as a table with a record for each line, and replaces an old FILE",
     },
+    Argument {
+        id: "picture",
+        long: Some("picture"),
+        value_names: &["FILE"],
+        takes: Takes::Text,
+        presence: Presence::ConflictsWith(&["csv"]),
+        help: "Also draws the passes in FILE, an SVG: of one size how often each number occurred, of more how they grow with N",
+    },
 ];
 
 /// The command `repairs`.
@@ -156,6 +164,15 @@ fn lines_of(words: &ArgMatches<'_>) -> Lines {
     }
 }
 
+/// The file that is made.
+fn made_of<'a>(words: &ArgMatches<'a>) -> Made<'a> {
+    match (words.get_str("csv"), words.get_str("picture")) {
+        (Some(name), _) => Made::Table(name),
+        (None, Some(name)) => Made::Picture(name),
+        (None, None) => Made::Nothing,
+    }
+}
+
 /// The error for a word that spells no value of this argument.
 fn no_value(alloc: Global, word: &str, argument: &str, wanted: &str) -> Result<Error, Error> {
     let mut command = repairs_command(alloc)?.bin_name("ring_tool repairs")?;
@@ -193,6 +210,6 @@ pub(crate) fn repairs_words<'a>(
         seed: words.get_one::<u64>("seed").unwrap_or(0),
         threads: words.get_one::<u32>("threads").unwrap_or(1),
         lines: lines_of(words),
-        csv: words.get_str("csv"),
+        made: made_of(words),
     })))
 }

@@ -1,14 +1,15 @@
 -- Reports, one after the other.
-use Rattle.std.proofs.Common.{◌≡◌, ℕ, List, [], ◌∷◌, ◌++◌, ◌+◌, ◌<◌, length, map, take, drop, get_or, Option, refl, sym, ◌∙◌, ap, append_assoc}
+use Rattle.std.proofs.Common.{◌≡◌, ℕ, List, [], ◌∷◌, ◌++◌, ◌+◌, ◌<◌, length, map, take, drop, get_or, Option, refl, sym, ◌∙◌, ap, subst, append_assoc, length-append, arith}
 use Rattle.std.specs.Io.KnownBytes.{Appends, Keeps}
-use Rattle.std.proofs.lemmas.List.{append-nil, take-append-drop, drop_more}
+use Rattle.std.proofs.lemmas.List.{append-nil, take-append-drop, drop_more, take_more}
+use Rattle.std.proofs.lemmas.List.Elements.{filter-append}
 use Rattle.text_lines.proofs.Writing.{appends_nil, appends_then, keeps_then}
 use Rattle.text_lines.specs.Writing.{Wrote}
 use Rattle.ring_repairs.specs.Studies.{StudyData}
 use Rattle.repair_texts.specs.declared.columns.Row.{Row}
-use Rattle.repair_report.specs.Reports.{IsReport, IsCutShort}
+use Rattle.repair_report.specs.Reports.{IsReport, IsCutShort, AreCountsOf}
 use Rattle.repair_report.specs.declared.writing.Lines.{Lines}
-use Rattle.repair_commands.specs.Repaired.{AreReports, HavePrinted, IsCut}
+use Rattle.repair_commands.specs.Repaired.{AreReports, HavePrinted, IsCut, AreCounts, is_of_passes, of_passes}
 
 -- one report more
 pub reports_more : (wanted : Lines) (ss : List StudyData) (rows : List Row) (text : List ℕ) (s : StudyData) (added : List Row) (line : List ℕ) →
@@ -70,3 +71,26 @@ pub split_at_turn : (all ss : List StudyData) (s : StudyData) → map (λ x. x) 
 split_at_turn all ss s far l here =
     sym (take-append-drop (length ss) all) ∙ ap (λ (x : List StudyData). x ++ drop (length ss) all) (sym far ∙ map_same ss)
     ∙ ap (λ (x : List StudyData). ss ++ x) (drop_more all (length ss) s l) ∙ ap (λ (x : StudyData). ss ++ x ∷ drop (length ss + 1) all) (sym here)
+
+-- ---- the counts of the last study
+
+last_is : (ss : List StudyData) (s t : StudyData) → ss ++ s ∷ [] ≡ t ∷ [] → s ≡ t
+last_is [] s t e = ap (λ (l : List StudyData). get_or l 0 s) e
+last_is (x ∷ ss) s t e =
+    let long : length (x ∷ (ss ++ s ∷ [])) ≡ 1 = ap (λ (l : List StudyData). length l) e in
+    let more = length-append ss (s ∷ []) in
+    absurd (omega arith)
+
+pub counts_none : (counts : List ℕ) → AreCounts [] counts
+counts_none counts = λ s e. let long : 0 ≡ 1 = ap (λ (l : List StudyData). length l) e in absurd (omega arith)
+
+pub counts_last : (ss : List StudyData) (s : StudyData) (counts : List ℕ) → AreCountsOf s counts → AreCounts (ss ++ s ∷ []) counts
+counts_last ss s counts h = λ t e. subst (λ (x : StudyData). AreCountsOf x counts) (last_is ss s t e) h
+
+-- ---- the rows of passes
+
+pub passes_more : (rows : List Row) (i : ℕ) (d : Row) (now new : List Row) → i < length rows → now ≡ of_passes (take i rows) →
+    new ≡ now ++ of_passes (get_or rows i d ∷ []) → new ≡ of_passes (take (i + 1) rows)
+passes_more rows i d now new l was e =
+    e ∙ ap (λ (x : List Row). x ++ of_passes (get_or rows i d ∷ [])) was ∙ sym (filter-append is_of_passes (take i rows) (get_or rows i d ∷ []))
+    ∙ ap of_passes (sym (take_more rows i d l))

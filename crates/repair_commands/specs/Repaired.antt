@@ -1,11 +1,15 @@
 -- The answer of `repairs`.
-use Rattle.std.specs.Prelude.{◌≡◌, ℕ, ◌≤◌, List, [], ◌∷◌, ◌++◌, length, Option, None, Some, ◌⊎◌}
+use Rattle.std.specs.Prelude.{◌≡◌, ℕ, ◌≤◌, List, [], ◌∷◌, ◌++◌, length, Option, None, Some, ◌⊎◌, Bool, codes}
 use Rattle.std.specs.Io.KnownBytes.{Appends}
-use Rattle.std.specs.List.{All}
-use Rattle.std.specs.Option.{option_map}
+use Rattle.std.specs.List.{All, filter}
+use Rattle.std.specs.Str.{bytes_eq}
 use Rattle.ring_repairs.specs.Studies.{StudyData, IsStudy}
-use Rattle.repair_report.specs.Reports.{IsReport}
+use Rattle.repair_report.specs.Reports.{IsReport, AreCountsOf}
 use Rattle.repair_report.specs.declared.writing.Lines.{Lines}
+use Rattle.repair_picture.specs.Growth.{growth_shapes}
+use Rattle.repair_picture.specs.Pages.{spread_page, growth_page}
+use Rattle.repair_picture.specs.Spread.{spread_shapes}
+use Rattle.repair_picture.specs.declared.shapes.Shape.{Shape}
 use Rattle.repair_texts.specs.Columns.{table_of}
 use Rattle.repair_texts.specs.declared.columns.Row.{Row}
 use Rattle.repair_commands.specs.Wanted.{studies_given, AreThreads, IsWordsRefusal, IsThreadsRefusal}
@@ -13,6 +17,8 @@ use Rattle.tool_parts.specs.Named.{IsStored}
 use Rattle.tool_parts.specs.Worlds.{World}
 use Rattle.tool_parts.specs.Written.{AppendsFront}
 use Rattle.tool_parts.specs.declared.faults.ToolError.TheVariants as tool
+use Rattle.repair_requests.specs.declared.words.Made.{Made}
+use Rattle.repair_requests.specs.declared.words.Made.TheVariants as made
 use Rattle.repair_requests.specs.declared.words.RepairsWords.{RepairsWords}
 use Rattle.repair_requests.specs.declared.refusals.Refusal.{Refusal}
 use Rattle.repair_requests.specs.declared.refusals.Refusal.TheVariants as refusal
@@ -54,21 +60,56 @@ IsPrintRefusal wanted studies old new (refusal.Tool tool.Write) = IsCut wanted s
 IsPrintRefusal wanted studies old new (refusal.Tool tool.OutOfMemory) = Unit {0}
 IsPrintRefusal wanted studies old new _ = ⊥
 
--- the file for the table, if one is wanted
-abbrev pub table_file : RepairsWords → Option (List ℕ)
-table_file words = option_map (λ name. name.now) words.csv
+-- the name of the file that is made, if one is wanted
+abbrev pub made_file : Made → Option (List ℕ)
+made_file made.Nothing = None
+made_file (made.Table name) = Some name.now
+made_file (made.Picture name) = Some name.now
 
--- Each study that the words ask for is one, the reports on them are printed, and the file for the
--- table, if one is wanted, holds just that of their rows; every other file is as it was.
+-- the rows of passes: those of rounds are left out
+abbrev pub is_of_passes : Row → Bool
+is_of_passes r = bytes_eq r.head.measure.now (codes "repairs")
+
+abbrev pub of_passes : List Row → List Row
+of_passes rows = filter is_of_passes rows
+
+-- the shapes of a picture: of one row how often each number occurred, of more how the numbers grow
+abbrev pub shapes_of : List Row → List ℕ → List Shape
+shapes_of (r ∷ []) counts = spread_shapes counts r.figures
+shapes_of rows counts = growth_shapes rows
+
+abbrev pub page_of : List Row → List Shape → List ℕ
+page_of (r ∷ []) shapes = spread_page r shapes
+page_of rows shapes = growth_page rows shapes
+
+-- the picture of rows, where the trials of the last of them have these counts
+abbrev pub picture_of : List Row → List ℕ → List ℕ
+picture_of rows counts = page_of rows (shapes_of rows counts)
+
+-- the text of the file that is made
+abbrev pub made_text : Made → List Row → List ℕ → List ℕ
+made_text made.Nothing rows counts = []
+made_text (made.Table name) rows counts = table_of rows
+made_text (made.Picture name) rows counts = picture_of (of_passes rows) counts
+
+-- if there is one study, these are the counts of its trials
+abbrev pub AreCounts : List StudyData → List ℕ → Type 0
+AreCounts studies counts = (s : StudyData) → studies ≡ s ∷ [] → AreCountsOf s counts
+
+-- Each study that the words ask for is one, the reports on them are printed, and the file that is
+-- made, if one is wanted, holds just the table or the picture of their rows; every other file is as
+-- it was. If there is one study, the counts are those of its trials.
 pub record IsRepairsAnswer (words : RepairsWords) (was is : World) : Type 0 where
   pub some : 1 ≤ length (studies_given words)
   pub studies : All IsStudy (studies_given words)
   pub threads : AreThreads words.threads
   pub rows : List Row
+  pub counts : List ℕ
+  pub counted : AreCounts (studies_given words) counts
   pub printed : HavePrinted words.lines (studies_given words) rows was.out is.out
-  pub stored : IsStored (table_file words) was.files is.files (table_of rows)
+  pub stored : IsStored (made_file words.made) was.files is.files (made_text words.made rows counts)
 
--- the file for the table is that of standard output, or cannot be written, or there is no memory
+-- the file that is made is that of standard output, or cannot be written, or there is no memory
 abbrev pub IsFileRefusal : Option (List ℕ) → Refusal → Type 0
 IsFileRefusal file (refusal.Tool (tool.Stream named)) = Some named.now ≡ file
 IsFileRefusal file (refusal.Tool (tool.Save named)) = Some named.now ≡ file
@@ -76,11 +117,11 @@ IsFileRefusal file (refusal.Tool tool.OutOfMemory) = Unit {0}
 IsFileRefusal file _ = ⊥
 
 -- Which refusals `repairs` may meet: those of its words, or else those of the number of threads, and
--- nothing is printed then; those of printing; and those of the file for the table. No file has
+-- nothing is printed then; those of printing; and those of the file that is made. No file has
 -- changed.
 pub record IsRepairsRefusal (words : RepairsWords) (was is : World) (e : Refusal) : Type 0 where
   pub why : (IsWordsRefusal words e × (is.out ≡ was.out))
       ⊎ (All IsStudy (studies_given words) × IsThreadsRefusal words e × (is.out ≡ was.out))
       ⊎ IsPrintRefusal words.lines (studies_given words) was.out is.out e
-      ⊎ IsFileRefusal (table_file words) e
+      ⊎ IsFileRefusal (made_file words.made) e
   pub kept : is.files ≡ was.files

@@ -6,11 +6,11 @@ ghost use Rattle.std.specs.List.{All};
 ghost use Rattle.ring_repairs.specs.Studies.{StudyData, IsStudy};
 ghost use Rattle.repair_texts.specs.declared.columns.Row.{Row};
 ghost use Rattle.repair_commands.specs.Wanted.{AreThreads};
-ghost use Rattle.repair_commands.specs.Repaired.{AreReports, IsRepairsAnswer, IsRepairsRefusal, HavePrinted, IsPrintRefusal};
+ghost use Rattle.repair_commands.specs.Repaired.{AreReports, IsRepairsAnswer, IsRepairsRefusal, HavePrinted, IsPrintRefusal, AreCounts};
 ghost use Rattle.tool_parts.specs.Worlds.{world};
 
+use crate::files::save;
 use crate::studies::{studies_of, threads_of};
-use crate::tables::save;
 use disks::Disk;
 use repair_report::{Lines, ReportFault, report_repairs};
 use repair_requests::{Refusal, RepairsWords};
@@ -21,7 +21,8 @@ use std::io::Write;
 use std::thread::Threads;
 use tool_parts::faults::ToolError;
 
-/// Does the trials of each study, by as many threads, and prints the reports on them: each leaves the writer's buffer as soon as its trials are done. Returns their rows.
+/// Does the trials of each study, by as many threads, and prints the reports on them: each leaves the writer's buffer as soon as its trials are done. Returns their rows; if there is one
+/// study, `counts` then says how many of its trials took each number of passes.
 ///
 /// # Errors
 ///
@@ -32,17 +33,19 @@ fn print_all<W: Write>(
     studies: Vec<Study>,
     threads: u32,
     lines: Lines,
+    counts: &mut Vec<u64>,
     out: &mut W,
 ) -> Result<Vec<Row<'static>>, Refusal<'static>>
     requires { AreThreads threads }
     ensures ok { IfOk result (λ rows.
         HavePrinted lines studies.items rows.items (W.contents out.old) (W.contents out.new)) }
+    ensures counts { OnOk result (AreCounts studies.items counts.new.items) }
     ensures err { IfErr result (λ e.
         IsPrintRefusal lines studies.items (W.contents out.old) (W.contents out.new) e) }
 {
     let mut rows = Vec::new(alloc);
     for study in studies {
-        match report_repairs(rt, alloc, study, threads, lines, &mut rows, out) {
+        match report_repairs(rt, alloc, study, threads, lines, &mut rows, counts, out) {
             Ok(()) => {
                 // So that an interrupt leaves the lines of what is done. A fault is met again where the buffer is emptied.
                 let _ = out.flush();
@@ -55,7 +58,7 @@ fn print_all<W: Write>(
 }
 
 /// `repairs`, from its words: does the trials of each size, and prints the report on them as soon as they are done; then replaces the
-/// file for the table, if one is wanted.
+/// file for the table or the picture, if one is wanted.
 ///
 /// # Errors
 ///
@@ -85,11 +88,12 @@ pub fn run<'a, R: Threads + Sync, D: Disk, W: Write>(
         Ok(threads) => threads,
         Err(refusal) => return Err(refusal),
     };
-    let rows = match print_all(rt, alloc, studies, threads, words.lines, out) {
+    let mut counts = Vec::new(alloc);
+    let rows = match print_all(rt, alloc, studies, threads, words.lines, &mut counts, out) {
         Ok(rows) => rows,
         Err(refusal) => return Err(refusal),
     };
-    match save(alloc, disk, words.csv, rows.as_slice()) {
+    match save(alloc, disk, words.made, rows.as_slice(), counts.as_slice()) {
         Ok(()) => Ok(()),
         Err(refusal) => Err(refusal),
     }

@@ -1,12 +1,10 @@
 //! The table of rows, as the content of a file.
 
-ghost use Rattle.std.specs.Prelude.{◌≡◌, ◌++◌, OnOk, OnErr, IfOk, IfErr, Some, Option};
+ghost use Rattle.std.specs.Prelude.{◌≡◌, ◌++◌, OnOk, OnErr, IfOk, IfErr, Some};
 ghost use Rattle.std.specs.List.{flat_map};
-ghost use Rattle.std.specs.Option.{option_map};
 ghost use Rattle.disks.specs.Held.{Replaces};
 ghost use Rattle.repair_texts.specs.Columns.{record_of, table_of};
 ghost use Rattle.repair_commands.specs.Repaired.{IsFileRefusal};
-ghost use Rattle.tool_parts.specs.Named.{IsStored};
 ghost use Rattle.repair_requests.specs.declared.refusals.Refusal.TheVariants as refusal;
 ghost use Rattle.tool_parts.specs.declared.faults.ToolError.TheVariants as tool;
 
@@ -55,7 +53,7 @@ impl Contents for TableText<'_> {
 ///
 /// `Stream` where the name is a dash, `Save` with the name where the file cannot be made, written or put there, and `OutOfMemory`.
 /// Every file is as it was then.
-fn save_table<'a, D: Disk>(
+pub(crate) fn save_table<'a, D: Disk>(
     alloc: Global,
     disk: &mut D,
     name: &'a str,
@@ -78,28 +76,5 @@ fn save_table<'a, D: Disk>(
     match replace(alloc, disk, name, &contents) {
         Ok(()) => Ok(()),
         Err(fault) => Err(Refusal::Tool(save_fault(fault, name))),
-    }
-}
-
-/// Replaces the file for the table, if one is named.
-///
-/// # Errors
-///
-/// Those of its file: every file is as it was then.
-pub(crate) fn save<'a, D: Disk>(
-    alloc: Global,
-    disk: &mut D,
-    file: Option<&'a str>,
-    rows: &[Row<'_>],
-) -> Result<(), Refusal<'a>>
-    ensures stored { OnOk result
-        (IsStored (option_map (λ name. name.now) file.entry) (D.holds disk.old) (D.holds disk.new)
-        (table_of rows.now)) }
-    ensures err { IfErr result (λ e. IsFileRefusal (option_map (λ name. name.now) file.entry) e) }
-    ensures kept { OnErr result (D.holds disk.new ≡ D.holds disk.old) }
-{
-    match file {
-        Some(name) => save_table(alloc, disk, name, rows),
-        None => Ok(()),
     }
 }

@@ -7,7 +7,7 @@ use Rattle.ring_model.specs.Ring.{bound}
 use Rattle.ring_model.specs.RepairLaws.{longest_repair}
 use Rattle.ring_repairs.specs.Histograms.{counted, summed, IsLeast, IsGreatest, IsQuantile}
 use Rattle.ring_repairs.specs.Rounds.{most_rounds}
-use Rattle.ring_repairs.specs.Studies.{StudyData, RepairsData, AreRepairs, IsCounted, trial_count, trial_rounds}
+use Rattle.ring_repairs.specs.Studies.{StudyData, RepairsData, AreRepairs, IsCounted, trial_count, trial_rounds, repairs_with}
 use Rattle.ring_repairs.specs.declared.daemons.Daemon.{Daemon}
 use Rattle.ring_repairs.specs.declared.daemons.Daemon.TheVariants.{First, Last, Random, Turn, Slow, Groups}
 use Rattle.ring_repairs.specs.declared.starts.Start.{Start}
@@ -149,3 +149,7 @@ IsReported s wanted rows_old rows_new old new =
 abbrev pub IsPartReported : StudyData → Lines → Option (List ℕ) → Option (List ℕ) → Type 0
 IsPartReported s wanted old new =
     (added : List Row) × (text : List ℕ) × IsReport s wanted added text × IsCutShort old new text
+
+-- entry v of the counts says how many of all trials of a study took v passes
+abbrev pub AreCountsOf : StudyData → List ℕ → Type 0
+AreCountsOf s counts = AreRepairs (repairs_with s (trial_count s) counts)

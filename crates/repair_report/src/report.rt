@@ -4,7 +4,7 @@ ghost use Rattle.std.specs.Prelude.{◌≡◌, ◌<◌, ◌≤◌, ◌++◌, ℕ
 ghost use Rattle.std.specs.Io.KnownBytes.{Appends};
 ghost use Rattle.ring_repairs.specs.Studies.{trial_count, trial_rounds, IsCounted};
 ghost use Rattle.repair_texts.specs.declared.columns.Row.{Row};
-ghost use Rattle.repair_report.specs.Reports.{IsReport, IsReported, IsPartReported, IsCutShort, report_text, row_of};
+ghost use Rattle.repair_report.specs.Reports.{IsReport, IsReported, IsPartReported, IsCutShort, AreCountsOf, report_text, row_of};
 ghost use Rattle.repair_threads.specs.Shares.{thread_limit};
 
 use crate::parts::{Part, add_rows, passes_of, rounds_of};
@@ -132,6 +132,7 @@ pub fn report_repairs<W: Write>(
     threads: u32,
     lines: Lines,
     rows: &mut Vec<Row<'static>>,
+    counts: &mut Vec<u64>,
     out: &mut W,
 ) -> Result<(), ReportFault>
     requires some { 0 < threads }
@@ -146,6 +147,7 @@ pub fn report_repairs<W: Write>(
         × (text : List ℕ)
         × IsReport study lines added text
         × IsCutShort (W.contents out.old) (W.contents out.new) text) }
+    ensures counts { OnOk result (AreCountsOf study counts.new.items) }
     ensures nothing { IfErr result (λ e. e ≡ ReportFault.OutOfMemory → out.new ≡ out.old) }
 {
     let Ok(mut repairs) = Repairs::new(alloc, study) else {
@@ -153,6 +155,10 @@ pub fn report_repairs<W: Write>(
     };
     let trials = repairs.study().count();
     let Ok(()) = advance_on(rt, alloc, &mut repairs, threads, trials) else {
+        return Err(ReportFault::OutOfMemory);
+    };
+    counts.clear();
+    let Ok(()) = counts.extend_from_slice(repairs.passes().counts()) else {
         return Err(ReportFault::OutOfMemory);
     };
     report_done(alloc, &repairs, lines, rows, out)

@@ -5,4 +5,4 @@ mod refusals;
 mod words;
 
 pub use refusals::Refusal;
-pub use words::RepairsWords;
+pub use words::{Made, RepairsWords};

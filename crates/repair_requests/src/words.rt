@@ -4,6 +4,16 @@ use repair_report::Lines;
 use ring_repairs::{Daemon, Start};
 use tool_parts::requests::RingSize;
 
+/// The file that is made at the end, by its name.
+#[derive(Clone, Copy)]
+pub enum Made<'a> {
+    Nothing,
+    /// The table of the figures.
+    Table(&'a str),
+    /// Their picture.
+    Picture(&'a str),
+}
+
 /// The words of `repairs`.
 #[derive(Drop)]
 pub struct RepairsWords<'a> {
@@ -20,6 +30,6 @@ pub struct RepairsWords<'a> {
     pub threads: u32,
     /// What is printed.
     pub lines: Lines,
-    /// The name of the file for the table, if one is wanted.
-    pub csv: Option<&'a str>,
+    /// The file that is made at the end.
+    pub made: Made<'a>,
 }

@@ -2,7 +2,7 @@
 
 use repair_commands::repairs;
 use repair_report::Lines;
-use repair_requests::{Refusal, RepairsWords};
+use repair_requests::{Made, Refusal, RepairsWords};
 use ring_repairs::{Daemon, Start};
 use std::alloc::Global;
 use std::test::Fail;
@@ -13,7 +13,7 @@ use tool_parts::requests::RingSize;
 fn faulty_words<'a>(
     alloc: Global,
     sizes: &[RingSize],
-    csv: Option<&'a str>,
+    made: Made<'a>,
 ) -> Result<RepairsWords<'a>, Fail> {
     let mut given = Vec::new(alloc);
     for size in sizes {
@@ -27,7 +27,7 @@ fn faulty_words<'a>(
         seed: 7,
         threads: 3,
         lines: Lines::Figures,
-        csv,
+        made,
     })
 }
 
@@ -47,7 +47,7 @@ fn each_size_has_a_line_and_a_record(rt: HostRuntime) -> Result<(), Fail> {
     let alloc = rt.alloc();
     let mut disk = no_files(alloc);
     let sizes = [RingSize { n: 3, k: 3 }, RingSize { n: 5, k: 5 }];
-    let words = faulty_words(alloc, &sizes, Some("table.csv"))?;
+    let words = faulty_words(alloc, &sizes, Made::Table("table.csv"))?;
     let mut out = Vec::new(alloc);
     assert!(rt; repairs::run(&rt, alloc, &mut disk, &words, &mut out).is_ok());
     assert!(rt; out.as_slice() == LINES);
@@ -57,11 +57,32 @@ fn each_size_has_a_line_and_a_record(rt: HostRuntime) -> Result<(), Fail> {
 }
 
 #[test]
+fn a_picture_is_of_one_size_or_of_more(rt: HostRuntime) -> Result<(), Fail> {
+    let alloc = rt.alloc();
+    let mut disk = no_files(alloc);
+    let all = [RingSize { n: 3, k: 3 }, RingSize { n: 5, k: 5 }];
+    let spread: &[u8] = b"how many trials took how many";
+    let growth: &[u8] = b"by the number of machines";
+    for (sizes, title) in [(&all[..1], spread), (&all[..], growth)] {
+        let words = faulty_words(alloc, sizes, Made::Picture("picture.svg"))?;
+        let mut out = Vec::new(alloc);
+        assert!(rt; repairs::run(&rt, alloc, &mut disk, &words, &mut out).is_ok());
+        let picture = bytes_of(alloc, &disk, "picture.svg")?;
+        let mut found = false;
+        for piece in picture.as_slice().windows(title.len()) {
+            found = found || piece == title;
+        }
+        assert!(rt; found && picture.as_slice().ends_with(b"</svg>\n"));
+    }
+    Ok(())
+}
+
+#[test]
 fn a_size_with_fewer_machines_than_faults_is_refused_first(rt: HostRuntime) -> Result<(), Fail> {
     let alloc = rt.alloc();
     let mut disk = no_files(alloc);
     let sizes = [RingSize { n: 3, k: 3 }, RingSize { n: 2, k: 2 }];
-    let mut words = faulty_words(alloc, &sizes, None)?;
+    let mut words = faulty_words(alloc, &sizes, Made::Nothing)?;
     words.start = Start::Faults(3);
     let mut out = Vec::new(alloc);
     match repairs::run(&rt, alloc, &mut disk, &words, &mut out) {
@@ -78,7 +99,7 @@ fn threads_are_counted_last(rt: HostRuntime) -> Result<(), Fail> {
     let mut disk = no_files(alloc);
     let sizes = [RingSize { n: 3, k: 3 }];
     for (threads, many) in [(0, false), (65, true)] {
-        let mut words = faulty_words(alloc, &sizes, None)?;
+        let mut words = faulty_words(alloc, &sizes, Made::Nothing)?;
         words.threads = threads;
         let mut out = Vec::new(alloc);
         match repairs::run(&rt, alloc, &mut disk, &words, &mut out) {

@@ -7,6 +7,8 @@ mod commands;
 #[cfg(test)]
 mod groups;
 #[cfg(test)]
+mod pictures;
+#[cfg(test)]
 mod repairs;
 #[cfg(test)]
 mod reports;

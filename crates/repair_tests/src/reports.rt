@@ -41,6 +41,7 @@ fn a_report_has_all_numbers(rt: HostRuntime) {
         4,
         Lines::Histogram,
         &mut rows,
+        &mut Vec::new(alloc),
         &mut out,
     );
     assert!(rt; reported == Ok(()));
@@ -61,7 +62,16 @@ fn a_report_may_have_one_line(rt: HostRuntime) {
     let mut out = Vec::new(alloc);
     let mut rows = Vec::new(alloc);
     assert!(rt;
-        report_repairs(&rt, alloc, study, 1, Lines::Figures, &mut rows, &mut out) == Ok(())
+        report_repairs(
+            &rt,
+            alloc,
+            study,
+            1,
+            Lines::Figures,
+            &mut rows,
+            &mut Vec::new(alloc),
+            &mut out
+        ) == Ok(())
     );
     assert!(rt; out.as_slice() == DRAWN);
 }
@@ -79,6 +89,7 @@ fn a_writer_without_room_is_told(rt: HostRuntime) {
         4,
         Lines::Histogram,
         &mut rows,
+        &mut Vec::new(alloc),
         &mut out,
     );
     assert!(rt; reported == Err(ReportFault::Write));
@@ -98,6 +109,17 @@ fn a_report_may_be_an_object(rt: HostRuntime) {
     };
     let mut out = Vec::new(alloc);
     let mut rows = Vec::new(alloc);
-    assert!(rt; report_repairs(&rt, alloc, study, 2, Lines::Object, &mut rows, &mut out) == Ok(()));
+    assert!(rt;
+        report_repairs(
+            &rt,
+            alloc,
+            study,
+            2,
+            Lines::Object,
+            &mut rows,
+            &mut Vec::new(alloc),
+            &mut out
+        ) == Ok(())
+    );
     assert!(rt; out.as_slice() == OBJECT);
 }

@@ -37,7 +37,16 @@ fn a_report_in_turn_has_rounds(rt: HostRuntime) {
     let mut rows = Vec::new(alloc);
     let study = one_fault(&rt, Daemon::Turn);
     assert!(rt;
-        report_repairs(&rt, alloc, study, 2, Lines::Histogram, &mut rows, &mut out) == Ok(())
+        report_repairs(
+            &rt,
+            alloc,
+            study,
+            2,
+            Lines::Histogram,
+            &mut rows,
+            &mut Vec::new(alloc),
+            &mut out
+        ) == Ok(())
     );
     assert!(rt; out.as_slice() == LINES);
     assert!(rt; rows.len() == 2);
@@ -57,7 +66,18 @@ fn rounds_are_an_object_of_their_own(rt: HostRuntime) {
     let mut out = Vec::new(alloc);
     let mut rows = Vec::new(alloc);
     let study = one_fault(&rt, Daemon::Turn);
-    assert!(rt; report_repairs(&rt, alloc, study, 5, Lines::Object, &mut rows, &mut out) == Ok(()));
+    assert!(rt;
+        report_repairs(
+            &rt,
+            alloc,
+            study,
+            5,
+            Lines::Object,
+            &mut rows,
+            &mut Vec::new(alloc),
+            &mut out
+        ) == Ok(())
+    );
     assert!(rt; out.as_slice() == OBJECTS);
 }
 

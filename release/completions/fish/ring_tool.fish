@@ -42,6 +42,7 @@ complete -c ring_tool -n "__fish_seen_subcommand_from repairs" -l threads -x -d 
 complete -c ring_tool -n "__fish_seen_subcommand_from repairs" -l histogram -d "How many trials took each number of passes"
 complete -c ring_tool -n "__fish_seen_subcommand_from repairs" -l json -d "An object of JSON for each line"
 complete -c ring_tool -n "__fish_seen_subcommand_from repairs" -l csv -rF -d "Also write the figures to this file"
+complete -c ring_tool -n "__fish_seen_subcommand_from repairs" -l picture -rF -d "Also draw the passes in this file"
 complete -c ring_tool -n "__fish_seen_subcommand_from serve" -l journal -rF -d "Keep a journal in this file or folder"
 complete -c ring_tool -n "__fish_seen_subcommand_from serve" -l segment -x -d "Lines of a segment"
 complete -c ring_tool -n "__fish_seen_subcommand_from serve" -l sync -d "The journal is on the disk before an answer"

@@ -2,16 +2,23 @@ use Rattle.std.proofs.Common.{◌≡◌, ◌∷◌, ◌++◌, List, length, get_
 use Rattle.std.proofs.lemmas.Iterator.Adapters.{YieldsList-from_vec}
 use Rattle.std.proofs.lemmas.Iterator.Consumers.{YieldsList-so_far, YieldsList-turn}
 use Rattle.ring_repairs.specs.Studies.{StudyData}
-use Rattle.repair_commands.proofs.Reporting.{printed_more, printed_kept, printed_cut, split_at_turn}
+use Rattle.repair_commands.proofs.Reporting.{printed_none, printed_more, printed_kept, printed_cut, split_at_turn, counts_none, counts_last}
 use Rattle.repair_commands.proofs.repairs.print_all.Goals as goal
+
+pub loop-study-init : goal.loop-study-init
+loop-study-init g c = record { printed = printed_none c.args.lines _ _ c.new-rows.ensures.items; counts = counts_none _ }
 
 pub loop-study-preserved : goal.loop-study-preserved
 loop-study-preserved g c =
     let h = c.in-Ok.ensures.ok in
-    printed_kept c.args.lines _ c.report_repairs.new.rows.items _ _ _
-    (printed_more c.args.lines c.loop-study.yielded c.loop-study.rows.items c.report_repairs.new.rows.items _ _ _ c.in-Some.study h.0 h.1
-    c.loop-study.invariant h.2 h.3 h.4)
-    c.flush.ensures.bytes
+    record {
+      printed =
+          printed_kept c.args.lines _ c.report_repairs.new.rows.items _ _ _
+          (printed_more c.args.lines c.loop-study.yielded c.loop-study.rows.items c.report_repairs.new.rows.items _ _ _ c.in-Some.study h.0 h.1
+          c.loop-study.invariant.printed h.2 h.3 h.4)
+          c.flush.ensures.bytes;
+      counts = counts_last c.loop-study.yielded c.in-Some.study c.report_repairs.new.counts.items c.in-Ok.ensures.counts;
+    }
 
 pub returns-in-Err-Write-clause-err : goal.returns-in-Err-Write-clause-err
 returns-in-Err-Write-clause-err g c =
@@ -20,5 +27,5 @@ returns-in-Err-Write-clause-err g c =
     let far = YieldsList-so_far road c.loop-study.yielded c.loop-study.study-iterator c.loop-study.yielded_by in
     let turn = YieldsList-turn road c.loop-study.yielded c.loop-study.study-iterator c.loop-study.yielded_by c.next.result c.next.new.self c.in-Some.study c.in-Some.is c.next.ensures.steps in
     printed_cut c.args.lines c.args.studies.items c.loop-study.yielded c.loop-study.rows.items _ _ _ c.in-Some.study
-    (drop (length c.loop-study.yielded + 1) c.args.studies.items) h.0 h.1 c.loop-study.invariant h.2 h.3
+    (drop (length c.loop-study.yielded + 1) c.args.studies.items) h.0 h.1 c.loop-study.invariant.printed h.2 h.3
     (split_at_turn c.args.studies.items c.loop-study.yielded c.in-Some.study far turn.0 turn.1)
