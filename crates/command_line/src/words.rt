@@ -17,7 +17,7 @@ use clap::error::ErrorKind;
 use clap::{ArgMatches, Command, Error};
 use repair_requests::RepairsWords;
 use std::alloc::Global;
-use tool_parts::requests::{CheckWords, Request, RunWords, StepWords, UpgradeWords};
+use tool_parts::requests::{CheckWords, PictureWords, Request, RunWords, StepWords, UpgradeWords};
 use tool_requests::{InTurnWords, Wanted};
 
 const ABOUT: &str =
@@ -138,6 +138,8 @@ pub enum Words<'a> {
     Repairs(RepairsWords<'a>),
     /// `run` with settings that are read strictly.
     Strict(StrictWords<'a>),
+    /// A ring of a saved history in motion.
+    Motion(PictureWords<'a>),
 }
 
 /// The name of a command.
@@ -438,7 +440,6 @@ fn upgrade_words<'a>(words: &ArgMatches<'a>) -> Option<Request<'a>> {
 fn request_named<'a>(name: &str, words: &ArgMatches<'a>) -> Option<Request<'a>> {
     match name {
         "check" => check_words(words),
-        "picture" => picture_words(words),
         "upgrade" => upgrade_words(words),
         "recover" => recover_words(words),
         "join" => join_words(words),
@@ -449,7 +450,7 @@ fn request_named<'a>(name: &str, words: &ArgMatches<'a>) -> Option<Request<'a>> 
     }
 }
 
-/// What the command of this name wants, where its words are there; `run`, `new`, `settings` and `repairs` apart.
+/// What the command of this name wants, where its words are there; `run`, `new`, `settings`, `repairs` and `picture` apart.
 fn wanted_named<'a>(name: &str, words: &ArgMatches<'a>) -> Option<Wanted<'a>> {
     match name {
         "step" => step_words(words),
@@ -474,6 +475,7 @@ fn words_of<'a>(alloc: Global, matches: &ArgMatches<'a>) -> Result<Option<Words<
         "new" => Ok(tool_words(new_words(alloc, words)?)),
         "settings" => Ok(tool_words(settings_words(alloc, words)?)),
         "repairs" => repairs_words(alloc, words),
+        "picture" => Ok(picture_words(words)),
         _ => Ok(tool_words(wanted_named(name, words))),
     }
 }

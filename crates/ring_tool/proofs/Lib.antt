@@ -1,5 +1,6 @@
 pub mod Requested
 pub mod CutTexts
 pub mod Endings
+pub mod MotionEndings
 pub mod RepairEndings
 pub mod StrictEndings

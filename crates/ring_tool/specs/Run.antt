@@ -11,6 +11,7 @@ use Rattle.tool_parts.specs.Worlds.{World, world}
 use Rattle.tool_parts.specs.declared.faults.ToolError.TheVariants as tool
 use Rattle.ring_tool.specs.Ended.{HasEnded}
 use Rattle.ring_tool.specs.Left.{HasFront, HasText, HasLine, HasEndedAnswered}
+use Rattle.ring_tool.specs.Moved.{HasMoved}
 use Rattle.ring_tool.specs.Repaired.{HasRepaired}
 use Rattle.ring_tool.specs.Strictly.{HasRunStrictly}
 use Rattle.ring_tool.specs.declared.asked.Asked.{Asked}
@@ -25,10 +26,12 @@ abbrev pub IsAskedBy : Result Words Error → Asked → Type 0
 IsAskedBy (Ok (words.Tool wanted)) (asked.Command named) = named ≡ wanted
 IsAskedBy (Ok (words.Repairs wanted)) (asked.Repairs named) = named ≡ wanted
 IsAskedBy (Ok (words.Strict wanted)) (asked.Strict named) = named ≡ wanted
+IsAskedBy (Ok (words.Motion wanted)) (asked.Motion named) = named ≡ wanted
 IsAskedBy (Ok wanted) _ = ⊥
 IsAskedBy (Err e) (asked.Command named) = ⊥
 IsAskedBy (Err e) (asked.Repairs named) = ⊥
 IsAskedBy (Err e) (asked.Strict named) = ⊥
+IsAskedBy (Err e) (asked.Motion named) = ⊥
 IsAskedBy (Err e) (asked.Text text) = IsShown e
 IsAskedBy (Err e) (asked.Unread text) = (IsShown e → ⊥) × (kind_of e ≡ kind.OutOfMemory → ⊥)
 IsAskedBy (Err e) asked.OutOfMemory = Unit {0}
@@ -49,6 +52,7 @@ HasRun (asked.Repairs words) status told was is =
     HasRepaired words status told (without_input was) (without_input is)
     × (is.input ≡ was.input)
 HasRun (asked.Strict words) status told was is = HasRunStrictly words status told was is
+HasRun (asked.Motion words) status told was is = HasMoved words status told was is
 HasRun (asked.Text text) status told was is =
     (status ≤ 1)
     × HasEndedAnswered status told (append_known was.out (string_bytes text)) is.out was.err is.err

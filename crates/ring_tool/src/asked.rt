@@ -7,6 +7,7 @@ use clap::error::ErrorKind;
 use command_line::{StrictWords, Words, read_words};
 use repair_requests::RepairsWords;
 use std::alloc::Global;
+use tool_parts::requests::PictureWords;
 use tool_requests::Wanted;
 
 /// What words ask of the program.
@@ -18,6 +19,8 @@ pub enum Asked<'a> {
     Repairs(RepairsWords<'a>),
     /// `run` with settings that are read strictly.
     Strict(StrictWords<'a>),
+    /// A ring of a saved history in motion.
+    Motion(PictureWords<'a>),
     /// The help or the version: this text.
     Text(String),
     /// They cannot be read, as this text says.
@@ -34,6 +37,7 @@ fn asked_by<'a>(alloc: Global, read: Result<Words<'a>, Error>) -> Asked<'a>
         Ok(Words::Tool(wanted)) => return Asked::Command(wanted),
         Ok(Words::Repairs(words)) => return Asked::Repairs(words),
         Ok(Words::Strict(words)) => return Asked::Strict(words),
+        Ok(Words::Motion(words)) => return Asked::Motion(words),
         Err(error) => error,
     };
     if error.kind() == ErrorKind::OutOfMemory {

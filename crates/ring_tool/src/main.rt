@@ -3,6 +3,7 @@
 
 mod asked;
 mod ends;
+mod motion;
 mod process;
 mod program;
 mod repairs;

@@ -7,6 +7,7 @@ ghost use Rattle.tool_parts.specs.Worlds.{world};
 
 use crate::asked::Asked;
 use crate::ends::{Ending, fail, refuse, show};
+use crate::motion::do_motion;
 use crate::repairs::do_repairs;
 use crate::strict::do_strictly;
 use crate::wanted::do_wanted;
@@ -48,6 +49,7 @@ pub fn run_asked<
         Asked::Command(wanted) => do_wanted(rt, disk, &wanted, input, out, err),
         Asked::Repairs(words) => do_repairs(rt, disk, &words, out, err),
         Asked::Strict(words) => do_strictly(rt, disk, &words, input, out, err),
+        Asked::Motion(words) => do_motion(rt.alloc(), disk, &words, input, out, err),
         Asked::Text(text) => show(rt.alloc(), text.as_str(), out, err),
         Asked::Unread(text) => refuse(text.as_str(), out, err),
         Asked::OutOfMemory => fail(rt.alloc(), &ToolError::OutOfMemory, out, err),

@@ -28,6 +28,7 @@ complete -c ring_tool -n "__fish_seen_subcommand_from states" -l json -d "A JSON
 complete -c ring_tool -n "__fish_seen_subcommand_from picture" -l ring -x -d "The ring"
 complete -c ring_tool -n "__fish_seen_subcommand_from picture" -l from -x -d "How many events before"
 complete -c ring_tool -n "__fish_seen_subcommand_from picture" -l events -x -d "How many events"
+complete -c ring_tool -n "__fish_seen_subcommand_from picture" -l animate -d "The ring in motion"
 complete -c ring_tool -n "__fish_seen_subcommand_from new" -l drawn -x -d "Draw the values, by this seed"
 complete -c ring_tool -n "__fish_seen_subcommand_from settings" -l workers -x -d "How many workers"
 complete -c ring_tool -n "__fish_seen_subcommand_from settings" -l actions -x -d "How many actions of each"

@@ -1,0 +1,32 @@
+use Rattle.std.proofs.Common.{◌≡◌, ◌∙◌, ◌≤◌, ◌<◌, ℕ, Bool, true, false, cond, None, inl, inr, refl, sym, ap, subst, arith}
+use Rattle.std.specs.Io.Buffered.{writer_contents}
+use Rattle.tool_parts.specs.Worlds.{world}
+use Rattle.motion_commands.specs.Moved.{IsAnimateAnswer, IsAnimateRefusal}
+use Rattle.motion_commands.specs.Refusals.{is_bad_list, status_of}
+use Rattle.motion_commands.specs.declared.refusals.Refusal.{Refusal}
+use Rattle.ring_tool.proofs.Endings.{of_ok, of_err}
+use Rattle.ring_tool.proofs.MotionEndings.{ended_moved, ended_unmoved}
+use Rattle.ring_tool.proofs.motion.do_motion.Goals as goal
+
+pub returns-in-Ok : goal.returns-in-Ok
+returns-in-Ok g c =
+    let was = world (g.D.Disk.holds c.args.disk.now) (g.I.Read.remaining c.args.input.now) (writer_contents g.O.Write.contents c.args.out) None in
+    let is = world (g.D.Disk.holds c.run.new.disk) (g.I.Read.remaining c.run.new.input) (writer_contents g.O.Write.contents c.run.new.out) None in
+    ended_moved c.args.words.now c.done.result.status c.done.result.told (g.D.Disk.holds c.args.disk.now) (g.D.Disk.holds c.run.new.disk)
+    (g.I.Read.remaining c.args.input.now) (g.I.Read.remaining c.run.new.input)
+    (writer_contents g.O.Write.contents c.args.out) (writer_contents g.O.Write.contents c.run.new.out) (g.O.Write.contents c.done.result.out) (g.E.Write.contents c.args.err.now) (g.E.Write.contents c.done.new.err)
+    (of_ok (IsAnimateAnswer c.args.words.now was is) c.run.result c.in-Ok.field-0 c.in-Ok.is c.run.ensures.ok)
+    (λ q. ap g.I.Read.remaining (c.run.ensures.unread q))
+    c.done.ensures.status c.done.ensures.ended
+
+pub returns-in-Err : goal.returns-in-Err
+returns-in-Err g c =
+    let was = world (g.D.Disk.holds c.args.disk.now) (g.I.Read.remaining c.args.input.now) (writer_contents g.O.Write.contents c.args.out) None in
+    let is = world (g.D.Disk.holds c.run.new.disk) (g.I.Read.remaining c.run.new.input) (writer_contents g.O.Write.contents c.run.new.out) None in
+    ended_unmoved c.args.words.now c.in-Err.refusal c.fail_motion.result.status c.fail_motion.result.told (g.D.Disk.holds c.args.disk.now) (g.D.Disk.holds c.run.new.disk)
+    (g.I.Read.remaining c.args.input.now) (g.I.Read.remaining c.run.new.input)
+    (writer_contents g.O.Write.contents c.args.out) (writer_contents g.O.Write.contents c.run.new.out) (g.O.Write.contents c.fail_motion.result.out) (g.E.Write.contents c.args.err.now) (g.E.Write.contents c.fail_motion.new.err)
+    c.fail_motion.ensures.status
+    (of_err (λ (e : Refusal). IsAnimateRefusal c.args.words.now was is e) c.run.result c.in-Err.refusal c.in-Err.is c.run.ensures.err)
+    (λ q. ap g.I.Read.remaining (c.run.ensures.unread q))
+    c.fail_motion.ensures.front c.fail_motion.ensures.told
