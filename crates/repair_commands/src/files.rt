@@ -23,9 +23,9 @@ pub(crate) fn save<'a, D: Disk>(
     rows: &[Row<'_>],
     counts: &[u64],
 ) -> Result<(), Refusal<'a>>
-    ensures stored { OnOk result (IsStored (made_file made) (D.holds disk.old) (D.holds disk.new)
-        (made_text made rows.now counts.now)) }
-    ensures err { IfErr result (λ e. IsFileRefusal (made_file made) e) }
+    ensures stored { OnOk result (IsStored (made_file made.entry) (D.holds disk.old) (D.holds disk.new)
+        (made_text made.entry rows.now counts.now)) }
+    ensures err { IfErr result (λ e. IsFileRefusal (made_file made.entry) e) }
     ensures kept { OnErr result (D.holds disk.new ≡ D.holds disk.old) }
 {
     match made {
