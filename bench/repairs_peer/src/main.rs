@@ -87,6 +87,7 @@ fn main() {
         "random" => Daemon::Random,
         "turn" => Daemon::Turn,
         "slow" => Daemon::Slow,
+        "groups" => Daemon::Groups,
         other => wrong(other),
     };
     let trials = trials.unwrap_or(if start == "all" { 1 } else { 1000 });

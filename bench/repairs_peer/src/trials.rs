@@ -19,6 +19,7 @@ pub enum Daemon {
     Random,
     Turn,
     Slow,
+    Groups,
 }
 
 pub struct Study {
@@ -109,7 +110,27 @@ fn repair(daemon: Daemon, words: &mut Pcg32, ring: &mut Ring) -> usize {
             })
         }
         Daemon::Slow => settle(ring, Ring::slowest),
+        Daemon::Groups => {
+            let mut left = Vec::new();
+            settle(ring, |ring| {
+                if left.is_empty() {
+                    draw_group(words, ring, &mut left);
+                }
+                left.pop().expect("a group has a member")
+            })
+        }
     }
+}
+
+/// Draws a group, the machine that passes next behind. Each member passes before the one to its left, so all take the values from before.
+fn draw_group(words: &mut Pcg32, ring: &Ring, members: &mut Vec<usize>) {
+    let is_group = |count| 0 < count && count < ring.n();
+    if !(0..64).any(|_| is_group(ring.choose(|| words.word(), members))) {
+        members.push(ring.first());
+    }
+    let left_out = (0..).zip(&*members).find(|&(at, &member)| at != member);
+    let below = left_out.map_or(members.len(), |(at, _)| at);
+    members.rotate_left(below);
 }
 
 /// Lets machines pass until one is privileged, and answers how many passed.
