@@ -1,5 +1,5 @@
 //! Repairs as `ring_tool repairs` counts them, with no proof: `repairs_peer N[:K] .. --from any|faults:F|all --daemon D --trials T
-//! --seed S` prints the same lines.
+//! --seed S --threads P` prints the same lines.
 
 mod pcg;
 mod ring;
@@ -59,7 +59,7 @@ fn number<T: std::str::FromStr>(word: &str) -> T {
 
 fn main() {
     let (mut sizes, mut start, mut daemon) = (Vec::new(), "any".to_owned(), "random".to_owned());
-    let (mut trials, mut seed) = (None, 0);
+    let (mut trials, mut seed, mut threads) = (None, 0, 1);
     let mut words = env::args().skip(1);
     while let Some(word) = words.next() {
         let mut next = || words.next().unwrap_or_else(|| wrong(&word));
@@ -68,6 +68,7 @@ fn main() {
             "--daemon" => daemon = next(),
             "--trials" => trials = Some(number(&next())),
             "--seed" => seed = number(&next()),
+            "--threads" => threads = number(&next()),
             size => {
                 let (n, k) = size.split_once(':').unwrap_or((size, size));
                 sizes.push((number::<usize>(n), number::<u32>(k)));
@@ -86,6 +87,7 @@ fn main() {
         "random" => Daemon::Random,
         "turn" => Daemon::Turn,
         "slow" => Daemon::Slow,
+        "groups" => Daemon::Groups,
         other => wrong(other),
     };
     let trials = trials.unwrap_or(if start == "all" { 1 } else { 1000 });
@@ -94,6 +96,7 @@ fn main() {
         daemon: by,
         trials,
         seed,
+        threads,
     };
     for (n, k) in sizes {
         println!("{}", line(n, k, &start, &daemon, &study.measure(n, k)));

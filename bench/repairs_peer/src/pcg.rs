@@ -24,7 +24,7 @@ impl Pcg32 {
             .wrapping_add(self.increment);
     }
 
-    fn word(&mut self) -> u32 {
+    pub fn word(&mut self) -> u32 {
         let old = self.state;
         self.step();
         (((old >> 18 ^ old) >> 27) as u32).rotate_right((old >> 59) as u32)

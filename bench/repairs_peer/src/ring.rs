@@ -109,6 +109,23 @@ impl Ring {
         unreachable!("fewer machines are privileged")
     }
 
+    /// Those of the privileged machines whose bit is set, of 32 machines in each word. Returns how many there are.
+    pub fn choose(&self, mut next_word: impl FnMut() -> u32, members: &mut Vec<usize>) -> usize {
+        members.clear();
+        for (at, &word) in self.privileged.iter().enumerate() {
+            let mut bits = u64::from(next_word());
+            if at * 64 + 32 < self.n() {
+                bits |= u64::from(next_word()) << 32;
+            }
+            let mut chosen = word & bits;
+            while chosen != 0 {
+                members.push(at * 64 + chosen.trailing_zeros() as usize);
+                chosen &= chosen - 1;
+            }
+        }
+        members.len()
+    }
+
     /// The first privileged machine that is met from this one on, around the ring.
     pub fn next(&self, machine: usize) -> usize {
         let word = self.privileged[machine / 64] >> (machine % 64);
