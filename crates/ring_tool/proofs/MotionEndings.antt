@@ -1,5 +1,5 @@
 -- From the answer of `picture --animate`, and whether its output left, to how it ends.
-use Rattle.std.proofs.Common.{◌≡◌, ◌∙◌, ◌≤◌, ◌<◌, ℕ, List, Bool, true, false, cond, Option, None, inl, inr, refl, sym, subst, arith}
+use Rattle.std.proofs.Common.{◌≡◌, ◌≤◌, ℕ, List, Bool, true, false, cond, Option, None, inl, inr, arith}
 use Rattle.disks.specs.Held.{Held}
 use Rattle.motion_commands.specs.Moved.{IsAnimateAnswer, IsAnimateRefusal}
 use Rattle.motion_commands.specs.Refusals.{is_bad_list, status_of}

@@ -1,8 +1,7 @@
-use Rattle.std.proofs.Common.{◌≡◌, ◌∙◌, ◌≤◌, ◌<◌, ℕ, Bool, true, false, cond, None, inl, inr, refl, sym, ap, subst, arith}
+use Rattle.std.proofs.Common.{None, ap}
 use Rattle.std.specs.Io.Buffered.{writer_contents}
 use Rattle.tool_parts.specs.Worlds.{world}
 use Rattle.motion_commands.specs.Moved.{IsAnimateAnswer, IsAnimateRefusal}
-use Rattle.motion_commands.specs.Refusals.{is_bad_list, status_of}
 use Rattle.motion_commands.specs.declared.refusals.Refusal.{Refusal}
 use Rattle.ring_tool.proofs.Endings.{of_ok, of_err}
 use Rattle.ring_tool.proofs.MotionEndings.{ended_moved, ended_unmoved}
