@@ -116,6 +116,12 @@ next_found ws from end x l le on out = elim (cases_lt x end) [
 shifted : (word s t : ℕ) → bit_at (word / 2 ^ s) t ≡ bit_at word (s + t)
 shifted word s t = ap (λ (x : ℕ). x % 2) (shr-shr word s t)
 
+-- the first 32 bits of a word, or its other ones, are those of a block
+pub block_at : (ws : List ℕ) (block b : ℕ) → b < 32 → is_set (get_or ws (block / 2) 0 / 2 ^ (block % 2 * 32)) b ≡ is_in ws (32 * block + b)
+block_at ws block b l =
+    let s : ℕ = block % 2 * 32 in
+    ap (λ (x : ℕ). eqb x 1) (shifted (get_or ws (block / 2) 0) s b) ∙ sym (word_at ws (block / 2) (s + b) (32 * block + b) (omega arith) (omega arith))
+
 abbrev IsNextIn : List ℕ → ℕ → ℕ → Type 0
 IsNextIn ws from x = (is_in ws x ≡ true) × AreOut ws from x
 
