@@ -1,16 +1,15 @@
 -- Drawn sets of privileged machines, and that a drawn group can move.
-use Rattle.std.proofs.Common.{◌≡◌, ℕ, zero, suc, ◌+◌, ◌/◌, ◌%◌, ◌≤◌, ◌==◌, Bool, true, false, cond, List, [], ◌∷◌, ◌++◌, length, take, refl, sym, ◌∙◌, ap, subst, inl, inr, arith}
+use Rattle.std.proofs.Common.{◌≡◌, ℕ, zero, suc, ◌+◌, ◌%◌, ◌≤◌, ◌==◌, Bool, true, false, List, [], ◌∷◌, ◌++◌, length, take, refl, sym, ◌∙◌, ap, subst, inl, inr, arith}
 use Rattle.std.specs.Prelude.{◌&&◌, ◌||◌, nat_lt}
 use Rattle.std.proofs.lemmas.List.{length-take-le}
 use Rattle.std.proofs.lemmas.Bool.{cases_Bool, cond-true, cond-false, and_parts, ltb-true, both_ways}
 use Rattle.rand_pcg.specs.Lcg.{Lcg}
-use Rattle.rand_pcg.specs.Pcg.{pcg32}
 use Rattle.ring_model.specs.Ring.{is_privileged, first_privileged}
 use Rattle.ring_model.specs.Groups.{has, Rises}
 use Rattle.ring_model.specs.GroupLaws.{CanMove, AreAllPrivileged}
 use Rattle.ring_model.proofs.Settled.{first_is}
 use Rattle.ring_model.proofs.Groups.{has_parts, has_append}
-use Rattle.drawn_groups.specs.Drawn.{Drawing, bits_for, members_with, drawing, drawn, is_group, group_within, set_limit, group}
+use Rattle.drawn_groups.specs.Drawn.{bits_for, members_with, drawing, drawn, is_group, group_within, set_limit, group}
 
 -- ---- rising lists
 

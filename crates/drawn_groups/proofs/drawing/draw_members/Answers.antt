@@ -1,4 +1,4 @@
-use Rattle.std.proofs.Common.{◌≡◌, ◌+◌, ◌*◌, ◌≤◌, length, refl, ◌∙◌, ap, arith}
+use Rattle.std.proofs.Common.{◌≡◌, length, refl, ◌∙◌, ap, arith}
 use Rattle.std.proofs.lemmas.Nat.{and_le_r}
 use Rattle.ring_state.specs.Sizes.{Size}
 use Rattle.drawn_groups.proofs.Blocks.{drawn_none, drawn_more, drawn_all}
