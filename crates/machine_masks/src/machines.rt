@@ -1,5 +1,5 @@
 //! A set of machines.
-ghost use Rattle.std.specs.Prelude.{◌≡◌, ◌≢◌, ◌<◌, ◌≤◌, ◌+◌, ◌-◌, ◌*◌, ℕ, true, false};
+ghost use Rattle.std.specs.Prelude.{◌≡◌, ◌≢◌, ◌<◌, ◌≤◌, ◌+◌, ◌-◌, ◌*◌, ◌^◌, ℕ, true, false};
 ghost use Rattle.ring_model.specs.Numbers.{least};
 ghost use Rattle.ring_model.specs.Limits.{machine_limit};
 ghost use Rattle.machine_masks.specs.Members.{is_set, is_in, members, members_below};
@@ -56,12 +56,13 @@ impl Machines {
         nth(&self.words, place)
     }
 
-    /// A word whose first 32 bits are those of 32 machines, from machine 32 `block` on: 1 if the machine is in the set. `block` is
+    /// A word with the bits of 32 machines, from machine 32 `block` on, and no other bit: 1 if the machine is in the set. `block` is
     /// below 32.
     #[inline]
     pub fn block(&self, block: u32) -> u64
         requires { block < 32 }
-        ensures { (b : ℕ) → b < 32 → is_set result b ≡ is_in self.now (32 * block + b) }
+        ensures bits { (b : ℕ) → b < 32 → is_set result b ≡ is_in self.now (32 * block + b) }
+        ensures few { result < 2 ^ 32 }
     {
         block_of(&self.words, block)
     }

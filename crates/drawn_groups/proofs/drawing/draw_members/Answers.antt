@@ -27,7 +27,7 @@ loop-block-preserved c =
       drawn =
           drawn_more c.args.ring.now.values c.args.privileged.now c.args.words.now c.loop-block.block c.loop-block.count c.put_members-count.result
           c.block.result c.next_word.result _ c.loop-block.words c.next_word.new.words c.loop-block.machines c.put_members-count.new.machines
-          inv.drawn c.requires.marked most (omega arith) c.block.ensures c.next_word.ensures refl c.put_members-count.ensures.members
+          inv.drawn c.requires.marked most (omega arith) c.block.ensures.bits c.next_word.ensures refl c.put_members-count.ensures.members
           c.put_members-count.ensures.few;
       same = c.put_members-count.ensures.same ∙ inv.same;
     }
