@@ -1,6 +1,6 @@
 """Measures repairs of rings from the definitions alone, and prints their report, as the crates `ring_repairs` and `repair_report` have it.
-Words: sizes N[:K], and then `--from`, `--daemon`, `--trials`, `--seed`, `--histogram`; `--help` has them. Those crates have all starts, and all
-daemons but `groups`; they count no rounds. Only the standard library is used, and nothing of this repository.
+Words: sizes N[:K], and then `--from`, `--daemon`, `--trials`, `--seed`, `--histogram`; `--help` has them. It has all starts and daemons of those
+crates, and the line of rounds that `turn` prints too. Only the standard library is used, and nothing of this repository.
 
 A trial is a function of the seed and of its number: its words are those of PCG32 with the seed as its state and the trial's number as
 its stream (O'Neill, "PCG: a family of simple fast space-efficient statistically good algorithms for random number generation")."""

@@ -1,16 +1,15 @@
 -- Drawn sets of privileged machines, and that a drawn group can move.
-use Rattle.std.proofs.Common.{◌≡◌, ℕ, zero, suc, ◌+◌, ◌/◌, ◌%◌, ◌≤◌, ◌==◌, Bool, true, false, cond, List, [], ◌∷◌, ◌++◌, length, take, refl, sym, ◌∙◌, ap, subst, inl, inr, arith}
+use Rattle.std.proofs.Common.{◌≡◌, ℕ, zero, suc, ◌+◌, ◌%◌, ◌≤◌, ◌==◌, Bool, true, false, List, [], ◌∷◌, ◌++◌, length, take, refl, sym, ◌∙◌, ap, subst, inl, inr, arith}
 use Rattle.std.specs.Prelude.{◌&&◌, ◌||◌, nat_lt}
 use Rattle.std.proofs.lemmas.List.{length-take-le}
 use Rattle.std.proofs.lemmas.Bool.{cases_Bool, cond-true, cond-false, and_parts, ltb-true, both_ways}
 use Rattle.rand_pcg.specs.Lcg.{Lcg}
-use Rattle.rand_pcg.specs.Pcg.{pcg32}
 use Rattle.ring_model.specs.Ring.{is_privileged, first_privileged}
 use Rattle.ring_model.specs.Groups.{has, Rises}
 use Rattle.ring_model.specs.GroupLaws.{CanMove, AreAllPrivileged}
 use Rattle.ring_model.proofs.Settled.{first_is}
 use Rattle.ring_model.proofs.Groups.{has_parts, has_append}
-use Rattle.drawn_groups.specs.Drawn.{Drawing, bits_for, members_with, drawing, drawn, is_group, group_within, set_limit, group}
+use Rattle.drawn_groups.specs.Drawn.{bits_for, members_with, drawing, drawn, is_group, group_within, set_limit, group}
 
 -- ---- rising lists
 
@@ -128,43 +127,8 @@ pub group_is : (s : List ℕ) (g : Lcg) → group s g ≡ group_within set_limit
 unfolding group
 group_is s g = refl
 
--- ---- the loop of a drawing
+-- ---- the test of a drawn set
 
--- what is drawn of the first i machines
-pub record IsDrawn (s : List ℕ) (g : Lcg) (i count b : ℕ) (v : Lcg) (machines : List ℕ) : Type 0 where
-  pub members : take count machines ≡ (drawing s g i).members
-  pub bits : b ≡ (drawing s g i).bits
-  pub words : v ≡ (drawing s g i).words
-  pub few : count ≤ i
-
-pub drawn_none : (s : List ℕ) (g : Lcg) (machines : List ℕ) → IsDrawn s g 0 0 0 g machines
-unfolding drawing
-drawn_none s g machines = record { members = refl; bits = refl; words = refl; few = omega arith }
-
--- one machine more
-pub drawn_more : (s : List ℕ) (g : Lcg) (i count count' bits bits' : ℕ) (words words' : Lcg) (machines machines' : List ℕ) →
-    IsDrawn s g i count bits words machines → (bits', words') ≡ cond {A = ℕ × Lcg} (i % 32 == 0) (pcg32 words) (bits, words) →
-    take count' machines' ≡ members_with s i bits' (take count machines) → count' ≤ count + 1 →
-    IsDrawn s g (suc i) count' (bits' / 2) words' machines'
-unfolding drawing
-drawn_more s g i count count' bits bits' words words' machines machines' is e em l =
-    let d : Drawing = drawing s g i in
-    let with_bits : ℕ → Lcg → ℕ × Lcg = λ b w. cond (i % 32 == 0) (pcg32 w) (b, w) in
-    let pair : ◌≡◌ {A = ℕ × Lcg} (bits', words') (bits_for i d) = e ∙ ap (λ (x : ℕ). with_bits x words) is.bits ∙ ap (with_bits d.bits) is.words in
-    let own : bits' ≡ (bits_for i d).0 = ap (λ (x : ℕ × Lcg). x.0) pair in
-    let few' = is.few in
-    record {
-      members = em ∙ ap (λ (x : ℕ). members_with s i x (take count machines)) own ∙ ap (members_with s i (bits_for i d).0) is.members;
-      bits = ap (λ (x : ℕ). x / 2) own;
-      words = ap (λ (x : ℕ × Lcg). x.1) pair;
-      few = omega arith;
-    }
-
-pub drawn_next : (s : List ℕ) (g : Lcg) (i j count bits : ℕ) (words : Lcg) (machines : List ℕ) → j ≡ suc i → IsDrawn s g (suc i) count bits words machines →
-    IsDrawn s g j count bits words machines
-drawn_next s g i j count bits words machines e is = subst (λ (x : ℕ). IsDrawn s g x count bits words machines) (sym e) is
-
--- the test of a drawn set
 pub group_tested : (s : List ℕ) (count n : ℕ) (machines ms : List ℕ) → count ≤ length machines → n ≡ length s → take count machines ≡ ms →
     (nat_lt 0 count && nat_lt count n) ≡ is_group s ms
 group_tested s count n machines ms l en em =

@@ -1,8 +1,12 @@
 //! Groups that are drawn.
-ghost use Rattle.std.specs.Prelude.{◌≡◌, ◌+◌, ◌%◌, ◌==◌, ◌<◌, ◌≤◌, ◌&&◌, nat_lt, cond, length, take};
+ghost use Rattle.std.specs.Prelude.{◌≡◌, ◌+◌, ◌*◌, ◌/◌, ◌<◌, ◌≤◌, ◌&&◌, ◌++◌, ◌^◌, nat_lt, length, take};
 ghost use Rattle.rand_pcg.specs.Pcg.{pcg32};
-ghost use Rattle.drawn_groups.specs.Drawn.{members_with, drawn, group};
+ghost use Rattle.ring_model.specs.Limits.{machine_limit};
+ghost use Rattle.machine_masks.specs.Privileges.{AreMarked};
+ghost use Rattle.drawn_groups.specs.Drawn.{drawn, group};
+ghost use Rattle.drawn_groups.specs.Blocks.{blocks, machines_of};
 
+use machine_masks::Machines;
 use rand_core::utils::NextWord;
 use rand_pcg::Lcg64Xsh32;
 use ring_state::RingState;
@@ -18,56 +22,48 @@ fn next_word(words: &mut Lcg64Xsh32) -> u32
     words.next_word()
 }
 
-/// The bits from which a machine takes its own, where `bits` are left of the last word: of each word 32 machines take one.
-fn bits_for(machine: u32, bits: u32, words: &mut Lcg64Xsh32) -> u32
-    ensures { (result, words.new) ≡ cond (machine % 32 == 0) (pcg32 words.old) (bits, words.old) }
-{
-    if machine % 32 == 0 {
-        return next_word(words);
-    }
-    bits
-}
-
-/// Puts a machine after the first `count` ones of `machines` if it is privileged and its bit is 1. Returns how many there are then.
-fn put_member(
-    ring: &RingState,
-    machine: u32,
-    bits: u32,
-    machines: &mut [u32],
-    count: usize,
-) -> usize
-    requires machine { machine < length ring.now.values }
-    requires room { count < length machines.old }
+/// Puts the machines of a block whose bit is 1 after the first `count` ones of `machines`; machine `first` has the least bit. Returns
+/// how many there are then.
+#[inline]
+fn put_members(chosen: u64, first: u32, machines: &mut [u32], count: usize) -> usize
+    requires block { chosen < 2 ^ 32 }
+    requires first { first < machine_limit }
+    requires room { count + 32 ≤ length machines.old }
     ensures members { take result machines.new
-        ≡ members_with ring.now.values machine bits (take count machines.old) }
-    ensures few { result ≤ count + 1 }
+        ≡ take count machines.old ++ machines_of chosen first 32 }
+    ensures few { result ≤ count + 32 }
     ensures same { length machines.new ≡ length machines.old }
 {
-    if bits % 2 == 0 {
-        return count;
+    let ones = chosen.count_ones();
+    let mut left = chosen;
+    for turn in 0..ones {
+        machines[count + turn as usize] = first + left.trailing_zeros();
+        left &= left - 1;
     }
-    if !ring.is_privileged(machine) {
-        return count;
-    }
-    machines[count] = machine;
-    count + 1
+    count + ones as usize
 }
 
 /// Draws a set of the privileged machines, each set as likely as each other; its machines, rising, are the first ones of `machines`.
 /// Returns how many there are.
-fn draw_members(words: &mut Lcg64Xsh32, ring: &RingState, machines: &mut [u32]) -> usize
-    requires room { length ring.now.values ≤ length machines.old }
+#[inline]
+fn draw_members(
+    words: &mut Lcg64Xsh32,
+    ring: &RingState,
+    privileged: &Machines,
+    machines: &mut [u32],
+) -> usize
+    requires marked { AreMarked ring.now.values privileged.now }
+    requires room { 32 * blocks (length ring.now.values) ≤ length machines.old }
     ensures members { take result machines.new ≡ (drawn ring.now.values words.old).members }
     ensures words { words.new ≡ (drawn ring.now.values words.old).words }
-    ensures few { result ≤ length ring.now.values }
+    ensures few { result ≤ length machines.old }
     ensures same { length machines.new ≡ length machines.old }
 {
+    let n = ring.params().n();
     let mut count: usize = 0;
-    let mut bits: u32 = 0;
-    for machine in 0..ring.params().n() {
-        bits = bits_for(machine, bits, words);
-        count = put_member(ring, machine, bits, machines, count);
-        bits /= 2;
+    for block in 0..(n + 31) / 32 {
+        let chosen = privileged.block(block) & next_word(words) as u64;
+        count = put_members(chosen, 32 * block, machines, count);
     }
     count
 }
@@ -81,8 +77,15 @@ fn is_group(count: usize, n: usize) -> bool
 
 /// Draws a group of privileged machines, not empty and not all, each as likely as each other; its machines, rising, are the first
 /// ones of `machines`. Returns how many there are.
-pub(crate) fn draw_group(words: &mut Lcg64Xsh32, ring: &RingState, machines: &mut [u32]) -> usize
-    requires room { length ring.now.values ≤ length machines.old }
+#[inline]
+pub(crate) fn draw_group(
+    words: &mut Lcg64Xsh32,
+    ring: &RingState,
+    privileged: &Machines,
+    machines: &mut [u32],
+) -> usize
+    requires marked { AreMarked ring.now.values privileged.now }
+    requires room { 32 * blocks (length ring.now.values) ≤ length machines.old }
     ensures group { take result machines.new ≡ (group ring.now.values words.old).0 }
     ensures words { words.new ≡ (group ring.now.values words.old).1 }
     ensures some { 1 ≤ result }
@@ -91,7 +94,7 @@ pub(crate) fn draw_group(words: &mut Lcg64Xsh32, ring: &RingState, machines: &mu
 {
     let n = ring.params().n() as usize;
     for _ in 0..SET_LIMIT {
-        let count = draw_members(words, ring, machines);
+        let count = draw_members(words, ring, privileged, machines);
         if is_group(count, n) {
             return count;
         }

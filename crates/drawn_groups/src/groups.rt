@@ -1,9 +1,12 @@
 //! The members of groups, one after the other.
-ghost use Rattle.std.specs.Prelude.{◌≡◌, ◌+◌, ◌<◌, ◌≤◌, length, slice_index, drop};
+ghost use Rattle.std.specs.Prelude.{◌≡◌, ◌+◌, ◌*◌, ◌<◌, ◌≤◌, length, slice_index, drop};
+ghost use Rattle.machine_masks.specs.Privileges.{AreMarked};
+ghost use Rattle.drawn_groups.specs.Blocks.{blocks};
 ghost use Rattle.drawn_groups.specs.Groups.{members_left};
 ghost use Rattle.drawn_groups.specs.Turns.{left_in, IsPlace};
 
 use crate::drawing::draw_group;
+use machine_masks::Machines;
 use rand_pcg::Lcg64Xsh32;
 use ring_settle::{least_left_out, machine_in_turn};
 use ring_state::RingState;
@@ -20,13 +23,16 @@ pub(crate) struct Place {
 }
 
 /// Where none is left of the last group, draws the next one; its machines, rising, are then the first ones of `machines`.
+#[inline]
 pub(crate) fn next_group(
     place: Place,
     words: &mut Lcg64Xsh32,
     ring: &RingState,
+    privileged: &Machines,
     machines: &mut [u32],
 ) -> Place
-    requires room { length ring.now.values ≤ length machines.old }
+    requires marked { AreMarked ring.now.values privileged.now }
+    requires room { 32 * blocks (length ring.now.values) ≤ length machines.old }
     requires is { IsPlace machines.old place }
     ensures is { IsPlace machines.new result }
     ensures left { left_in machines.new result
@@ -39,7 +45,7 @@ pub(crate) fn next_group(
     if place.turn < place.count {
         return place;
     }
-    let count = draw_group(words, ring, machines);
+    let count = draw_group(words, ring, privileged, machines);
     let least = least_left_out(&machines[..count]);
     Place {
         count,
@@ -49,6 +55,7 @@ pub(crate) fn next_group(
 }
 
 /// The member that passes next.
+#[inline]
 pub(crate) fn next_member(place: Place, machines: &[u32]) -> u32
     requires is { IsPlace machines.now place }
     requires some { place.turn < place.count }
@@ -58,6 +65,7 @@ pub(crate) fn next_member(place: Place, machines: &[u32]) -> u32
 }
 
 /// The place after it.
+#[inline]
 pub(crate) fn place_after(place: Place, machines: &[u32]) -> Place
     requires is { IsPlace machines.now place }
     requires some { place.turn < place.count }

@@ -3,6 +3,7 @@ ghost use Rattle.std.specs.Prelude.{◌≡◌, ◌≤◌, [], length};
 ghost use Rattle.drawn_groups.specs.Groups.{group_choices};
 
 use crate::groups::{Place, next_group, next_member, place_after};
+use machine_masks::{pass, privileged_machines};
 use rand_pcg::Lcg64Xsh32;
 use ring_state::RingState;
 
@@ -11,6 +12,8 @@ const MACHINES: usize = 1_024;
 
 /// Lets drawn groups move at once until the ring is settled, and answers how many members passed, one after the other in the order of
 /// the moves, at most `most`; of the last group those that come after the ring is settled do not pass.
+// Apart from its callers, so that the loop has the processor's registers for itself.
+#[inline(never)]
 pub fn repair_in_groups(most: u64, words: &mut Lcg64Xsh32, ring: &mut RingState) -> u64
     ensures passes { result ≡ length (group_choices most [] words.old ring.old) }
     ensures most { result ≤ most }
@@ -18,6 +21,7 @@ pub fn repair_in_groups(most: u64, words: &mut Lcg64Xsh32, ring: &mut RingState)
     ensures same { ring.new.k ≡ ring.old.k }
 {
     ring.params(); // says: it is a ring
+    let mut privileged = privileged_machines(ring);
     let mut machines = [0u32; MACHINES];
     let mut place = Place {
         count: 0,
@@ -26,13 +30,13 @@ pub fn repair_in_groups(most: u64, words: &mut Lcg64Xsh32, ring: &mut RingState)
     };
     let mut passes = 0;
     for _ in 0..most {
-        if ring.privileged() == 1 {
+        if privileged.count() == 1 {
             break;
         }
-        place = next_group(place, words, ring, &mut machines);
+        place = next_group(place, words, ring, &privileged, &mut machines);
         let machine = next_member(place, &machines);
         place = place_after(place, &machines);
-        ring.move_machine(machine);
+        pass(ring, &mut privileged, machine);
         passes += 1;
     }
     passes

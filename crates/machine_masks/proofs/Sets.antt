@@ -1,10 +1,10 @@
 -- The machines of a set, word by word.
-use Rattle.std.proofs.Common.{◌≡◌, ◌≢◌, ℕ, zero, suc, ◌+◌, ◌-◌, ◌*◌, ◌/◌, ◌%◌, ◌^◌, ◌<◌, ◌≤◌, min, Bool, true, false, eqb, cond, List, length, set, replicate, get_or, count_ones, refl, sym, ◌∙◌, ap, subst, inl, inr, arith}
+use Rattle.std.proofs.Common.{◌≡◌, ◌≢◌, ℕ, zero, suc, ◌+◌, ◌-◌, ◌*◌, ◌/◌, ◌%◌, ◌^◌, ◌<◌, ◌≤◌, min, Bool, true, false, eqb, bit_and, cond, List, length, set, replicate, get_or, count_ones, refl, sym, ◌∙◌, ap, subst, inl, inr, arith}
 use Rattle.std.specs.Int.{bit_at, w64, trailing_zeros, leading_zeros}
 use Rattle.std.proofs.lemmas.Bool.{cases_lt, cases_eq, cases_Bool, both_ways}
 use Rattle.std.proofs.lemmas.Nat.{shr-shr, shr_le, leading_top}
 use Rattle.std.proofs.lemmas.List.{get_or-set_same, get_or-set_other}
-use Rattle.std.proofs.lemmas.Nat.Bits.{bit_at-suc, bit_at-zero, bit_at-trailing_zeros, bit_at_above}
+use Rattle.std.proofs.lemmas.Nat.Bits.{bit_at-suc, bit_at-zero, bit_at-lt, bit_at_and, bit_at_ones, bit_at-trailing_zeros, bit_at_above}
 use Rattle.ring_model.specs.Numbers.{bit, count_below, least}
 use Rattle.ring_model.specs.Limits.{machine_limit}
 use Rattle.ring_model.proofs.Below.{least_from, least_le, least_passes, count_le, sum_but_one, sum_one_le, sum_zero}
@@ -115,6 +115,21 @@ next_found ws from end x l le on out = elim (cases_lt x end) [
 -- in the word that `from` is in
 shifted : (word s t : ℕ) → bit_at (word / 2 ^ s) t ≡ bit_at word (s + t)
 shifted word s t = ap (λ (x : ℕ). x % 2) (shr-shr word s t)
+
+-- the first 32 bits of a word, or its other ones, are those of a block
+pub block_at : (ws : List ℕ) (block b : ℕ) → b < 32 → is_set (get_or ws (block / 2) 0 / 2 ^ (block % 2 * 32)) b ≡ is_in ws (32 * block + b)
+block_at ws block b l =
+    let s : ℕ = block % 2 * 32 in
+    ap (λ (x : ℕ). eqb x 1) (shifted (get_or ws (block / 2) 0) s b) ∙ sym (word_at ws (block / 2) (s + b) (32 * block + b) (omega arith) (omega arith))
+
+-- of a word that is cut off after 32 bits these are the same
+pub low_bits : (v b : ℕ) → b < 32 → is_set (bit_and v 4294967295) b ≡ is_set v b
+low_bits v b l =
+    let both : bit_at (bit_and v 4294967295) b ≡ min (bit_at v b) (bit_at 4294967295 b) = bit_at_and v 4294967295 b in
+    let one : bit_at 4294967295 b ≡ 1 = bit_at_ones 32 b l in
+    let small = bit_at-lt v b in
+    let same : bit_at (bit_and v 4294967295) b ≡ bit_at v b = omega arith in
+    ap (λ (x : ℕ). eqb x 1) same
 
 abbrev IsNextIn : List ℕ → ℕ → ℕ → Type 0
 IsNextIn ws from x = (is_in ws x ≡ true) × AreOut ws from x

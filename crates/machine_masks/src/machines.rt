@@ -1,10 +1,10 @@
 //! A set of machines.
-ghost use Rattle.std.specs.Prelude.{◌≡◌, ◌≢◌, ◌<◌, ◌≤◌, ◌-◌, ℕ, true, false};
+ghost use Rattle.std.specs.Prelude.{◌≡◌, ◌≢◌, ◌<◌, ◌≤◌, ◌+◌, ◌-◌, ◌*◌, ◌^◌, ℕ, true, false};
 ghost use Rattle.ring_model.specs.Numbers.{least};
 ghost use Rattle.ring_model.specs.Limits.{machine_limit};
-ghost use Rattle.machine_masks.specs.Members.{is_in, members, members_below};
+ghost use Rattle.machine_masks.specs.Members.{is_set, is_in, members, members_below};
 
-use crate::searches::{first_from, last, nth, put};
+use crate::searches::{block_of, first_from, last, nth, put};
 use std::marker::Model;
 
 /// A set of machines of a ring, at most 1,024: a bit for each, and how many they are. Contracts see the words.
@@ -54,6 +54,17 @@ impl Machines {
         ensures place { members_below self.now result ≡ place }
     {
         nth(&self.words, place)
+    }
+
+    /// A word with the bits of 32 machines, from machine 32 `block` on, and no other bit: 1 if the machine is in the set. `block` is
+    /// below 32.
+    #[inline]
+    pub fn block(&self, block: u32) -> u64
+        requires { block < 32 }
+        ensures bits { (b : ℕ) → b < 32 → is_set result b ≡ is_in self.now (32 * block + b) }
+        ensures few { result < 2 ^ 32 }
+    {
+        block_of(&self.words, block)
     }
 
     /// The least machine of the set from `from` on, or `end` if none below that is in it; `end` is above `from`, and at most 1,024.

@@ -1,8 +1,8 @@
 //! The words of a set: searches through them, and a machine that is put in or taken out.
-ghost use Rattle.std.specs.Prelude.{◌≡◌, ◌≢◌, ◌<◌, ◌≤◌, ◌-◌, ℕ, true, false};
+ghost use Rattle.std.specs.Prelude.{◌≡◌, ◌≢◌, ◌<◌, ◌≤◌, ◌+◌, ◌-◌, ◌*◌, ◌^◌, ℕ, true, false};
 ghost use Rattle.ring_model.specs.Numbers.{least};
 ghost use Rattle.ring_model.specs.Limits.{machine_limit};
-ghost use Rattle.machine_masks.specs.Members.{is_in, members, members_below};
+ghost use Rattle.machine_masks.specs.Members.{is_set, is_in, members, members_below};
 
 use crate::bits::{is_set, nth_bit, with_bit};
 
@@ -23,6 +23,16 @@ pub(crate) fn nth(words: &[u64; 16], place: u32) -> u32
         left -= ones;
     }
     unreachable!()
+}
+
+/// A word with the bits of 32 machines, from machine 32 `block` on, and no other bit.
+#[inline]
+pub(crate) fn block_of(words: &[u64; 16], block: u32) -> u64
+    requires { block < 32 }
+    ensures bits { (b : ℕ) → b < 32 → is_set result b ≡ is_in words.now (32 * block + b) }
+    ensures few { result < 2 ^ 32 }
+{
+    words[(block / 2) as usize] >> (block % 2 * 32) & 0xFFFF_FFFF
 }
 
 /// The least machine of the set from `from` on, or `end` if it is none below that.

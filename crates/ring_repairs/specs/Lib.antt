@@ -1,7 +1,6 @@
 pub mod Draws
 pub mod Daemons
 pub mod Rounds
-pub mod Privileges
 pub mod Starts
 pub mod Limits
 pub mod Histograms

@@ -3,7 +3,7 @@ ghost use Rattle.std.specs.Prelude.{◌≡◌, ◌+◌, ◌*◌, ◌<◌, ◌≤
 ghost use Rattle.ring_model.specs.Ring.{is_privileged, privileged_count, first_privileged};
 ghost use Rattle.ring_repairs.specs.Daemons.{last_privileged, privileged_at, next_privileged, asked_until, rest_after, slowest, choice, remembered, draws};
 ghost use Rattle.ring_repairs.specs.Draws.{draw};
-ghost use Rattle.ring_repairs.specs.Privileges.{AreMarked};
+ghost use Rattle.machine_masks.specs.Privileges.{AreMarked};
 
 use crate::draws::draw;
 use machine_masks::Machines;

@@ -7,7 +7,6 @@ mod histograms;
 pub mod laws;
 pub mod limits;
 mod parts;
-mod privileges;
 mod repairing;
 mod repairs;
 mod rounds;

@@ -4,7 +4,7 @@ ghost use Rattle.ring_repairs.specs.Daemons.{passes};
 ghost use Rattle.ring_repairs.specs.Limits.{number_limit};
 
 use crate::daemons::{Daemon, Memory};
-use crate::privileges::{pass, privileged_machines};
+use machine_masks::{pass, privileged_machines};
 use ring_state::RingState;
 
 /// Lets the machines pass that the daemon chooses until the ring is settled, at most `most` of them, and answers how many passed.

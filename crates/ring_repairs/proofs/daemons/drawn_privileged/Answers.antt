@@ -4,7 +4,7 @@ use Rattle.ring_model.specs.Ring.{privileged_count}
 use Rattle.ring_model.proofs.Settled.{count_positive}
 use Rattle.ring_repairs.specs.Daemons.{privileged_at}
 use Rattle.ring_repairs.specs.Draws.{draw}
-use Rattle.ring_repairs.proofs.Marks.{members_marked}
+use Rattle.machine_masks.proofs.Marks.{members_marked}
 use Rattle.ring_repairs.proofs.daemons.drawn_privileged.Goals as goal
 
 pub draw-place-requires : goal.draw-place-requires

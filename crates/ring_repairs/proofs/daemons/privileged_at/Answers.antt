@@ -1,5 +1,6 @@
 use Rattle.std.proofs.Common.{arith}
-use Rattle.ring_repairs.proofs.Marks.{members_marked, nth_marked}
+use Rattle.machine_masks.proofs.Marks.{members_marked}
+use Rattle.ring_repairs.proofs.Marks.{nth_marked}
 use Rattle.ring_repairs.proofs.daemons.privileged_at.Goals as goal
 
 pub nth-requires : goal.nth-requires

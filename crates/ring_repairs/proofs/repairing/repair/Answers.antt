@@ -2,7 +2,7 @@ use Rattle.std.proofs.Common.{◌≡◌, true, false, sym, ◌∙◌, ap, arith}
 use Rattle.std.proofs.lemmas.Bool.{eq-eqb, ne_eqb}
 use Rattle.ring_model.specs.Ring.{Ring, moved, privileged_count, is_settled}
 use Rattle.ring_repairs.proofs.Choices.{repairs_start, repairs_more, repairs_end, repairs_out}
-use Rattle.ring_repairs.proofs.Marks.{members_marked}
+use Rattle.machine_masks.proofs.Marks.{members_marked}
 use Rattle.ring_repairs.proofs.repairing.repair.Goals as goal
 
 pub loop-init : goal.loop-init

@@ -1,5 +1,5 @@
 use Rattle.std.proofs.Common.{◌*◌, ◌≤◌}
-use Rattle.ring_repairs.specs.Privileges.{AreMarked}
+use Rattle.machine_masks.specs.Privileges.{AreMarked}
 use Rattle.ring_repairs.proofs.Choices.{Repairs}
 use Rattle.ring_repairs.proofs.repairing.repair.Given as goal
 

@@ -1,5 +1,5 @@
-use Rattle.ring_repairs.proofs.Marks.{AreMarkedTo}
-use Rattle.ring_repairs.proofs.privileges.privileged_machines.Given as goal
+use Rattle.machine_masks.proofs.Marks.{AreMarkedTo}
+use Rattle.machine_masks.proofs.privileges.privileged_machines.Given as goal
 
 abbrev pub invariant-loop-machine : goal.invariant-loop-machine
 invariant-loop-machine l = AreMarkedTo l.ring.values l.privileged l.machine

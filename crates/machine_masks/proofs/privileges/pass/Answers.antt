@@ -2,8 +2,8 @@ use Rattle.std.proofs.Common.{◌≡◌, length, ◌∙◌, ap, arith}
 use Rattle.ring_model.specs.Ring.{Ring}
 use Rattle.ring_model.proofs.Moves.{length_move}
 use Rattle.ring_state.specs.Sizes.{Size}
-use Rattle.ring_repairs.proofs.Marks.{right_is, move_marked}
-use Rattle.ring_repairs.proofs.privileges.pass.Goals as goal
+use Rattle.machine_masks.proofs.Marks.{right_is, move_marked}
+use Rattle.machine_masks.proofs.privileges.pass.Goals as goal
 
 pub is_privileged-requires : goal.is_privileged-requires
 is_privileged-requires c =

@@ -1,7 +1,7 @@
 use Rattle.std.proofs.Common.{◌≡◌, length, ◌∙◌, ap, arith}
 use Rattle.ring_state.specs.Sizes.{Size}
-use Rattle.ring_repairs.proofs.Marks.{none_marked, one_marked, whole_marked}
-use Rattle.ring_repairs.proofs.privileges.privileged_machines.Goals as goal
+use Rattle.machine_masks.proofs.Marks.{none_marked, one_marked, whole_marked}
+use Rattle.machine_masks.proofs.privileges.privileged_machines.Goals as goal
 
 pub loop-machine-init : goal.loop-machine-init
 loop-machine-init c = none_marked c.args.ring.now.values c.new-privileged.result c.new-privileged.ensures

@@ -1,14 +1,14 @@
 //! The privileged machines of a ring, from pass to pass.
 ghost use Rattle.std.specs.Prelude.{◌≡◌, ◌+◌, ◌<◌, true, length};
 ghost use Rattle.ring_model.specs.Ring.{is_privileged, moved};
-ghost use Rattle.ring_repairs.specs.Privileges.{AreMarked};
+ghost use Rattle.machine_masks.specs.Privileges.{AreMarked};
 
-use machine_masks::Machines;
+use crate::machines::Machines;
 use ring_state::RingState;
 
 /// The privileged machines.
 #[inline]
-pub(crate) fn privileged_machines(ring: &RingState) -> Machines
+pub fn privileged_machines(ring: &RingState) -> Machines
     ensures { AreMarked ring.now.values result }
 {
     let mut privileged = Machines::new();
@@ -30,7 +30,7 @@ fn right_of(n: u32, machine: u32) -> u32
 
 /// Lets a privileged machine move. Then it is not privileged, and the one to its right may be; no other one changes.
 #[inline]
-pub(crate) fn pass(ring: &mut RingState, privileged: &mut Machines, machine: u32)
+pub fn pass(ring: &mut RingState, privileged: &mut Machines, machine: u32)
     requires marked { AreMarked ring.old.values privileged.old }
     requires machine { machine < length ring.old.values }
     requires privileged { is_privileged ring.old.values machine ≡ true }
