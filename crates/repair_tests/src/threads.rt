@@ -37,7 +37,13 @@ fn any_number_of_threads_counts_each_trial_once(rt: HostRuntime) {
 
 #[test]
 fn there_are_from_one_to_64_threads(rt: HostRuntime) {
-    for (count, is_one) in [(0, false), (1, true), (64, true), (65, false), (u32::MAX, false)] {
+    for (count, is_one) in [
+        (0, false),
+        (1, true),
+        (64, true),
+        (65, false),
+        (u32::MAX, false),
+    ] {
         match ThreadCount::new(count) {
             Some(threads) => assert!(rt; is_one && threads.get() == count),
             None => assert!(rt; !is_one),
