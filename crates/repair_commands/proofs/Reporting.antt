@@ -81,8 +81,11 @@ last_is (x ∷ ss) s t e =
     let more = length-append ss (s ∷ []) in
     absurd (omega arith)
 
+no_one : (s : StudyData) → [] ≡ s ∷ [] → ⊥
+no_one s e = let long : 0 ≡ 1 = ap (λ (l : List StudyData). length l) e in omega (arith, long)
+
 pub counts_none : (counts : List ℕ) → AreCounts [] counts
-counts_none counts = λ s e. let long : 0 ≡ 1 = ap (λ (l : List StudyData). length l) e in absurd (omega arith)
+counts_none counts = λ s e. absurd (no_one s e)
 
 pub counts_last : (ss : List StudyData) (s : StudyData) (counts : List ℕ) → AreCountsOf s counts → AreCounts (ss ++ s ∷ []) counts
 counts_last ss s counts h = λ t e. subst (λ (x : StudyData). AreCountsOf x counts) (last_is ss s t e) h

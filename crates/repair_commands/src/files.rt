@@ -49,9 +49,9 @@ pub(crate) fn save<'a, D: Disk>(
     counts: &[u64],
 ) -> Result<(), Refusal<'a>>
     ensures stored { OnOk result
-        (AreStored made rows.now counts.now (D.holds disk.old) (D.holds disk.new)) }
+        (AreStored made.entry rows.now counts.now (D.holds disk.old) (D.holds disk.new)) }
     ensures err { IfErr result (λ e.
-        IsFilesRefusal made rows.now (D.holds disk.old) (D.holds disk.new) e) }
+        IsFilesRefusal made.entry rows.now (D.holds disk.old) (D.holds disk.new) e) }
 {
     match made {
         Made::Nothing => Ok(()),

@@ -2,7 +2,8 @@
 
 ghost use Rattle.std.specs.Prelude.{◌≡◌, ◌++◌, ◌∷◌, [], OnOk, OnErr, IfOk, IfErr, Some};
 ghost use Rattle.disks.specs.Held.{Replaces};
-ghost use Rattle.repair_commands.specs.Repaired.{IsFileRefusal, is_of_passes, of_passes, shapes_of, picture_of};
+ghost use Rattle.text_lines.specs.Writing.{Writes};
+ghost use Rattle.repair_commands.specs.Repaired.{IsFileRefusal, is_of_passes, of_passes, page_of, shapes_of, picture_of};
 
 use disks::{Contents, ContentsFault, Disk, replace};
 use repair_picture::{Shape, growth_shapes, put_growth, put_spread, spread_shapes};
@@ -10,6 +11,7 @@ use repair_requests::Refusal;
 use repair_texts::Row;
 use std::alloc::{AllocError, Global};
 use std::io::Write;
+use text_lines::WriteFault;
 use tool_parts::faults::ToolError;
 use tool_parts::handing::save_fault;
 use tool_parts::reading::names_stream;
@@ -47,8 +49,20 @@ fn shapes_of(alloc: Global, rows: &[Row<'_>], counts: &[u64]) -> Result<Vec<Shap
     ensures { IfOk result (λ shapes. shapes.items ≡ shapes_of rows.now counts.now) }
 {
     match rows {
+        [] => growth_shapes(alloc, rows),
         [row] => spread_shapes(alloc, counts, &row.figures),
-        _ => growth_shapes(alloc, rows),
+        [_, _, ..] => growth_shapes(alloc, rows),
+    }
+}
+
+/// Writes the page of these shapes.
+fn put_page<W: Write>(out: &mut W, rows: &[Row<'_>], shapes: &[Shape]) -> Result<(), WriteFault>
+    ensures { Writes (W.contents out.old) (W.contents out.new) result (page_of rows.now shapes.now) }
+{
+    match rows {
+        [] => put_growth(out, rows, shapes),
+        [row] => put_spread(out, row, shapes),
+        [_, _, ..] => put_growth(out, rows, shapes),
     }
 }
 
@@ -65,11 +79,7 @@ impl Contents for PictureText<'_, '_> {
     ghost bytes = { λ t. page_of t.rows.now t.shapes.now };
 
     fn write_to<W: Write>(&self, out: &mut W) -> Result<(), ContentsFault> {
-        let written = match self.rows {
-            [row] => put_spread(out, row, self.shapes),
-            _ => put_growth(out, self.rows, self.shapes),
-        };
-        match written {
+        match put_page(out, self.rows, self.shapes) {
             Ok(()) => Ok(()),
             Err(_) => Err(ContentsFault::Write),
         }
