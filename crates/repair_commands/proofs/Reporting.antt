@@ -9,7 +9,11 @@ use Rattle.ring_repairs.specs.Studies.{StudyData}
 use Rattle.repair_texts.specs.declared.columns.Row.{Row}
 use Rattle.repair_report.specs.Reports.{IsReport, IsCutShort, AreCountsOf}
 use Rattle.repair_report.specs.declared.writing.Lines.{Lines}
-use Rattle.repair_commands.specs.Repaired.{AreReports, HavePrinted, IsCut, AreCounts, is_of_passes, of_passes}
+use Rattle.repair_picture.specs.Growth.{growth_shapes}
+use Rattle.repair_picture.specs.Pages.{spread_page, growth_page}
+use Rattle.repair_picture.specs.Spread.{spread_shapes}
+use Rattle.repair_picture.specs.declared.shapes.Shape.{Shape}
+use Rattle.repair_commands.specs.Repaired.{AreReports, HavePrinted, IsCut, AreCounts, is_of_passes, of_passes, shapes_of, page_of}
 
 -- one report more
 pub reports_more : (wanted : Lines) (ss : List StudyData) (rows : List Row) (text : List ℕ) (s : StudyData) (added : List Row) (line : List ℕ) →
@@ -81,11 +85,11 @@ last_is (x ∷ ss) s t e =
     let more = length-append ss (s ∷ []) in
     absurd (omega arith)
 
-no_one : (s : StudyData) → [] ≡ s ∷ [] → ⊥
-no_one s e = let long : 0 ≡ 1 = ap (λ (l : List StudyData). length l) e in omega (arith, long)
+none_is_one : (s : StudyData) → [] ≡ s ∷ [] → ⊥
+none_is_one s e = let long : length {A = StudyData} [] ≡ 1 = ap (λ (l : List StudyData). length l) e in omega (arith, long)
 
 pub counts_none : (counts : List ℕ) → AreCounts [] counts
-counts_none counts = λ s e. absurd (no_one s e)
+counts_none counts = λ s e. absurd (none_is_one s e)
 
 pub counts_last : (ss : List StudyData) (s : StudyData) (counts : List ℕ) → AreCountsOf s counts → AreCounts (ss ++ s ∷ []) counts
 counts_last ss s counts h = λ t e. subst (λ (x : StudyData). AreCountsOf x counts) (last_is ss s t e) h
@@ -97,3 +101,33 @@ pub passes_more : (rows : List Row) (i : ℕ) (d : Row) (now new : List Row) →
 passes_more rows i d now new l was e =
     e ∙ ap (λ (x : List Row). x ++ of_passes (get_or rows i d ∷ [])) was ∙ sym (filter-append is_of_passes (take i rows) (get_or rows i d ∷ []))
     ∙ ap of_passes (sym (take_more rows i d l))
+
+-- ---- the picture of one row, and of others
+
+shorter : (P : Type 0) → length {A = Row} [] ≡ 1 → P
+shorter P one = absurd (omega (arith, one))
+
+longer : (r s : Row) (rows : List Row) (P : Type 0) → length (r ∷ s ∷ rows) ≡ 1 → P
+longer r s rows P one = absurd (omega (arith, one))
+
+pub shapes_of_one : (rows : List Row) (counts : List ℕ) (d : Row) → length rows ≡ 1 →
+    spread_shapes counts (get_or rows 0 d).figures ≡ shapes_of rows counts
+shapes_of_one [] counts d one = shorter _ one
+shapes_of_one (r ∷ []) counts d one = refl
+shapes_of_one (r ∷ s ∷ rows) counts d one = longer r s rows _ one
+
+pub shapes_of_more : (rows : List Row) (counts : List ℕ) → (length rows ≡ 1 → ⊥) → growth_shapes rows ≡ shapes_of rows counts
+shapes_of_more [] counts none = refl
+shapes_of_more (r ∷ []) counts none = absurd (none refl)
+shapes_of_more (r ∷ s ∷ rows) counts none = refl
+
+pub page_of_one : (rows : List Row) (shapes : List Shape) (d : Row) → length rows ≡ 1 →
+    spread_page (get_or rows 0 d) shapes ≡ page_of rows shapes
+page_of_one [] shapes d one = shorter _ one
+page_of_one (r ∷ []) shapes d one = refl
+page_of_one (r ∷ s ∷ rows) shapes d one = longer r s rows _ one
+
+pub page_of_more : (rows : List Row) (shapes : List Shape) → (length rows ≡ 1 → ⊥) → growth_page rows shapes ≡ page_of rows shapes
+page_of_more [] shapes none = refl
+page_of_more (r ∷ []) shapes none = absurd (none refl)
+page_of_more (r ∷ s ∷ rows) shapes none = refl

@@ -1,9 +1,9 @@
 //! The picture of rows, as the content of a file.
 
 ghost use Rattle.std.specs.Prelude.{◌≡◌, ◌++◌, ◌∷◌, [], OnOk, OnErr, IfOk, IfErr, Some};
-ghost use Rattle.disks.specs.Held.{Replaces};
 ghost use Rattle.text_lines.specs.Writing.{Writes};
-ghost use Rattle.repair_commands.specs.Repaired.{IsFileRefusal, is_of_passes, of_passes, page_of, shapes_of, picture_of};
+ghost use Rattle.disks.specs.Held.{Replaces};
+ghost use Rattle.repair_commands.specs.Repaired.{IsFileRefusal, is_of_passes, of_passes, shapes_of, page_of, picture_of};
 
 use disks::{Contents, ContentsFault, Disk, replace};
 use repair_picture::{Shape, growth_shapes, put_growth, put_spread, spread_shapes};
@@ -48,22 +48,21 @@ fn of_passes<'r>(alloc: Global, rows: &[Row<'r>]) -> Result<Vec<Row<'r>>, AllocE
 fn shapes_of(alloc: Global, rows: &[Row<'_>], counts: &[u64]) -> Result<Vec<Shape>, AllocError>
     ensures { IfOk result (λ shapes. shapes.items ≡ shapes_of rows.now counts.now) }
 {
-    match rows {
-        [] => growth_shapes(alloc, rows),
-        [row] => spread_shapes(alloc, counts, &row.figures),
-        [_, _, ..] => growth_shapes(alloc, rows),
+    if rows.len() == 1 {
+        return spread_shapes(alloc, counts, &rows[0].figures);
     }
+    growth_shapes(alloc, rows)
 }
 
-/// Writes the page of these shapes.
+/// Writes the page of these rows, with the shapes of their picture.
 fn put_page<W: Write>(out: &mut W, rows: &[Row<'_>], shapes: &[Shape]) -> Result<(), WriteFault>
-    ensures { Writes (W.contents out.old) (W.contents out.new) result (page_of rows.now shapes.now) }
+    ensures { Writes (W.contents out.old) (W.contents out.new) result
+        (page_of rows.now shapes.now) }
 {
-    match rows {
-        [] => put_growth(out, rows, shapes),
-        [row] => put_spread(out, row, shapes),
-        [_, _, ..] => put_growth(out, rows, shapes),
+    if rows.len() == 1 {
+        return put_spread(out, &rows[0], shapes);
     }
+    put_growth(out, rows, shapes)
 }
 
 /// A picture that a file is to hold.
