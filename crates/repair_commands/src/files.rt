@@ -16,6 +16,7 @@ use std::alloc::Global;
 /// # Errors
 ///
 /// As [`save`].
+#[tactic(auto, using(crate::proofs::Filing::both_stored, crate::proofs::Filing::both_table_refused, crate::proofs::Filing::both_picture_refused))]
 fn save_both<'a, D: Disk>(
     alloc: Global,
     disk: &mut D,
@@ -24,13 +25,17 @@ fn save_both<'a, D: Disk>(
     rows: &[Row<'_>],
     counts: &[u64],
 ) -> Result<(), Refusal<'a>>
-    ensures stored { OnOk result (AreStored (made.Both table picture) rows.now counts.now
+    ensures stored { OnOk result (AreStored (made.Both table.entry picture.entry) rows.now counts.now
         (D.holds disk.old) (D.holds disk.new)) }
-    ensures err { IfErr result (λ e. IsFilesRefusal (made.Both table picture) rows.now
+    ensures err { IfErr result (λ e. IsFilesRefusal (made.Both table.entry picture.entry) rows.now
         (D.holds disk.old) (D.holds disk.new) e) }
 {
     match save_table(alloc, disk, table, rows) {
-        Ok(()) => save_picture(alloc, disk, picture, rows, counts),
+        Ok(()) => {}
+        Err(refusal) => return Err(refusal),
+    }
+    match save_picture(alloc, disk, picture, rows, counts) {
+        Ok(()) => Ok(()),
         Err(refusal) => Err(refusal),
     }
 }
@@ -41,6 +46,7 @@ fn save_both<'a, D: Disk>(
 ///
 /// Those of the table's file: no file has changed then. Those of the picture's file: the table is made then, and every other file is
 /// as it was.
+#[tactic(auto, using(crate::proofs::Filing::picture_stored, crate::proofs::Filing::table_refused, crate::proofs::Filing::picture_refused))]
 pub(crate) fn save<'a, D: Disk>(
     alloc: Global,
     disk: &mut D,
@@ -55,8 +61,14 @@ pub(crate) fn save<'a, D: Disk>(
 {
     match made {
         Made::Nothing => Ok(()),
-        Made::Table(name) => save_table(alloc, disk, name, rows),
-        Made::Picture(name) => save_picture(alloc, disk, name, rows, counts),
+        Made::Table(name) => match save_table(alloc, disk, name, rows) {
+            Ok(()) => Ok(()),
+            Err(refusal) => Err(refusal),
+        },
+        Made::Picture(name) => match save_picture(alloc, disk, name, rows, counts) {
+            Ok(()) => Ok(()),
+            Err(refusal) => Err(refusal),
+        },
         Made::Both(table, picture) => save_both(alloc, disk, table, picture, rows, counts),
     }
 }
