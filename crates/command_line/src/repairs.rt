@@ -117,7 +117,7 @@ static REPAIRS_ARGUMENTS: [Argument; 10] = [
         long: Some("picture"),
         value_names: &["FILE"],
         takes: Takes::Text,
-        presence: Presence::ConflictsWith(&["csv"]),
+        presence: Presence::Optional,
         help: "Also draws the passes in FILE, an SVG: of one size how often each number occurred, of more how they grow with N",
     },
 ];
@@ -164,10 +164,11 @@ fn lines_of(words: &ArgMatches<'_>) -> Lines {
     }
 }
 
-/// The file that is made.
+/// The files that are made.
 fn made_of<'a>(words: &ArgMatches<'a>) -> Made<'a> {
     match (words.get_str("csv"), words.get_str("picture")) {
-        (Some(name), _) => Made::Table(name),
+        (Some(table), Some(picture)) => Made::Both(table, picture),
+        (Some(name), None) => Made::Table(name),
         (None, Some(name)) => Made::Picture(name),
         (None, None) => Made::Nothing,
     }

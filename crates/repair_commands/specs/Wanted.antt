@@ -1,5 +1,5 @@
 -- The studies that the words of `repairs` ask for, and the refusals of the words.
-use Rattle.std.specs.Prelude.{◌≡◌, ◌<◌, ◌≤◌, ℕ, List, [], ◌∷◌, ◌++◌, length, map, Option, None, Some}
+use Rattle.std.specs.Prelude.{◌≡◌, ◌<◌, ℕ, List, [], ◌∷◌, ◌++◌, length, map, Option, None, Some}
 use Rattle.std.specs.List.{All}
 use Rattle.ring_settings.specs.Rings.{size_fault}
 use Rattle.ring_state.specs.Sizes.{Size, IsSize}
@@ -35,11 +35,6 @@ trials_given words = trials_or (usual_trials words.start) words.trials
 abbrev pub study_given : RepairsWords → RingSize → StudyData
 study_given words s =
     study_with (size_given s) words.start words.daemon (trials_given words) words.seed
-
--- as many threads as may be asked for
-pub record AreThreads (threads : ℕ) : Type 0 where
-  pub some : 0 < threads
-  pub few : threads ≤ thread_limit
 
 -- the studies that are asked for, in their order
 abbrev pub studies_given : RepairsWords → List StudyData

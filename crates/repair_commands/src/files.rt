@@ -1,8 +1,8 @@
-//! The file that is made at the end.
+//! The files that are made at the end.
 
-ghost use Rattle.std.specs.Prelude.{◌≡◌, OnOk, OnErr, IfErr};
-ghost use Rattle.repair_commands.specs.Repaired.{IsFileRefusal, made_file, made_text};
-ghost use Rattle.tool_parts.specs.Named.{IsStored};
+ghost use Rattle.std.specs.Prelude.{OnOk, IfErr};
+ghost use Rattle.repair_commands.specs.Repaired.{IsFilesRefusal, AreStored};
+ghost use Rattle.repair_requests.specs.declared.words.Made.TheVariants as made;
 
 use crate::pictures::save_picture;
 use crate::tables::save_table;
@@ -11,11 +11,42 @@ use repair_requests::{Made, Refusal};
 use repair_texts::Row;
 use std::alloc::Global;
 
-/// Makes the file that is wanted, if one is.
+/// Makes the table, and then the picture.
 ///
 /// # Errors
 ///
-/// Those of its file: every file is as it was then.
+/// As [`save`].
+#[tactic(auto, using(crate::proofs::Filing::both_stored, crate::proofs::Filing::both_table_refused, crate::proofs::Filing::both_picture_refused))]
+fn save_both<'a, D: Disk>(
+    alloc: Global,
+    disk: &mut D,
+    table: &'a str,
+    picture: &'a str,
+    rows: &[Row<'_>],
+    counts: &[u64],
+) -> Result<(), Refusal<'a>>
+    ensures stored { OnOk result (AreStored (made.Both table.entry picture.entry) rows.now counts.now
+        (D.holds disk.old) (D.holds disk.new)) }
+    ensures err { IfErr result (λ e. IsFilesRefusal (made.Both table.entry picture.entry) rows.now
+        (D.holds disk.old) (D.holds disk.new) e) }
+{
+    match save_table(alloc, disk, table, rows) {
+        Ok(()) => {}
+        Err(refusal) => return Err(refusal),
+    }
+    match save_picture(alloc, disk, picture, rows, counts) {
+        Ok(()) => Ok(()),
+        Err(refusal) => Err(refusal),
+    }
+}
+
+/// Makes the files that are wanted: the table, and then the picture.
+///
+/// # Errors
+///
+/// Those of the table's file: no file has changed then. Those of the picture's file: the table is made then, and every other file is
+/// as it was.
+#[tactic(auto, using(crate::proofs::Filing::picture_stored, crate::proofs::Filing::table_refused, crate::proofs::Filing::picture_refused))]
 pub(crate) fn save<'a, D: Disk>(
     alloc: Global,
     disk: &mut D,
@@ -23,14 +54,21 @@ pub(crate) fn save<'a, D: Disk>(
     rows: &[Row<'_>],
     counts: &[u64],
 ) -> Result<(), Refusal<'a>>
-    ensures stored { OnOk result (IsStored (made_file made.entry) (D.holds disk.old) (D.holds disk.new)
-        (made_text made.entry rows.now counts.now)) }
-    ensures err { IfErr result (λ e. IsFileRefusal (made_file made.entry) e) }
-    ensures kept { OnErr result (D.holds disk.new ≡ D.holds disk.old) }
+    ensures stored { OnOk result
+        (AreStored made.entry rows.now counts.now (D.holds disk.old) (D.holds disk.new)) }
+    ensures err { IfErr result (λ e.
+        IsFilesRefusal made.entry rows.now (D.holds disk.old) (D.holds disk.new) e) }
 {
     match made {
         Made::Nothing => Ok(()),
-        Made::Table(name) => save_table(alloc, disk, name, rows),
-        Made::Picture(name) => save_picture(alloc, disk, name, rows, counts),
+        Made::Table(name) => match save_table(alloc, disk, name, rows) {
+            Ok(()) => Ok(()),
+            Err(refusal) => Err(refusal),
+        },
+        Made::Picture(name) => match save_picture(alloc, disk, name, rows, counts) {
+            Ok(()) => Ok(()),
+            Err(refusal) => Err(refusal),
+        },
+        Made::Both(table, picture) => save_both(alloc, disk, table, picture, rows, counts),
     }
 }

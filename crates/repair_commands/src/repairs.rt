@@ -1,12 +1,7 @@
 //! `repairs`: many repairs of rings, counted.
 
-ghost use Rattle.std.specs.Prelude.{◌≡◌, ℕ, List, None, OnOk, OnErr, IfOk, IfErr};
-ghost use Rattle.std.specs.Io.KnownBytes.{Appends};
-ghost use Rattle.std.specs.List.{All};
-ghost use Rattle.ring_repairs.specs.Studies.{StudyData, IsStudy};
-ghost use Rattle.repair_texts.specs.declared.columns.Row.{Row};
-ghost use Rattle.repair_commands.specs.Wanted.{AreThreads};
-ghost use Rattle.repair_commands.specs.Repaired.{AreReports, IsRepairsAnswer, IsRepairsRefusal, HavePrinted, IsPrintRefusal, AreCounts};
+ghost use Rattle.std.specs.Prelude.{None, OnOk, IfOk, IfErr};
+ghost use Rattle.repair_commands.specs.Repaired.{IsRepairsAnswer, IsRepairsRefusal, HavePrinted, IsPrintRefusal, AreCounts};
 ghost use Rattle.tool_parts.specs.Worlds.{world};
 
 use crate::files::save;
@@ -15,14 +10,15 @@ use disks::Disk;
 use repair_report::{Lines, ReportFault, report_repairs};
 use repair_requests::{Refusal, RepairsWords};
 use repair_texts::Row;
+use repair_threads::ThreadCount;
 use ring_repairs::Study;
 use std::alloc::Global;
 use std::io::Write;
 use std::thread::Threads;
 use tool_parts::faults::ToolError;
 
-/// Does the trials of each study, by as many threads, and prints the reports on them: each leaves the writer's buffer as soon as its trials are done. Returns their rows; if there is one
-/// study, `counts` then says how many of its trials took each number of passes.
+/// Does the trials of each study, and prints the reports on them: each leaves the writer's buffer as soon as its trials are done.
+/// Returns their rows; if there is one study, `counts` then says how many of its trials took each number of passes.
 ///
 /// # Errors
 ///
@@ -31,12 +27,11 @@ fn print_all<W: Write>(
     rt: &(impl Threads + Sync),
     alloc: Global,
     studies: Vec<Study>,
-    threads: u32,
+    threads: ThreadCount,
     lines: Lines,
     counts: &mut Vec<u64>,
     out: &mut W,
 ) -> Result<Vec<Row<'static>>, Refusal<'static>>
-    requires { AreThreads threads }
     ensures ok { IfOk result (λ rows.
         HavePrinted lines studies.items rows.items (W.contents out.old) (W.contents out.new)) }
     ensures counts { OnOk result (AreCounts studies.items counts.new.items) }
@@ -58,14 +53,13 @@ fn print_all<W: Write>(
 }
 
 /// `repairs`, from its words: does the trials of each size, and prints the report on them as soon as they are done; then replaces the
-/// file for the table or the picture, if one is wanted.
+/// files for the table and the picture, if they are wanted.
 ///
 /// # Errors
 ///
 /// `NoRing` if there is no size, the refusal of the first study that is refused, `NoThreads` and `ManyThreads`: nothing is printed then.
-/// `OutOfMemory`. `Write` if the
-/// writer fails: the bytes written until then are a prefix of the reports. `Stream` and `Save` with the name of the file. Every file is
-/// as it was then.
+/// `OutOfMemory`. `Write` if the writer fails: the bytes written until then are a prefix of the reports. `Stream` and `Save` with the
+/// name of the file. No file has changed then, except for the table, if the picture could not be made.
 pub fn run<'a, R: Threads + Sync, D: Disk, W: Write>(
     rt: &R,
     alloc: Global,

@@ -36,7 +36,7 @@ growth_frame =
 -- its end, with the name of each curve
 abbrev pub growth_ending : List ℕ
 growth_ending =
-    codes "</g>\n<path d=\"M8750 1000h300\" stroke=\"#555\" stroke-width=\"30\" stroke-dasharray=\"30 50\"/>\n<text x=\"9120\" y=\"1050\">bound</text>\n<path d=\"M8750 1300h300\" stroke=\"#6a3d9a\" stroke-width=\"30\" stroke-dasharray=\"120 60\"/>\n<text x=\"9120\" y=\"1350\">none longer</text>\n<path d=\"M8750 1600h300\" stroke=\"#b3261e\" stroke-width=\"30\"/>\n<text x=\"9120\" y=\"1650\">greatest</text>\n<path d=\"M8750 1900h300\" stroke=\"#d55e00\" stroke-width=\"30\"/>\n<text x=\"9120\" y=\"1950\">99 in 100</text>\n<path d=\"M8750 2200h300\" stroke=\"#e69f00\" stroke-width=\"30\"/>\n<text x=\"9120\" y=\"2250\">90 in 100</text>\n<path d=\"M8750 2500h300\" stroke=\"#111\" stroke-width=\"30\"/>\n<text x=\"9120\" y=\"2550\">median</text>\n<path d=\"M8750 2800h300\" stroke=\"#0a7d4f\" stroke-width=\"30\"/>\n<text x=\"9120\" y=\"2850\">least</text>\n</svg>\n"
+    codes "</g>\n<path d=\"M8680 1000h260\" stroke=\"#555\" stroke-width=\"30\" stroke-dasharray=\"30 50\"/>\n<text x=\"8980\" y=\"1050\">bound</text>\n<path d=\"M8680 1300h260\" stroke=\"#6a3d9a\" stroke-width=\"30\" stroke-dasharray=\"120 60\"/>\n<text x=\"8980\" y=\"1350\">none longer</text>\n<path d=\"M8680 1600h260\" stroke=\"#b3261e\" stroke-width=\"30\"/>\n<text x=\"8980\" y=\"1650\">greatest</text>\n<path d=\"M8680 1900h260\" stroke=\"#d55e00\" stroke-width=\"30\"/>\n<text x=\"8980\" y=\"1950\">99 in 100</text>\n<path d=\"M8680 2200h260\" stroke=\"#e69f00\" stroke-width=\"30\"/>\n<text x=\"8980\" y=\"2250\">90 in 100</text>\n<path d=\"M8680 2500h260\" stroke=\"#111\" stroke-width=\"30\"/>\n<text x=\"8980\" y=\"2550\">median</text>\n<path d=\"M8680 2800h260\" stroke=\"#0a7d4f\" stroke-width=\"30\"/>\n<text x=\"8980\" y=\"2850\">least</text>\n</svg>\n"
 
 -- the picture of one size, of these shapes
 abbrev pub spread_page : Row → List Shape → List ℕ

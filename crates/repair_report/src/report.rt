@@ -1,16 +1,15 @@
 //! The report on the repairs of a study.
 
-ghost use Rattle.std.specs.Prelude.{◌≡◌, ◌<◌, ◌≤◌, ◌++◌, ℕ, List, map, OnOk, IfErr};
+ghost use Rattle.std.specs.Prelude.{◌≡◌, ◌++◌, ℕ, List, map, OnOk, IfErr};
 ghost use Rattle.std.specs.Io.KnownBytes.{Appends};
 ghost use Rattle.ring_repairs.specs.Studies.{trial_count, trial_rounds, IsCounted};
 ghost use Rattle.repair_texts.specs.declared.columns.Row.{Row};
 ghost use Rattle.repair_report.specs.Reports.{IsReport, IsReported, IsPartReported, IsCutShort, AreCountsOf, report_text, row_of};
-ghost use Rattle.repair_threads.specs.Shares.{thread_limit};
 
 use crate::parts::{Part, add_rows, passes_of, rounds_of};
 use crate::writing::{Lines, put_parts};
 use repair_texts::Row;
-use repair_threads::advance_on;
+use repair_threads::{ThreadCount, advance_on};
 use ring_repairs::{Daemon, Histogram, Repairs, Study, count_rounds};
 use std::alloc::Global;
 use std::io::Write;
@@ -118,9 +117,9 @@ fn report_done<W: Write>(
     report_in_turn(alloc, repairs, &counts, lines, rows, out)
 }
 
-/// Does all trials of a study, by 1 to 64 threads, adds their rows to those that are given, and writes what is wanted of them: the line of the figures of
+/// Does all trials of a study, adds their rows to those that are given, and writes what is wanted of them: the line of the figures of
 /// their passes, and if the machines are asked in turn, that of their rounds; and after each of these lines, a line for each number
-/// that occurred; or the figures as objects.
+/// that occurred; or the figures as objects. `counts` then says how many of the trials took each number of passes.
 ///
 /// # Errors
 ///
@@ -129,14 +128,12 @@ pub fn report_repairs<W: Write>(
     rt: &(impl Threads + Sync),
     alloc: Global,
     study: Study,
-    threads: u32,
+    threads: ThreadCount,
     lines: Lines,
     rows: &mut Vec<Row<'static>>,
     counts: &mut Vec<u64>,
     out: &mut W,
 ) -> Result<(), ReportFault>
-    requires some { 0 < threads }
-    requires few { threads ≤ thread_limit }
     ensures ok { OnOk result ((added : List Row)
         × (text : List ℕ)
         × IsReport study lines added text

@@ -78,6 +78,22 @@ fn a_picture_is_of_one_size_or_of_more(rt: HostRuntime) -> Result<(), Fail> {
 }
 
 #[test]
+fn a_table_and_a_picture_are_made_at_once(rt: HostRuntime) -> Result<(), Fail> {
+    let alloc = rt.alloc();
+    let mut disk = no_files(alloc);
+    let sizes = [RingSize { n: 3, k: 3 }, RingSize { n: 5, k: 5 }];
+    let words = faulty_words(alloc, &sizes, Made::Both("table.csv", "picture.svg"))?;
+    let mut out = Vec::new(alloc);
+    assert!(rt; repairs::run(&rt, alloc, &mut disk, &words, &mut out).is_ok());
+    assert!(rt; out.as_slice() == LINES);
+    let table = bytes_of(alloc, &disk, "table.csv")?;
+    assert!(rt; table.as_slice() == TABLE);
+    let picture = bytes_of(alloc, &disk, "picture.svg")?;
+    assert!(rt; picture.as_slice().ends_with(b"</svg>\n"));
+    Ok(())
+}
+
+#[test]
 fn a_size_with_fewer_machines_than_faults_is_refused_first(rt: HostRuntime) -> Result<(), Fail> {
     let alloc = rt.alloc();
     let mut disk = no_files(alloc);

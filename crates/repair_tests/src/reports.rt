@@ -2,9 +2,14 @@
 
 use repair_report::{Lines, ReportFault, report_repairs};
 use repair_texts::record;
+use repair_threads::ThreadCount;
 use ring_repairs::{Daemon, Start, Study};
 use ring_state::Params;
 use std::process::Abort;
+
+fn threads(rt: &impl Abort, count: u32) -> ThreadCount {
+    ThreadCount::new(count).expect(rt, "at most 64 threads")
+}
 
 /// 300 trials of five machines with five values, whose last privileged machine moves, and which two faults hit.
 fn faulty_study(rt: &impl Abort) -> Study {
@@ -34,18 +39,20 @@ fn a_report_has_all_numbers(rt: HostRuntime) {
     let alloc = rt.alloc();
     let mut out = Vec::new(alloc);
     let mut rows = Vec::new(alloc);
+    let mut counts = Vec::new(alloc);
     let reported = report_repairs(
         &rt,
         alloc,
         faulty_study(&rt),
-        4,
+        threads(&rt, 4),
         Lines::Histogram,
         &mut rows,
-        &mut Vec::new(alloc),
+        &mut counts,
         &mut out,
     );
     assert!(rt; reported == Ok(()));
     assert!(rt; out.as_slice() == FAULTY);
+    assert!(rt; &counts.as_slice()[..7] == &[49, 45, 21, 97, 23, 37, 28]);
     assert!(rt; rows.len() == 1);
     let line = record(alloc, &rows[0]).expect(&rt, "memory");
     let wanted: &[u8] = b"repairs,last,faults,5,5,2,300,30,24,0,274,3,5,6,6,6\n";
@@ -66,7 +73,7 @@ fn a_report_may_have_one_line(rt: HostRuntime) {
             &rt,
             alloc,
             study,
-            1,
+            threads(&rt, 1),
             Lines::Figures,
             &mut rows,
             &mut Vec::new(alloc),
@@ -86,7 +93,7 @@ fn a_writer_without_room_is_told(rt: HostRuntime) {
         &rt,
         alloc,
         faulty_study(&rt),
-        4,
+        threads(&rt, 4),
         Lines::Histogram,
         &mut rows,
         &mut Vec::new(alloc),
@@ -114,7 +121,7 @@ fn a_report_may_be_an_object(rt: HostRuntime) {
             &rt,
             alloc,
             study,
-            2,
+            threads(&rt, 2),
             Lines::Object,
             &mut rows,
             &mut Vec::new(alloc),

@@ -1,6 +1,6 @@
 //! Threads count what one thread does.
 
-use repair_threads::{THREAD_LIMIT, advance_on};
+use repair_threads::{THREAD_LIMIT, ThreadCount, advance_on};
 use ring_repairs::{Daemon, Repairs, Start, Study};
 use ring_state::Params;
 use std::alloc::Global;
@@ -19,7 +19,7 @@ const COUNTS: [u64; 14] = [8, 15, 12, 3, 2, 0, 0, 0, 0, 0, 0, 0, 0, 0];
 #[test]
 fn any_number_of_threads_counts_each_trial_once(rt: HostRuntime) {
     for threads in [1, 2, 3, 7, 40, THREAD_LIMIT] {
-        assert!(rt; threads >= 1 && threads <= THREAD_LIMIT);
+        let threads = ThreadCount::new(threads).expect(&rt, "at most 64");
         for block in [1, 13, 40] {
             let mut repairs = forty(&rt, rt.alloc());
             for _ in 0..40 {
@@ -28,8 +28,25 @@ fn any_number_of_threads_counts_each_trial_once(rt: HostRuntime) {
             assert!(rt; repairs.done() == 40);
             assert!(rt;
                 repairs.passes().counts() == COUNTS.as_slice(),
-                "{threads} threads, blocks of {block}"
+                "{} threads, blocks of {block}",
+                threads.get()
             );
+        }
+    }
+}
+
+#[test]
+fn there_are_from_one_to_64_threads(rt: HostRuntime) {
+    for (count, is_one) in [
+        (0, false),
+        (1, true),
+        (64, true),
+        (65, false),
+        (u32::MAX, false),
+    ] {
+        match ThreadCount::new(count) {
+            Some(threads) => assert!(rt; is_one && threads.get() == count),
+            None => assert!(rt; !is_one),
         }
     }
 }

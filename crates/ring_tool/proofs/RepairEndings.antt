@@ -21,8 +21,12 @@ none_of f g h k (inr (inl b)) = g b
 none_of f g h k (inr (inr (inl c))) = h c
 none_of f g h k (inr (inr (inr d))) = k d
 
+neither : {A B : Type 0} → (⊥ × A) ⊎ (⊥ × B) → ⊥
+neither (inl a) = a.0
+neither (inr b) = b.0
+
 no_list : (words : RepairsWords) (was is : World) → IsRepairsRefusal words was is (refusal.Tool tool.BadList) → ⊥
-no_list words was is refused = none_of (λ unasked. unasked.0.5) (λ unthreaded. unthreaded.1) (λ printing. printing) (λ filing. filing) refused.why
+no_list words was is refused = none_of (λ unasked. unasked.0.5) (λ unthreaded. unthreaded.1) (λ printing. printing.0) (λ unsaved. neither unsaved.2) refused
 
 not_read : (words : RepairsWords) (was is : World) (e : Refusal) → is_bad_list e ≡ true → IsRepairsRefusal words was is e → ⊥
 not_read words was is (refusal.Tool t) h refused = no_list words was is (subst (λ (x : ToolError). IsRepairsRefusal words was is (refusal.Tool x)) (bad_list t h) refused)
