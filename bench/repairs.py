@@ -19,7 +19,7 @@ TOP = os.path.dirname(os.path.dirname(os.path.abspath(__file__)))
 PEER = f"{TOP}/out/peers/target/release/repairs_peer"
 # Of what the threads count: n, and how long it takes the peer on one thread, in SECONDS
 OF_THREADS, LONGER = ((16, "random"), (256, "random"), (64, "first")), 4
-SIZES = {"random": (8, 16, 64, 256, 1024), "first": (8, 16, 64, 256, 1024), "last": (8, 16, 64, 256, 1024), "turn": (8, 16, 64, 256, 1024), "slow": (8, 16, 64)}
+SIZES = {"random": (8, 16, 64, 256, 1024), "first": (8, 16, 64, 256, 1024), "last": (8, 16, 64, 256, 1024), "turn": (8, 16, 64, 256, 1024), "slow": (8, 16, 64), "groups": (8, 16, 64, 256, 1024)}
 
 
 def build_peer():
