@@ -1,5 +1,5 @@
-"""The states of saved histories and after choices: the program beside `models/states.py` and `models/steps.py`, which are written from
-FORMATS alone, and `examples/repairs.py`, which plots them."""
+"""The states of saved histories and after choices, and rings in motion: the program beside `models/states.py`, `models/steps.py` and
+`models/motion.py`, which are written from FORMATS and the rule alone, and `examples/repairs.py`, which plots the states."""
 
 import glob
 import os
@@ -15,6 +15,7 @@ from harness import ENGINE, IS_DOUBLE, TOP, needs_programs
 HISTORIES = [os.path.join(TOP, "examples", "repair.txt"), *glob.glob(os.path.join(TOP, "tests", "rows", "data", "*.txt"))]
 MODEL = [sys.executable, "-B", os.path.join(TOP, "models", "states.py")]
 STEPS = [sys.executable, "-B", os.path.join(TOP, "models", "steps.py")]
+MOTION = [sys.executable, "-B", os.path.join(TOP, "models", "motion.py")]
 
 
 def printed(*words, text=None):
@@ -58,6 +59,13 @@ class Beside(unittest.TestCase):
                 with self.subTest(n=n, k=k):
                     words = (str(n), str(k), start, choices)
                     self.assertEqual(printed(ENGINE, "step", *words, "--states"), printed(*STEPS, *words))
+
+    def test_the_model_of_motion(self):
+        for history in HISTORIES:
+            for most in ("2000", "2"):
+                with self.subTest(history=os.path.basename(history), most=most):
+                    drawn = printed(ENGINE, "picture", history, "-", "--animate", "--events", most)
+                    self.assertEqual(drawn, printed(*MOTION, history, "0", "0", most))
 
 
 if __name__ == "__main__":

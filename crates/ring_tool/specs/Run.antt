@@ -44,8 +44,9 @@ IsIdle was is = (is.files ≡ was.files) × (is.input ≡ was.input)
 abbrev pub without_input : World → World
 without_input w = world w.files None w.out w.err
 
--- What is wanted ends as its command does, with strict settings too; `repairs` reads no input. The help and the version are printed. Words that cannot be
--- read have status 2, and standard error has the text.
+-- What is wanted ends as its command does, with strict settings and in motion too; `repairs` reads
+-- no input. The help and the version are printed. Words that cannot be read have status 2, and
+-- standard error has the text.
 abbrev pub HasRun : Asked → ℕ → Bool → World → World → Type 0
 HasRun (asked.Command wanted) status told was is = HasEnded wanted status told was is
 HasRun (asked.Repairs words) status told was is =
