@@ -1,5 +1,5 @@
 -- The first study that is refused.
-use Rattle.std.proofs.Common.{◌≡◌, ℕ, ◌+◌, ◌<◌, ◌≤◌, List, [], ◌∷◌, ◌++◌, length, map, take, drop, get_or, refl, sym, ◌∙◌, ap, subst, arith}
+use Rattle.std.proofs.Common.{◌≡◌, ℕ, ◌+◌, ◌<◌, ◌≤◌, List, [], ◌∷◌, ◌++◌, length, map, take, drop, get_or, sym, ◌∙◌, ap, subst, arith}
 use Rattle.std.specs.List.{All}
 use Rattle.std.proofs.lemmas.List.Elements.{All-push}
 use Rattle.std.proofs.lemmas.List.{take-append-drop, take_more, drop_more, take_all, map-append, length-take, length-map}
@@ -9,7 +9,7 @@ use Rattle.tool_parts.specs.declared.faults.ToolError.TheVariants as tool
 use Rattle.repair_requests.specs.declared.words.RepairsWords.{RepairsWords}
 use Rattle.repair_requests.specs.declared.refusals.Refusal.{Refusal}
 use Rattle.repair_requests.specs.declared.refusals.Refusal.TheVariants as refusal
-use Rattle.repair_commands.specs.Wanted.{study_given, studies_given, IsStudyRefusal, IsFirstRefused, IsWordsRefusal}
+use Rattle.repair_commands.specs.Wanted.{studies_given, IsStudyRefusal, IsFirstRefused, IsWordsRefusal}
 
 -- the studies of the first sizes
 pub record Made (f : RingSize → StudyData) (sizes : List RingSize) (i : ℕ) (studies : List StudyData) : Type 0 where

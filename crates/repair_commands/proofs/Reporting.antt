@@ -4,7 +4,6 @@ use Rattle.std.specs.Io.KnownBytes.{Appends, Keeps}
 use Rattle.std.proofs.lemmas.List.{append-nil, take-append-drop, drop_more, take_more}
 use Rattle.std.proofs.lemmas.List.Elements.{filter-append}
 use Rattle.text_lines.proofs.Writing.{appends_nil, appends_then, keeps_then}
-use Rattle.text_lines.specs.Writing.{Wrote}
 use Rattle.ring_repairs.specs.Studies.{StudyData}
 use Rattle.repair_texts.specs.declared.columns.Row.{Row}
 use Rattle.repair_report.specs.Reports.{IsReport, IsCutShort, AreCountsOf}

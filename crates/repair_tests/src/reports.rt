@@ -31,6 +31,9 @@ histogram 5 5 passes 5 trials 37
 histogram 5 5 passes 6 trials 28
 ";
 
+/// How many of them take each number of passes, up to the greatest.
+const PASSES: [u64; 7] = [49, 45, 21, 97, 23, 37, 28];
+
 const DRAWN: &[u8] =
     b"repairs 3 3 daemon random from any trials 300 bound 9 long 5 least 0 mean 0.47 median 0 p90 1 p99 2 p999 2 greatest 2\n";
 
@@ -52,7 +55,7 @@ fn a_report_has_all_numbers(rt: HostRuntime) {
     );
     assert!(rt; reported == Ok(()));
     assert!(rt; out.as_slice() == FAULTY);
-    assert!(rt; &counts.as_slice()[..7] == &[49, 45, 21, 97, 23, 37, 28]);
+    assert!(rt; counts.as_slice().starts_with(PASSES.as_slice()));
     assert!(rt; rows.len() == 1);
     let line = record(alloc, &rows[0]).expect(&rt, "memory");
     let wanted: &[u8] = b"repairs,last,faults,5,5,2,300,30,24,0,274,3,5,6,6,6\n";

@@ -18,8 +18,8 @@ const COUNTS: [u64; 14] = [8, 15, 12, 3, 2, 0, 0, 0, 0, 0, 0, 0, 0, 0];
 
 #[test]
 fn any_number_of_threads_counts_each_trial_once(rt: HostRuntime) {
-    for threads in [1, 2, 3, 7, 40, THREAD_LIMIT] {
-        let threads = ThreadCount::new(threads).expect(&rt, "at most 64");
+    for count in [1, 2, 3, 7, 40, THREAD_LIMIT] {
+        let threads = ThreadCount::new(count).expect(&rt, "at most 64");
         for block in [1, 13, 40] {
             let mut repairs = forty(&rt, rt.alloc());
             for _ in 0..40 {
@@ -28,8 +28,7 @@ fn any_number_of_threads_counts_each_trial_once(rt: HostRuntime) {
             assert!(rt; repairs.done() == 40);
             assert!(rt;
                 repairs.passes().counts() == COUNTS.as_slice(),
-                "{} threads, blocks of {block}",
-                threads.get()
+                "{count} threads, blocks of {block}"
             );
         }
     }
@@ -38,7 +37,7 @@ fn any_number_of_threads_counts_each_trial_once(rt: HostRuntime) {
 #[test]
 fn there_are_from_one_to_64_threads(rt: HostRuntime) {
     for (count, is_one) in [
-        (0, false),
+        (0u32, false),
         (1, true),
         (64, true),
         (65, false),

@@ -1,7 +1,6 @@
-use Rattle.std.proofs.Common.{◌≡◌, ◌∷◌, ◌++◌, List, length, get_or, take, drop, refl, sym, ◌∙◌, ap, rules, ◌+◌}
+use Rattle.std.proofs.Common.{length, drop, rules, ◌+◌}
 use Rattle.std.proofs.lemmas.Iterator.Adapters.{YieldsList-from_vec}
 use Rattle.std.proofs.lemmas.Iterator.Consumers.{YieldsList-so_far, YieldsList-turn}
-use Rattle.ring_repairs.specs.Studies.{StudyData}
 use Rattle.repair_commands.proofs.Reporting.{printed_none, printed_more, printed_kept, printed_cut, split_at_turn, counts_none, counts_last}
 use Rattle.repair_commands.proofs.repairs.print_all.Goals as goal
 
