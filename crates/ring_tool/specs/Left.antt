@@ -1,8 +1,8 @@
 -- What has left the buffer of standard output, and what is on standard error, at the end of a
 -- run.
-use Rattle.std.specs.Prelude.{◌≡◌, ◌<◌, ◌⊎◌, ℕ, List, ◌++◌, length, Bool, true, false, codes, Option, IfSome}
+use Rattle.std.specs.Prelude.{◌≡◌, ◌<◌, ◌⊎◌, ℕ, List, ◌++◌, length, Bool, true, false, codes, Option}
 use Rattle.std.specs.Io.KnownBytes.{Keeps, Appends, append_known}
-use Rattle.tool_parts.specs.FaultLines.{fixed_line}
+use Rattle.tool_parts.specs.FaultLines.{line_of}
 use Rattle.tool_parts.specs.Written.{AppendsFront}
 use Rattle.tool_parts.specs.declared.faults.ToolError.{ToolError}
 use Rattle.tool_parts.specs.declared.faults.ToolError.TheVariants as tool
@@ -29,12 +29,9 @@ abbrev pub HasText : List ℕ → Bool → Option (List ℕ) → Option (List �
 HasText text true old new = Appends old new text
 HasText text false old new = AppendsFront old new text
 
--- a line, with its end: that of a refusal without a value is known
+-- the text is the line of a refusal, with its end
 abbrev pub IsLineOf : ToolError → List ℕ → Type 0
-IsLineOf e text =
-    (line : List ℕ)
-    × IfSome (fixed_line e) (λ known. line ≡ known)
-    × (text ≡ line ++ codes "\n")
+IsLineOf e text = text ≡ line_of e ++ codes "\n"
 
 -- standard error has the line of a refusal after what it had, or only a front of it; without memory
 -- for that line it is the one of a lack of memory

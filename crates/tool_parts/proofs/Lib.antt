@@ -5,3 +5,5 @@ pub mod Leads
 pub mod Parents
 pub mod ListTexts
 pub mod LockedFolders
+pub mod PaddedNumbers
+pub mod EntryTexts

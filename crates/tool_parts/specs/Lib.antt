@@ -1,3 +1,4 @@
+pub mod Causes
 pub mod ChainSteps
 pub mod Chained
 pub mod CheckText
@@ -9,6 +10,7 @@ pub mod Kept
 pub mod LastPlace
 pub mod ListWords
 pub mod Named
+pub mod OneLine
 pub mod Outside
 pub mod Reading
 pub mod Worlds

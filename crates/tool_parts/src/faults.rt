@@ -1,6 +1,8 @@
 //! The refusals of the program, and the line that it prints for each.
 
-use crate::one_line::OneLine;
+use crate::causes::{CauseText, FieldName, FileText, entry_text, of_journal};
+use crate::line_ends::{NoHold, NoOpenHold, NotAnAction, OtherLock};
+use crate::one_line::{OneLine, SegmentFile};
 use journal::RecoverError;
 use line_service::EntryName;
 use ring_book::BookError;
@@ -142,147 +144,172 @@ impl ToolError<'_> {
 }
 
 impl ToolError<'_> {
-    ghost use Rattle.std.specs.Prelude.{◌≡◌};
-    ghost use Rattle.std.specs.Option.{option_map};
-    ghost use Rattle.tool_parts.specs.FaultLines.{fixed_line};
+    ghost use Rattle.std.specs.Fmt.{WritesOnOk};
+    ghost use Rattle.tool_parts.specs.FaultLines.{valued_line, file_line, folder_line, locks_line};
 
-    /// The line of a refusal that has no value.
-    fn fixed_line(&self) -> Option<&'static str>
-        ensures { option_map (λ line. line.now) result ≡ fixed_line self.now }
+    /// Writes the line of a refusal of words or settings, or else of files.
+    fn put_valued<W: fmt::Write>(&self, f: &mut fmt::Formatter<W>) -> fmt::Result
+        ensures { WritesOnOk W.write_str_gives f.old result (valued_line self.now) f.new }
     {
-        match self {
-            ToolError::BadList => Some("bad list"),
-            ToolError::TooFew => Some("n is less than 2"),
-            ToolError::TooMany => Some("n is more than 1024"),
-            ToolError::FewValues => Some("k is less than n"),
-            ToolError::ManyValues => Some("k is more than 65536"),
-            ToolError::Length => Some("start does not have n values"),
-            ToolError::Json => Some("settings are not JSON"),
-            ToolError::Spawn => Some("a thread could not be started"),
-            ToolError::GateShut => Some("the gate was shut"),
-            ToolError::NoSeat => Some("no reader place"),
-            ToolError::HistoryFull => Some("a history is full"),
-            ToolError::Mismatch => Some("logs and history differ"),
-            ToolError::Truncated => Some("text is truncated"),
-            ToolError::Write => Some("cannot write"),
-            ToolError::OutOfMemory => Some("out of memory"),
-            ToolError::ManyDrawn => Some("a picture has at most 20000 events"),
-            ToolError::TotalsTooLarge => Some("the totals are too large"),
-            ToolError::NoHistory => Some("no history is given, and no journal tells of rings"),
-            ToolError::ManyLocks => Some("there are more than 1000000 locks"),
-            _ => None,
-        }
-    }
-
-    /// Writes the line of a refusal of words or settings, which has values, or of another with values.
-    fn put_words_refusal<W: fmt::Write>(&self, f: &mut W) -> fmt::Result {
-        match self {
-            ToolError::Value(place) => write!(f, "start value {place} is not below k"),
+        match *self {
+            ToolError::TooFew => write!(f, "{}", CauseText(RingCause::TooFew)),
+            ToolError::TooMany => write!(f, "{}", CauseText(RingCause::TooMany)),
+            ToolError::FewValues => write!(f, "{}", CauseText(RingCause::FewValues)),
+            ToolError::ManyValues => write!(f, "{}", CauseText(RingCause::ManyValues)),
+            ToolError::Length => write!(f, "{}", CauseText(RingCause::Length)),
+            ToolError::Value(place) => write!(f, "{}", CauseText(RingCause::Value(place))),
             ToolError::Choice(place) => write!(f, "choice {place} is not below n"),
             ToolError::Shape(field) => write!(
                 f,
-                "settings: {field} is missing or has the wrong shape"
+                "settings: {} is missing or has the wrong shape",
+                FieldName(field)
             ),
-            ToolError::Limit(field) => write!(f, "settings: {field} is out of limits"),
-            ToolError::Ring(place, cause) => write!(f, "ring {place}: {cause}"),
-            ToolError::Script(seat, place) => write!(
-                f,
-                "seat {seat}, action {place}: not an action"
-            ),
+            ToolError::Limit(field) => write!(f, "settings: {} is out of limits", FieldName(field)),
+            ToolError::Ring(place, cause) => write!(f, "ring {place}: {}", CauseText(cause)),
+            ToolError::Script(seat, place) => write!(f, "seat {seat}, {}", NotAnAction(place)),
+            _ => self.put_of_file(f),
+        }
+    }
+
+    /// Writes the line of a refusal of a file or a saved text, or else of what is in folders.
+    fn put_of_file<W: fmt::Write>(&self, f: &mut fmt::Formatter<W>) -> fmt::Result
+        ensures { WritesOnOk W.write_str_gives f.old result (file_line self.now) f.new }
+    {
+        match *self {
             ToolError::Syntax(line) => write!(f, "line {line}: syntax"),
-            _ => self.put_file_refusal(f),
+            ToolError::Bad(line, kind) => write!(f, "line {line}: {kind}"),
+            ToolError::Read(name) => write!(f, "cannot read {}", OneLine(name)),
+            ToolError::TooLarge(name) => write!(f, "{} is too large", OneLine(name)),
+            ToolError::Save(name) => write!(f, "cannot write {}", OneLine(name)),
+            ToolError::SameFile(name) => write!(f, "{} is the file that is read", OneLine(name)),
+            ToolError::Stream(name) => {
+                write!(f, "{} is the file of a standard stream", OneLine(name))
+            }
+            ToolError::NoRing(place) => write!(f, "there is no ring {place}"),
+            ToolError::InUse(name) => write!(f, "{} is in use", OneLine(name)),
+            ToolError::Journal(name, error) => {
+                write!(f, "{}: {}", OneLine(name), FileText(of_journal(error)))
+            }
+            ToolError::Full(place) => write!(f, "ring {place}: the history is full"),
+            ToolError::NoPlace(place) => write!(f, "the ring has fewer than {place} events"),
+            _ => self.put_of_folder(f),
+        }
+    }
+
+    /// Writes the line of a refusal of a folder of segments, or else of locks.
+    fn put_of_folder<W: fmt::Write>(&self, f: &mut fmt::Formatter<W>) -> fmt::Result
+        ensures { WritesOnOk W.write_str_gives f.old result (folder_line self.now) f.new }
+    {
+        match *self {
+            ToolError::SavesInJournal(name) => {
+                write!(f, "{} is the folder of the journal", OneLine(name))
+            }
+            ToolError::NoSegment(folder) => write!(f, "{} has no segments", OneLine(folder)),
+            ToolError::Foreign(folder, name) => {
+                let name = OneLine(entry_text(&name));
+                write!(f, "{}/{name}: foreign", OneLine(folder))
+            }
+            ToolError::Irregular(folder, number) => {
+                write!(f, "{}: not a regular file", SegmentFile(folder, number))
+            }
+            ToolError::Missing(folder, number) => {
+                write!(f, "{}: missing", SegmentFile(folder, number))
+            }
+            ToolError::UnreadSegment(folder, number) => {
+                write!(f, "cannot read {}", SegmentFile(folder, number))
+            }
+            ToolError::LargeSegment(folder, number) => {
+                write!(f, "{} is too large", SegmentFile(folder, number))
+            }
+            ToolError::Segment(folder, number, error) => {
+                write!(f, "{}: {}", SegmentFile(folder, number), FileText(error))
+            }
+            ToolError::Begins(folder, number) => {
+                write!(f, "{} begins at segment {number}", OneLine(folder))
+            }
+            ToolError::InFolder(name) => {
+                write!(f, "{} is in the folder that is read", OneLine(name))
+            }
+            _ => self.put_of_locks(f),
         }
     }
 
     /// Writes the line of a refusal of locks.
-    fn put_locks_refusal<W: fmt::Write>(&self, f: &mut W) -> fmt::Result {
-        match self {
+    fn put_of_locks<W: fmt::Write>(&self, f: &mut fmt::Formatter<W>) -> fmt::Result
+        ensures { WritesOnOk W.write_str_gives f.old result (locks_line self.now) f.new }
+    {
+        match *self {
             ToolError::Twice(place) => write!(f, "lock {place} has the name of a lock before it"),
-            ToolError::NoLocks(folder) => write!(f, "no locks are named, and {folder} has none"),
-            ToolError::NoLocksFile(folder) => {
-                write!(f, "{folder} has segments, but no file `locks`")
+            ToolError::NoLocks(folder) => {
+                write!(f, "no locks are named, and {} has none", OneLine(folder))
             }
-            ToolError::UnreadLocks(folder) => write!(f, "cannot read {folder}/locks"),
-            ToolError::BadLocks(folder) => write!(f, "{folder}/locks is not a list of locks"),
+            ToolError::NoLocksFile(folder) => {
+                write!(f, "{} has segments, but no file `locks`", OneLine(folder))
+            }
+            ToolError::UnreadLocks(folder) => write!(f, "cannot read {}/locks", OneLine(folder)),
+            ToolError::BadLocks(folder) => {
+                write!(f, "{}/locks is not a list of locks", OneLine(folder))
+            }
             ToolError::OtherLock(folder, place) => {
-                write!(f, "lock {place} in {folder}/locks is another one")
+                write!(f, "lock {place} in {}", OtherLock(folder))
             }
             ToolError::OtherRing(folder, place) => {
+                let folder = OneLine(folder);
                 write!(
                     f,
                     "ring {place} in {folder} is not of the size in {folder}/locks"
                 )
             }
             ToolError::BadNames(folder) => {
-                write!(f, "the names in {folder} are not those of its rings")
+                write!(
+                    f,
+                    "the names in {} are not those of its rings",
+                    OneLine(folder)
+                )
             }
-            ToolError::NoOpenHold(name, line) => write!(f, "{name}: line {line}: no open hold"),
+            ToolError::NoOpenHold(name, line) => {
+                write!(f, "{}: line {}", OneLine(name), NoOpenHold(line))
+            }
             ToolError::NoHold(name, lock, at) => {
-                write!(f, "{name}: lock {lock}: not the history of a lock at {at}")
+                write!(f, "{}: lock {}", OneLine(name), NoHold(lock, at))
             }
-            ToolError::WrongNames(folder, number, line, cause) => {
-                write!(f, "{folder}/{number:010}.ring: line {line}: name: {cause}")
-            }
+            ToolError::WrongNames(folder, number, line, cause) => write!(
+                f,
+                "{}: line {line}: name: {}",
+                SegmentFile(folder, number),
+                OneLine(cause)
+            ),
             // the lines of the others are written before
             _ => Ok(()),
-        }
-    }
-
-    /// Writes the line of a refusal of a folder of segments.
-    fn put_folder_refusal<W: fmt::Write>(&self, f: &mut W) -> fmt::Result {
-        match self {
-            ToolError::SavesInJournal(name) => write!(f, "{name} is the folder of the journal"),
-            ToolError::NoSegment(folder) => write!(f, "{folder} has no segments"),
-            ToolError::Foreign(folder, name) => write!(f, "{folder}/{name}: foreign"),
-            ToolError::Irregular(folder, number) => {
-                write!(f, "{folder}/{number:010}.ring: not a regular file")
-            }
-            ToolError::Missing(folder, number) => {
-                write!(f, "{folder}/{number:010}.ring: missing")
-            }
-            ToolError::UnreadSegment(folder, number) => {
-                write!(f, "cannot read {folder}/{number:010}.ring")
-            }
-            ToolError::LargeSegment(folder, number) => {
-                write!(f, "{folder}/{number:010}.ring is too large")
-            }
-            ToolError::Segment(folder, number, error) => {
-                write!(f, "{folder}/{number:010}.ring: {error}")
-            }
-            ToolError::Begins(folder, number) => write!(f, "{folder} begins at segment {number}"),
-            ToolError::InFolder(name) => write!(f, "{name} is in the folder that is read"),
-            _ => self.put_locks_refusal(f),
-        }
-    }
-
-    /// Writes the line of a refusal of a file or a saved text, which has values.
-    fn put_file_refusal<W: fmt::Write>(&self, f: &mut W) -> fmt::Result {
-        match self {
-            ToolError::Bad(line, kind) => write!(f, "line {line}: {kind}"),
-            ToolError::Read(name) => write!(f, "cannot read {name}"),
-            ToolError::TooLarge(name) => write!(f, "{name} is too large"),
-            ToolError::Save(name) => write!(f, "cannot write {name}"),
-            ToolError::SameFile(name) => write!(f, "{name} is the file that is read"),
-            ToolError::Stream(name) => write!(f, "{name} is the file of a standard stream"),
-            ToolError::NoRing(place) => write!(f, "there is no ring {place}"),
-            ToolError::InUse(name) => write!(f, "{name} is in use"),
-            ToolError::Journal(name, error) => write!(f, "{name}: {error}"),
-            ToolError::Full(place) => write!(f, "ring {place}: the history is full"),
-            ToolError::NoPlace(place) => write!(f, "the ring has fewer than {place} events"),
-            _ => self.put_folder_refusal(f),
         }
     }
 }
 
 impl fmt::Display for ToolError<'_> {
-    ghost use Rattle.tool_parts.specs.FaultLines.{fixed_line};
+    ghost use Rattle.std.specs.Prelude.{Some};
+    ghost use Rattle.tool_parts.specs.FaultLines.{line_of};
 
-    ghost output = { λ e. fixed_line e };
+    ghost output = { λ e. Some (line_of e) };
 
     fn fmt<W: fmt::Write>(&self, f: &mut fmt::Formatter<W>) -> fmt::Result {
-        match self.fixed_line() {
-            Some(line) => f.write_str(line),
-            None => self.put_words_refusal(&mut OneLine { out: f }),
+        match self {
+            ToolError::BadList => f.write_str("bad list"),
+            ToolError::Json => f.write_str("settings are not JSON"),
+            ToolError::Spawn => f.write_str("a thread could not be started"),
+            ToolError::GateShut => f.write_str("the gate was shut"),
+            ToolError::NoSeat => f.write_str("no reader place"),
+            ToolError::HistoryFull => f.write_str("a history is full"),
+            ToolError::Mismatch => f.write_str("logs and history differ"),
+            ToolError::Truncated => f.write_str("text is truncated"),
+            ToolError::Write => f.write_str("cannot write"),
+            ToolError::OutOfMemory => f.write_str("out of memory"),
+            ToolError::ManyDrawn => f.write_str("a picture has at most 20000 events"),
+            ToolError::TotalsTooLarge => f.write_str("the totals are too large"),
+            ToolError::NoHistory => {
+                f.write_str("no history is given, and no journal tells of rings")
+            }
+            ToolError::ManyLocks => f.write_str("there are more than 1000000 locks"),
+            _ => self.put_valued(f),
         }
     }
 }

@@ -7,6 +7,7 @@
 //! nothing here knows of it, so that these parts are proved, and tried on wrong bodies, without it.
 #![tactic(auto)]
 
+mod causes;
 pub mod chain;
 pub mod endings;
 pub mod failing;
@@ -14,6 +15,7 @@ pub mod faults;
 pub mod handing;
 pub mod left;
 pub mod legal;
+mod line_ends;
 pub mod lists;
 pub mod locking;
 pub mod looks;
