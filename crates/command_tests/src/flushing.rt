@@ -11,7 +11,6 @@ use std::test::Fail;
 use test_files::{Giver, bytes_of, make_folder, no_files, put};
 use text_commands::check_all::check_all_bytes;
 use text_commands::picture;
-use tool_parts::endings::finish;
 use tool_parts::faults::ToolError;
 use tool_parts::requests::{PictureWords, RecoverWords, ServeWords};
 
@@ -208,17 +207,4 @@ fn no_sums_are_told_of_a_picture_on_an_output_that_is_stuck(rt: HostRuntime) -> 
     assert!(rt; matches!(refused, Err(ToolError::Write)));
     assert!(rt; out.text.as_slice() == drawn.as_slice() && err.is_empty());
     Ok(())
-}
-
-// Where the output is stuck, a command that was done fails, and one that was refused reports its own refusal.
-#[test]
-fn a_command_ends_with_an_output_that_is_stuck(rt: HostRuntime) {
-    let fault = || io::Error::from(ErrorKind::BrokenPipe);
-    let mut err = Vec::new(rt.alloc());
-    assert!(rt; finish(Ok(()), Ok(()), &mut err) == 0 && err.is_empty());
-    assert!(rt; finish(Ok(()), Err(fault()), &mut err) == 1);
-    assert!(rt; err.as_slice() == b"cannot write\n".as_slice());
-    err.clear();
-    assert!(rt; finish(Err(ToolError::BadList), Err(fault()), &mut err) == 2);
-    assert!(rt; err.as_slice() == b"bad list\n".as_slice());
 }

@@ -21,5 +21,5 @@ pub use noting::{events_at, note, note_if, note_left_if};
 pub use stages::{Stage, end_fault, is_stopped, is_to_end, stage_after};
 pub use stating::{put_counted, put_hold_if};
 pub use terms::{Terms, limit_of};
-pub use texts::{put_beginning, segment_text};
+pub use texts::segment_text;
 pub use untold::{Untold, put};

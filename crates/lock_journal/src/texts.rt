@@ -76,11 +76,7 @@ fn put_rings<W: Write>(out: &mut W, locks: &Locks) -> Result<(), WriteFault>
 }
 
 /// Writes the beginning of a journal of these locks.
-///
-/// # Errors
-///
-/// `WriteFault` at the first error of the writer: it holds a prefix of the text then.
-pub fn put_beginning<W: Write>(out: &mut W, locks: &Locks) -> Result<(), WriteFault>
+fn put_beginning<W: Write>(out: &mut W, locks: &Locks) -> Result<(), WriteFault>
     ensures written { Writes (W.contents out.old) (W.contents out.new) result
         (journal_head (content_of locks.now)) }
     ensures fits { IfOk result (λ _. BlocksFit locks.now) }

@@ -1,13 +1,10 @@
 //! Locks that answer lines.
 
 ghost use Rattle.std.specs.Prelude.{◌≡◌, ◌⊎◌, ◌&&◌, List, ℕ, Some, OnOk, OnErr, IfOk};
-ghost use Rattle.text_lines.specs.Writing.{Writes};
-ghost use Rattle.journal.specs.Spelling.{journal_head};
 ghost use Rattle.held_locks.specs.Asked.{asked};
 ghost use Rattle.lock_protocol.specs.Asks.{seen};
 ghost use Rattle.lock_protocol.specs.Views.{input_of};
 ghost use Rattle.lock_journal.specs.Asking.{one_ask, is_lack};
-ghost use Rattle.lock_journal.specs.Segments.{content_of};
 ghost use Rattle.lock_journal.specs.Counting.{IsStart};
 ghost use Rattle.lock_journal.specs.Stages.{limit_of, is_past, stage_after};
 ghost use Rattle.lock_journal.specs.Answering.{IsTold, IsToldOf, IsToldOfLeave, IsInputAnswered, Leaves};
@@ -20,12 +17,10 @@ use held_locks::{Answer, Locks, OneAsk, Refusal};
 use line_service::Pending;
 use lock_journal::{
     Stage, Terms, Untold, denial_of, is_lack, is_off, is_stopped, limit_of, note_if, note_left_if,
-    one_ask, put, put_beginning, stage_after,
+    one_ask, put, stage_after,
 };
 use lock_protocol::{Ask, Denial, Input, LockNames, put_answer, put_denial};
 use std::alloc::{AllocError, Global};
-use std::io::Write;
-use text_lines::WriteFault;
 
 /// Locks that answer the lines of clients.
 #[derive(Drop)]
@@ -251,24 +246,5 @@ impl LockService {
         ensures { result.now ≡ self.now.segment.locks }
     {
         self.segment.locks()
-    }
-
-    /// The names of the locks.
-    pub fn names(&self) -> &LockNames
-        ensures { result.now ≡ self.now.segment.names }
-    {
-        self.segment.names()
-    }
-
-    /// Writes the beginning of a journal of the locks as they start.
-    ///
-    /// # Errors
-    ///
-    /// `WriteFault` at the first error of the writer: it holds a prefix of the text then.
-    pub fn write_beginning<W: Write>(&self, out: &mut W) -> Result<(), WriteFault>
-        ensures { Writes (W.contents out.old) (W.contents out.new) result
-            (journal_head (content_of self.now.segment.locks)) }
-    {
-        put_beginning(out, self.segment.locks())
     }
 }

@@ -1,16 +1,15 @@
 -- What lines record, taken in one after the other.
-use Rattle.std.proofs.Common.{◌≡◌, ℕ, zero, suc, ◌+◌, ◌<◌, ◌≤◌, eqb, List, [], ◌∷◌, ◌++◌, map, length, take, get_or, replicate, slice_get, slice_set, Option, Some, None, Result, Ok, Err, inl, inr, ◌⊎◌, refl, ap, sym, subst, ◌∙◌, append_assoc, arith}
+use Rattle.std.proofs.Common.{◌≡◌, ℕ, zero, suc, ◌+◌, ◌<◌, ◌≤◌, eqb, List, [], ◌∷◌, ◌++◌, map, length, replicate, slice_get, slice_set, Option, Some, None, Result, Ok, Err, inl, inr, ◌⊎◌, refl, ap, sym, subst, ◌∙◌, append_assoc, arith}
 use Rattle.std.specs.Prelude.{unwrap_or, IfErr, OnOk}
 use Rattle.std.specs.List.{AllByRecursion}
 use Rattle.std.proofs.lemmas.Bool.{cases_Bool, eqb-true, eqb-false}
-use Rattle.std.proofs.lemmas.List.{length-append, length-set, length-replicate, length-take, take_more, get_or-replicate}
-use Rattle.std.proofs.lemmas.List.Concat.{flat_map-append}
+use Rattle.std.proofs.lemmas.List.{length-append, length-set, length-replicate, get_or-replicate}
 use Rattle.std.proofs.lemmas.Option.{unwrap_or-slice_get}
 use Rattle.std.proofs.Math.Seq.{set-append_seam}
 use Rattle.name_remarks.specs.declared.recorded.NotTaken.{NotTaken}
 use Rattle.name_remarks.specs.declared.recorded.NotTaken.TheVariants as fault
 use Rattle.name_remarks.specs.Remarks.{Binding, Remark, bind, free, top, remark_text, Fits, IsRemark}
-use Rattle.name_remarks.specs.Bindings.{Bindings, nothing, bound_at, after, after_all, IsAmong, IsNotHeard, IsTakenIn, IsNotTakenIn, AreTakenIn, tops, binds, beginning, text_of, IsAbout, IsLastBinding, LastBindings, BeginningsRecordAll, TakenInOneWay, LastIsTakenLast}
+use Rattle.name_remarks.specs.Bindings.{Bindings, nothing, bound_at, after, after_all, IsAmong, IsNotHeard, IsTakenIn, IsNotTakenIn, AreTakenIn, tops, binds, beginning, IsAbout, IsLastBinding, LastBindings, BeginningsRecordAll, TakenInOneWay, LastIsTakenLast}
 use Rattle.name_remarks.proofs.Spelled.{same_remark, begins_as_one}
 
 -- ---- places of a list
@@ -218,24 +217,6 @@ beginnings_record_all old new fits =
       λ taken. taken_in_one_way lines (nothing (length old.rings)) new old taken mine,
       λ same. subst (λ (u : Bindings). AreTakenIn lines (nothing (length old.rings)) u) (sym same) mine,
     )
-
--- ---- the rings that are written
-
-binds_more : (k : ℕ) (os : List (Option Binding)) (o : Option Binding) → binds k (os ++ o ∷ []) ≡ binds k os ++ binds (k + length os) (o ∷ [])
-binds_more k [] o = ap (λ (m : ℕ). binds m (o ∷ [])) (let e : k ≡ k + 0 = omega arith in e)
-binds_more k (None ∷ os) o = binds_more (suc k) os o ∙ ap (λ (m : ℕ). binds (suc k) os ++ binds m (o ∷ [])) (let e : suc k + length os ≡ k + suc (length os) = omega arith in e)
-binds_more k (Some b ∷ os) o = ap (λ (u : List Remark). bind k b ∷ u) (binds_more (suc k) os o ∙ ap (λ (m : ℕ). binds (suc k) os ++ binds m (o ∷ [])) (let e : suc k + length os ≡ k + suc (length os) = omega arith in e))
-
-pub rings_more : (old now new : List ℕ) (rings : List (Option Binding)) (i : ℕ) (o : Option Binding) → i < length rings → o ≡ get_or rings i o → now ≡ old ++ text_of (binds 0 (take i rings)) → new ≡ now ++ text_of (binds i (o ∷ [])) →
-    new ≡ old ++ text_of (binds 0 (take (i + 1) rings))
-rings_more old now new rings i o lt is e f =
-    let front : List (Option Binding) = take i rings in
-    let last : List Remark = binds i (o ∷ []) in
-    let more : take (i + 1) rings ≡ front ++ o ∷ [] = take_more rings i o lt ∙ ap (λ (x : Option Binding). front ++ x ∷ []) (sym is) in
-    let many : 0 + length front ≡ i = omega (arith, length-take i rings, lt) in
-    let all : binds 0 (take (i + 1) rings) ≡ binds 0 front ++ last = ap (binds 0) more ∙ (binds_more 0 front o ∙ ap (λ (m : ℕ). binds 0 front ++ binds m (o ∷ [])) many) in
-    let text : text_of (binds 0 (take (i + 1) rings)) ≡ text_of (binds 0 front) ++ text_of last = ap (λ (rs : List Remark). text_of rs) all ∙ flat_map-append remark_text (binds 0 front) last in
-    f ∙ (ap (λ (u : List ℕ). u ++ text_of last) e ∙ (append_assoc old (text_of (binds 0 front)) (text_of last) ∙ ap (λ (u : List ℕ). old ++ u) (sym text)))
 
 -- ---- a binding that is not taken in
 

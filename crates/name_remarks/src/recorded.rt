@@ -1,14 +1,13 @@
 //! What the lines of a segment record of the names of a folder.
 
-ghost use Rattle.std.specs.Prelude.{◌≡◌, ◌++◌, ◌∷◌, [], ◌<◌, ◌≤◌, ◌^◌, ◌⊎◌, List, ℕ, None, Some, length, slice_set, replicate, IfOk, IfErr, OnOk, OnErr};
+ghost use Rattle.std.specs.Prelude.{◌≡◌, ◌<◌, ◌≤◌, ◌⊎◌, None, Some, length, slice_set, replicate, IfOk, IfErr, OnOk};
 ghost use Rattle.std.specs.Option.{option_map};
 ghost use Rattle.name_remarks.specs.declared.recorded.NotTaken.{NotTaken};
-ghost use Rattle.name_remarks.specs.Bindings.{nothing, after, bound_at, tops, binds, beginning, text_of, IsAmong, IsNotHeard, IsTakenIn, IsNotTakenIn};
+ghost use Rattle.name_remarks.specs.Bindings.{nothing, after, bound_at, IsAmong, IsNotHeard, IsTakenIn, IsNotTakenIn};
 ghost use Rattle.name_remarks.specs.Views.{seen};
 
 use crate::reading::read_name_remark;
 use crate::remarks::{Misspelled, NameRemark};
-use crate::writing::put_name_remark;
 use std::alloc::{AllocError, Global};
 use std::marker::Model;
 
@@ -147,62 +146,6 @@ fn free_among(rings: &mut Vec<Option<Bound>>, ring: u32) -> Result<(), NotTaken>
     Ok(())
 }
 
-/// Adds the remark of a ring, if it is bound.
-fn put_ring(text: &mut Vec<u8>, ring: u32, bound: &Option<Bound>) -> Result<(), AllocError>
-    ensures ok { OnOk result
-        (text.new.items ≡ text.old.items ++ text_of (binds ring (bound.now ∷ []))) }
-    ensures err { OnErr result (text.new.items ≡ text.old.items) }
-{
-    let Some(bound) = bound else {
-        return Ok(());
-    };
-    let remark = NameRemark::Bind {
-        ring,
-        before: bound.before,
-        floor: bound.floor,
-        name: bound.name.as_slice(),
-    };
-    put_name_remark(text, remark)
-}
-
-/// Adds the remark of each ring that is bound. The text may have some of them if memory is short.
-fn put_rings(text: &mut Vec<u8>, rings: &[Option<Bound>]) -> Result<(), AllocError>
-    requires { length rings.now < 2 ^ 32 }
-    ensures ok { OnOk result
-        (text.new.items ≡ text.old.items ++ text_of (binds 0 rings.now)) }
-    ensures err { OnErr result ((more : List ℕ) × (text.new.items ≡ text.old.items ++ more)) }
-{
-    for (i, bound) in rings.iter().enumerate() {
-        match put_ring(text, i as u32, bound) {
-            Ok(()) => {}
-            Err(AllocError) => return Err(AllocError),
-        }
-    }
-    Ok(())
-}
-
-/// Adds the remark of the number of all grants, if it is recorded.
-fn put_top(text: &mut Vec<u8>, top: Option<u64>) -> Result<(), AllocError>
-    ensures ok { OnOk result (text.new.items ≡ text.old.items ++ text_of (tops top)) }
-    ensures err { OnErr result (text.new.items ≡ text.old.items) }
-{
-    match top {
-        Some(grants) => put_name_remark(text, NameRemark::Top { grants }),
-        None => Ok(()),
-    }
-}
-
-/// Adds both. The text may have some of them if memory is short.
-fn put_all(text: &mut Vec<u8>, top: Option<u64>, rings: &[Option<Bound>]) -> Result<(), AllocError>
-    requires { length rings.now < 2 ^ 32 }
-    ensures ok { OnOk result (text.new.items
-        ≡ text.old.items ++ text_of (tops top ++ binds 0 rings.now)) }
-    ensures err { OnErr result ((more : List ℕ) × (text.new.items ≡ text.old.items ++ more)) }
-{
-    put_top(text, top)?;
-    put_rings(text, rings)
-}
-
 impl Recorded {
     /// Nothing is recorded, of this number of rings.
     ///
@@ -270,26 +213,6 @@ impl Recorded {
             Ok(Some(remark)) => self.hear(alloc, remark),
             Ok(None) => Ok(()),
             Err(Misspelled) => Err(NotTaken::Misspelled),
-        }
-    }
-
-    /// Adds the remarks with which a segment begins, where this is recorded.
-    ///
-    /// # Errors
-    ///
-    /// Only out of memory. The text is as it was then.
-    pub fn put_beginning(&self, text: &mut Vec<u8>) -> Result<(), AllocError>
-        ensures ok { OnOk result
-            (text.new.items ≡ text.old.items ++ text_of (beginning self.now)) }
-        ensures err { OnErr result (text.new.items ≡ text.old.items) }
-    {
-        let length = text.len();
-        match put_all(text, self.top, self.rings.as_slice()) {
-            Ok(()) => Ok(()),
-            Err(error) => {
-                text.truncate(length);
-                Err(error)
-            }
         }
     }
 }

@@ -67,16 +67,35 @@ fn remarks_are_written_and_read(rt: HostRuntime) {
     }
 }
 
-/// What three rings begin a segment with after these lines.
-fn beginning(rt: &impl Abort, alloc: Global, lines: &[&str]) -> Vec<u8> {
+/// What is recorded of three rings after these lines.
+fn recorded(rt: &impl Abort, alloc: Global, lines: &[&str]) -> Recorded {
     let Ok(mut recorded) = Recorded::nothing(alloc, 3) else {
         panic!(rt; "there is memory");
     };
     for line in lines {
         assert!(rt; recorded.take_in(alloc, line.as_bytes()).is_ok());
     }
+    recorded
+}
+
+/// What is recorded, as the lines that say so.
+fn text_of(rt: &impl Abort, alloc: Global, recorded: &Recorded) -> Vec<u8> {
     let mut text = Vec::new(alloc);
-    assert!(rt; recorded.put_beginning(&mut text).is_ok());
+    if let Some(grants) = recorded.top() {
+        assert!(rt; put_name_remark(&mut text, NameRemark::Top { grants }).is_ok());
+    }
+    for ring in 0..3 {
+        let Some(bound) = recorded.binding(ring) else {
+            continue;
+        };
+        let remark = NameRemark::Bind {
+            ring,
+            before: bound.before(),
+            floor: bound.floor(),
+            name: bound.name(),
+        };
+        assert!(rt; put_name_remark(&mut text, remark).is_ok());
+    }
     text
 }
 
@@ -107,7 +126,8 @@ fn the_last_remark_about_a_ring_counts(rt: HostRuntime) {
         ),
     ];
     for (lines, text) in rows {
-        assert!(&rt; beginning(&rt, alloc, lines).as_slice() == text.as_bytes());
+        let recorded = recorded(&rt, alloc, lines);
+        assert!(&rt; text_of(&rt, alloc, &recorded).as_slice() == text.as_bytes());
     }
 }
 

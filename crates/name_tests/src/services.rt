@@ -1,4 +1,4 @@
-//! Locks whose segment is kept on, on strict terms too, and the beginning of a journal: what no row of `tests/rows` shows.
+//! Locks whose segment is kept on, on strict terms too, and the text of a segment: what no row of `tests/rows` shows.
 
 ghost use Rattle.held_locks.specs.Kept.{IsKeptRing};
 
@@ -101,7 +101,7 @@ fn next_of(rt: &impl Abort, alloc: Global, service: &LockService) -> LockService
     }
 }
 
-/// Of two locks that start: the beginning of a segment and, below its head, of a journal.
+/// Of two locks that start: the head of a segment, and what stands below it.
 const FIRST: &str =
     "ringsegment 1 1 2\nbehind e3b0c44298fc1c149afbf4c8996fb92427ae41e4649b934ca495991b7852b855\nbase 0 0 0 0\nbase 0 0 0 0\n";
 
@@ -187,15 +187,12 @@ fn stops_on_strict_terms(rt: HostRuntime) {
     assert!(rt; text_of(&rt, alloc, &next, 2).as_slice() == SECOND.as_bytes());
 }
 
-// The first segment and the beginning of a journal.
+// The text of the first segment.
 #[test]
 fn begins(rt: HostRuntime) {
     let alloc = rt.alloc();
     let service = two_locks(&rt, alloc, 1, false);
     assert!(rt; !service.is_due());
-    let mut beginning = Vec::new(alloc);
-    assert!(rt; service.write_beginning(&mut beginning).is_ok());
-    assert!(rt; beginning.as_slice() == BEGINNING.as_bytes());
     let text = text_of(&rt, alloc, &service, 1);
     assert!(rt; text.len() == FIRST.len() + BEGINNING.len());
     assert!(rt; text.starts_with(FIRST.as_bytes()) && text.ends_with(BEGINNING.as_bytes()));

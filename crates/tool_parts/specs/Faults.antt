@@ -34,12 +34,6 @@ is_bad_list e = false
 abbrev pub status_of : ToolError → ℕ
 status_of e = cond (is_bad_list e) 2 1
 
--- the exit status of a command, by its answer and by whether its output could leave a buffer
-abbrev pub end_status : {F : Type 0} → Result (Unit {0}) ToolError → Result (Unit {0}) F → ℕ
-end_status (Err e) flushed = status_of e
-end_status (Ok u) (Ok v) = 0
-end_status (Ok u) (Err f) = 1
-
 -- the program's name for each refusal of a library
 abbrev pub fault_of_params : ParamsError → ToolError
 fault_of_params params.TooFew = tool.TooFew

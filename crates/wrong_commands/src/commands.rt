@@ -13,7 +13,7 @@ ghost use Rattle.ring_text.specs.Report.{entries_in};
 ghost use Rattle.ring_text.specs.SavedOf.{saved_of};
 ghost use Rattle.tool_parts.specs.CheckText.{legal_line};
 ghost use Rattle.tool_parts.specs.Checked.{IsLegalSavedText, IsCheckRefusal};
-ghost use Rattle.tool_parts.specs.Faults.{status_of, end_status};
+ghost use Rattle.tool_parts.specs.Faults.{status_of};
 ghost use Rattle.tool_parts.specs.Named.{IsApart};
 ghost use Rattle.run_commands.specs.Ran.{report_text};
 ghost use Rattle.tool_parts.specs.Reading.{most_bytes, names_stream, IsAllOf, IsWithin, IsOver};
@@ -25,10 +25,10 @@ use ring_text::write_report;
 use run_commands::run::save_and_report;
 use saved_history::Saved;
 use std::alloc::Global;
-use std::io::{self, Read, Write};
+use std::io::{Read, Write};
 use text_commands::check::check_bytes;
 use text_lines::WriteFault;
-use tool_parts::endings::{finish, tell};
+use tool_parts::endings::tell;
 use tool_parts::faults::ToolError;
 use tool_parts::legal::{legal_saved, tell_sums};
 use tool_parts::reading::{ReadFault, names_stream, read_limited, read_whole};
@@ -140,21 +140,6 @@ pub fn refusal_with_another_status<E: Write>(fault: &ToolError<'_>, err: &mut E)
     if tell(fault, err) == 1 { 2 } else { 1 }
 }
 
-/// A command ends with 0 just where nothing was refused and all output left: it ends with 0 after a refusal, and with 1 after none.
-pub fn refusal_that_ends_well<E: Write>(
-    done: Result<(), ToolError<'_>>,
-    flushed: io::Result<()>,
-    err: &mut E,
-) -> u8
-    ensures wrong { result ≡ end_status done.entry flushed → ⊥ }
-{
-    if finish(done, flushed, err) == 0 {
-        1
-    } else {
-        0
-    }
-}
-
 /// A file with more bytes than the limit is refused: it is read as empty.
 pub fn file_over_the_limit_that_is_read<R: Read>(
     alloc: Global,
@@ -214,20 +199,6 @@ pub fn large_file_that_fails<R: Read>(
         return None;
     };
     Some(ReadFault::Failed)
-}
-
-/// A command ends well only if all that it printed has left: it is not asked whether that is so.
-pub fn output_that_is_stuck_and_ends_well<E: Write>(
-    done: Result<(), ToolError<'_>>,
-    flushed: io::Result<()>,
-    err: &mut E,
-) -> Option<u8>
-    ensures wrong { IfSome result (λ status. status ≡ end_status done.entry flushed → ⊥) }
-{
-    if done.is_err() || flushed.is_ok() {
-        return None;
-    }
-    Some(finish(done, Ok(()), err))
 }
 
 /// A command is done once: a text is checked and reported twice.
