@@ -101,7 +101,7 @@ fn next_of(rt: &impl Abort, alloc: Global, service: &LockService) -> LockService
     }
 }
 
-/// Of two locks that start: the head of a segment, and what stands below it.
+/// Of two locks that start: the head of a segment, and what comes below it.
 const FIRST: &str =
     "ringsegment 1 1 2\nbehind e3b0c44298fc1c149afbf4c8996fb92427ae41e4649b934ca495991b7852b855\nbase 0 0 0 0\nbase 0 0 0 0\n";
 
