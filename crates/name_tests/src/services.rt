@@ -146,8 +146,20 @@ fn keeps_on(rt: HostRuntime) {
         noted,
     );
     assert!(rt; service.is_due() && !service.is_over());
-    let next = next_of(&rt, alloc, &service);
-    assert!(rt; !next.is_due() && next.locks().count() == 2 && next.names().find(b"b") == Some(1));
+    let mut next = next_of(&rt, alloc, &service);
+    assert!(rt; !next.is_due() && next.locks().count() == 2);
+    let said = b"2 granted b 2\n";
+    let noted = b"1 p 0 1 9 g 2 15\n";
+    serves(
+        &rt,
+        alloc,
+        &mut next,
+        &mut unread,
+        b"2 try b 9\n",
+        Ending::End,
+        said,
+        noted,
+    );
 }
 
 // On strict terms lines are answered as ever until the segment is due. If it is kept on, no line is answered: nothing is pending,

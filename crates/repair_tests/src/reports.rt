@@ -7,7 +7,7 @@ use ring_repairs::{Daemon, Start, Study};
 use ring_state::Params;
 use std::process::Abort;
 
-fn threads(rt: &impl Abort, count: u32) -> ThreadCount {
+pub(crate) fn threads(rt: &impl Abort, count: u32) -> ThreadCount {
     ThreadCount::new(count).expect(rt, "at most 64 threads")
 }
 

@@ -1,5 +1,6 @@
 //! The rounds of trials in which all machines are asked in turn, as another program has them (`models/drawn_repairs.py`).
 
+use crate::reports::threads;
 use repair_report::{Lines, report_repairs};
 use repair_texts::record;
 use ring_repairs::{Daemon, Repairs, Start, Study, count_rounds, most_rounds};
@@ -41,7 +42,7 @@ fn a_report_in_turn_has_rounds(rt: HostRuntime) {
             &rt,
             alloc,
             study,
-            2,
+            threads(&rt, 2),
             Lines::Histogram,
             &mut rows,
             &mut Vec::new(alloc),
@@ -71,7 +72,7 @@ fn rounds_are_an_object_of_their_own(rt: HostRuntime) {
             &rt,
             alloc,
             study,
-            5,
+            threads(&rt, 5),
             Lines::Object,
             &mut rows,
             &mut Vec::new(alloc),
