@@ -149,7 +149,7 @@ fn keeps_on(rt: HostRuntime) {
     let mut next = next_of(&rt, alloc, &service);
     assert!(rt; !next.is_due() && next.locks().count() == 2);
     let said = b"2 granted b 2\n";
-    let noted = b"1 p 0 1 9 g 2 15\n";
+    let noted = b"1 p 0 1 9 g 1 9\n";
     serves(
         &rt,
         alloc,
