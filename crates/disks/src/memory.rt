@@ -3,7 +3,7 @@
 ghost use Rattle.std.specs.Prelude.{◌≡◌, ◌≢◌, ◌+◌, ◌<◌, ◌||◌, ℕ, List, [], length, drop, false, Some, IsTrue, IsFalse, IfOk, OnOk, string_bytes, vec_len, vec_capacity};
 ghost use Rattle.std.specs.List.{AllByRecursion};
 ghost use Rattle.std.specs.Str.{bytes_eq};
-ghost use Rattle.disks.specs.Held.{Held, Nothing, File, is_a_folder, IsReplaced};
+ghost use Rattle.disks.specs.Held.{Held, Nothing, File, is_a_folder, IsReplaced, LetsGo};
 ghost use Rattle.disks.specs.Entries.{found, thing_in, held_of, without};
 ghost use Rattle.disks.specs.Folders.{path_in, has_slash, is_among, names_of, IsNameIn, ListsNames};
 
@@ -175,12 +175,25 @@ fn put_file(disk: &mut MemoryDisk, place: String, bytes: Vec<u8>)
     });
 }
 
+/// Has the file of this name hold these bytes, if there is memory for that.
+pub(crate) fn let_go(disk: &mut MemoryDisk, name: &str, bytes: Vec<u8>)
+    ensures { LetsGo (Some (held_of disk.old.entries.items)) (Some (held_of disk.new.entries.items))
+        name.now (Some bytes.items) }
+{
+    let Ok(place) = place_for(disk, name) else {
+        return;
+    };
+    put_file(disk, place, bytes);
+}
+
 impl Disk for MemoryDisk {
     type Reader = Cursor<Vec<u8>>;
 
     type New = Vec<u8>;
 
     type Grown = Vec<u8>;
+
+    type Hold = ();
 
     ghost holds = { λ s. Some (held_of s.entries.items) };
 
@@ -238,6 +251,11 @@ impl Disk for MemoryDisk {
         }
     }
 
+    fn hold(&mut self, name: &str) -> io::Result<()> {
+        let _held = copied(self.alloc, &self.entries, name)?;
+        Ok(())
+    }
+
     fn grow(&mut self, name: &str, _synced: bool) -> io::Result<Vec<u8>> {
         copied(self.alloc, &self.entries, name)
     }
@@ -252,5 +270,7 @@ impl Disk for MemoryDisk {
         }
     }
 
-    fn abandon(&mut self, _grown: Vec<u8>, _name: String) {}
+    fn abandon(&mut self, grown: Vec<u8>, name: String) {
+        let_go(self, name.as_str(), grown);
+    }
 }
