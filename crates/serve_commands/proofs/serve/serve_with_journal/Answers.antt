@@ -36,8 +36,8 @@ pub returns-in-Err-clause-err : goal.returns-in-Err-clause-err
 returns-in-Err-clause-err g c = (
   c.serving_refusal.ensures,
   part g.D.Grown.Grow.contents c.in-Some.field-0 (g.D.Grown.Grow.contents c.args.journal) (g.D.Disk.holds c.abandon.new.self) c.in-Some.is refl
-  (subst (λ (n : List ℕ). LetsGo (g.D.Disk.holds c.serve-ended.new.disk) (g.D.Disk.holds c.abandon.new.self) n (g.D.Grown.Grow.contents c.in-Some.field-0.writer)) c.requires.named c.abandon.ensures.held)
-  c.serve-ended.ensures.recovered,
+      (subst (λ (n : List ℕ). LetsGo (g.D.Disk.holds c.serve-ended.new.disk) (g.D.Disk.holds c.abandon.new.self) n (g.D.Grown.Grow.contents c.in-Some.field-0.writer)) c.requires.named c.abandon.ensures.held)
+      c.serve-ended.ensures.recovered,
 )
 
 pub returns-in-Ok-settle_journal-clause-ok : goal.returns-in-Ok-settle_journal-clause-ok
