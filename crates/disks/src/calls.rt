@@ -2,7 +2,7 @@
 
 ghost use Rattle.std.specs.Prelude.{◌≡◌, ℕ, List, [], Option, None, Some, IfOk, IfSome, OnOk, OnErr, true, false, string_bytes};
 ghost use Rattle.disks.specs.Held.{Held, is_folder, IsOneFile, Opens, Starts, Creates, Discards, Grows, LetsGo, Locks, Replaces};
-ghost use Rattle.disks.specs.Folders.{LeadsInto, LeadsToNoNew, Lists, names_of};
+ghost use Rattle.disks.specs.Folders.{LeadsInto, LeadsToNoNew, Lists};
 ghost use Rattle.disks.specs.Lasting.{Leaves, MayLeave, MayRemove, LeavesFront};
 
 use crate::disk::FolderEntry;
@@ -67,7 +67,7 @@ pub trait FileCalls {
     /// The names in this folder.
     fn list(&self, folder: &str) -> io::Result<Vec<FolderEntry>>
         ensures { IfOk result
-            (λ entries. Lists (holds self.now) folder.now (names_of entries.items)) };
+            (λ entries. Lists (holds self.now) folder.now entries.items) };
 
     /// Makes a new file beside the one of this name, which has nothing yet.
     fn create_part(&self, name: &str) -> io::Result<Self::Part>

@@ -3,7 +3,7 @@
 ghost use Rattle.std.specs.Prelude.{◌≡◌, ℕ, List, [], Option, None, Some, Bool, IfOk, IfErr, IfSome, OnOk, OnErr, true, false, string_bytes};
 ghost use Rattle.std.specs.Io.KnownBytes.{Keeps};
 ghost use Rattle.disks.specs.Held.{Held, is_folder, IsHeld, IsOneFile, Opens, Starts, Creates, Discards, Grows, LetsGo, Locks, Replaces};
-ghost use Rattle.disks.specs.Folders.{LeadsInto, LeadsToNoNew, Lists, names_of};
+ghost use Rattle.disks.specs.Folders.{LeadsInto, LeadsToNoNew, Lists};
 ghost use Rattle.disks.specs.Lasting.{bytes_in, Leaves, MayLeave, MayRemove, LeavesFront, outlives};
 
 use crate::grow::Grow;
@@ -90,7 +90,7 @@ pub trait Disk {
     /// There is no such folder, as where a file has this name; or it cannot be read to its end.
     fn list(&self, folder: &str) -> io::Result<Vec<FolderEntry>>
         ensures { IfOk result
-            (λ entries. Lists (holds self.now) folder.now (names_of entries.items)) };
+            (λ entries. Lists (holds self.now) folder.now entries.items) };
 
     /// Makes a new file, empty, beside the one of this name. No file changes.
     fn make(&mut self, name: &str) -> io::Result<Self::New>
