@@ -89,7 +89,7 @@ StandsAmong files folder entries saved p =
 pub record StandsIn (files : Option Held) (folder : List ℕ) (saved : Option Saved) (p : Place) :
     Type 0 where
   pub entries : List FolderEntry
-  pub listed : Lists files folder (names_of entries)
+  pub listed : Lists files folder entries
   pub plain : is_among (names_of entries) list_name ≡ false
   pub stands : StandsAmong files folder entries saved p
 
@@ -199,7 +199,7 @@ abbrev pub IsUnknown : Option Held → List ℕ → Option Saved → ToolError �
 IsUnknown files folder saved e =
     IsFolderFault folder names.Unlisted e
     ⊎ ((entries : List FolderEntry)
-    × Lists files folder (names_of entries)
+    × Lists files folder entries
     × (((is_among (names_of entries) list_name ≡ true) × IsListFault folder e)
     ⊎ IsUnknownAmong files folder entries saved e))
 
