@@ -1,0 +1,7 @@
+pub mod Bounds
+pub mod Telling
+pub mod Pins
+pub mod Standing
+pub mod Rising
+pub mod Alike
+pub mod Listing

@@ -1,0 +1,3 @@
+pub mod Pinned
+pub mod Promises
+pub mod Listed
