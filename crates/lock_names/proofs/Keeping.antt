@@ -12,7 +12,7 @@ use Rattle.lock_names.specs.Promises.{IsRightName, StaysHeld, WaitedIsKept, Wait
 use Rattle.name_bindings.proofs.Found.{some_same, none_some, found_at, found_there, free_at, free_last, free_first}
 use Rattle.lock_names.proofs.Fitting.{named_stays}
 
-abbrev Keeps : Named → Named → ℕ → Bound → Type 0
+abbrev pub Keeps : Named → Named → ℕ → Bound → Type 0
 Keeps s z i b = is_some (holder_of (slice_get z.locks i)) ≡ true → slice_get z.names i ≡ Some (Some b)
 
 pub kept_stays : (q : Bool) (b : Bound) → q ≡ true → kept q b ≡ Some b
@@ -51,7 +51,7 @@ keeps_name s c i b x ask None e f h = keeps_none s c i b x ask e h
 keeps_name s c i b x ask (Some p) e f h =
     keeps_asked s c i p.0 b p.1 ask e (λ q. some_same p.1 b (some_same (Some p.1) (Some b) (sym (found_at x s.names p f).entry ∙ ap (λ (n : ℕ). slice_get s.names n) q ∙ e))) h
 
-keeps : (s : Named) (n : NamedInput) (i : ℕ) (b : Bound) → slice_get s.names i ≡ Some (Some b) → Keeps s (step_named s n).named i b
+pub keeps : (s : Named) (n : NamedInput) (i : ℕ) (b : Bound) → slice_get s.names i ≡ Some (Some b) → Keeps s (step_named s n).named i b
 keeps s (Of c x ask) i b e h = keeps_name s c i b x ask (found x s.names) e refl h
 keeps s Again i b e h = e
 keeps s (More a) i b e h = get_front s.names None i (Some b) e

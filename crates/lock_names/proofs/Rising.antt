@@ -18,10 +18,10 @@ use Rattle.held_locks.proofs.Tokens.{Passes, NoPass, Repaired, OnePass}
 use Rattle.lock_names.specs.declared.replies.Reply.{Reply}
 use Rattle.lock_names.specs.declared.replies.Reply.TheVariants as reply
 use Rattle.lock_names.specs.Names.{Bound, Named, NamedInput, Of, Again, More, Said, NamedStep, token_in, of_ring, as_told, said_of, found, free, fresh, at_ring, replied, given, at_none, at_name, free_lock, grown, step_named}
-use Rattle.lock_names.specs.Promises.{IsNamed, token_of, token_in_reply, token_said, tokens_said, tokens_of, Rise, IsBelow, TokensOfNamesRise}
+use Rattle.lock_names.specs.Promises.{IsNamed, IsBound, token_of, token_in_reply, token_said, tokens_said, tokens_of, Rise, IsBelow, TokensOfNamesRise}
 use Rattle.lock_names.proofs.Passing.{passes_turn}
 use Rattle.name_bindings.proofs.Found.{same_name, own_name, none_some, pushed}
-use Rattle.lock_names.proofs.Fitting.{Fits, turned, top_after, name_after, at_ring_is, kept_some, IsMoved, moved, fits_found, fits_free, was_lock, named_step}
+use Rattle.lock_names.proofs.Fitting.{Fits, turned, top_after, name_after, at_ring_is, kept_some, IsMoved, moved, are_bound, was_lock, named_step, by_step}
 
 -- ---- the tokens among what is said
 
@@ -65,11 +65,11 @@ quiet x s c y r e = ap (λ (o : Option ℕ). cons_option o []) (none_if (bytes_e
 
 -- ---- a ring that is asked
 
-abbrev last : ℕ → List ℕ → ℕ
+abbrev pub last : ℕ → List ℕ → ℕ
 last low [] = low
 last low (t ∷ ts) = last t ts
 
-abbrev Goes : List ℕ → ℕ → Named → List ℕ → Type 0
+abbrev pub Goes : List ℕ → ℕ → Named → List ℕ → Type 0
 Goes x low s ts = Rise low ts × IsBelow (last low ts) x s
 
 -- after it, this is at most the token that was reported
@@ -129,7 +129,7 @@ goes_by x low s c i b ask f w g same (OnePass d one k) =
           (λ y. subst (λ (n : ℕ). token_in b (f.lock.ring.grants + 1) ≤ token_in b n) (sym k) (omega arith)) (inr same),
     )
 
-goes_turn : (x : List ℕ) (low : ℕ) (s : Named) (c i : ℕ) (b : Bound) (ask : Ask) (f : Fits s i b) → IsNamed s → IsBelow low x s →
+goes_turn : (x : List ℕ) (low : ℕ) (s : Named) (c i : ℕ) (b : Bound) (ask : Ask) (f : Fits s i b) → IsBound s → IsBelow low x s →
     Goes x low (turned s i b f.lock (turn s.locks f.lock c ask)).named (tokens_said x (turned s i b f.lock (turn s.locks f.lock c ask)).said)
 goes_turn x low s c i b ask f n w =
     let t : Turn = turn s.locks f.lock c ask in
@@ -146,7 +146,7 @@ goes_turn x low s c i b ask f n w =
 
 -- ---- steps
 
-goes_asked : (x : List ℕ) (low : ℕ) (s : Named) (c i : ℕ) (b : Bound) (ask : Ask) → Fits s i b → IsNamed s → IsBelow low x s →
+goes_asked : (x : List ℕ) (low : ℕ) (s : Named) (c i : ℕ) (b : Bound) (ask : Ask) → Fits s i b → IsBound s → IsBelow low x s →
     Goes x low (at_ring s c i b ask).named (tokens_said x (at_ring s c i b ask).said)
 goes_asked x low s c i b ask f n w =
     subst (λ (z : NamedStep). Goes x low z.named (tokens_said x z.said)) (sym (at_ring_is s c i b ask f.lock f.there)) (goes_turn x low s c i b (of_ring b ask) f n w)
@@ -154,27 +154,7 @@ goes_asked x low s c i b ask f n w =
 goes_quiet : (x : List ℕ) (low : ℕ) (s : Named) (ts : List ℕ) → ts ≡ [] → IsBelow low x s → Goes x low s ts
 goes_quiet x low s ts e w = subst (λ (z : List ℕ). Goes x low s z) (sym e) (tt, w)
 
-goes_given : (x : List ℕ) (low : ℕ) (s : Named) (c : ℕ) (y : List ℕ) (ask : Ask) (o : Option ℕ) → IsNamed s → IsBelow low x s → found y s.names ≡ None → free s.names ≡ o →
-    Goes x low (given s c y ask o).named (tokens_said x (given s c y ask o).said)
-goes_given x low s c y ask None n w e f = goes_quiet x low s (tokens_said x (given s c y ask None).said) (quiet x s c y reply.Names refl) w
-goes_given x low s c y ask (Some i) n w e f = goes_asked x low s c i (fresh s y i) ask (fits_free s y i n e f) n w
-
-goes_none : (x : List ℕ) (low : ℕ) (s : Named) (c : ℕ) (y : List ℕ) (ask : Ask) → IsNamed s → IsBelow low x s → found y s.names ≡ None →
-    Goes x low (at_none s c y ask).named (tokens_said x (at_none s c y ask).said)
-goes_none x low s c y (Acquire label) n w e = goes_given x low s c y (Acquire label) (free s.names) n w e refl
-goes_none x low s c y (Try label) n w e = goes_given x low s c y (Try label) (free s.names) n w e refl
-goes_none x low s c y (Release token) n w e = goes_quiet x low s (tokens_said x (at_none s c y (Release token)).said) (quiet x s c y (reply.Lock (answer.Refused refusal.Holder)) refl) w
-goes_none x low s c y Cancel n w e = goes_quiet x low s (tokens_said x (at_none s c y Cancel).said) (quiet x s c y (reply.Lock (answer.Refused refusal.Waiter)) refl) w
-goes_none x low s c y Leave n w e = (tt, w)
-goes_none x low s c y (Corrupt i v) n w e = goes_quiet x low s (tokens_said x (at_none s c y (Corrupt i v)).said) (quiet x s c y (reply.Lock (answer.Refused refusal.Lock)) refl) w
-goes_none x low s c y Stats n w e = goes_quiet x low s (tokens_said x (at_none s c y Stats).said) (quiet x s c y (reply.Lock (answer.Stats (record { machines = 0; waiters = 0; passes = 0; holder = None }))) refl) w
-
-goes_name : (x : List ℕ) (low : ℕ) (s : Named) (c : ℕ) (y : List ℕ) (ask : Ask) (o : Option (ℕ × Bound)) → IsNamed s → IsBelow low x s → found y s.names ≡ o →
-    Goes x low (at_name s c y ask o).named (tokens_said x (at_name s c y ask o).said)
-goes_name x low s c y ask None n w e = goes_none x low s c y ask n w e
-goes_name x low s c y ask (Some p) n w e = goes_asked x low s c p.0 p.1 ask (fits_found s y p n e) n w
-
-below_grown : (x : List ℕ) (low : ℕ) (s : Named) (a : State ℕ) → IsNamed s → IsBelow low x s → IsBelow low x (grown s a)
+below_grown : (x : List ℕ) (low : ℕ) (s : Named) (a : State ℕ) → IsBound s → IsBelow low x s → IsBelow low x (grown s a)
 below_grown x low s a n w = (
   let top : low ≤ s.top = w.0 in omega arith,
   λ i l b e f same. by i l b (pushed s.locks (free_lock a) i l e) (pushed s.names None i (Some b) f) same,
@@ -190,8 +170,12 @@ below_grown x low s a n w = (
         let many : length s.names ≡ length s.locks = n.many in
         absurd (omega arith)
 
-goes : (x : List ℕ) (low : ℕ) (s : Named) (i : NamedInput) → IsNamed s → IsBelow low x s → Goes x low (step_named s i).named (tokens_said x (step_named s i).said)
-goes x low s (Of c y ask) n w = goes_name x low s c y ask (found y s.names) n w refl
+abbrev StepGoes : List ℕ → ℕ → NamedStep → Type 0
+StepGoes x low z = Goes x low z.named (tokens_said x z.said)
+
+pub goes : (x : List ℕ) (low : ℕ) (s : Named) (i : NamedInput) → IsBound s → IsBelow low x s → Goes x low (step_named s i).named (tokens_said x (step_named s i).said)
+goes x low s (Of c y ask) n w =
+    by_step (StepGoes x low) s c y n (λ r e. goes_quiet x low s (tokens_said x (replied s c y r).said) (quiet x s c y r e) w) (tt, w) (λ i b a f same. goes_asked x low s c i b a f n w) ask
 goes x low s Again n w = (
   tt,
   (
@@ -203,13 +187,13 @@ goes x low s Again n w = (
 )
 goes x low s (More a) n w = (tt, below_grown x low s a n w)
 
-rise_append : (low : ℕ) (ts us : List ℕ) → Rise low ts → Rise (last low ts) us → Rise low (ts ++ us)
+pub rise_append : (low : ℕ) (ts us : List ℕ) → Rise low ts → Rise (last low ts) us → Rise low (ts ++ us)
 rise_append low [] us r q = q
 rise_append low (t ∷ ts) us r q = (r.0, rise_append t ts us r.1 q)
 
 pub tokens_of_names_rise : TokensOfNamesRise
 tokens_of_names_rise x low s [] n a w = tt
 tokens_of_names_rise x low s (i ∷ is) n a w =
-    let g = goes x low s i n w in
+    let g = goes x low s i (are_bound s n) w in
     rise_append low (tokens_said x (step_named s i).said) (tokens_of x (step_named s i).named is) g.0
     (tokens_of_names_rise x (last low (tokens_said x (step_named s i).said)) (step_named s i).named is (named_step s i n a.0) a.1 g.1)

@@ -39,6 +39,24 @@ pub record IsNamed (s : Named) : Type 0 where
   pub once : (i j : ℕ) (b d : Bound) → slice_get s.names i ≡ Some (Some b)
       → slice_get s.names j ≡ Some (Some d) → b.name ≡ d.name → i ≡ j
 
+-- a ring is bound right if it has a name, and nobody holds it if it has none: whichever names stay
+-- without a hold
+abbrev pub IsBoundOrFree : ℕ → Lock → Option Bound → Type 0
+IsBoundOrFree top l None = l.holder ≡ None
+IsBoundOrFree top l (Some b) = IsRightBound top l b
+
+-- the locks are right, so is each ring, and no two have one name
+pub record AreBound (ls : List Lock) (os : List (Option Bound)) (top : ℕ) : Type 0 where
+  pub right : AreRight ls
+  pub many : length os ≡ length ls
+  pub each : (i : ℕ) (l : Lock) (o : Option Bound) → slice_get ls i ≡ Some l
+      → slice_get os i ≡ Some o → IsBoundOrFree top l o
+  pub once : (i j : ℕ) (b d : Bound) → slice_get os i ≡ Some (Some b)
+      → slice_get os j ≡ Some (Some d) → b.name ≡ d.name → i ≡ j
+
+abbrev pub IsBound : Named → Type 0
+IsBound s = AreBound s.locks s.names s.top
+
 -- a ring that is added is settled, and comes after those of the fixed locks
 abbrev pub IsAllowed : Named → NamedInput → Type 0
 IsAllowed s (Of c x ask) = Unit {0}

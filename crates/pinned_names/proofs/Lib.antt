@@ -1,5 +1,3 @@
-pub mod Bounds
-pub mod Telling
 pub mod Pins
 pub mod Standing
 pub mod Rising

@@ -10,7 +10,7 @@ use Rattle.held_locks.specs.Queues.{Lock, client_of, holder_of}
 use Rattle.lock_names.specs.declared.table.Binding.{Binding}
 use Rattle.lock_names.specs.Table.{bound_of}
 use Rattle.lock_names.specs.Names.{Bound, kept}
-use Rattle.pinned_names.specs.Promises.{AreBound}
+use Rattle.lock_names.specs.Promises.{AreBound}
 use Rattle.lock_names.proofs.Asking.{view_lock}
 use Rattle.lock_names.proofs.Keeping.{kept_stays}
 use Rattle.lock_names.proofs.Taking.{set_same}

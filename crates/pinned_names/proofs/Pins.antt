@@ -10,11 +10,11 @@ use Rattle.held_locks.proofs.Adding.{get_front}
 use Rattle.lock_names.specs.Names.{Bound, Named, NamedInput, Of, Again, More, NamedStep, token_in, of_ring, found, fresh, kept, stays, at_ring, step_named}
 use Rattle.lock_names.proofs.Fitting.{Fits}
 use Rattle.lock_names.proofs.Keeping.{kept_stays}
-use Rattle.pinned_names.proofs.Bounds.{by_step}
+use Rattle.lock_names.proofs.Fitting.{by_step}
 use Rattle.name_bindings.proofs.Found.{same_name, own_name, some_same, none_some, found_at}
 use Rattle.name_bindings.proofs.Places.{get_set_same, get_set_other}
 use Rattle.pinned_names.specs.Pinned.{Pinned, Asks, Pin, Unpin, is_among, without, as_named, fixed_for, pinned, pinned_at, names_unpinned, step_pinned}
-use Rattle.pinned_names.specs.Promises.{AreBound}
+use Rattle.lock_names.specs.Promises.{AreBound}
 
 -- ---- the names of a list
 

@@ -7,8 +7,9 @@ use Rattle.lock_names.specs.Promises.{IsBelow, Rise, tokens_said}
 use Rattle.name_bindings.proofs.Found.{some_same, none_some, found_at}
 use Rattle.name_bindings.proofs.Places.{get_set_same, get_set}
 use Rattle.pinned_names.specs.Pinned.{Pinned, PinnedInput, Asks, Pin, Unpin, as_named, fixed_for, pinned, pinned_at, names_unpinned, step_pinned}
-use Rattle.pinned_names.specs.Promises.{AreBound, tokens_of, TokensRise, PinnedBeginAbove}
-use Rattle.pinned_names.proofs.Telling.{last, goes, rise_append}
+use Rattle.lock_names.specs.Promises.{AreBound}
+use Rattle.pinned_names.specs.Promises.{tokens_of, TokensRise, PinnedBeginAbove}
+use Rattle.lock_names.proofs.Rising.{last, goes, rise_append}
 use Rattle.pinned_names.proofs.Standing.{there, bound_at, pinned_step}
 
 abbrev AreBelow : ℕ → List ℕ → List Lock → List (Option Bound) → Type 0

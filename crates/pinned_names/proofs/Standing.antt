@@ -14,8 +14,9 @@ use Rattle.name_bindings.specs.Bindings.{AreNamedOnce}
 use Rattle.name_bindings.proofs.Found.{own_name, some_same, none_some, pushed, unlike, found_at, found_there}
 use Rattle.name_bindings.proofs.Places.{get_set_same, get_set}
 use Rattle.pinned_names.specs.Pinned.{Pinned, PinnedInput, Asks, Pin, Unpin, is_among, without, as_named, fixed_for, pinned, pinned_at, names_unpinned, step_pinned, pinned_after}
-use Rattle.pinned_names.specs.Promises.{IsBoundOrFree, AreBound, IsPinned, IsAllowed, AreAllowed, PinnedStays, StaysPinned, PinnedAreKept, StaysHeld, HeldAreKept}
-use Rattle.pinned_names.proofs.Bounds.{no_client, some_client, once_set, fits_bound, fits_unbound, by_step, Suits, bound_step}
+use Rattle.lock_names.specs.Promises.{IsBoundOrFree, AreBound}
+use Rattle.pinned_names.specs.Promises.{IsPinned, IsAllowed, AreAllowed, PinnedStays, StaysPinned, PinnedAreKept, StaysHeld, HeldAreKept}
+use Rattle.lock_names.proofs.Fitting.{no_client, some_client, once_set, fits_bound, fits_unbound, by_step, Suits, bound_step}
 use Rattle.pinned_names.proofs.Pins.{own_among, more_among, one_or_among, others_among, left_among, HasName, pinned_stays, held_stays, pin_stays, unpin_stays}
 
 -- ---- the rings

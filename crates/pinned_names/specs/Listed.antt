@@ -3,7 +3,7 @@ use Rattle.std.specs.Prelude.{◌≡◌, ℕ, Bool, ◌||◌, if◌then◌else�
 use Rattle.held_locks.specs.declared.answers.Holder.{Holder}
 use Rattle.held_locks.specs.Kept.{LockView, locks_of}
 use Rattle.lock_names.specs.Names.{Bound, kept}
-use Rattle.pinned_names.specs.Promises.{AreBound}
+use Rattle.lock_names.specs.Promises.{AreBound}
 use Rattle.pinned_names.specs.Pinned.{Pinned, PinnedInput, Unpin, pinned_after}
 
 -- the state of rings that are kept so

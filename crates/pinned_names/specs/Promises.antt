@@ -1,29 +1,14 @@
 -- What the machine with pinned names promises, over every list of inputs (this project's own).
-use Rattle.std.specs.Prelude.{◌≡◌, ℕ, true, false, List, [], ◌∷◌, ◌++◌, length, slice_get, Option, Some, None, is_some}
+use Rattle.std.specs.Prelude.{◌≡◌, ℕ, true, false, List, [], ◌∷◌, ◌++◌, slice_get, Option, Some, None, is_some}
 use Rattle.std.specs.Str.{bytes_eq}
 use Rattle.ring_model.specs.Ring.{IsRing, is_settled}
 use Rattle.held_locks.specs.Queues.{Lock, holder_of}
-use Rattle.held_locks.specs.Promises.{AreRight}
-use Rattle.name_bindings.specs.Bindings.{AreNamedOnce}
 use Rattle.lock_names.specs.Names.{Bound, Named, NamedInput, Of, Again, More, found, grants_at, step_named}
-use Rattle.lock_names.specs.Promises.{IsRightBound, IsNamed, IsBelow, Rise, tokens_said}
+use Rattle.lock_names.specs.Promises.{AreBound, IsNamed, IsBelow, Rise, tokens_said}
 use Rattle.lock_names.specs.Restored.{IsOfFixed}
 use Rattle.pinned_names.specs.Pinned.{Pinned, PinnedInput, Asks, Pin, Unpin, is_among, as_named, taken, step_pinned, pinned_after}
 
 -- ---- what is true at every moment
-
--- a ring is bound right if it has a name, and nobody holds it if it has none
-abbrev pub IsBoundOrFree : ℕ → Lock → Option Bound → Type 0
-IsBoundOrFree top l None = l.holder ≡ None
-IsBoundOrFree top l (Some b) = IsRightBound top l b
-
--- the locks are right, so is each ring, and no two have one name
-pub record AreBound (ls : List Lock) (os : List (Option Bound)) (top : ℕ) : Type 0 where
-  pub right : AreRight ls
-  pub many : length os ≡ length ls
-  pub each : (i : ℕ) (l : Lock) (o : Option Bound) → slice_get ls i ≡ Some l
-      → slice_get os i ≡ Some o → IsBoundOrFree top l o
-  pub once : AreNamedOnce os
 
 -- The rings are bound right; one that has a name is held, or its name is pinned; and each pinned name
 -- has a ring.
