@@ -68,6 +68,7 @@ first_untaken n all old mid place line rest back (fault.Segment m e) h next is =
 first_untaken n all old mid place line rest back (fault.OtherRing i) h next is = absurd is
 first_untaken n all old mid place line rest back (fault.Full i) h next is = absurd is
 first_untaken n all old mid place line rest back fault.NoPool h next is = absurd is
+first_untaken n all old mid place line rest back (fault.Judged m why) h next is = absurd is
 first_untaken n all old mid place line rest back (fault.Names why) h next is = absurd is
 first_untaken n all old mid place line rest back (fault.Holder l) h next is = absurd is
 first_untaken n all old mid place line rest back fault.Unsaved h next is = absurd is

@@ -1,6 +1,6 @@
 -- The lines of the last file of a folder that are kept when locks by any name start, and what they
 -- record of names (this project's own).
-use Rattle.std.specs.Prelude.{◌≡◌, ◌≢◌, ℕ, ◌+◌, List, [], ◌∷◌, ◌++◌, length, slice_get, false, Some, None, Ok, Err, ◌⊎◌}
+use Rattle.std.specs.Prelude.{◌≡◌, ◌≢◌, ℕ, ◌+◌, List, [], ◌∷◌, ◌++◌, length, slice_get, true, false, Some, None, Ok, Err, ◌⊎◌}
 use Rattle.journal.specs.Recovery.{has_line_end}
 use Rattle.segment_files.specs.declared.last.LastSegment.{LastSegment}
 use Rattle.segment_files.specs.declared.errors.SegmentError.TheVariants as segment
@@ -11,6 +11,7 @@ use Rattle.held_locks.specs.Kept.{LockView}
 use Rattle.name_remarks.specs.Remarks.{Binding, bind, IsRemark}
 use Rattle.name_remarks.specs.Bindings.{Bindings, AreTakenIn, IsNotTakenIn}
 use Rattle.name_remarks.specs.declared.recorded.NotTaken.{NotTaken}
+use Rattle.judged_files.specs.Judging.{IsJudgedFolder, IsUnaccepted}
 use Rattle.folder_of_locks.specs.declared.faults.StartFault.{StartFault}
 use Rattle.folder_of_locks.specs.declared.faults.StartFault.TheVariants as fault
 
@@ -98,3 +99,17 @@ IsRemarkFault n lines old (fault.Remark m number why) =
     (m ≡ n) × IsFirstUntaken lines old number why
 IsRemarkFault n lines old fault.OutOfMemory = Unit {0}
 IsRemarkFault n lines old _ = ⊥
+
+-- ---- what the judge of names says of them
+
+-- The lines may be those of the only file of a folder with these fixed locks: nothing in them is
+-- refused.
+abbrev pub AreRightLines : List (List ℕ) → List ℕ → Type 0
+AreRightLines fixed lines = IsJudgedFolder fixed (lines ∷ [])
+
+-- they are those of the segment of this number, and are refused
+abbrev pub AreWrongLines : List (List ℕ) → ℕ → List ℕ → StartFault → Type 0
+AreWrongLines fixed n lines (fault.Judged m why) =
+    (m ≡ n) × IsUnaccepted fixed None lines true why
+AreWrongLines fixed n lines fault.OutOfMemory = Unit {0}
+AreWrongLines fixed n lines _ = ⊥

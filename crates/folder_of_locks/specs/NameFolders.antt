@@ -1,5 +1,5 @@
 -- Where locks by any name start in a folder (this project's own).
-use Rattle.std.specs.Prelude.{◌≡◌, ℕ, ◌-◌, nat_le, if◌then◌else◌, List, [], length, Bool, true, false, Option, Some, None, is_some, option_map, Ok, Err, ◌⊎◌}
+use Rattle.std.specs.Prelude.{◌≡◌, ℕ, ◌+◌, ◌-◌, ◌<◌, ◌≤◌, nat_le, if◌then◌else◌, List, [], length, Bool, true, false, Option, Some, None, is_some, option_map, Ok, Err, ◌⊎◌}
 use Rattle.std.specs.Str.{IsUtf8}
 use Rattle.disks.specs.Held.{Held, Replaces, IsHeld}
 use Rattle.disks.specs.Folders.{Lists, is_among, names_of}
@@ -13,7 +13,7 @@ use Rattle.line_service.specs.declared.segment_numbers.SegmentNumbers.{SegmentNu
 use Rattle.segment_files.specs.Spelling.{no_digest}
 use Rattle.segment_files.specs.Remarks.{lines_in}
 use Rattle.segment_files.specs.declared.last.LastSegment.{LastSegment}
-use Rattle.held_locks.specs.Kept.{LockView}
+use Rattle.held_locks.specs.Kept.{LockView, lock_limit}
 use Rattle.lock_names.specs.Sizes.{least_pool}
 use Rattle.lock_names.specs.Kept.{NamedView}
 use Rattle.name_remarks.specs.Bindings.{Bindings, nothing, AreTakenIn}
@@ -25,7 +25,7 @@ use Rattle.folder_of_locks.specs.Rings.{AreBegun, AreRingsRefused}
 use Rattle.folder_of_locks.specs.declared.faults.StartFault.{StartFault}
 use Rattle.folder_of_locks.specs.declared.faults.StartFault.TheVariants as fault
 use Rattle.folder_of_locks.specs.Folders.{locks_file, IsUnread, IsListless}
-use Rattle.folder_of_locks.specs.Fronts.{IsFront, IsFrontFault, AreKeptLines, IsRemarkFault}
+use Rattle.folder_of_locks.specs.Fronts.{IsFront, IsFrontFault, AreKeptLines, IsRemarkFault, AreRightLines, AreWrongLines}
 use Rattle.folder_of_locks.specs.NameRings.{with_rings, AreNamed, AreUnnamed, front_text}
 use Rattle.folder_of_locks.specs.Holders.{Hold}
 use Rattle.folder_of_locks.specs.NameHolders.{AreHandedByName, IsNameUnhanded}
@@ -60,8 +60,13 @@ first_pool most = if nat_le least_pool most then least_pool else most
 abbrev pub AreFirst : List Listed → Size → ℕ → List LockView → Type 0
 AreFirst ls z most vs = AreBegun [] [] (with_rings ls z (first_pool most)) vs
 
+-- with its rings there are no more locks than there may be
+abbrev pub HasRoom : List Listed → ℕ → Type 0
+HasRoom ls most = length ls + first_pool most ≤ lock_limit
+
 -- In the first segment of all: no ring of the pool has a name.
 pub record AreNamedFirst (ls : List Listed) (z : Size) (most : ℕ) (p : NamePlace) : Type 0 where
+  pub room : HasRoom ls most
   pub locks : List LockView
   pub begun : AreFirst ls z most locks
   pub named : AreNamed locks (names_in ls) [] (nothing (length locks)) p.names
@@ -76,10 +81,11 @@ AreOfSegment s ls z vs =
     AreBegun s.head.bases.items s.saved.rings.items
     (with_rings ls z (length s.saved.rings.items - length ls)) vs
 
--- The locks have the names that the lines record that are kept of this segment, and what these lines
--- miss is added.
+-- The lines that are kept of this segment are right. The locks have the names that they record, and
+-- what they miss is added.
 pub record AreToldIn (n : ℕ) (kept : List ℕ) (s : LastSegment) (ls : List Listed) (z : Size)
     (vs : List LockView) (p : NamePlace) : Type 0 where
+  pub right : AreRightLines (names_in ls) kept
   pub told : Bindings
   pub taken : AreTakenIn (lines_in kept) (nothing (length vs)) told
   pub named : AreNamed vs (names_in ls) s.head.bases.items told p.names
@@ -122,22 +128,29 @@ AreNamedAt files folder (Some r) ls z most p = AreNamedLast files folder r.last 
 -- ---- why they do not
 
 -- the rings are refused, or they cannot have their names
-abbrev pub IsFirstNamesFault : List Listed → Size → ℕ → StartFault → Type 0
-IsFirstNamesFault ls z most e =
+abbrev pub IsFirstRingsFault : List Listed → Size → ℕ → StartFault → Type 0
+IsFirstRingsFault ls z most e =
     AreRingsRefused [] [] (with_rings ls z (first_pool most)) e
     ⊎ ((e ≡ fault.OutOfMemory)
     ⊎ ((vs : List LockView)
     × AreFirst ls z most vs
     × AreUnnamed vs (names_in ls) [] (nothing (length vs)) e))
 
--- of the lines that are kept one is not taken in, or what they record is not right
+-- There are more locks than there may be; or their rings are refused, or cannot have their names.
+abbrev pub IsFirstNamesFault : List Listed → Size → ℕ → StartFault → Type 0
+IsFirstNamesFault ls z most e =
+    ((e ≡ fault.ManyLocks) × (lock_limit < length ls + first_pool most))
+    ⊎ (HasRoom ls most × IsFirstRingsFault ls z most e)
+
+-- the lines that are kept are refused, or one is not taken in, or what they record is not right
 abbrev pub IsTellingFault : ℕ → List ℕ → LastSegment → List Listed → List LockView → StartFault
     → Type 0
 IsTellingFault n kept s ls vs e =
-    IsRemarkFault n (lines_in kept) (nothing (length vs)) e
+    AreWrongLines (names_in ls) n kept e
+    ⊎ (IsRemarkFault n (lines_in kept) (nothing (length vs)) e
     ⊎ ((told : Bindings)
     × AreTakenIn (lines_in kept) (nothing (length vs)) told
-    × AreUnnamed vs (names_in ls) s.head.bases.items told e)
+    × AreUnnamed vs (names_in ls) s.head.bases.items told e))
 
 abbrev pub IsNamingFault : ℕ → List ℕ → LastSegment → List Listed → Size → StartFault → Type 0
 IsNamingFault n front s ls z e =

@@ -1,6 +1,7 @@
 //! Why the locks of a folder do not start.
 
 use crate::locks::ListError;
+use judged_files::JudgeError;
 use line_service::FolderError;
 use lock_names::NotRestored;
 use name_remarks::NotTaken;
@@ -21,7 +22,7 @@ pub enum StartFault {
     UnreadLocks,
     /// It is not that of a list of locks.
     BadLocks,
-    /// It is that of more locks than there may be.
+    /// It is that of more locks than there may be, or they are with the rings with which its pool begins.
     ManyLocks,
     /// The lock at this place in the folder is not the one that is named, or none is named there.
     OtherLock(usize),
@@ -38,6 +39,8 @@ pub enum StartFault {
     /// In the last segment, which has the first number, the line of the second number, from 1, says
     /// something of names, and is misspelled or about a ring that is not there.
     Remark(u64, u64, NotTaken),
+    /// The judge of names refuses the last segment, which has this number.
+    Judged(u64, JudgeError),
     /// The names that its lines record are not those of its rings.
     Names(NotRestored),
     /// The hold on this line of the holders, from 1, is not open.

@@ -1,14 +1,15 @@
-//! The lines of the last file of a folder that are kept, and what they record of names.
+//! The lines of the last file of a folder that are kept: whether the judge of names accepts them, and what they record.
 
-ghost use Rattle.std.specs.Prelude.{◌≡◌, ◌≤◌, true, false, length, take, IfOk, IfErr, OnOk};
+ghost use Rattle.std.specs.Prelude.{◌≡◌, ◌≤◌, true, false, length, map, take, IfOk, IfErr, OnOk, string_bytes};
 ghost use Rattle.segment_files.specs.RemarkLaws.{AreLines};
 ghost use Rattle.segment_files.specs.Remarks.{lines_in};
 ghost use Rattle.name_remarks.specs.Bindings.{nothing, IsTakenIn, AreTakenIn};
-ghost use Rattle.folder_of_locks.specs.Fronts.{IsUnheld, IsTornBinding, AreKeptLines, IsLineFault, IsRemarkFault};
+ghost use Rattle.folder_of_locks.specs.Fronts.{IsUnheld, IsTornBinding, AreKeptLines, IsLineFault, IsRemarkFault, AreRightLines, AreWrongLines};
 
 use crate::faults::StartFault;
 use crate::fronts::lines_end;
 use held_locks::Locks;
+use judged_files::{FolderJudge, JudgeError};
 use name_remarks::{NameRemark, NotTaken, Recorded, read_name_remark};
 use segment_files::split_line;
 use std::alloc::Global;
@@ -55,6 +56,25 @@ pub(crate) fn kept_end(lines: &[u8], locks: &Locks) -> usize
         start
     } else {
         lines.len()
+    }
+}
+
+/// Judges these lines of the segment of this number, as those of the only file of a folder with these fixed locks. So a start
+/// takes none that `check` refuses in that segment from then on.
+pub(crate) fn judge_kept(
+    alloc: Global,
+    number: u64,
+    lines: &[u8],
+    fixed: &[String],
+) -> Result<(), StartFault>
+    ensures ok { OnOk result (AreRightLines (map string_bytes fixed.now) lines.now) }
+    ensures err { IfErr result
+        (λ e. AreWrongLines (map string_bytes fixed.now) number lines.now e) }
+{
+    match FolderJudge::new().with_file(alloc, fixed, lines, true) {
+        Ok(_judged) => Ok(()),
+        Err(JudgeError::OutOfMemory) => Err(StartFault::OutOfMemory),
+        Err(why) => Err(StartFault::Judged(number, why)),
     }
 }
 

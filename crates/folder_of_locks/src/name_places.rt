@@ -1,7 +1,8 @@
 //! Where locks by any name start.
 
-ghost use Rattle.std.specs.Prelude.{◌≡◌, ◌⊎◌, ◌<◌, ◌≤◌, ◌-◌, map, length, take, IfOk, IfErr, All};
+ghost use Rattle.std.specs.Prelude.{◌≡◌, ◌⊎◌, ◌<◌, ◌≤◌, ◌+◌, ◌-◌, map, length, take, true, false, IfOk, IfErr, All};
 ghost use Rattle.ring_model.specs.Bases.{IsBase};
+ghost use Rattle.held_locks.specs.Kept.{lock_limit};
 ghost use Rattle.segment_files.specs.RemarkLaws.{AreLines};
 ghost use Rattle.segment_files.specs.Spelling.{DigestFits};
 ghost use Rattle.folder_of_locks.specs.Lists.{listed};
@@ -11,14 +12,14 @@ ghost use Rattle.folder_of_locks.specs.NameFolders.{name_place_of, first_pool, A
 
 use crate::faults::StartFault;
 use crate::fronts::{Front, front_of};
-use crate::kept_lines::{kept_end, recorded_of};
+use crate::kept_lines::{judge_kept, kept_end, recorded_of};
 use crate::locks::ListedLock;
 use crate::missing_lines::front_text;
 use crate::name_rings::{named, texts_of, with_rings};
 use crate::places::segment_bytes;
 use crate::rings::locks_of;
 use disks::Disk;
-use held_locks::Locks;
+use held_locks::{LOCK_LIMIT, Locks};
 use line_service::SegmentNumbers;
 use lock_names::{LEAST_POOL, Names};
 use name_remarks::Recorded;
@@ -51,6 +52,17 @@ fn first_pool(most: u32) -> usize
     }
 }
 
+/// Whether there may be as many locks as this list has, and as many more.
+fn has_room(list: &[ListedLock<'_>], more: usize) -> bool
+    ensures yes { result ≡ true → length list.now + more ≤ lock_limit }
+    ensures no { result ≡ false → lock_limit < length list.now + more }
+{
+    match list.len().checked_add(more) {
+        Some(all) => all <= LOCK_LIMIT,
+        None => false,
+    }
+}
+
 /// Locks by any name in the first segment of all.
 fn first_names(
     alloc: Global,
@@ -64,7 +76,11 @@ fn first_names(
     ensures some { IfOk result (λ start. 0 < start.number) }
     ensures err { IfErr result (λ e. IsFirstNamesFault (map listed list.now) size most e) }
 {
-    let Ok(all) = with_rings(alloc, list, size, first_pool(most)) else {
+    let pool = first_pool(most);
+    if !has_room(list, pool) {
+        return Err(StartFault::ManyLocks);
+    }
+    let Ok(all) = with_rings(alloc, list, size, pool) else {
         return Err(StartFault::OutOfMemory);
     };
     let locks = match locks_of(alloc, &all, &[], &[]) {
@@ -132,12 +148,16 @@ fn named_after(
     ensures err { IfErr result (λ e. (e ≡ StartFault.OutOfMemory)
         ⊎ IsTellingFault number kept.now last.now (map listed list.now) locks e) }
 {
+    let Ok(fixed) = texts_of(alloc, list) else {
+        return Err(StartFault::OutOfMemory);
+    };
+    match judge_kept(alloc, number, kept, &fixed) {
+        Ok(()) => {}
+        Err(fault) => return Err(fault),
+    }
     let recorded = match recorded_of(alloc, number, kept, locks.count()) {
         Ok(recorded) => recorded,
         Err(fault) => return Err(fault),
-    };
-    let Ok(fixed) = texts_of(alloc, list) else {
-        return Err(StartFault::OutOfMemory);
     };
     let count = list.len() as u32;
     let Ok(front) = front_text(alloc, kept, &recorded, &last.saved.rings, &locks, count) else {

@@ -254,8 +254,8 @@ fn start_in<D: Disk>(
 /// # Errors
 ///
 /// `Folder` if a name in the folder is not allowed there; `NoLocks`, `NoLocksFile`, `UnreadLocks`, `BadLocks`, `ManyLocks`, `Word`,
-/// `OtherLock`, `NoPool` for the list; `UnreadSegment`, `Segment`, `OtherRing`, `Full`, `Remark`, `Names` for the last
-/// segment; `Holder` for a hold that is not open; `Unsaved`, `OutOfMemory`. Every file is as it was then.
+/// `OtherLock`, `NoPool` for the list; `UnreadSegment`, `Segment`, `OtherRing`, `Full`, `Judged`, `Remark`, `Names` for the
+/// last segment; `Holder` for a hold that is not open; `Unsaved`, `OutOfMemory`. Every file is as it was then.
 pub fn start_names<D: Disk>(
     alloc: Global,
     disk: &mut D,

@@ -81,6 +81,7 @@ unknown_why words files (start.OtherRing i) h = by_folder words files (start.Oth
 unknown_why words files (start.Full i) h = by_folder words files (start.Full i) (λ w x. x) h
 unknown_why words files start.NoPool h = by_folder words files start.NoPool (λ w x. x) h
 unknown_why words files (start.Remark n l cause) h = by_folder words files (start.Remark n l cause) (λ w x. x) h
+unknown_why words files (start.Judged n why) h = by_folder words files (start.Judged n why) (λ w x. x) h
 unknown_why words files (start.Names cause) h = by_folder words files (start.Names cause) (λ w x. x) h
 unknown_why words files (start.Holder l) h = by_folder words files (start.Holder l) (λ w x. x) h
 unknown_why words files start.Unsaved h = by_folder words files start.Unsaved (λ w x. x) h

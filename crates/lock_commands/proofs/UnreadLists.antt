@@ -22,10 +22,13 @@ use Rattle.folder_of_locks.specs.declared.faults.StartFault.TheVariants as start
 use Rattle.folder_of_locks.specs.Folders.{Place, IsFileRefusal, IsListless, IsPlaceFault, IsHandingFault, IsStartRefusal, AreUnstarted}
 use Rattle.folder_of_locks.specs.Rings.{IsRingFault, IsFull, AreRingsRefused}
 use Rattle.tool_parts.specs.declared.requests.LocksWords.{LocksWords}
+use Rattle.judged_files.specs.declared.faults.JudgeError.{JudgeError}
+use Rattle.judged_files.specs.declared.faults.JudgeError.TheVariants as refused
 use Rattle.tool_parts.specs.Chained.{IsFolderFault}
 use Rattle.tool_parts.specs.Worlds.{World}
 use Rattle.tool_parts.specs.declared.faults.ToolError.{ToolError}
 use Rattle.tool_parts.specs.declared.faults.ToolError.TheVariants as tool
+use Rattle.text_commands.specs.Judged.{IsJudgeFault}
 use Rattle.lock_commands.specs.Refusals.{fault_of_list, IsStartName, IsBeginName, IsLoopName, IsListIf}
 use Rattle.lock_commands.specs.HoldersFile.{holders_word, name_of, HasNoHolders}
 use Rattle.lock_commands.specs.Locks.{folder_of, list_of, IsUnbegun, IsRunRefused, IsStartRefused, IsRefusedIn, IsRefusedWith, IsLocksRefusal}
@@ -98,6 +101,12 @@ of_names folder (names.Irregular n) h = h
 of_names folder (names.Missing n) h = h
 of_names folder names.OutOfMemory h = h
 
+pub of_judge : (folder : List ℕ) (n : ℕ) (why : JudgeError) → IsJudgeFault folder n why tool.BadList → ⊥
+of_judge folder n (refused.Line at cause) h = h
+of_judge folder n (refused.NoHold ring at) h = h
+of_judge folder n (refused.Segment error) h = h
+of_judge folder n refused.OutOfMemory h = h
+
 of_list : (files : Option Held) (folder : List ℕ) (word : Option (List ℕ)) (holders : List Hold) (error : ListError) → IsListIf word → AreUnstarted files folder word holders (start.Word error) →
     tool.BadList ≡ fault_of_list error → ⊥
 of_list files folder word holders list.Syntax listed refused h = of_word files folder word holders listed refused
@@ -122,6 +131,7 @@ of_fault files folder file word holders (start.OtherRing i) listed refused h = h
 of_fault files folder file word holders (start.Full i) listed refused h = h
 of_fault files folder file word holders start.NoPool listed refused h = h
 of_fault files folder file word holders (start.Remark n l cause) listed refused h = h
+of_fault files folder file word holders (start.Judged n why) listed refused h = of_judge folder n why h
 of_fault files folder file word holders (start.Names cause) listed refused h = h
 of_fault files folder file word holders (start.Holder l) listed refused h = h
 of_fault files folder file word holders start.Unsaved listed refused h = h

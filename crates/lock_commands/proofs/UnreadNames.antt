@@ -31,7 +31,7 @@ use Rattle.lock_commands.specs.Locks.{folder_of, list_of}
 use Rattle.lock_commands.specs.NamesStarted.{NamesService}
 use Rattle.lock_commands.specs.NameRuns.{IsUnended, HasNotBegunFrom, AreNamesUnbegun, IsNamesRunRefused, AreNamesStartRefused, AreNamesRefusedIn, AreNamesRefusedWith, IsNamesRefusal}
 use Rattle.lock_commands.specs.Lending.{IsFolderUnknown, IsRefusedUnknown, IsLendingRefusal}
-use Rattle.lock_commands.proofs.UnreadLists.{is_word, is_list, of_rings, of_listless, of_names, of_begin, of_loop, of_holders, unread_list_keeps}
+use Rattle.lock_commands.proofs.UnreadLists.{is_word, is_list, of_rings, of_listless, of_names, of_judge, of_begin, of_loop, of_holders, unread_list_keeps}
 
 -- ---- a word that is a list is not refused as none
 
@@ -39,13 +39,15 @@ of_unnamed : (vs : List LockView) (ns : List (List ℕ)) (bs : List Base) (t : B
 of_unnamed vs ns bs t e h = h
 
 of_first : (ls : List Listed) (z : Size) (most : ℕ) (e : ListError) → IsFirstNamesFault ls z most (start.Word e) → ⊥
-of_first ls z most e (inl h) = of_rings [] [] (with_rings ls z (first_pool most)) e h
-of_first ls z most e (inr (inl h)) = false≢true (sym (ap is_word h))
-of_first ls z most e (inr (inr (vs, first, h))) = of_unnamed vs (names_in ls) [] (nothing (length vs)) e h
+of_first ls z most e (inl (same, many)) = false≢true (sym (ap is_word same))
+of_first ls z most e (inr (room, inl h)) = of_rings [] [] (with_rings ls z (first_pool most)) e h
+of_first ls z most e (inr (room, inr (inl h))) = false≢true (sym (ap is_word h))
+of_first ls z most e (inr (room, inr (inr (vs, first, h)))) = of_unnamed vs (names_in ls) [] (nothing (length vs)) e h
 
 of_telling : (n : ℕ) (kept : List ℕ) (s : LastSegment) (ls : List Listed) (vs : List LockView) (e : ListError) → IsTellingFault n kept s ls vs (start.Word e) → ⊥
 of_telling n kept s ls vs e (inl h) = h
-of_telling n kept s ls vs e (inr (told, taken, h)) = of_unnamed vs (names_in ls) s.head.bases.items told e h
+of_telling n kept s ls vs e (inr (inl h)) = h
+of_telling n kept s ls vs e (inr (inr (told, taken, h))) = of_unnamed vs (names_in ls) s.head.bases.items told e h
 
 of_naming : (n : ℕ) (front : List ℕ) (s : LastSegment) (ls : List Listed) (z : Size) (e : ListError) → IsNamingFault n front s ls z (start.Word e) → ⊥
 of_naming n front s ls z e (inl h) = of_rings s.head.bases.items s.saved.rings.items (with_rings ls z (length s.saved.rings.items - length ls)) e h
@@ -120,6 +122,7 @@ of_fault files folder file word most holders (start.OtherRing i) listed refused 
 of_fault files folder file word most holders (start.Full i) listed refused h = h
 of_fault files folder file word most holders start.NoPool listed refused h = h
 of_fault files folder file word most holders (start.Remark n l cause) listed refused h = h
+of_fault files folder file word most holders (start.Judged n why) listed refused h = of_judge folder n why h
 of_fault files folder file word most holders (start.Names cause) listed refused h = h
 of_fault files folder file word most holders (start.Holder l) listed refused h = h
 of_fault files folder file word most holders start.Unsaved listed refused h = h
@@ -182,6 +185,7 @@ of_why words files folder file (start.OtherRing i) found h = h
 of_why words files folder file (start.Full i) found h = h
 of_why words files folder file start.NoPool found h = h
 of_why words files folder file (start.Remark n l cause) found h = h
+of_why words files folder file (start.Judged n why) found h = of_judge folder n why h
 of_why words files folder file (start.Names cause) found h = h
 of_why words files folder file (start.Holder l) found h = h
 of_why words files folder file start.Unsaved found h = h

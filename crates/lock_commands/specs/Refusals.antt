@@ -19,6 +19,7 @@ use Rattle.line_service.specs.declared.segmented.EndFault.TheVariants as end
 use Rattle.tool_parts.specs.declared.faults.ToolError.{ToolError}
 use Rattle.tool_parts.specs.declared.faults.ToolError.TheVariants as tool
 use Rattle.tool_parts.specs.Chained.{IsFolderFault}
+use Rattle.text_commands.specs.Judged.{IsJudgeFault}
 
 -- the fault of a size
 abbrev pub cause_of : ParamsError → RingCause
@@ -62,6 +63,7 @@ IsStartName folder file (start.Full i) (tool.Full place) = place ≡ i
 IsStartName folder file start.NoPool (tool.BadLocks named) = named.now ≡ folder
 IsStartName folder file (start.Remark n l why) (tool.WrongNames named number line cause) =
     (named.now ≡ folder) × (number ≡ n) × (line ≡ l) × (cause.now ≡ remark_cause why)
+IsStartName folder file (start.Judged n why) e = IsJudgeFault folder n why e
 IsStartName folder file (start.Names why) (tool.BadNames named) = named.now ≡ folder
 IsStartName folder file (start.Holder l) (tool.NoOpenHold named line) =
     (named.now ≡ file) × (line ≡ l)

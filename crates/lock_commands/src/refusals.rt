@@ -9,6 +9,7 @@ use line_service::{EndFault, FolderError, LoopFault};
 use name_remarks::NotTaken;
 use ring_settings::RingCause;
 use ring_state::ParamsError;
+use text_commands::names::judge_fault;
 use tool_parts::faults::ToolError;
 
 /// The fault of a size.
@@ -82,6 +83,7 @@ pub(crate) fn start_refusal<'a>(fault: StartFault, folder: &'a str, file: &'a st
         StartFault::Remark(number, line, why) => {
             ToolError::WrongNames(folder, number, line, remark_cause(why))
         }
+        StartFault::Judged(number, why) => judge_fault(folder, number, why),
         StartFault::Names(_) => ToolError::BadNames(folder),
         StartFault::Holder(line) => ToolError::NoOpenHold(file, line),
         StartFault::Unsaved => ToolError::Save(folder),

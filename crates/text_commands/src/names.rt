@@ -22,7 +22,7 @@ use tool_parts::faults::ToolError;
 use tool_parts::looks::{MOST_LOOKS, has_gone};
 
 /// The program's name for a refusal of the file of a segment.
-fn judge_fault(folder: &str, number: u64, error: JudgeError) -> ToolError<'_>
+pub fn judge_fault(folder: &str, number: u64, error: JudgeError) -> ToolError<'_>
     ensures { IsJudgeFault folder.now number error result }
 {
     match error {
