@@ -7,13 +7,10 @@ its stream (O'Neill, "PCG: a family of simple fast space-efficient statistically
 
 import argparse
 import collections
-import json
 import sys
 from dataclasses import dataclass
 
 DAEMONS = ("random", "first", "last", "turn", "slow", "groups")
-DRAWING = ("random", "groups")
-MOST_STATES = 100_000_000
 MASK_64 = 2**64 - 1
 MULTIPLIER = 6364136223846793005
 MOST_WORDS = 64
@@ -220,7 +217,8 @@ def size_of(word):
     return int(n), int(k or n)
 
 
-def main():
+def asked_by(words):
+    """What these words ask for: how, of which sizes, and whether with a histogram."""
     parser = argparse.ArgumentParser(description=__doc__, formatter_class=argparse.RawDescriptionHelpFormatter)
     parser.add_argument("sizes", nargs="+", type=size_of)
     parser.add_argument("--from", dest="start", default="any")
@@ -228,11 +226,14 @@ def main():
     parser.add_argument("--trials", type=int)
     parser.add_argument("--seed", type=int, default=0)
     parser.add_argument("--histogram", action="store_true")
-    words = parser.parse_args()
+    words = parser.parse_args(words)
     start, _, faults = words.start.partition(":")
     trials = words.trials or (1 if start == "all" else 1000)
-    asked = Words(start, int(faults or 0), words.daemon, trials, words.seed)
-    for text in answer(asked, words.sizes, words.histogram):
+    return Words(start, int(faults or 0), words.daemon, trials, words.seed), words.sizes, words.histogram
+
+
+def main():
+    for text in answer(*asked_by(sys.argv[1:])):
         print(text)
 
 

@@ -39,7 +39,7 @@ Exit status: 0 if all was printed and written, 1 if a number is out of its limit
 fails, 2 after a usage error: a number is a decimal without a sign or leading zeros.";
 
 /// The arguments of `repairs`.
-static REPAIRS_ARGUMENTS: [Argument; 10] = [
+static REPAIRS_ARGUMENTS: [Argument; 11] = [
     Argument {
         id: "RINGS",
         long: None,
@@ -89,6 +89,14 @@ static REPAIRS_ARGUMENTS: [Argument; 10] = [
         help: "How many threads do the trials, 1 to 64; they print the same [default: 1]",
     },
     Argument {
+        id: "progress",
+        long: Some("progress"),
+        value_names: &["T"],
+        takes: Takes::LongNumber,
+        presence: Presence::Optional,
+        help: "Prints on standard error, after each T trials of a size, how many are done; 0 for never [default: 0]",
+    },
+    Argument {
         id: "histogram",
         long: Some("histogram"),
         value_names: &[],
@@ -117,7 +125,7 @@ static REPAIRS_ARGUMENTS: [Argument; 10] = [
         long: Some("picture"),
         value_names: &["FILE"],
         takes: Takes::Text,
-        presence: Presence::ConflictsWith(&["csv"]),
+        presence: Presence::Optional,
         help: "Also draws the passes in FILE, an SVG: of one size how often each number occurred, of more how they grow with N",
     },
 ];
@@ -164,10 +172,11 @@ fn lines_of(words: &ArgMatches<'_>) -> Lines {
     }
 }
 
-/// The file that is made.
+/// The files that are made.
 fn made_of<'a>(words: &ArgMatches<'a>) -> Made<'a> {
     match (words.get_str("csv"), words.get_str("picture")) {
-        (Some(name), _) => Made::Table(name),
+        (Some(table), Some(picture)) => Made::Both(table, picture),
+        (Some(name), None) => Made::Table(name),
         (None, Some(name)) => Made::Picture(name),
         (None, None) => Made::Nothing,
     }
@@ -210,6 +219,7 @@ pub(crate) fn repairs_words<'a>(
         seed: words.get_one::<u64>("seed").unwrap_or(0),
         threads: words.get_one::<u32>("threads").unwrap_or(1),
         lines: lines_of(words),
+        progress: words.get_one::<u64>("progress").unwrap_or(0),
         made: made_of(words),
     })))
 }

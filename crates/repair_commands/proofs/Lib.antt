@@ -1,2 +1,3 @@
 pub mod Reporting
+pub mod Noting
 pub mod Refusing

@@ -1,10 +1,12 @@
 -- The answer of `repairs`.
 use Rattle.std.specs.Prelude.{◌≡◌, ℕ, ◌≤◌, List, [], ◌∷◌, ◌++◌, length, Option, None, Some, ◌⊎◌, Bool, codes}
 use Rattle.std.specs.Io.KnownBytes.{Appends}
-use Rattle.std.specs.List.{All, filter}
+use Rattle.std.specs.List.{All, filter, flat_map}
 use Rattle.std.specs.Str.{bytes_eq}
+use Rattle.disks.specs.Held.{Held}
 use Rattle.ring_repairs.specs.Studies.{StudyData, IsStudy}
 use Rattle.repair_report.specs.Reports.{IsReport, AreCountsOf}
+use Rattle.repair_report.specs.Progress.{progress_text, IsNoted, IsNotedInPart}
 use Rattle.repair_report.specs.declared.writing.Lines.{Lines}
 use Rattle.repair_picture.specs.Growth.{growth_shapes}
 use Rattle.repair_picture.specs.Pages.{spread_page, growth_page}
@@ -12,7 +14,8 @@ use Rattle.repair_picture.specs.Spread.{spread_shapes}
 use Rattle.repair_picture.specs.declared.shapes.Shape.{Shape}
 use Rattle.repair_texts.specs.Columns.{table_of}
 use Rattle.repair_texts.specs.declared.columns.Row.{Row}
-use Rattle.repair_commands.specs.Wanted.{studies_given, AreThreads, IsWordsRefusal, IsThreadsRefusal}
+use Rattle.repair_threads.specs.Shares.{AreThreads}
+use Rattle.repair_commands.specs.Wanted.{studies_given, IsWordsRefusal, IsThreadsRefusal}
 use Rattle.tool_parts.specs.Named.{IsStored}
 use Rattle.tool_parts.specs.Worlds.{World}
 use Rattle.tool_parts.specs.Written.{AppendsFront}
@@ -60,11 +63,18 @@ IsPrintRefusal wanted studies old new (refusal.Tool tool.Write) = IsCut wanted s
 IsPrintRefusal wanted studies old new (refusal.Tool tool.OutOfMemory) = Unit {0}
 IsPrintRefusal wanted studies old new _ = ⊥
 
--- the name of the file that is made, if one is wanted
-abbrev pub made_file : Made → Option (List ℕ)
-made_file made.Nothing = None
-made_file (made.Table name) = Some name.now
-made_file (made.Picture name) = Some name.now
+-- the name of the file for the table, and that of the one for the picture, if they are wanted
+abbrev pub table_file : Made → Option (List ℕ)
+table_file made.Nothing = None
+table_file (made.Table name) = Some name.now
+table_file (made.Picture name) = None
+table_file (made.Both table picture) = Some table.now
+
+abbrev pub picture_file : Made → Option (List ℕ)
+picture_file made.Nothing = None
+picture_file (made.Table name) = None
+picture_file (made.Picture name) = Some name.now
+picture_file (made.Both table picture) = Some picture.now
 
 -- the rows of passes: those of rounds are left out
 abbrev pub is_of_passes : Row → Bool
@@ -86,20 +96,26 @@ page_of rows shapes = growth_page rows shapes
 abbrev pub picture_of : List Row → List ℕ → List ℕ
 picture_of rows counts = page_of rows (shapes_of rows counts)
 
--- the text of the file that is made
-abbrev pub made_text : Made → List Row → List ℕ → List ℕ
-made_text made.Nothing rows counts = []
-made_text (made.Table name) rows counts = table_of rows
-made_text (made.Picture name) rows counts = picture_of (of_passes rows) counts
+-- the files that are wanted hold the table and the picture of rows, which are made in this order
+abbrev pub AreStored : Made → List Row → List ℕ → Option Held → Option Held → Type 0
+AreStored made rows counts was is =
+    (between : Option Held)
+    × IsStored (table_file made) was between (table_of rows)
+    × IsStored (picture_file made) between is (picture_of (of_passes rows) counts)
 
 -- if there is one study, these are the counts of its trials
 abbrev pub AreCounts : List StudyData → List ℕ → Type 0
 AreCounts studies counts = (s : StudyData) → studies ≡ s ∷ [] → AreCountsOf s counts
 
--- Each study that the words ask for is one, the reports on them are printed, and the file that is
--- made, if one is wanted, holds just the table or the picture of their rows; every other file is as
--- it was. If there is one study, the counts are those of its trials.
-pub record IsRepairsAnswer (words : RepairsWords) (was is : World) : Type 0 where
+-- the lines that say how many trials are done, of each study
+abbrev pub all_progress : RepairsWords → List ℕ
+all_progress words = flat_map (progress_text words.progress) (studies_given words)
+
+-- Each study that the words ask for is one, the reports on them are printed, and the files that are
+-- made, if some are wanted, hold just the table and the picture of their rows; every other file is as
+-- it was. If there is one study, the counts are those of its trials. Standard error has the lines
+-- that say how many trials are done: all of them, if `told` says so.
+pub record IsRepairsAnswer (words : RepairsWords) (told : Bool) (was is : World) : Type 0 where
   pub some : 1 ≤ length (studies_given words)
   pub studies : All IsStudy (studies_given words)
   pub threads : AreThreads words.threads
@@ -107,7 +123,8 @@ pub record IsRepairsAnswer (words : RepairsWords) (was is : World) : Type 0 wher
   pub counts : List ℕ
   pub counted : AreCounts (studies_given words) counts
   pub printed : HavePrinted words.lines (studies_given words) rows was.out is.out
-  pub stored : IsStored (made_file words.made) was.files is.files (made_text words.made rows counts)
+  pub stored : AreStored words.made rows counts was.files is.files
+  pub noted : IsNoted (all_progress words) told was.err is.err
 
 -- the file that is made is that of standard output, or cannot be written, or there is no memory
 abbrev pub IsFileRefusal : Option (List ℕ) → Refusal → Type 0
@@ -116,12 +133,30 @@ IsFileRefusal file (refusal.Tool (tool.Save named)) = Some named.now ≡ file
 IsFileRefusal file (refusal.Tool tool.OutOfMemory) = Unit {0}
 IsFileRefusal file _ = ⊥
 
+-- Which refusals the files may meet: that of the table, and no file has changed; or that of the
+-- picture, and the table is made, if one is wanted.
+abbrev pub IsFilesRefusal : Made → List Row → Option Held → Option Held → Refusal → Type 0
+IsFilesRefusal made rows was is e =
+    (IsFileRefusal (table_file made) e × (is ≡ was))
+    ⊎ (IsFileRefusal (picture_file made) e × IsStored (table_file made) was is (table_of rows))
+
+-- nothing is printed, on either output, and no file has changed
+abbrev pub IsUntouched : World → World → Type 0
+IsUntouched was is = (is.out ≡ was.out) × (is.err ≡ was.err) × (is.files ≡ was.files)
+
+-- all reports are printed, and the files meet a refusal
+abbrev pub IsUnsaved : RepairsWords → World → World → Refusal → Type 0
+IsUnsaved words was is e =
+    (rows : List Row)
+    × HavePrinted words.lines (studies_given words) rows was.out is.out
+    × IsFilesRefusal words.made rows was.files is.files e
+
 -- Which refusals `repairs` may meet: those of its words, or else those of the number of threads, and
--- nothing is printed then; those of printing; and those of the file that is made. No file has
--- changed.
+-- nothing is printed then; those of printing, and no file has changed; and those of the files that
+-- are made. Standard error has a prefix of the lines that say how many trials are done.
 pub record IsRepairsRefusal (words : RepairsWords) (was is : World) (e : Refusal) : Type 0 where
-  pub why : (IsWordsRefusal words e × (is.out ≡ was.out))
-      ⊎ (All IsStudy (studies_given words) × IsThreadsRefusal words e × (is.out ≡ was.out))
-      ⊎ IsPrintRefusal words.lines (studies_given words) was.out is.out e
-      ⊎ IsFileRefusal (made_file words.made) e
-  pub kept : is.files ≡ was.files
+  pub why : (IsWordsRefusal words e × IsUntouched was is)
+      ⊎ (All IsStudy (studies_given words) × IsThreadsRefusal words e × IsUntouched was is)
+      ⊎ (IsPrintRefusal words.lines (studies_given words) was.out is.out e × (is.files ≡ was.files))
+      ⊎ IsUnsaved words was is e
+  pub noted : IsNotedInPart (all_progress words) was.err is.err

@@ -1,5 +1,5 @@
 -- The studies that the words of `repairs` ask for, and the refusals of the words.
-use Rattle.std.specs.Prelude.{◌≡◌, ◌<◌, ◌≤◌, ℕ, List, [], ◌∷◌, ◌++◌, length, map, Option, None, Some}
+use Rattle.std.specs.Prelude.{◌≡◌, ◌<◌, ℕ, List, [], ◌∷◌, ◌++◌, length, map, Option, None, Some}
 use Rattle.std.specs.List.{All}
 use Rattle.ring_settings.specs.Rings.{size_fault}
 use Rattle.ring_state.specs.Sizes.{Size, IsSize}
@@ -9,7 +9,8 @@ use Rattle.ring_repairs.specs.declared.studies.StudyError.TheVariants as fault
 use Rattle.ring_repairs.specs.Studies.{StudyData, IsStudy, IsFirstFault, study_with}
 use Rattle.tool_parts.specs.declared.requests.RingSize.{RingSize}
 use Rattle.tool_parts.specs.declared.faults.ToolError.TheVariants as tool
-use Rattle.repair_threads.specs.Shares.{thread_limit}
+use Rattle.repair_report.specs.declared.writing.Manner.{Manner}
+use Rattle.repair_threads.specs.Shares.{thread_limit, AreThreads}
 use Rattle.repair_requests.specs.declared.words.RepairsWords.{RepairsWords}
 use Rattle.repair_requests.specs.declared.refusals.Refusal.{Refusal}
 use Rattle.repair_requests.specs.declared.refusals.Refusal.TheVariants as refusal
@@ -35,11 +36,6 @@ trials_given words = trials_or (usual_trials words.start) words.trials
 abbrev pub study_given : RepairsWords → RingSize → StudyData
 study_given words s =
     study_with (size_given s) words.start words.daemon (trials_given words) words.seed
-
--- as many threads as may be asked for
-pub record AreThreads (threads : ℕ) : Type 0 where
-  pub some : 0 < threads
-  pub few : threads ≤ thread_limit
 
 -- the studies that are asked for, in their order
 abbrev pub studies_given : RepairsWords → List StudyData
@@ -76,6 +72,13 @@ IsWordsRefusal words (refusal.Tool (tool.NoRing place)) =
     (place ≡ 0) × (words.sizes.items ≡ [])
 IsWordsRefusal words (refusal.Tool tool.OutOfMemory) = Unit {0}
 IsWordsRefusal words e = IsFirstRefused (studies_given words) e
+
+-- how the trials are done, as it was given
+pub record IsManner (words : RepairsWords) (manner : Manner) : Type 0 where
+  pub threads : manner.threads ≡ words.threads
+  pub within : AreThreads words.threads
+  pub lines : manner.lines ≡ words.lines
+  pub every : manner.every ≡ words.progress
 
 -- which refusals the number of threads may meet
 abbrev pub IsThreadsRefusal : RepairsWords → Refusal → Type 0

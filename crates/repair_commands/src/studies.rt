@@ -1,14 +1,16 @@
 //! The studies that the words ask for.
 
-ghost use Rattle.std.specs.Prelude.{◌≡◌, ◌≤◌, IfOk, IfErr, length, Some};
+ghost use Rattle.std.specs.Prelude.{◌≡◌, ◌<◌, ◌≤◌, ◌⊎◌, IfOk, IfErr, length, Some};
 ghost use Rattle.std.specs.List.{All};
 ghost use Rattle.ring_settings.specs.Rings.{size_fault};
 ghost use Rattle.ring_state.specs.Sizes.{IsSize};
 ghost use Rattle.ring_repairs.specs.Studies.{IsStudy};
-ghost use Rattle.repair_commands.specs.Wanted.{size_given, trials_given, study_given, studies_given, AreThreads, IsStudyRefusal, IsWordsRefusal, IsThreadsRefusal};
+ghost use Rattle.repair_commands.specs.Wanted.{size_given, trials_given, study_given, studies_given, IsManner, IsStudyRefusal, IsWordsRefusal, IsThreadsRefusal};
+ghost use Rattle.repair_threads.specs.Shares.{thread_limit};
 
 use repair_requests::{Refusal, RepairsWords};
-use repair_threads::THREAD_LIMIT;
+use repair_report::Manner;
+use repair_threads::ThreadCount;
 use ring_repairs::{Start, Study, StudyError};
 use ring_settings::RingCause;
 use ring_state::{Params, ParamsError};
@@ -107,21 +109,33 @@ pub(crate) fn studies_of(
     Ok(studies)
 }
 
-/// How many threads do the trials.
+/// Why there may not be as many threads.
+fn threads_refusal(words: &RepairsWords<'_>) -> Refusal<'static>
+    requires { (words.now.threads ≡ 0) ⊎ (thread_limit < words.now.threads) }
+    ensures { IsThreadsRefusal words.now result }
+{
+    if words.threads == 0 {
+        Refusal::NoThreads
+    } else {
+        Refusal::ManyThreads
+    }
+}
+
+/// How the trials are done, and what is printed of them.
 ///
 /// # Errors
 ///
-/// `NoThreads` for none, and `ManyThreads` for more than there may be.
-pub(crate) fn threads_of(words: &RepairsWords<'_>) -> Result<u32, Refusal<'static>>
-    ensures ok { IfOk result (λ threads. (threads ≡ words.now.threads) × AreThreads threads) }
+/// `NoThreads` for no thread, and `ManyThreads` for more than there may be.
+pub(crate) fn manner_of(words: &RepairsWords<'_>) -> Result<Manner, Refusal<'static>>
+    ensures ok { IfOk result (λ manner. IsManner words.now manner) }
     ensures err { IfErr result (λ e. IsThreadsRefusal words.now e) }
 {
-    let threads = words.threads;
-    if threads == 0 {
-        return Err(Refusal::NoThreads);
+    match ThreadCount::new(words.threads) {
+        Some(threads) => Ok(Manner {
+            threads,
+            lines: words.lines,
+            every: words.progress,
+        }),
+        None => Err(threads_refusal(words)),
     }
-    if threads > THREAD_LIMIT {
-        return Err(Refusal::ManyThreads);
-    }
-    Ok(threads)
 }

@@ -3,8 +3,9 @@
 
 mod figures;
 mod parts;
+mod progress;
 mod report;
 mod writing;
 
 pub use crate::report::{ReportFault, report_repairs};
-pub use crate::writing::Lines;
+pub use crate::writing::{Lines, Manner};

@@ -1,16 +1,16 @@
 //! The report on the repairs of a study.
 
-ghost use Rattle.std.specs.Prelude.{◌≡◌, ◌<◌, ◌≤◌, ◌++◌, ℕ, List, map, OnOk, IfErr};
+ghost use Rattle.std.specs.Prelude.{◌≡◌, ◌<◌, ◌≤◌, ◌++◌, ℕ, List, map, OnOk, OnErr, IfOk, IfErr};
 ghost use Rattle.std.specs.Io.KnownBytes.{Appends};
 ghost use Rattle.ring_repairs.specs.Studies.{trial_count, trial_rounds, IsCounted};
 ghost use Rattle.repair_texts.specs.declared.columns.Row.{Row};
 ghost use Rattle.repair_report.specs.Reports.{IsReport, IsReported, IsPartReported, IsCutShort, AreCountsOf, report_text, row_of};
-ghost use Rattle.repair_threads.specs.Shares.{thread_limit};
+ghost use Rattle.repair_report.specs.Progress.{progress_text, IsNoted, IsNotedInPart};
 
 use crate::parts::{Part, add_rows, passes_of, rounds_of};
-use crate::writing::{Lines, put_parts};
+use crate::progress::do_trials;
+use crate::writing::{Lines, Manner, put_parts};
 use repair_texts::Row;
-use repair_threads::advance_on;
 use ring_repairs::{Daemon, Histogram, Repairs, Study, count_rounds};
 use std::alloc::Global;
 use std::io::Write;
@@ -118,48 +118,54 @@ fn report_done<W: Write>(
     report_in_turn(alloc, repairs, &counts, lines, rows, out)
 }
 
-/// Does all trials of a study, by 1 to 64 threads, adds their rows to those that are given, and writes what is wanted of them: the line of the figures of
+/// Does all trials of a study, adds their rows to those that are given, and writes what is wanted of them: the line of the figures of
 /// their passes, and if the machines are asked in turn, that of their rounds; and after each of these lines, a line for each number
-/// that occurred; or the figures as objects.
+/// that occurred; or the figures as objects. `counts` then says how many of the trials took each number of passes.
+///
+/// `notes` gets a line after each so many trials, if that is wanted, until one cannot be written whole. Returns whether each was.
 ///
 /// # Errors
 ///
 /// `OutOfMemory`: nothing is written then. `Write` if the writer fails: the bytes written until then are a prefix of the report.
-pub fn report_repairs<W: Write>(
+pub fn report_repairs<W: Write, E: Write>(
     rt: &(impl Threads + Sync),
     alloc: Global,
     study: Study,
-    threads: u32,
-    lines: Lines,
+    manner: Manner,
     rows: &mut Vec<Row<'static>>,
     counts: &mut Vec<u64>,
     out: &mut W,
-) -> Result<(), ReportFault>
-    requires some { 0 < threads }
-    requires few { threads ≤ thread_limit }
+    notes: &mut E,
+) -> Result<bool, ReportFault>
     ensures ok { OnOk result ((added : List Row)
         × (text : List ℕ)
-        × IsReport study lines added text
+        × IsReport study manner.lines added text
         × (rows.new.items ≡ rows.old.items ++ added)
         × Appends (W.contents out.old) (W.contents out.new) text) }
     ensures err { IfErr result (λ e. e ≡ ReportFault.Write
         → (added : List Row)
         × (text : List ℕ)
-        × IsReport study lines added text
+        × IsReport study manner.lines added text
         × IsCutShort (W.contents out.old) (W.contents out.new) text) }
     ensures counts { OnOk result (AreCountsOf study counts.new.items) }
     ensures nothing { IfErr result (λ e. e ≡ ReportFault.OutOfMemory → out.new ≡ out.old) }
+    ensures noted { IfOk result (λ told. IsNoted (progress_text manner.every study) told
+        (E.contents notes.old) (E.contents notes.new)) }
+    ensures noted_err { OnErr result (IsNotedInPart (progress_text manner.every study)
+        (E.contents notes.old) (E.contents notes.new)) }
 {
     let Ok(mut repairs) = Repairs::new(alloc, study) else {
         return Err(ReportFault::OutOfMemory);
     };
-    let trials = repairs.study().count();
-    let Ok(()) = advance_on(rt, alloc, &mut repairs, threads, trials) else {
+    let Ok(told) = do_trials(rt, alloc, &mut repairs, manner, notes) else {
         return Err(ReportFault::OutOfMemory);
     };
     counts.clear();
     let Ok(()) = counts.extend_from_slice(repairs.passes().counts()) else {
         return Err(ReportFault::OutOfMemory);
     };
-    report_done(alloc, &repairs, lines, rows, out)
+    match report_done(alloc, &repairs, manner.lines, rows, out) {
+        Ok(()) => Ok(told),
+        Err(fault) => Err(fault),
+    }
 }

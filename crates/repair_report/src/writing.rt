@@ -11,6 +11,7 @@ ghost use Rattle.repair_report.specs.Reports.{line_of, lines_of, object_text, re
 use crate::parts::Part;
 use crate::report::ReportFault;
 use repair_texts::{object_line, put_counts, put_figures};
+use repair_threads::ThreadCount;
 use std::alloc::{AllocError, Global};
 use std::io::Write;
 use text_lines::{WriteFault, put};
@@ -24,6 +25,16 @@ pub enum Lines {
     Histogram,
     /// Those of the figures, as objects of JSON.
     Object,
+}
+
+/// How the trials of a study are done, and what is written of them.
+#[derive(Clone, Copy)]
+pub struct Manner {
+    /// How many threads do them. What is written of them does not depend on it.
+    pub threads: ThreadCount,
+    pub lines: Lines,
+    /// After how many trials a line says how many are done; 0 for no such line.
+    pub every: u64,
 }
 
 /// Writes the line of the figures of a part, and a line for each number that occurred.

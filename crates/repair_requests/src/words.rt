@@ -4,7 +4,7 @@ use repair_report::Lines;
 use ring_repairs::{Daemon, Start};
 use tool_parts::requests::RingSize;
 
-/// The file that is made at the end, by its name.
+/// The files that are made at the end, by their names.
 #[derive(Clone, Copy)]
 pub enum Made<'a> {
     Nothing,
@@ -12,6 +12,8 @@ pub enum Made<'a> {
     Table(&'a str),
     /// Their picture.
     Picture(&'a str),
+    /// The table, and then the picture.
+    Both(&'a str, &'a str),
 }
 
 /// The words of `repairs`.
@@ -30,6 +32,8 @@ pub struct RepairsWords<'a> {
     pub threads: u32,
     /// What is printed.
     pub lines: Lines,
-    /// The file that is made at the end.
+    /// After how many trials of a size standard error says how many are done; 0 for no such line.
+    pub progress: u64,
+    /// The files that are made at the end.
     pub made: Made<'a>,
 }

@@ -5,6 +5,7 @@ ghost use Rattle.ring_repairs.specs.Parts.{IsPart};
 ghost use Rattle.ring_repairs.specs.Studies.{AreRepairs, trial_count};
 ghost use Rattle.repair_threads.specs.Shares.{thread_limit, before, share};
 
+use crate::counts::ThreadCount;
 use crate::shares::before;
 use rayon::prelude::*;
 use ring_repairs::{Histogram, Repairs, Study, count_part};
@@ -91,29 +92,26 @@ fn join_shares(repairs: &mut Repairs, split: Split, shares: &[Histogram])
     }
 }
 
-/// Does the next trials, `most` of them, or fewer where fewer are left, in as many threads as are asked for, 1 to [`THREAD_LIMIT`],
-/// or as there are processors where these are fewer. What it counts is what [`Repairs::advance`] does, whatever the number of threads.
+/// Does the next trials, `most` of them, or fewer where fewer are left, in as many threads as are asked for, or as there are processors
+/// where these are fewer. What it counts is what [`Repairs::advance`] does, whatever the number of threads.
 ///
 /// # Errors
 ///
 /// Only if memory runs out: no more trials are done then. With one thread it takes no memory.
-///
-/// [`THREAD_LIMIT`]: crate::THREAD_LIMIT
 pub fn advance_on(
     rt: &(impl Threads + Sync),
     alloc: Global,
     repairs: &mut Repairs,
-    threads: u32,
+    threads: ThreadCount,
     most: u64,
 ) -> Result<(), AllocError>
-    requires some { 0 < threads }
-    requires few { threads ≤ thread_limit }
     ensures done { OnOk result (repairs.new.done
         ≡ min (repairs.old.done + most) (trial_count repairs.old.study)) }
     ensures err { OnErr result (repairs.new ≡ repairs.old) }
     ensures study { repairs.new.study ≡ repairs.old.study }
     ensures counted { AreRepairs repairs.new }
 {
+    let threads = threads.get();
     if threads == 1 {
         repairs.advance(most);
         return Ok(());

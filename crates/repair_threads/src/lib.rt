@@ -2,7 +2,8 @@
 #![tactic(auto)]
 
 mod advance;
+mod counts;
 mod shares;
 
 pub use advance::advance_on;
-pub use shares::THREAD_LIMIT;
+pub use counts::{THREAD_LIMIT, ThreadCount};

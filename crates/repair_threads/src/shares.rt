@@ -3,9 +3,6 @@ ghost use Rattle.std.specs.Prelude.{◌≡◌, ◌<◌, ◌≤◌};
 ghost use Rattle.ring_repairs.specs.Limits.{trial_limit};
 ghost use Rattle.repair_threads.specs.Shares.{thread_limit, before};
 
-/// The most threads that may be asked for.
-pub const THREAD_LIMIT: u32 = 64;
-
 /// How many of the trials come before the part at a place.
 pub(crate) fn before(trials: u64, parts: u32, place: u32) -> u64
     requires trials { trials ≤ trial_limit }

@@ -22,40 +22,43 @@ HasRefusalLine _ told old new =
     × (IsRefusalLine text ⊎ IsLineOf tool.OutOfMemory text)
     × HasText text told old new
 
--- the files of a world, where this was printed
-abbrev pub files_with : World → Option (List ℕ) → World
-files_with w printed = world w.files None printed None
+-- a world without its input, where this was printed, and this is on standard error
+abbrev pub world_with : World → Option (List ℕ) → Option (List ℕ) → World
+world_with w printed noted = world w.files None printed noted
 
--- It was answered, and every byte of the answer is in the output; standard error is as it was.
-abbrev pub IsRepaired : RepairsWords → World → World → Type 0
-IsRepaired words was is =
+-- It was answered, and every byte of the answer is in the output; standard error has no more than
+-- the lines that say how many trials are done.
+abbrev pub IsRepaired : RepairsWords → Bool → World → World → Type 0
+IsRepaired words told was is =
     (printed : Option (List ℕ))
-    × IsRepairsAnswer words (files_with was was.out) (files_with is printed)
+    × IsRepairsAnswer words told (world_with was was.out was.err) (world_with is printed is.err)
     × Keeps printed is.out
-    × (is.err ≡ was.err)
 
--- it was answered, but a byte of the answer is missing in the output, and standard error has the
--- line of that
+-- it was answered, but a byte of the answer is missing in the output, and after these lines standard
+-- error has the line of that
 abbrev pub IsRepairedInPart : RepairsWords → Bool → World → World → Type 0
 IsRepairedInPart words told was is =
     (printed : Option (List ℕ))
-    × IsRepairsAnswer words (files_with was was.out) (files_with is printed)
+    × (noted : Option (List ℕ))
+    × (whole : Bool)
+    × IsRepairsAnswer words whole (world_with was was.out was.err) (world_with is printed noted)
     × IsCut printed is.out
-    × HasLine tool.Write told was.err is.err
+    × HasLine tool.Write told noted is.err
 
--- it was refused for this cause, and standard error has its line
+-- it was refused for this cause, and after these lines standard error has its line
 abbrev pub IsUnrepaired : RepairsWords → Refusal → Bool → World → World → Type 0
 IsUnrepaired words e told was is =
     (printed : Option (List ℕ))
-    × IsRepairsRefusal words (files_with was was.out) (files_with is printed) e
+    × (noted : Option (List ℕ))
+    × IsRepairsRefusal words (world_with was was.out was.err) (world_with is printed noted) e
     × HasFront printed is.out
-    × HasRefusalLine e told was.err is.err
+    × HasRefusalLine e told noted is.err
 
 -- Status 0: it was answered, with every byte. Status 1: with a byte missing, or it was refused.
 pub record HasRepaired (words : RepairsWords) (status : ℕ) (told : Bool) (was is : World) : Type 0
   where
     pub most : status ≤ 1
-    pub done : status ≡ 0 → IsRepaired words was is
+    pub done : status ≡ 0 → IsRepaired words told was is
     pub failed : status ≡ 1
         → IsRepairedInPart words told was is
         ⊎ ((e : Refusal) × IsUnrepaired words e told was is)

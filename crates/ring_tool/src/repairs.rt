@@ -60,8 +60,33 @@ fn fail_repairs<O: Write + Drop, E: Write>(
     }
 }
 
-/// Does the trials and ends the run: what was printed leaves the buffer of `out`, and a refusal is reported on `err`. The file for the
-/// table is one of `disk`.
+/// Ends a run of `repairs` that was answered, as [`done`]; where every byte has left, it was told whether each line on `err` that says
+/// how many trials are done is written.
+fn done_repairs<O: Write + Drop, E: Write>(
+    alloc: Global,
+    told: bool,
+    out: BufWriter<O>,
+    err: &mut E,
+) -> Ending<O>
+    ensures status { result.status ≤ 1 }
+    ensures told { result.status ≡ 0 → result.told ≡ told }
+    ensures ended { HasEndedAnswered result.status true
+        (writer_contents O.contents out) (O.contents result.out)
+        (E.contents err.old) (E.contents err.new)
+        ⊎ HasEndedAnswered result.status result.told
+        (writer_contents O.contents out) (O.contents result.out)
+        (E.contents err.old) (E.contents err.new) }
+{
+    let ending = done(alloc, out, err);
+    if ending.status == 0 {
+        Ending { told, ..ending }
+    } else {
+        ending
+    }
+}
+
+/// Does the trials and ends the run: what was printed leaves the buffer of `out`, and a refusal is reported on `err`, after the lines
+/// that say how many trials are done. The files for the table and the picture are those of `disk`.
 ///
 /// The status is 0 if it was done and every byte of the answer is in the writer below, and else 1.
 pub fn do_repairs<R: AllocGlobal + Threads + Sync, D: Disk, O: Write + Drop, E: Write>(
