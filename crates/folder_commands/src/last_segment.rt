@@ -171,13 +171,13 @@ fn put_head_and_place<W: Write>(
 }
 
 /// Writes the text of a head and the line of a place where the line of the sums went.
-fn tell_head<W: Write, E: Write>(
+fn tell_head<'a, W: Write, E: Write>(
     head: &SegmentHead,
     place: &[u8],
     word: &str,
     out: &mut W,
     err: &mut E,
-) -> Result<(), ToolError<'static>>
+) -> Result<(), ToolError<'a>>
     requires { HeadFits (head_of head.now) }
     ensures ok { OnOk result (IsHeadTold word.now (head_of head.now) place.now
         (world None None (W.contents out.old) (E.contents err.old))

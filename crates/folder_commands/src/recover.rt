@@ -71,11 +71,11 @@ pub(crate) struct KeptJournal {
 /// # Errors
 ///
 /// Those of [`kept_of`], and `OutOfMemory`.
-fn kept_with_sums(
+fn kept_with_sums<'a>(
     alloc: Global,
     bytes: &[u8],
     salvage: bool,
-) -> Result<KeptJournal, ToolError<'static>>
+) -> Result<KeptJournal, ToolError<'a>>
     ensures ok { IfOk result (λ k. (many : ℕ)
         × IsKept salvage bytes.now (content k.value.0) many k.left.bad
         × (k.left.bytes ≡ length bytes.now - many)) }

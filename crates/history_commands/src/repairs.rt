@@ -22,7 +22,7 @@ use tool_parts::reading::read_named;
 use tool_parts::requests::ReportWords;
 
 /// The refusal of the program for one of a report.
-fn report_fault(fault: ReportFault) -> ToolError<'static>
+fn report_fault<'a>(fault: ReportFault) -> ToolError<'a>
     ensures { result ≡ fault_of_report fault }
 {
     match fault {
@@ -32,11 +32,11 @@ fn report_fault(fault: ReportFault) -> ToolError<'static>
 }
 
 /// Adds the lines of the repairs of a saved history, which is legal, to a text.
-fn add_repairs(
+fn add_repairs<'a>(
     alloc: Global,
     saved: &Saved,
     mut text: Vec<u8>,
-) -> Result<Vec<u8>, ToolError<'static>>
+) -> Result<Vec<u8>, ToolError<'a>>
     requires { IsRightText (content saved.now) }
     ensures ok { IfOk result
         (λ longer. longer.items ≡ text.items ++ repairs_lines (content saved.now)) }
@@ -57,7 +57,7 @@ fn add_repairs(
 /// # Errors
 ///
 /// The refusals of `check` for a text that is not legal, `Full` with a ring that has too many events, and `OutOfMemory`.
-pub fn report_of_bytes(alloc: Global, bytes: &[u8]) -> Result<Vec<u8>, ToolError<'static>>
+pub fn report_of_bytes<'a>(alloc: Global, bytes: &[u8]) -> Result<Vec<u8>, ToolError<'a>>
     ensures ok { IfOk result (λ text. IsRepairsReportOf bytes.now text.items) }
     ensures err { IfErr result (λ e. IsRepairsTextRefusal bytes.now e) }
 {
@@ -75,11 +75,11 @@ pub fn report_of_bytes(alloc: Global, bytes: &[u8]) -> Result<Vec<u8>, ToolError
 ///
 /// Those of [`report_of_bytes`]: nothing is printed then. `Write` where the writer fails: the bytes written until then are a
 /// prefix.
-pub fn print_report<W: Write>(
+pub fn print_report<'a, W: Write>(
     alloc: Global,
     bytes: &[u8],
     out: &mut W,
-) -> Result<(), ToolError<'static>>
+) -> Result<(), ToolError<'a>>
     ensures ok { OnOk result ((text : List ℕ) × IsRepairsReportOf bytes.now text
         × Appends (W.contents out.old) (W.contents out.new) text) }
     ensures err { IfErr result

@@ -20,7 +20,7 @@ use tool_parts::reading::read_named;
 use tool_requests::StatesWords;
 
 /// The answer of the program for that of a table's writer.
-pub(crate) fn told(written: Result<(), StatesFault>) -> Result<(), ToolError<'static>>
+pub(crate) fn told<'a>(written: Result<(), StatesFault>) -> Result<(), ToolError<'a>>
     ensures { result ≡ told_by written }
 {
     match written {
@@ -44,7 +44,7 @@ fn form_of(words: &StatesWords<'_>) -> Form
 }
 
 /// The ring at this place.
-fn ring_at(saved: &Saved, place: u32) -> Result<&SavedRing, ToolError<'static>>
+fn ring_at<'a>(saved: &Saved, place: u32) -> Result<&SavedRing, ToolError<'a>>
     ensures ok { IfOk result (λ ring. slice_get saved.now.rings.items place ≡ Some ring.now) }
     ensures err { IfErr result
         (λ e. (e ≡ ToolError.NoRing place) × (length saved.now.rings.items ≤ place)) }
@@ -56,12 +56,12 @@ fn ring_at(saved: &Saved, place: u32) -> Result<&SavedRing, ToolError<'static>>
 }
 
 /// Writes the table of all rings.
-fn write_all<W: Write>(
+fn write_all<'a, W: Write>(
     alloc: Global,
     saved: &Saved,
     form: Form,
     out: &mut W,
-) -> Result<(), ToolError<'static>>
+) -> Result<(), ToolError<'a>>
     requires { IsRightText (content saved.now) }
     ensures ok { OnOk result (Appends (W.contents out.old) (W.contents out.new)
         (table form (content saved.now).rings)) }
@@ -72,13 +72,13 @@ fn write_all<W: Write>(
 }
 
 /// Writes the table of the ring at a place.
-fn write_one<W: Write>(
+fn write_one<'a, W: Write>(
     alloc: Global,
     saved: &Saved,
     place: u32,
     form: Form,
     out: &mut W,
-) -> Result<(), ToolError<'static>>
+) -> Result<(), ToolError<'a>>
     requires { IsRightText (content saved.now) }
     ensures ok { OnOk result ((b : Block) × (slice_get (content saved.now).rings place ≡ Some b)
         × Appends (W.contents out.old) (W.contents out.new) (table form (b ∷ []))) }
@@ -93,12 +93,12 @@ fn write_one<W: Write>(
 }
 
 /// Writes the table of the rings that are wanted.
-fn write_chosen<W: Write>(
+fn write_chosen<'a, W: Write>(
     alloc: Global,
     saved: &Saved,
     words: &StatesWords<'_>,
     out: &mut W,
-) -> Result<(), ToolError<'static>>
+) -> Result<(), ToolError<'a>>
     requires { IsRightText (content saved.now) }
     ensures ok { OnOk result (IsTableOf words.now (content saved.now).rings
         (λ text. Appends (W.contents out.old) (W.contents out.new) text)) }
@@ -117,12 +117,12 @@ fn write_chosen<W: Write>(
 ///
 /// Those of `check` for a text that is not legal, and `NoRing`: nothing is printed then. `Write` where the writer fails, and
 /// `OutOfMemory`: the bytes written until then are a prefix.
-pub fn print_states<W: Write>(
+pub fn print_states<'a, W: Write>(
     alloc: Global,
     bytes: &[u8],
     words: &StatesWords<'_>,
     out: &mut W,
-) -> Result<(), ToolError<'static>>
+) -> Result<(), ToolError<'a>>
     ensures ok { OnOk result ((text : List ℕ) × IsStatesText words.now bytes.now text
         × Appends (W.contents out.old) (W.contents out.new) text) }
     ensures err { IfErr result (λ e. IsStatesBytesRefusal words.now bytes.now

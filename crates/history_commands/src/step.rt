@@ -22,14 +22,14 @@ use tool_parts::requests::StepWords;
 ///
 /// The first fault of what it is given, as for [`opening_of`]: nothing is written then. `Write` where the writer fails, and
 /// `OutOfMemory`: the bytes written until then are a prefix of the rows.
-pub fn print_rows<W: Write>(
+pub fn print_rows<'a, W: Write>(
     alloc: Global,
     n: u32,
     k: u32,
     states: &[u32],
     choices: &[u32],
     out: &mut W,
-) -> Result<(), ToolError<'static>>
+) -> Result<(), ToolError<'a>>
     ensures ok { OnOk result ((fault_of n k states.now choices.now ≡ None)
         × Appends (W.contents out.old) (W.contents out.new)
         (rows (ring_with k states.now) choices.now)) }
@@ -49,11 +49,11 @@ pub fn print_rows<W: Write>(
 /// # Errors
 ///
 /// `BadList` where a list is not well written, and those of [`print_rows`].
-pub fn run<W: Write>(
+pub fn run<'a, W: Write>(
     alloc: Global,
     words: &StepWords<'_>,
     out: &mut W,
-) -> Result<(), ToolError<'static>>
+) -> Result<(), ToolError<'a>>
     ensures ok { OnOk result (IsStepStatesAnswer words.now (W.contents out.old) (W.contents out.new)) }
     ensures err { IfErr result
         (λ e. IsStepStatesRefusal words.now (W.contents out.old) (W.contents out.new) e) }

@@ -50,13 +50,13 @@ fn most_rings(words: &LocksWords<'_>, fixed: u32) -> u32
 }
 
 /// The service as it begins with these names, as a replica without a key. Its segment is to end first if it is due.
-fn service_of(
+fn service_of<'a>(
     alloc: Global,
     names: Names,
     size: Params,
     due: bool,
     words: &LocksWords<'_>,
-) -> Result<Restorable<Replica<NameService>>, ToolError<'static>>
+) -> Result<Restorable<Replica<NameService>>, ToolError<'a>>
     ensures ok { IfOk result (λ service. NamesBeginWith words.now due names size service) }
     ensures err { IfErr result (λ e. e ≡ ToolError.OutOfMemory) }
 {
@@ -322,7 +322,7 @@ fn run_in_folder<'a, D: Disk, I: Read, W: Write>(
 }
 
 /// Checks the list that is named, before any file is made.
-fn check_named(alloc: Global, word: Option<&str>) -> Result<(), ToolError<'static>>
+fn check_named<'a>(alloc: Global, word: Option<&str>) -> Result<(), ToolError<'a>>
     ensures ok { OnOk result (IsPooledListIf (option_map (λ w. w.now) word.entry)) }
     ensures err { IfErr result (λ e.
         IsNoPooledListFor (option_map (λ w. w.now) word.entry) e) }

@@ -133,12 +133,12 @@ fn named_holds<'a, D: Disk, I: Read>(
 }
 
 /// Writes the lines of how many of the wanted holds each label has.
-fn tell_labels<W: Write>(
+fn tell_labels<'a, W: Write>(
     alloc: Global,
     words: &HoldsWords<'_>,
     found: &FoundHolds,
     out: &mut W,
-) -> Result<(), ToolError<'static>>
+) -> Result<(), ToolError<'a>>
     requires by_label { words.now.by_label ≡ true }
     ensures ok { OnOk result (AreHoldsTold words.now (called found.now.names)
         (map (λ v. v.items) found.now.locks.items) (W.contents out.old) (W.contents out.new)) }
@@ -157,12 +157,12 @@ fn tell_labels<W: Write>(
 }
 
 /// Writes the lines that the words ask for, of locks with these names and holds.
-fn tell_holds<W: Write>(
+fn tell_holds<'a, W: Write>(
     alloc: Global,
     words: &HoldsWords<'_>,
     found: &FoundHolds,
     out: &mut W,
-) -> Result<(), ToolError<'static>>
+) -> Result<(), ToolError<'a>>
     ensures ok { OnOk result (AreHoldsTold words.now (called found.now.names)
         (map (λ v. v.items) found.now.locks.items) (W.contents out.old) (W.contents out.new)) }
     ensures err { IfErr result (λ e. AreHoldsUntold words.now (called found.now.names)

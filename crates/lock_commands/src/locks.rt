@@ -47,12 +47,12 @@ pub(crate) fn terms_of(words: &LocksWords<'_>) -> Terms
 
 /// The service as it begins with these locks, by these names: a replica without a key, whose state is answered where it is asked
 /// for.
-fn service_of(
+fn service_of<'a>(
     alloc: Global,
     locks: Locks,
     names: LockNames,
     words: &LocksWords<'_>,
-) -> Result<Restorable<Replica<LockService>>, ToolError<'static>>
+) -> Result<Restorable<Replica<LockService>>, ToolError<'a>>
     ensures ok { IfOk result (λ service. BeginsWith words.now names locks service) }
     ensures err { IfErr result (λ e. e ≡ ToolError.OutOfMemory) }
 {
@@ -157,7 +157,7 @@ fn run_in_folder<'a, D: Disk, I: Read, W: Write>(
 }
 
 /// Checks the list that is named, before any file is made.
-fn check_named(alloc: Global, word: Option<&str>) -> Result<(), ToolError<'static>>
+fn check_named<'a>(alloc: Global, word: Option<&str>) -> Result<(), ToolError<'a>>
     ensures ok { OnOk result (IsListIf (option_map (λ w. w.now) word.entry)) }
     ensures err { IfErr result (λ e. IsNoListFor (option_map (λ w. w.now) word.entry) e) }
 {

@@ -25,7 +25,7 @@ fn cause_of(error: ParamsError) -> RingCause
 }
 
 /// Returns the refusal of a list that is named.
-pub(crate) fn list_refusal(error: ListError) -> ToolError<'static>
+pub(crate) fn list_refusal<'a>(error: ListError) -> ToolError<'a>
     ensures { result ≡ fault_of_list error }
 {
     match error {

@@ -62,7 +62,7 @@ fn put_sums<W: Write>(out: &mut W, locks: u32, sums: Sums) -> Result<(), WriteFa
 }
 
 /// Writes the line of the sums over the locks.
-pub(crate) fn tell_totals<W: Write>(locks: &Locks, err: &mut W) -> Result<(), ToolError<'static>>
+pub(crate) fn tell_totals<'a, W: Write>(locks: &Locks, err: &mut W) -> Result<(), ToolError<'a>>
     ensures ok { OnOk result (Appends (W.contents err.old) (W.contents err.new)
         (total_line locks.now)) }
     ensures err { IfErr result

@@ -28,7 +28,7 @@ pub fn fresh_is_settled()
 /// # Errors
 ///
 /// `Ring` with the place and the first fault of the size.
-fn allowed(place: usize, size: RingSize) -> Result<Params, ToolError<'static>>
+fn allowed<'a>(place: usize, size: RingSize) -> Result<Params, ToolError<'a>>
     ensures ok { IfOk result (λ p. (p ≡ size_given size) × IsSize (size_given size)) }
     ensures err { IfErr result (λ e. IsRingRefusal place (size_given size) e) }
 {
@@ -59,7 +59,7 @@ fn fresh_ring(alloc: Global, place: u32, size: Params) -> Result<SavedRing, Allo
 }
 
 /// The ring of this size at its place, if the size is allowed.
-fn ring_at(alloc: Global, place: usize, size: RingSize) -> Result<SavedRing, ToolError<'static>>
+fn ring_at<'a>(alloc: Global, place: usize, size: RingSize) -> Result<SavedRing, ToolError<'a>>
     requires { place < 2 ^ 32 }
     ensures ok { IfOk result (λ ring. (block_of ring ≡ fresh_block place (size_given size))
         × IsSize (size_given size)) }
@@ -73,7 +73,7 @@ fn ring_at(alloc: Global, place: usize, size: RingSize) -> Result<SavedRing, Too
 }
 
 /// The rings of these sizes, if all are allowed.
-fn fresh_rings(alloc: Global, sizes: &[RingSize]) -> Result<Vec<SavedRing>, ToolError<'static>>
+fn fresh_rings<'a>(alloc: Global, sizes: &[RingSize]) -> Result<Vec<SavedRing>, ToolError<'a>>
     requires { length sizes.now < 2 ^ 32 }
     ensures ok { IfOk result (λ rings.
         (map block_of rings.items ≡ fresh_blocks 0 (map size_given sizes.now))
@@ -91,7 +91,7 @@ fn fresh_rings(alloc: Global, sizes: &[RingSize]) -> Result<Vec<SavedRing>, Tool
 }
 
 /// The history of rings of these sizes without events.
-fn fresh(alloc: Global, sizes: &[RingSize]) -> Result<Saved, ToolError<'static>>
+fn fresh<'a>(alloc: Global, sizes: &[RingSize]) -> Result<Saved, ToolError<'a>>
     ensures ok { IfOk result (λ saved. (content saved ≡ fresh (map size_given sizes.now))
         × AreSizes (map size_given sizes.now)) }
     ensures err { IfErr result (λ e. IsSizesRefusal (map size_given sizes.now) e) }
@@ -117,7 +117,7 @@ fn fresh(alloc: Global, sizes: &[RingSize]) -> Result<Saved, ToolError<'static>>
 /// `NoRing` if there is no ring, `TotalsTooLarge` if there are too many for a saved text, `Ring` with the place of the
 /// first ring whose size is not allowed and its fault, and `OutOfMemory`: nothing is written then. `Write` if the writer
 /// fails: the bytes written until then are a prefix of the text.
-pub fn run<W: Write>(alloc: Global, words: &NewWords, out: &mut W) -> Result<(), ToolError<'static>>
+pub fn run<'a, W: Write>(alloc: Global, words: &NewWords, out: &mut W) -> Result<(), ToolError<'a>>
     ensures ok { OnOk result (IsNewAnswer words.now (W.contents out.old) (W.contents out.new)) }
     ensures err { IfErr result
         (λ e. IsNewRefusal words.now (W.contents out.old) (W.contents out.new) e) }

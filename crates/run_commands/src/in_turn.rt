@@ -22,7 +22,7 @@ use tool_parts::requests::RunWords;
 /// # Errors
 ///
 /// The fault of the settings, or the refusal of the farm.
-fn run_settings(alloc: Global, bytes: Vec<u8>, seed: u64) -> Result<Outcome, ToolError<'static>>
+fn run_settings<'a>(alloc: Global, bytes: Vec<u8>, seed: u64) -> Result<Outcome, ToolError<'a>>
     ensures ok { IfOk result (λ outcome. IsTurnsOn seed bytes.items outcome) }
     ensures err { IfErr result (λ e. IsTurnsRefusal bytes.items e) }
 {

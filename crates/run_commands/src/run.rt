@@ -33,7 +33,7 @@ use tool_parts::reading::{keep_apart, names_stream, read_named};
 use tool_parts::requests::RunWords;
 
 /// The refusal of the program for one of a farm.
-pub(crate) fn farm_fault(fault: FarmError) -> ToolError<'static>
+pub(crate) fn farm_fault<'a>(fault: FarmError) -> ToolError<'a>
     ensures { result ≡ fault_of_farm fault }
 {
     match fault {
@@ -51,11 +51,11 @@ pub(crate) fn farm_fault(fault: FarmError) -> ToolError<'static>
 /// # Errors
 ///
 /// The fault of the settings, or the refusal of the farm.
-pub fn run_settings<R: Threads + Wait + Sync>(
+pub fn run_settings<'a, R: Threads + Wait + Sync>(
     rt: &R,
     alloc: Global,
     bytes: Vec<u8>,
-) -> Result<Outcome, ToolError<'static>>
+) -> Result<Outcome, ToolError<'a>>
     ensures ok { IfOk result (λ outcome. IsFarmOn bytes.items outcome) }
     ensures err { IfErr result (λ e. IsFarmRefusal bytes.items e) }
 {

@@ -91,7 +91,7 @@ fn put_end<W: Write>(out: &mut W, state: &RingState) -> Result<(), WriteFault>
 }
 
 /// The ring's size, where it is allowed.
-fn params_of(n: u32, k: u32) -> Result<Params, ToolError<'static>>
+fn params_of<'a>(n: u32, k: u32) -> Result<Params, ToolError<'a>>
     ensures ok { IfOk result (λ p. (p ≡ record { n = n; k = k }) × (size_fault n k ≡ None)) }
     ensures err { IfErr result (λ e. size_fault n k ≡ Some e) }
 {
@@ -99,7 +99,7 @@ fn params_of(n: u32, k: u32) -> Result<Params, ToolError<'static>>
 }
 
 /// The ring, where its size and its start values are allowed.
-fn state_of(alloc: Global, n: u32, k: u32, states: &[u32]) -> Result<RingState, ToolError<'static>>
+fn state_of<'a>(alloc: Global, n: u32, k: u32, states: &[u32]) -> Result<RingState, ToolError<'a>>
     ensures ok { IfOk result (λ r. (r ≡ ring_with k states.now)
         × (length states.now ≡ n) × (start_fault n k states.now ≡ None)) }
     ensures err { IfErr result (λ e. IsRefusalOver (start_fault n k states.now) e) }
@@ -121,13 +121,13 @@ fn first_beyond(n: u32, choices: &[u32]) -> Option<usize>
 ///
 /// The first that applies: a size that is not allowed, start values of another number than n, the first start value that is not below
 /// `k`, the first choice that is not below `n`. `OutOfMemory` comes where memory is asked for.
-pub fn opening_of(
+pub fn opening_of<'a>(
     alloc: Global,
     n: u32,
     k: u32,
     states: &[u32],
     choices: &[u32],
-) -> Result<RingState, ToolError<'static>>
+) -> Result<RingState, ToolError<'a>>
     ensures ok { IfOk result (λ r. (r ≡ ring_with k states.now)
         × (length states.now ≡ n) × (fault_of n k states.now choices.now ≡ None)) }
     ensures start { IfOk result (λ r. start_fault n k states.now ≡ None) }
@@ -141,13 +141,13 @@ pub fn opening_of(
 }
 
 /// The ring with no events yet, where all that `step` was given is allowed.
-fn book_of(
+fn book_of<'a>(
     alloc: Global,
     n: u32,
     k: u32,
     states: &[u32],
     choices: &[u32],
-) -> Result<Book<Idle>, ToolError<'static>>
+) -> Result<Book<Idle>, ToolError<'a>>
     ensures ok { IfOk result (λ b. IsFresh (ring_with k states.now) (record {}) b
         × (length states.now ≡ n) × (fault_of n k states.now choices.now ≡ None)) }
     ensures err { IfErr result (λ e. IsOpeningRefusal n k states.now choices.now e) }
@@ -172,14 +172,14 @@ fn book_of(
 /// the first choice that is not below `n`. Nothing is written then. `OutOfMemory` comes where memory is asked for;
 /// `HistoryFull` comes where there are more than `EVENT_LIMIT` choices, and `Write` where the writer
 /// fails: the bytes written until then are a prefix of the lines.
-pub fn step_lines<W: Write>(
+pub fn step_lines<'a, W: Write>(
     alloc: Global,
     n: u32,
     k: u32,
     states: &[u32],
     choices: &[u32],
     out: &mut W,
-) -> Result<(), ToolError<'static>>
+) -> Result<(), ToolError<'a>>
     // The output: all of the text, or a prefix of it, or nothing where there is a fault.
     ensures written { OnOk result (Appends (W.contents out.old) (W.contents out.new)
         (step_text (ring_with k states.now) choices.now)) }
@@ -206,7 +206,7 @@ pub fn step_lines<W: Write>(
 /// # Errors
 ///
 /// `BadList` where it is not well written, and `OutOfMemory`.
-pub fn choices_of(alloc: Global, word: Option<&str>) -> Result<Vec<u32>, ToolError<'static>>
+pub fn choices_of<'a>(alloc: Global, word: Option<&str>) -> Result<Vec<u32>, ToolError<'a>>
     ensures ok { IfOk result
         (λ choices. AreChoices (option_map (λ word. word.now) word.entry) choices.items) }
     ensures err { IfErr result
@@ -223,11 +223,11 @@ pub fn choices_of(alloc: Global, word: Option<&str>) -> Result<Vec<u32>, ToolErr
 /// # Errors
 ///
 /// `BadList` where a list is not well written, and those of [`step_lines`].
-pub fn run<W: Write>(
+pub fn run<'a, W: Write>(
     alloc: Global,
     words: &StepWords<'_>,
     out: &mut W,
-) -> Result<(), ToolError<'static>>
+) -> Result<(), ToolError<'a>>
     ensures ok { OnOk result (IsStepAnswer words.now (W.contents out.old) (W.contents out.new)) }
     ensures err { IfErr result
         (λ e. IsStepWordsRefusal words.now (W.contents out.old) (W.contents out.new) e) }

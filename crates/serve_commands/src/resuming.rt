@@ -19,7 +19,7 @@ use tool_parts::reading::{names_stream, read_file};
 /// # Errors
 ///
 /// `Full` if one of them has too many events, and `OutOfMemory`.
-pub(crate) fn resume_rings(alloc: Global, saved: &Saved) -> Result<Served, ToolError<'static>>
+pub(crate) fn resume_rings<'a>(alloc: Global, saved: &Saved) -> Result<Served, ToolError<'a>>
     ensures ok { IfOk result (λ served. AreResumed served saved.now.rings.items) }
     ensures err { IfErr result (λ e. IsStartRefusal saved.now.rings.items e) }
 {
@@ -80,7 +80,7 @@ pub(crate) fn given_history<'a, D: Disk>(
 /// # Errors
 ///
 /// `NoHistory` if none is given.
-pub(crate) fn needed(saved: Option<Saved>) -> Result<Saved, ToolError<'static>>
+pub(crate) fn needed<'a>(saved: Option<Saved>) -> Result<Saved, ToolError<'a>>
     ensures ok { IfOk result (λ given. saved ≡ Some given) }
     ensures err { IfErr result (λ e. IsUngiven saved e) }
 {

@@ -46,7 +46,7 @@ pub(crate) fn serving_refusal<'a>(fault: LoopFault, journal: Option<&'a str>) ->
 }
 
 /// Writes the line of the sums over the rings.
-fn tell_totals<W: Write>(served: &Served, err: &mut W) -> Result<(), ToolError<'static>>
+fn tell_totals<'a, W: Write>(served: &Served, err: &mut W) -> Result<(), ToolError<'a>>
     ensures ok { OnOk result (Appends (W.contents err.old) (W.contents err.new)
         (total_line (length served.now) (totals_of served.now))) }
     ensures err { IfErr result
@@ -75,14 +75,14 @@ pub(crate) fn permits_of<'a>(words: &ServeWords<'a>) -> Permits<'a>
 }
 
 /// Serves without a journal.
-fn serve_plain<D: Disk, I: Read, W: Write>(
+fn serve_plain<'a, D: Disk, I: Read, W: Write>(
     alloc: Global,
     disk: &mut D,
     served: &mut Served,
     permits: Permits<'_>,
     input: &mut I,
     out: &mut W,
-) -> Result<(), ToolError<'static>>
+) -> Result<(), ToolError<'a>>
     ensures ok { OnOk result (IsServedPlain permits.entry served.old served.new (D.holds disk.old)
         (D.holds disk.new) (I.remaining input.old) (I.remaining input.new) (W.contents out.old)
         (W.contents out.new)) }
@@ -219,14 +219,14 @@ fn serve_begun<'a, D: Disk, I: Read, W: Write>(
 }
 
 /// The rings of a value that are served without a journal, when all lines have been.
-fn run_plain<D: Disk, I: Read, W: Write>(
+fn run_plain<'a, D: Disk, I: Read, W: Write>(
     alloc: Global,
     disk: &mut D,
     saved: &Saved,
     permits: Permits<'_>,
     input: &mut I,
     out: &mut W,
-) -> Result<Served, ToolError<'static>>
+) -> Result<Served, ToolError<'a>>
     ensures ok { IfOk result (λ end. (start : List Standing)
         × AreResumed start saved.now.rings.items
         × IsServedPlain permits.entry start end (D.holds disk.old) (D.holds disk.new)
@@ -246,14 +246,14 @@ fn run_plain<D: Disk, I: Read, W: Write>(
 }
 
 /// The given rings that are served without a journal, when all lines have been.
-fn run_without<D: Disk, I: Read, W: Write>(
+fn run_without<'a, D: Disk, I: Read, W: Write>(
     alloc: Global,
     disk: &mut D,
     saved: Option<Saved>,
     permits: Permits<'_>,
     input: &mut I,
     out: &mut W,
-) -> Result<Served, ToolError<'static>>
+) -> Result<Served, ToolError<'a>>
     ensures ok { IfOk result (λ end. (from : Saved)
         × (saved ≡ Some from)
         × (start : List Standing)

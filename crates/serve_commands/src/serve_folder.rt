@@ -51,7 +51,7 @@ pub struct Start {
 /// # Errors
 ///
 /// `NoHistory` if none is given, `Full` if a ring has too many events, and `OutOfMemory`.
-fn first_place(alloc: Global, saved: Option<Saved>) -> Result<Start, ToolError<'static>>
+fn first_place<'a>(alloc: Global, saved: Option<Saved>) -> Result<Start, ToolError<'a>>
     ensures ok { IfOk result (λ place. IsFirst saved (place_of place)) }
     ensures fits { IfOk result (λ place. DigestFits place.behind) }
     ensures some { IfOk result (λ place. 0 < place.number) }
@@ -129,7 +129,7 @@ fn has_floor(bytes: &[u8]) -> bool
 /// # Errors
 ///
 /// Only `OutOfMemory`: no ring of such a segment has too many events.
-fn resume_last(alloc: Global, last: &LastSegment) -> Result<Served, ToolError<'static>>
+fn resume_last<'a>(alloc: Global, last: &LastSegment) -> Result<Served, ToolError<'a>>
     requires many { length last.now.head.bases.items ≡ length last.now.saved.rings.items }
     requires bases { All IsBase last.now.head.bases.items }
     ensures ok { IfOk result (λ served.

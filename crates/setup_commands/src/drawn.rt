@@ -27,7 +27,7 @@ pub fn drawn_is_legal()
 ///
 /// Those of [`rings_of`].
 #[tactic(auto, using(crate::proofs::LegalStarts::content_is))]
-fn drawn(alloc: Global, words: &DrawnWords) -> Result<Saved, ToolError<'static>>
+fn drawn<'a>(alloc: Global, words: &DrawnWords) -> Result<Saved, ToolError<'a>>
     ensures ok { IfOk result (λ saved. (content saved ≡ drawn_history words.now)
         × AreSizes (sizes_of words.now)) }
     ensures some { IfOk result (λ saved. 1 ≤ length saved.rings.items) }
@@ -54,11 +54,11 @@ fn drawn(alloc: Global, words: &DrawnWords) -> Result<Saved, ToolError<'static>>
 /// `NoRing` if there is no ring, `TotalsTooLarge` if there are too many for a saved text, `Ring` with the place of the
 /// first ring whose size is not allowed and its fault, and `OutOfMemory`: nothing is written then. `Write` if the writer
 /// fails: the bytes written until then are a prefix of the text.
-pub fn run<W: Write>(
+pub fn run<'a, W: Write>(
     alloc: Global,
     words: &DrawnWords,
     out: &mut W,
-) -> Result<(), ToolError<'static>>
+) -> Result<(), ToolError<'a>>
     ensures ok { OnOk result (IsDrawnAnswer words.now (W.contents out.old) (W.contents out.new)) }
     ensures err { IfErr result
         (λ e. IsDrawnRefusal words.now (W.contents out.old) (W.contents out.new) e) }

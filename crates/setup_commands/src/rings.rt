@@ -72,12 +72,12 @@ fn allowed(size: RingSize) -> Result<Params, RingCause>
 /// # Errors
 ///
 /// `Ring` with the place and the first fault of the size, and `OutOfMemory`.
-fn ring_at(
+fn ring_at<'a>(
     alloc: Global,
     seed: Option<u64>,
     place: usize,
     size: RingSize,
-) -> Result<SavedRing, ToolError<'static>>
+) -> Result<SavedRing, ToolError<'a>>
     requires { place < 2 ^ 32 }
     ensures ok { IfOk result
         (λ ring. (block_of ring ≡ block_at place (ring_of seed place (size_given size)))
@@ -108,11 +108,11 @@ fn ring_at(
 /// # Errors
 ///
 /// `Ring` with the place of the first size that is not allowed and its fault, and `OutOfMemory`.
-fn all_rings(
+fn all_rings<'a>(
     alloc: Global,
     seed: Option<u64>,
     sizes: &[RingSize],
-) -> Result<Vec<SavedRing>, ToolError<'static>>
+) -> Result<Vec<SavedRing>, ToolError<'a>>
     requires { length sizes.now < 2 ^ 32 }
     ensures ok { IfOk result (λ rings.
         (map block_of rings.items ≡ blocks_from 0 (rings_of seed (map size_given sizes.now)))
@@ -138,11 +138,11 @@ fn all_rings(
 /// # Errors
 ///
 /// `NoRing` if there is no size, `TotalsTooLarge` if there are too many for a saved history, and those of [`all_rings`].
-pub(crate) fn rings_of(
+pub(crate) fn rings_of<'a>(
     alloc: Global,
     seed: Option<u64>,
     sizes: &[RingSize],
-) -> Result<Vec<SavedRing>, ToolError<'static>>
+) -> Result<Vec<SavedRing>, ToolError<'a>>
     ensures ok { IfOk result (λ rings.
         (map block_of rings.items ≡ blocks_from 0 (rings_of seed (map size_given sizes.now)))
         × AreSizes (map size_given sizes.now)) }

@@ -35,7 +35,7 @@ fn seat_fault(words: &SettingsWords) -> Option<Field>
 /// `NoRing` if there is no size, `Limit` with what is out of limits, `Ring` with the place of the first size that is not allowed and
 /// its fault, and `OutOfMemory`.
 #[tactic(auto, using(crate::proofs::Refused::few_sizes, crate::proofs::Refused::many_sizes, crate::proofs::Refused::rings_refused, crate::proofs::Refused::limits_refused, crate::proofs::Refused::are_rings))]
-fn text_of_words(alloc: Global, words: &SettingsWords) -> Result<Vec<u8>, ToolError<'static>>
+fn text_of_words<'a>(alloc: Global, words: &SettingsWords) -> Result<Vec<u8>, ToolError<'a>>
     ensures ok { IfOk result (λ text. AreSettingsWords words.now
         × (text.items ≡ settings_text words.now)
         × (settings_of (settings_text words.now) ≡ Ok (settings_given words.now))) }
@@ -64,11 +64,11 @@ fn text_of_words(alloc: Global, words: &SettingsWords) -> Result<Vec<u8>, ToolEr
 /// `NoRing` if there is no ring, `Limit` with the first of rings, workers and actions that is out of limits, `Ring` with the
 /// place of the first ring whose size is not allowed and its fault, and `OutOfMemory`: nothing is written then. `Write` if the writer
 /// fails: the bytes written until then are a prefix of the text.
-pub fn run<W: Write>(
+pub fn run<'a, W: Write>(
     alloc: Global,
     words: &SettingsWords,
     out: &mut W,
-) -> Result<(), ToolError<'static>>
+) -> Result<(), ToolError<'a>>
     ensures ok { OnOk result
         (IsSettingsAnswer words.now (W.contents out.old) (W.contents out.new)) }
     ensures err { IfErr result

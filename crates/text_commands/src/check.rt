@@ -32,11 +32,11 @@ use tool_parts::requests::CheckWords;
 /// The first line that cannot be in a saved text, or that the bytes end too early; the first bad
 /// line of a saved text, and its fault; `OutOfMemory`. Nothing is written then. `Write`
 /// where the writer fails: the bytes written until then are a prefix of the line.
-pub fn check_bytes<W: Write>(
+pub fn check_bytes<'a, W: Write>(
     alloc: Global,
     bytes: &[u8],
     out: &mut W,
-) -> Result<(), ToolError<'static>>
+) -> Result<(), ToolError<'a>>
     ensures ok { OnOk result ((sums : Summary) × IsLegalSavedText bytes.now sums
         × Appends (W.contents out.old) (W.contents out.new) (legal_line sums)) }
     ensures err { IfErr result

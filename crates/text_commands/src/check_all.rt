@@ -44,11 +44,11 @@ fn lines_told(alloc: Global, saved: &Saved) -> Result<Vec<u8>, AllocError>
 ///
 /// Those of [`check_bytes`](crate::check::check_bytes). If the text is not legal, its bad lines are written, and flushed. `Write`
 /// where the writer fails: the bytes written until then are a prefix.
-pub fn check_all_bytes<W: Write>(
+pub fn check_all_bytes<'a, W: Write>(
     alloc: Global,
     bytes: &[u8],
     out: &mut W,
-) -> Result<(), ToolError<'static>>
+) -> Result<(), ToolError<'a>>
     ensures ok { OnOk result ((sums : Summary) × IsLegalSavedText bytes.now sums
         × Appends (W.contents out.old) (W.contents out.new) (legal_line sums)) }
     ensures err { IfErr result

@@ -39,7 +39,7 @@ pub struct Drawing {
 }
 
 /// The ring at this place.
-fn ring_of(saved: Saved, place: u32) -> Result<SavedRing, ToolError<'static>>
+fn ring_of<'a>(saved: Saved, place: u32) -> Result<SavedRing, ToolError<'a>>
     ensures ok { IfOk result
         (λ ring. slice_get (content saved).rings place ≡ Some (block_of ring)) }
     ensures err { IfErr result
@@ -54,7 +54,7 @@ fn ring_of(saved: Saved, place: u32) -> Result<SavedRing, ToolError<'static>>
 }
 
 /// How many of a ring's events are drawn.
-fn count_of(ring: &SavedRing, from: u32, most: u32) -> Result<u32, ToolError<'static>>
+fn count_of<'a>(ring: &SavedRing, from: u32, most: u32) -> Result<u32, ToolError<'a>>
     ensures ok { IfOk result (λ count. (from ≤ length ring.now.events.items)
         × (count ≡ drawn_count (length ring.now.events.items) from most)) }
     ensures err { IfErr result
@@ -68,11 +68,11 @@ fn count_of(ring: &SavedRing, from: u32, most: u32) -> Result<u32, ToolError<'st
 }
 
 /// Returns the drawing of the saved text that the bytes are, where it is legal.
-fn drawing_of(
+fn drawing_of<'a>(
     alloc: Global,
     words: &PictureWords<'_>,
     bytes: &[u8],
-) -> Result<Drawing, ToolError<'static>>
+) -> Result<Drawing, ToolError<'a>>
     requires few { words.now.events ≤ most_drawn }
     ensures ok { IfOk result (λ d. IsDrawing words.now bytes.now d) }
     ensures err { IfErr result (λ e. IsDrawingRefusal words.now bytes.now e) }
@@ -206,13 +206,13 @@ fn save_and_tell<'a, D: Disk, W: Write>(
 /// # Errors
 ///
 /// `OutOfMemory`: nothing is written then. `Write` where a writer fails: the bytes written until then are a prefix.
-fn print_and_tell<W: Write, E: Write>(
+fn print_and_tell<'a, W: Write, E: Write>(
     alloc: Global,
     drawing: &Drawing,
     words: &PictureWords<'_>,
     out: &mut W,
     err: &mut E,
-) -> Result<(), ToolError<'static>>
+) -> Result<(), ToolError<'a>>
     requires drawn { (bytes : List ℕ) × IsDrawing words.now bytes drawing.now }
     ensures text { OnOk result
         (Appends (W.contents out.old) (W.contents out.new) (picture_of words.now drawing.now)) }

@@ -21,7 +21,7 @@ use tool_parts::requests::ReportWords;
 /// # Errors
 ///
 /// The refusals of `check` for a text that is not legal, `Full` with a ring that has too many events, and `OutOfMemory`.
-pub fn report_of_bytes(alloc: Global, bytes: &[u8]) -> Result<Vec<u8>, ToolError<'static>>
+pub fn report_of_bytes<'a>(alloc: Global, bytes: &[u8]) -> Result<Vec<u8>, ToolError<'a>>
     ensures ok { IfOk result (λ text. IsReportOf bytes.now text.items) }
     ensures err { IfErr result (λ e. IsReportTextRefusal bytes.now e) }
 {
@@ -39,11 +39,11 @@ pub fn report_of_bytes(alloc: Global, bytes: &[u8]) -> Result<Vec<u8>, ToolError
 ///
 /// Those of [`report_of_bytes`]: nothing is printed then. `Write` where the writer fails: the bytes written until then are a
 /// prefix.
-pub fn print_report<W: Write>(
+pub fn print_report<'a, W: Write>(
     alloc: Global,
     bytes: &[u8],
     out: &mut W,
-) -> Result<(), ToolError<'static>>
+) -> Result<(), ToolError<'a>>
     ensures ok { OnOk result ((report : List ℕ) × IsReportOf bytes.now report
         × Appends (W.contents out.old) (W.contents out.new) report) }
     ensures err { IfErr result

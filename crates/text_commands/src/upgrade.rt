@@ -26,7 +26,7 @@ use tool_parts::requests::UpgradeWords;
 /// # Errors
 ///
 /// The refusals of `check` for a text that is not legal, and `OutOfMemory`.
-fn upgrade_with_sums(alloc: Global, bytes: &[u8]) -> Result<(Saved, Summary), ToolError<'static>>
+fn upgrade_with_sums<'a>(alloc: Global, bytes: &[u8]) -> Result<(Saved, Summary), ToolError<'a>>
     ensures ok { IfOk result (λ x. IsUpgradeOf bytes.now (content x.0) x.1) }
     ensures saved { IfOk result (λ x. CanBeSaved (content x.0)) }
     ensures err { IfErr result (λ e. IsSavedTextRefusal bytes.now e) }

@@ -118,12 +118,12 @@ fn save_and_tell<'a, D: Disk, W: Write>(
 /// # Errors
 ///
 /// `Write` where a writer fails: the bytes written until then are a prefix.
-fn print_and_tell<W: Write, E: Write>(
+fn print_and_tell<'a, W: Write, E: Write>(
     value: &(Saved, Summary),
     left: &LeftOut,
     out: &mut W,
     err: &mut E,
-) -> Result<(), ToolError<'static>>
+) -> Result<(), ToolError<'a>>
     requires { CanBeSaved (content value.now.0) }
     ensures text { OnOk result
         (Appends (W.contents out.old) (W.contents out.new) (text (content value.now.0))) }

@@ -55,7 +55,7 @@ pub fn tell_sums<W: Write>(out: &mut W, sums: &Summary) -> Result<(), WriteFault
 ///
 /// `Syntax` or `Truncated` where the bytes are not a saved text, `Bad` where they are one that is not
 /// legal, and `OutOfMemory`.
-pub fn legal_saved(alloc: Global, bytes: &[u8]) -> Result<(Saved, Summary), ToolError<'static>>
+pub fn legal_saved<'a>(alloc: Global, bytes: &[u8]) -> Result<(Saved, Summary), ToolError<'a>>
     ensures ok { IfOk result (λ x. (legal : IsLegalSavedText bytes.now x.1)
         × (legal.content ≡ content x.0)
         × IsLegalText (content x.0)) }

@@ -9,7 +9,7 @@ use std::alloc::Global;
 use text_lines::read_decimal;
 
 /// Adds the number that a piece of a list spells.
-fn add_number(numbers: &mut Vec<u32>, piece: &str) -> Result<(), ToolError<'static>>
+fn add_number<'a>(numbers: &mut Vec<u32>, piece: &str) -> Result<(), ToolError<'a>>
     ensures ok { OnOk result ((n : ℕ)
         × (n < 2 ^ 32)
         × (decimal n ≡ piece.now)
@@ -30,7 +30,7 @@ fn add_number(numbers: &mut Vec<u32>, piece: &str) -> Result<(), ToolError<'stat
 /// # Errors
 ///
 /// `BadList` where the text is not such a list, and `OutOfMemory`.
-pub fn read_list(alloc: Global, text: &str) -> Result<Vec<u32>, ToolError<'static>>
+pub fn read_list<'a>(alloc: Global, text: &str) -> Result<Vec<u32>, ToolError<'a>>
     ensures ok { IfOk result (λ numbers. IsListText text.now numbers.items) }
     ensures err { IfErr result (λ e. IsListRefusal text.now e) }
 {
