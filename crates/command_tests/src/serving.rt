@@ -81,6 +81,8 @@ impl<'a> Disk for Watched<'a> {
 
     type Grown = Opened<'a>;
 
+    type Hold = Opened<'a>;
+
     fn open(&self, name: &str) -> io::Result<Cursor<Vec<u8>>> {
         if self.opened.get() == 0 {
             return Err(io::Error::from(ErrorKind::PermissionDenied));
@@ -121,6 +123,14 @@ impl<'a> Disk for Watched<'a> {
             return Err(io::Error::from(ErrorKind::WouldBlock));
         }
         self.files.lock(name)
+    }
+
+    fn hold(&mut self, name: &str) -> io::Result<Opened<'a>> {
+        if self.used {
+            return Err(io::Error::from(ErrorKind::WouldBlock));
+        }
+        let held = self.files.grow(name, false)?;
+        Ok(self.counted(held))
     }
 
     fn grow(&mut self, name: &str, synced: bool) -> io::Result<Opened<'a>> {
@@ -303,10 +313,10 @@ fn a_fault_leaves_the_journal(rt: HostRuntime) -> Result<(), Fail> {
     }
     assert!(rt; out.as_slice() == b"granted 2 12\n".as_slice());
     assert!(rt; disk.let_go == 1 && opened.get() == 0);
-    // In memory a file holds what was written to it once it is closed: here it has what it began with.
-    let begun =
-        b"ringjournal 1\nringfarm 2\nring 0 3 3\nstart 0 0 0\np 0 0 5 g 1 5\nend 1\ndone 1\n";
-    expect_held(&rt, &disk, "j", begun)?;
+    // It holds what it began with, and the note of the call that was answered.
+    let noted =
+        b"ringjournal 1\nringfarm 2\nring 0 3 3\nstart 0 0 0\np 0 0 5 g 1 5\nend 1\ndone 1\n0 p 0 1 7 g 2 12\n";
+    expect_held(&rt, &disk, "j", noted)?;
     Ok(())
 }
 
@@ -332,6 +342,7 @@ fn a_journal_that_cannot_be_closed_is_let_go(rt: HostRuntime) -> Result<(), Fail
     }
     assert!(rt; out.as_slice() == b"granted 1 5\n".as_slice() && err.is_empty());
     assert!(rt; disk.let_go == 1 && opened.get() == 0);
+    expect_held(&rt, &disk, "j", ONE_CALL.as_bytes())?;
     Ok(())
 }
 

@@ -9,7 +9,10 @@ use std::test::Fail;
 use test_files::{bytes_of, folder_of, no_files, put, within};
 
 /// A file of this name cannot be grown, for this reason.
-fn expect_refused<D: Disk>(rt: &impl Abort, disk: &mut D, name: &str, kind: ErrorKind) {
+fn expect_refused<D: Disk>(rt: &impl Abort, disk: &mut D, name: &str, kind: ErrorKind)
+where
+    D::Grown: Drop,
+{
     let Err(fault) = disk.grow(name, false) else {
         panic!(rt; "grown");
     };
@@ -17,7 +20,10 @@ fn expect_refused<D: Disk>(rt: &impl Abort, disk: &mut D, name: &str, kind: Erro
 }
 
 /// A file of this name cannot be locked, for this reason.
-fn expect_unlocked<D: Disk>(rt: &impl Abort, disk: &mut D, name: &str, kind: ErrorKind) {
+fn expect_unlocked<D: Disk>(rt: &impl Abort, disk: &mut D, name: &str, kind: ErrorKind)
+where
+    D::Grown: Drop,
+{
     let Err(fault) = disk.lock(name) else {
         panic!(rt; "locked");
     };
@@ -30,7 +36,10 @@ pub fn add<G: Grow>(rt: &impl Abort, grown: &mut G, bytes: &[u8]) {
 }
 
 /// Closes a file of this name.
-pub fn close<D: Disk>(rt: &impl Abort, disk: &mut D, grown: D::Grown, name: &str) {
+pub fn close<D: Disk>(rt: &impl Abort, disk: &mut D, grown: D::Grown, name: &str)
+where
+    D::Grown: Drop,
+{
     assert!(rt; disk.close_synced(grown, name).is_ok());
 }
 
@@ -44,7 +53,10 @@ impl Play for GrowByOneHand {
         disk: &mut D,
         _other: &mut D,
         folder: &str,
-    ) -> io::Result<()> {
+    ) -> io::Result<()>
+    where
+        D::Grown: Drop,
+    {
         let name = within(rt, folder, "a")?;
         expect_refused(rt, disk, &name, ErrorKind::NotFound);
         assert!(rt; disk.create(&name)?);
@@ -76,7 +88,10 @@ fn lock_by_turns<R: Abort + AllocGlobal + Files + Clone, D: Disk + Drop>(
     mut first: D,
     second: &mut D,
     folder: &str,
-) -> io::Result<()> {
+) -> io::Result<()>
+where
+    D::Grown: Drop,
+{
     let name = within(rt, folder, "lock")?;
     expect_unlocked(rt, &mut first, &name, ErrorKind::NotFound);
     assert!(rt; first.create(&name)?);
@@ -115,7 +130,10 @@ impl Play for LetGo {
         disk: &mut D,
         _other: &mut D,
         folder: &str,
-    ) -> io::Result<()> {
+    ) -> io::Result<()>
+    where
+        D::Grown: Drop,
+    {
         let name = within(rt, folder, "a")?;
         assert!(rt; disk.create(&name)?);
         let mut grown = disk.grow(&name, true)?;
@@ -147,6 +165,12 @@ fn a_grown_file_in_memory_holds_what_was_written(rt: HostRuntime) -> Result<(), 
     let held = bytes_of(rt.alloc(), &disk, "a")?;
     assert!(rt; held.as_slice() == b"one two".as_slice());
     expect_refused(&rt, &mut disk, "b", ErrorKind::NotFound);
+    assert!(rt; disk.hold("b").is_err());
+    let mut grown = disk.grow("a", false)?;
+    add(&rt, &mut grown, b" three");
+    disk.abandon(grown, String::from_str(rt.alloc(), "a")?);
+    let held = bytes_of(rt.alloc(), &disk, "a")?;
+    assert!(rt; held.as_slice() == b"one two three".as_slice());
     Ok(())
 }
 
@@ -156,6 +180,7 @@ fn an_empty_file_in_memory_is_made_and_removed(rt: HostRuntime) -> Result<(), Fa
     put(&mut disk, "b", b"other")?;
     assert!(rt; disk.create("a")?);
     assert!(rt; !disk.create("b")?);
+    disk.hold("a")?;
     let none = disk.grow("a", false)?;
     assert!(rt; none.is_empty());
     let held = bytes_of(rt.alloc(), &disk, "a")?;

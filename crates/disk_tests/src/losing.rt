@@ -45,7 +45,9 @@ fn expect_left<R: Abort + AllocGlobal>(
 
 /// What is done to files before a loss of power.
 trait Change {
-    fn change<R: Abort + AllocGlobal, D: Disk>(&self, rt: &R, disk: &mut D) -> io::Result<()>;
+    fn change<R: Abort + AllocGlobal, D: Disk>(&self, rt: &R, disk: &mut D) -> io::Result<()>
+    where
+        D::Grown: Drop;
 }
 
 /// Has it done, and compares what is left.
@@ -63,7 +65,10 @@ fn expect_change<R: Abort + AllocGlobal, C: Change>(
 struct GrowOneOfTwo;
 
 impl Change for GrowOneOfTwo {
-    fn change<R: Abort + AllocGlobal, D: Disk>(&self, rt: &R, disk: &mut D) -> io::Result<()> {
+    fn change<R: Abort + AllocGlobal, D: Disk>(&self, rt: &R, disk: &mut D) -> io::Result<()>
+    where
+        D::Grown: Drop,
+    {
         put(disk, "a", b"one")?;
         put(disk, "b", b"new")?;
         let held = bytes_of(rt.alloc(), disk, "b")?;
@@ -89,7 +94,10 @@ fn a_name_lasts_once_its_file_is_opened_synced(rt: HostRuntime) -> Result<(), Fa
 struct AddByTurns;
 
 impl Change for AddByTurns {
-    fn change<R: Abort + AllocGlobal, D: Disk>(&self, rt: &R, disk: &mut D) -> io::Result<()> {
+    fn change<R: Abort + AllocGlobal, D: Disk>(&self, rt: &R, disk: &mut D) -> io::Result<()>
+    where
+        D::Grown: Drop,
+    {
         let mut synced = disk.grow("a", true)?;
         add(rt, &mut synced, b" two");
         put(disk, "b", b"")?;
@@ -99,7 +107,9 @@ impl Change for AddByTurns {
         disk.abandon(synced, String::from_str(rt.alloc(), "a")?);
         disk.abandon(other, String::from_str(rt.alloc(), "b")?);
         let held = bytes_of(rt.alloc(), disk, "a")?;
-        assert!(rt; held.as_slice() == b"one".as_slice());
+        assert!(rt; held.as_slice() == b"one two three".as_slice());
+        let held = bytes_of(rt.alloc(), disk, "b")?;
+        assert!(rt; held.as_slice() == b"lost".as_slice());
         Ok(())
     }
 }
@@ -120,7 +130,10 @@ fn what_is_added_to_a_synced_file_lasts(rt: HostRuntime) -> Result<(), Fail> {
 struct AddAndClose;
 
 impl Change for AddAndClose {
-    fn change<R: Abort + AllocGlobal, D: Disk>(&self, rt: &R, disk: &mut D) -> io::Result<()> {
+    fn change<R: Abort + AllocGlobal, D: Disk>(&self, rt: &R, disk: &mut D) -> io::Result<()>
+    where
+        D::Grown: Drop,
+    {
         assert!(rt; disk.create("a")?);
         let mut grown = disk.grow("a", false)?;
         add(rt, &mut grown, b"one");
@@ -142,7 +155,10 @@ fn a_file_that_is_closed_lasts(rt: HostRuntime) -> Result<(), Fail> {
 struct DiscardAndCreate;
 
 impl Change for DiscardAndCreate {
-    fn change<R: Abort + AllocGlobal, D: Disk>(&self, rt: &R, disk: &mut D) -> io::Result<()> {
+    fn change<R: Abort + AllocGlobal, D: Disk>(&self, rt: &R, disk: &mut D) -> io::Result<()>
+    where
+        D::Grown: Drop,
+    {
         assert!(rt; disk.discard("a")?);
         assert!(rt; disk.create("b")?);
         assert!(rt; disk.open("a").is_err());
@@ -166,7 +182,10 @@ fn what_is_made_or_removed_alone_may_be_lost(rt: HostRuntime) -> Result<(), Fail
 struct AddPastASync;
 
 impl Change for AddPastASync {
-    fn change<R: Abort + AllocGlobal, D: Disk>(&self, rt: &R, disk: &mut D) -> io::Result<()> {
+    fn change<R: Abort + AllocGlobal, D: Disk>(&self, rt: &R, disk: &mut D) -> io::Result<()>
+    where
+        D::Grown: Drop,
+    {
         let mut grown = disk.grow("a", true)?;
         assert!(rt; grown.add(b" two") == Ok(()));
         assert!(rt; grown.add(b" three") == Err(6));
@@ -193,7 +212,10 @@ fn a_synced_file_whose_sync_failed_takes_no_more(rt: HostRuntime) -> Result<(), 
 struct GrowNameless;
 
 impl Change for GrowNameless {
-    fn change<R: Abort + AllocGlobal, D: Disk>(&self, rt: &R, disk: &mut D) -> io::Result<()> {
+    fn change<R: Abort + AllocGlobal, D: Disk>(&self, rt: &R, disk: &mut D) -> io::Result<()>
+    where
+        D::Grown: Drop,
+    {
         assert!(rt; disk.grow("a", true).is_err());
         let grown = disk.grow("a", false)?;
         assert!(rt; disk.close_synced(grown, "a").is_err());

@@ -110,6 +110,7 @@ fn a_folder_is_no_file(rt: HostRuntime) -> Result<(), Fail> {
     for name in ["f", "f/g", "e"] {
         assert!(rt; is_of_a_folder(&disk.open(name)));
         assert!(rt; is_of_a_folder(&disk.create(name)));
+        assert!(rt; is_of_a_folder(&disk.hold(name)));
         assert!(rt; is_of_a_folder(&disk.grow(name, false)));
         assert!(rt; !disk.discard(name)?);
         assert!(rt; is_of_a_folder(&put(&mut disk, name, b"text")));

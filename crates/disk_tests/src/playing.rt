@@ -15,7 +15,9 @@ pub trait Play {
         disk: &mut D,
         other: &mut D,
         folder: &str,
-    ) -> io::Result<()>;
+    ) -> io::Result<()>
+    where
+        D::Grown: Drop;
 }
 
 /// Has it done in a folder of the system. Each test names the types of the disks here only, since that is dear to prove.
@@ -71,7 +73,10 @@ pub fn put_in<R: Abort + AllocGlobal, D: Disk>(
     folder: &str,
     name: &str,
     bytes: &[u8],
-) -> io::Result<()> {
+) -> io::Result<()>
+where
+    D::Grown: Drop,
+{
     let name = within(rt, folder, name)?;
     put(disk, &name, bytes)?;
     let held = bytes_of(rt.alloc(), disk, &name)?;

@@ -73,7 +73,10 @@ impl Play for ReplaceInFolder {
         disk: &mut D,
         _other: &mut D,
         folder: &str,
-    ) -> io::Result<()> {
+    ) -> io::Result<()>
+    where
+        D::Grown: Drop,
+    {
         let name = within(rt, folder, "a")?;
         assert!(rt; replace(rt.alloc(), disk, &name, &WHOLE) == Ok(()));
         expect_bytes(rt, &name, b"one\ntwo\n")?;

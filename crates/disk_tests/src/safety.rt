@@ -20,7 +20,10 @@ impl Play for KeepFromReplacing {
         disk: &mut D,
         other: &mut D,
         folder: &str,
-    ) -> io::Result<()> {
+    ) -> io::Result<()>
+    where
+        D::Grown: Drop,
+    {
         let name = within(rt, folder, "a")?;
         write_in(rt, folder, "a", "noted")?;
         let grown = other.grow(&name, false)?;
@@ -53,10 +56,13 @@ impl Play for ReplaceOwn {
         disk: &mut D,
         _other: &mut D,
         folder: &str,
-    ) -> io::Result<()> {
+    ) -> io::Result<()>
+    where
+        D::Grown: Drop,
+    {
         let name = within(rt, folder, "a")?;
         write_in(rt, folder, "a", "old")?;
-        let lock = disk.grow(&name, false)?;
+        let lock = disk.hold(&name)?;
         put(disk, &name, b"new")?;
         let mut again = disk.grow(&name, false)?;
         add(rt, &mut again, b" and more");
@@ -84,7 +90,10 @@ impl Play for CloseLost {
         disk: &mut D,
         _other: &mut D,
         folder: &str,
-    ) -> io::Result<()> {
+    ) -> io::Result<()>
+    where
+        D::Grown: Drop,
+    {
         let name = within(rt, folder, "a")?;
         write_in(rt, folder, "a", "")?;
         let first = disk.grow(&name, false)?;
@@ -117,7 +126,10 @@ impl Play for MakeBehindLinks {
         disk: &mut D,
         _other: &mut D,
         folder: &str,
-    ) -> io::Result<()> {
+    ) -> io::Result<()>
+    where
+        D::Grown: Drop,
+    {
         fs::create_dir(rt, within(rt, folder, "d")?.as_str())?;
         link_in(rt, folder, "one", "d/two")?;
         link_in(rt, folder, "d/two", "three")?;
@@ -158,7 +170,10 @@ impl Play for ReplaceLong<'_> {
         disk: &mut D,
         _other: &mut D,
         folder: &str,
-    ) -> io::Result<()> {
+    ) -> io::Result<()>
+    where
+        D::Grown: Drop,
+    {
         put_in(rt, disk, folder, self.long, b"one")?;
         put_in(rt, disk, folder, self.long, b"two")?;
         expect(rt, folder, self.long, Some("two"))?;
@@ -187,7 +202,10 @@ impl Play for MakeBeside {
         disk: &mut D,
         other: &mut D,
         folder: &str,
-    ) -> io::Result<()> {
+    ) -> io::Result<()>
+    where
+        D::Grown: Drop,
+    {
         let name = within(rt, folder, "a")?;
         let mut first = disk.make(&name)?;
         first.write_all(b"first")?;
@@ -219,7 +237,10 @@ impl Play for MakePastALink {
         disk: &mut D,
         _other: &mut D,
         folder: &str,
-    ) -> io::Result<()> {
+    ) -> io::Result<()>
+    where
+        D::Grown: Drop,
+    {
         write_in(rt, folder, "victim", "old")?;
         link_in(rt, folder, ".wozgirt.part", "victim")?;
         put_in(rt, disk, folder, "a", b"one")?;
@@ -246,14 +267,18 @@ impl Play for MakeAndDiscard {
         disk: &mut D,
         other: &mut D,
         folder: &str,
-    ) -> io::Result<()> {
+    ) -> io::Result<()>
+    where
+        D::Grown: Drop,
+    {
         link_in(rt, folder, "link", "a")?;
         let link = within(rt, folder, "link")?;
         assert!(rt; !disk.discard(&link)?);
         assert!(rt; disk.create(&link)?);
         assert!(rt; !disk.create(&link)?);
         expect(rt, folder, "a", Some(""))?;
-        let held = disk.grow(&link, false)?;
+        let held = disk.hold(&link)?;
+        assert!(rt; other.hold(&link).is_err());
         assert!(rt; other.discard(&link).is_err());
         drop(held);
         assert!(rt; disk.discard(&link)?);
@@ -282,7 +307,10 @@ impl Play for LookAtNames {
         disk: &mut D,
         _other: &mut D,
         folder: &str,
-    ) -> io::Result<()> {
+    ) -> io::Result<()>
+    where
+        D::Grown: Drop,
+    {
         write_in(rt, folder, "a", "text")?;
         link_in(rt, folder, "nowhere", "no/b")?;
         for name in ["a", "b"] {

@@ -134,7 +134,10 @@ impl Play for ReplaceWithMode {
         disk: &mut D,
         _other: &mut D,
         folder: &str,
-    ) -> io::Result<()> {
+    ) -> io::Result<()>
+    where
+        D::Grown: Drop,
+    {
         let name = within(rt, folder, "a")?;
         fs::write(rt, name.as_str(), "old")?;
         fs::set_permissions(rt, name.as_str(), fs::Permissions::from_mode(0o640))?;
@@ -161,7 +164,10 @@ impl Play for FinishElsewhere {
         disk: &mut D,
         _other: &mut D,
         folder: &str,
-    ) -> io::Result<()> {
+    ) -> io::Result<()>
+    where
+        D::Grown: Drop,
+    {
         let name = within(rt, folder, "a")?;
         let other = within(rt, folder, "b")?;
         let mut made = disk.make(&name)?;
@@ -191,7 +197,10 @@ impl Play for ReplaceBehindALink {
         disk: &mut D,
         _other: &mut D,
         folder: &str,
-    ) -> io::Result<()> {
+    ) -> io::Result<()>
+    where
+        D::Grown: Drop,
+    {
         write_in(rt, folder, "a", "old")?;
         link_in(rt, folder, "b", "a")?;
         put_in(rt, disk, folder, "b", b"new")?;
@@ -265,7 +274,10 @@ impl Play for MakeNowhere {
         disk: &mut D,
         _other: &mut D,
         folder: &str,
-    ) -> io::Result<()> {
+    ) -> io::Result<()>
+    where
+        D::Grown: Drop,
+    {
         let missing = within(rt, folder, "missing/a")?;
         assert!(rt; disk.open(&missing).is_err());
         assert!(rt; disk.make(&missing).is_err());
@@ -297,7 +309,10 @@ impl Play for ListBoth {
         disk: &mut D,
         _other: &mut D,
         folder: &str,
-    ) -> io::Result<()> {
+    ) -> io::Result<()>
+    where
+        D::Grown: Drop,
+    {
         make_both(rt, folder)?;
         assert!(rt; disk.list(&within(rt, folder, "e")?)?.is_empty());
         assert!(rt; disk.list(&within(rt, folder, "a")?).is_err());
@@ -322,12 +337,16 @@ impl Play for UseFoldersAsFiles {
         disk: &mut D,
         _other: &mut D,
         folder: &str,
-    ) -> io::Result<()> {
+    ) -> io::Result<()>
+    where
+        D::Grown: Drop,
+    {
         make_both(rt, folder)?;
         let empty = within(rt, folder, "e")?;
         for name in [folder, empty.as_str()] {
             assert!(rt; is_of_a_folder(&disk.open(name)));
             assert!(rt; is_of_a_folder(&disk.create(name)));
+            assert!(rt; is_of_a_folder(&disk.hold(name)));
             assert!(rt; is_of_a_folder(&disk.grow(name, false)));
             assert!(rt; is_of_a_folder(&disk.make(name)));
             assert!(rt; !disk.discard(name)?);
@@ -374,7 +393,10 @@ impl Play for ListThree {
         disk: &mut D,
         _other: &mut D,
         folder: &str,
-    ) -> io::Result<()> {
+    ) -> io::Result<()>
+    where
+        D::Grown: Drop,
+    {
         write_in(rt, folder, "a.ring", "one")?;
         link_in(rt, folder, "b.ring", "a.ring")?;
         fs::create_dir(rt, within(rt, folder, "c.ring")?.as_str())?;

@@ -4,7 +4,7 @@ use Rattle.std.specs.Str.{bytes_eq}
 use Rattle.std.proofs.lemmas.List.{at_drop_more, at_drop_all}
 use Rattle.std.proofs.lemmas.Slice.Eq.{bytes_eq-Decides}
 use Rattle.std.proofs.lemmas.Bool.{false_from_ne_true, false≢true}
-use Rattle.disks.specs.Held.{Thing, Nothing, File, file_bytes, is_a_folder, IsReplaced, IsRemoved}
+use Rattle.disks.specs.Held.{Thing, Nothing, Folder, File, file_bytes, is_a_file, is_a_folder, is_a_thing, IsReplaced, IsRemoved}
 use Rattle.disks.specs.Entries.{thing_of, found, held_of, without}
 use Rattle.disks.specs.declared.memory.StoredEntry.{StoredEntry}
 
@@ -24,12 +24,24 @@ same_folder : (t : Bool) (x y : Thing) → is_a_folder x ≡ false → (t ≡ tr
 same_folder false x y file before = refl
 same_folder true x y file before = file ∙ sym (before refl)
 
+-- whether a file is found, with an entry more that is a file where there was no folder
+same_kind : (t : Bool) (x y : Thing) → is_a_file x ≡ true → (t ≡ true → is_a_folder y ≡ false) → is_a_thing y ≡ true → is_a_file (cond t x y) ≡ is_a_file y
+same_kind false x y file before there = refl
+same_kind true x Nothing file before there = absurd (false≢true there)
+same_kind true x Folder file before there = absurd (false≢true (sym (before refl)))
+same_kind true x (File bytes) file before there = file
+
 -- an entry more replaces the file of its name
 pub pushed : (es : List StoredEntry) (e : StoredEntry) (name bytes : List ℕ) → string_bytes e.name ≡ name → thing_of e.stored ≡ File bytes → is_a_folder (found Nothing es name) ≡ false →
     IsReplaced (held_of es) (held_of (es ++ e ∷ [])) name bytes
 pushed es e name bytes named holds no_folder = record {
   places = λ other. refl;
   locks = λ place. refl;
+  kinds = λ other there.
+      ap is_a_file (found_push Nothing es e other)
+      ∙ same_kind (bytes_eq (string_bytes e.name) other) (thing_of e.stored) (found Nothing es other) (ap is_a_file holds)
+      (λ yes. ap (λ (n : List ℕ). is_a_folder (found Nothing es n)) (sym ((bytes_eq-Decides (string_bytes e.name) other).0 yes) ∙ named) ∙ no_folder)
+      there;
   folders = λ other.
       ap is_a_folder (found_push Nothing es e other)
       ∙ same_folder (bytes_eq (string_bytes e.name) other) (thing_of e.stored) (found Nothing es other) (ap is_a_folder holds)

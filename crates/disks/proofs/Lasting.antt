@@ -1,10 +1,11 @@
 -- What a loss of power leaves: how the facts on it follow from one another.
-use Rattle.std.proofs.Common.{◌≡◌, ℕ, Bool, true, false, cond, if◌then◌else◌, List, [], Option, None, Some, refl, sym, ap, subst, ◌∙◌, inl, inr}
+use Rattle.std.proofs.Common.{◌≡◌, ℕ, Bool, true, false, cond, if◌then◌else◌, List, [], Option, None, Some, Result, Ok, Err, refl, sym, ap, subst, ◌∙◌, inl, inr}
 use Rattle.std.proofs.lemmas.List.{append-nil}
 use Rattle.std.specs.Str.{bytes_eq}
 use Rattle.std.proofs.lemmas.Slice.Eq.{bytes_eq-Decides}
 use Rattle.std.proofs.lemmas.Bool.{false_from_ne_true, false≢true}
-use Rattle.disks.specs.Held.{Held, File, file_bytes, bytes_of, Grows}
+use Rattle.std.specs.Prelude.{IfOk, OnOk}
+use Rattle.disks.specs.Held.{Held, File, file_bytes, bytes_of, IsHeld, Grows}
 use Rattle.disks.specs.Lasting.{HasJust, BeginsWith, bytes_in, ChangesOnly, Changes, MayChange, Leaves, MayLeave, LeavesFront}
 use Rattle.disks.specs.declared.losing.Left.{Left}
 use Rattle.disks.specs.Left.{left_at, held_left}
@@ -50,6 +51,12 @@ pub opened_has : (held : Option Held) (name : List ℕ) (contents : Option (List
     → HasJust has contents → HasJust has (bytes_in held name)
 opened_has None name contents opened has just = tt
 opened_has (Some held) name contents opened has just = subst (λ (bytes : Option (List ℕ)). HasJust has bytes) (opened.2 ∙ sym opened.1) just
+
+-- a file that was opened was there
+pub opened_there : {A E : Type 0} (r : Result A E) (held : Option Held) (name : List ℕ) (contents : A → Option (List ℕ)) → IfOk r (λ a. Grows held name (contents a)) → OnOk r ((bytes : List ℕ) × IsHeld held name bytes)
+opened_there (Ok a) None name contents opened = ([], tt)
+opened_there (Ok a) (Some held) name contents opened = (opened.0, opened.1)
+opened_there (Err e) held name contents opened = tt
 
 -- a file that was opened, and whose name is left, if that is asked
 pub opened_leaves : (asked : Bool) (held was mid is : Option Held) (name : List ℕ) (on_disk contents : Option (List ℕ)) → Grows held name contents → mid ≡ was

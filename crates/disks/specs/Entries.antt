@@ -3,7 +3,7 @@ use Rattle.std.specs.Prelude.{ℕ, List, [], ◌∷◌, Option, None, Some, cond
 use Rattle.std.specs.Borrow.{Bor}
 use Rattle.std.specs.List.{filter}
 use Rattle.std.specs.Str.{bytes_eq}
-use Rattle.disks.specs.Held.{Held, Thing, Nothing, Folder, File}
+use Rattle.disks.specs.Held.{Held, Thing, Nothing, Folder, File, is_a_file}
 use Rattle.disks.specs.declared.memory.Stored.{Stored}
 use Rattle.disks.specs.declared.memory.Stored.TheVariants as stored
 use Rattle.disks.specs.declared.memory.StoredEntry.{StoredEntry}
@@ -27,7 +27,12 @@ found before (e ∷ es) name =
 -- The files and folders by these entries: each name leads to a place of its own. Nobody else has files
 -- in memory, so each of them is locked.
 abbrev pub held_of : List StoredEntry → Held
-held_of entries = record { place = λ name. name; at = found Nothing entries; locked = λ place. true }
+held_of entries = record {
+  place = λ name. name;
+  at = found Nothing entries;
+  locked = λ place. true;
+  regular = λ name. is_a_file (found Nothing entries name);
+}
 
 -- these entries except those with this name
 abbrev pub without : List ℕ → List StoredEntry → List StoredEntry

@@ -47,7 +47,16 @@ pub record ListsNames (held : Held) (folder : List ℕ) (names : List (List ℕ)
   pub each : (name : List ℕ) → has_slash name ≡ false
       → is_among names name ≡ is_there held (path_in folder name)
 
--- A folder has this name, and these names are just those in it, where that is known.
-abbrev pub Lists : Option Held → List ℕ → List (List ℕ) → Type 0
-Lists None folder names = ⊤
-Lists (Some held) folder names = (is_folder held folder ≡ true) × ListsNames held folder names
+-- of each entry it is said whether a regular file has the name
+abbrev pub SaysKinds : Held → List ℕ → List FolderEntry → Type 0
+SaysKinds held folder entries =
+    AllByRecursion (λ e. e.is_regular ≡ held.regular (path_in folder (string_bytes e.name))) entries
+
+-- A folder has this name, and these entries are just those in it, each of its kind, where that is
+-- known.
+abbrev pub Lists : Option Held → List ℕ → List FolderEntry → Type 0
+Lists None folder entries = ⊤
+Lists (Some held) folder entries =
+    (is_folder held folder ≡ true)
+    × ListsNames held folder (names_of entries)
+    × SaysKinds held folder entries

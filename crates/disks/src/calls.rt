@@ -1,8 +1,8 @@
 //! The calls of a system on its files, one thing each.
 
 ghost use Rattle.std.specs.Prelude.{◌≡◌, ℕ, List, [], Option, None, Some, IfOk, IfSome, OnOk, OnErr, true, false, string_bytes};
-ghost use Rattle.disks.specs.Held.{Held, is_folder, IsOneFile, Opens, Starts, Creates, Discards, Grows, Locks, Replaces};
-ghost use Rattle.disks.specs.Folders.{LeadsInto, LeadsToNoNew, Lists, names_of};
+ghost use Rattle.disks.specs.Held.{Held, is_folder, IsOneFile, Opens, Starts, Creates, Discards, Grows, LetsGo, Locks, Replaces};
+ghost use Rattle.disks.specs.Folders.{LeadsInto, LeadsToNoNew, Lists};
 ghost use Rattle.disks.specs.Lasting.{Leaves, MayLeave, MayRemove, LeavesFront};
 
 use crate::disk::FolderEntry;
@@ -67,7 +67,7 @@ pub trait FileCalls {
     /// The names in this folder.
     fn list(&self, folder: &str) -> io::Result<Vec<FolderEntry>>
         ensures { IfOk result
-            (λ entries. Lists (holds self.now) folder.now (names_of entries.items)) };
+            (λ entries. Lists (holds self.now) folder.now entries.items) };
 
     /// Makes a new file beside the one of this name, which has nothing yet.
     fn create_part(&self, name: &str) -> io::Result<Self::Part>
@@ -139,9 +139,10 @@ pub trait FileCalls {
             (Leaves (leaves self.old) (leaves self.new) name.now (Self.End.on_disk end.now)) }
         ensures left { OnErr result (leaves self.new ≡ leaves self.old) };
 
-    /// Lets the file of this name go as it is.
+    /// Lets the file of this name go as it is: it holds what was written, if the name still leads to it.
     fn let_go(&mut self, end: Self::End, name: String)
-        ensures kept { holds self.new ≡ holds self.old }
+        ensures held { LetsGo (holds self.old) (holds self.new) (string_bytes name)
+            (Self.End.written end) }
         ensures left { LeavesFront (leaves self.old) (leaves self.new) (string_bytes name)
             (Self.End.on_disk end) };
 }

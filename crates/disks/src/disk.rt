@@ -2,8 +2,8 @@
 
 ghost use Rattle.std.specs.Prelude.{◌≡◌, ℕ, List, [], Option, None, Some, Bool, IfOk, IfErr, IfSome, OnOk, OnErr, true, false, string_bytes};
 ghost use Rattle.std.specs.Io.KnownBytes.{Keeps};
-ghost use Rattle.disks.specs.Held.{Held, is_folder, IsOneFile, Opens, Starts, Creates, Discards, Grows, Locks, Replaces};
-ghost use Rattle.disks.specs.Folders.{LeadsInto, LeadsToNoNew, Lists, names_of};
+ghost use Rattle.disks.specs.Held.{Held, is_folder, IsHeld, IsOneFile, Opens, Starts, Creates, Discards, Grows, LetsGo, Locks, Replaces};
+ghost use Rattle.disks.specs.Folders.{LeadsInto, LeadsToNoNew, Lists};
 ghost use Rattle.disks.specs.Lasting.{bytes_in, Leaves, MayLeave, MayRemove, LeavesFront, outlives};
 
 use crate::grow::Grow;
@@ -29,8 +29,12 @@ pub trait Disk {
     /// A file that is being made.
     type New: Write + Drop;
 
-    /// A file that is written at its end.
-    type Grown: Grow + Drop;
+    /// A file that is written at its end. Whoever is generic in the disk cannot just let one go: it is closed or abandoned, so that
+    /// what its file holds then is known.
+    type Grown: Grow;
+
+    /// A file that nobody else can write at its end.
+    type Hold: Drop;
 
     /// The folders and the content of the files, if that is known.
     ghost holds: { Self → Option Held } = { λ _. None };
@@ -86,7 +90,7 @@ pub trait Disk {
     /// There is no such folder, as where a file has this name; or it cannot be read to its end.
     fn list(&self, folder: &str) -> io::Result<Vec<FolderEntry>>
         ensures { IfOk result
-            (λ entries. Lists (holds self.now) folder.now (names_of entries.items)) };
+            (λ entries. Lists (holds self.now) folder.now entries.items) };
 
     /// Makes a new file, empty, beside the one of this name. No file changes.
     fn make(&mut self, name: &str) -> io::Result<Self::New>
@@ -134,6 +138,18 @@ pub trait Disk {
         ensures kept { OnErr result (holds self.new ≡ holds self.old) }
         ensures left { leaves self.new ≡ leaves self.old };
 
+    /// Keeps others from a file that is there: as long as the value is, nobody else can open it to be written at its end. Nothing is
+    /// written by it.
+    ///
+    /// # Errors
+    ///
+    /// Those of [`Disk::grow`].
+    fn hold(&mut self, name: &str) -> io::Result<Self::Hold>
+        ensures there { OnOk result
+            ((bytes : List ℕ) × IsHeld (holds self.old) name.now bytes) }
+        ensures kept { holds self.new ≡ holds self.old }
+        ensures left { leaves self.new ≡ leaves self.old };
+
     /// Opens a file that is there to be written at its end. Its writer has the content of the file. That content, under its name,
     /// and all that is added outlive the process; with `synced` they are put on the disk.
     ///
@@ -167,9 +183,10 @@ pub trait Disk {
             (Self.Grown.contents back ≡ Self.Grown.contents grown)
             × Keeps (Self.Grown.lasting grown) (Self.Grown.lasting back)) };
 
-    /// Lets a file of this name go as it is: it holds what it held when it was opened, and some of what was added.
+    /// Lets a file of this name go as it is: it holds what its writer has, all that was added, if the name still leads to it.
     fn abandon(&mut self, grown: Self::Grown, name: String)
-        ensures kept { holds self.new ≡ holds self.old }
+        ensures held { LetsGo (holds self.old) (holds self.new) (string_bytes name)
+            (Self.Grown.contents grown) }
         ensures left { LeavesFront (leaves self.old) (leaves self.new) (string_bytes name)
             (Self.Grown.lasting grown) };
 }

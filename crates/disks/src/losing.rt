@@ -9,7 +9,7 @@ ghost use Rattle.disks.specs.Left.{left_at, held_left};
 use crate::calls::FileCalls;
 use crate::disk::{Disk, FolderEntry};
 use crate::grown::EndFile;
-use crate::memory::{MemoryDisk, Stored, StoredEntry};
+use crate::memory::{self, MemoryDisk, Stored, StoredEntry};
 use crate::system::SystemDisk;
 use std::alloc::Global;
 use std::io::{self, Cursor, ErrorKind, Write};
@@ -272,7 +272,13 @@ impl FileCalls for LosingCalls {
     }
 
     fn let_go(&mut self, end: LosingEnd, name: String) {
-        let LosingEnd { settled, room, .. } = end;
+        let LosingEnd {
+            bytes,
+            settled,
+            room,
+            ..
+        } = end;
+        memory::let_go(&mut self.memory, name.as_str(), bytes);
         leave(&mut self.after_loss, room, name, settled);
     }
 }

@@ -3,9 +3,9 @@
 ghost use Rattle.std.specs.Prelude.{◌≡◌, ◌≢◌, ◌+◌, ◌<◌, ◌||◌, ℕ, List, [], length, drop, false, Some, IsTrue, IsFalse, IfOk, OnOk, string_bytes, vec_len, vec_capacity};
 ghost use Rattle.std.specs.List.{AllByRecursion};
 ghost use Rattle.std.specs.Str.{bytes_eq};
-ghost use Rattle.disks.specs.Held.{Held, Nothing, File, is_a_folder, IsReplaced};
+ghost use Rattle.disks.specs.Held.{Held, Nothing, File, is_a_file, is_a_folder, IsReplaced, LetsGo};
 ghost use Rattle.disks.specs.Entries.{found, thing_in, held_of, without};
-ghost use Rattle.disks.specs.Folders.{path_in, has_slash, is_among, names_of, IsNameIn, ListsNames};
+ghost use Rattle.disks.specs.Folders.{path_in, has_slash, is_among, names_of, IsNameIn, ListsNames, SaysKinds};
 
 use crate::disk::{Disk, FolderEntry};
 use std::alloc::Global;
@@ -64,6 +64,13 @@ fn is_folder(entries: &[StoredEntry], name: &str) -> bool
     matches!(last(entries, name), Some(Stored::Folder))
 }
 
+/// Whether a file has this name.
+fn is_file(entries: &[StoredEntry], name: &str) -> bool
+    ensures { result ≡ is_a_file (found Nothing entries.now name.now) }
+{
+    matches!(last(entries, name), Some(Stored::File(_)))
+}
+
 /// Removes all entries with this name.
 fn remove_entries(entries: &mut Vec<StoredEntry>, name: &str)
     ensures { entries.new.items ≡ without name.now entries.old.items }
@@ -113,6 +120,9 @@ fn add_name(
     ensures added { OnOk result ((n : List ℕ)
         → is_among (names_of names.new.items) n
         ≡ (bytes_eq name.now n || is_among (names_of names.old.items) n)) }
+    ensures kinds { OnOk result ((held : Held) (folder : List ℕ)
+        → is_regular ≡ held.regular (path_in folder name.now)
+        → SaysKinds held folder names.old.items → SaysKinds held folder names.new.items) }
 {
     names.push(FolderEntry {
         name: String::from_str(alloc, name)?,
@@ -123,12 +133,16 @@ fn add_name(
 
 /// The names in a folder that these files and folders have.
 fn names_among(alloc: Global, entries: &[StoredEntry], folder: &str) -> io::Result<Vec<FolderEntry>>
-    ensures { IfOk result (λ names. ListsNames (held_of entries.now) folder.now (names_of names.items)) }
+    ensures names { IfOk result
+        (λ names. ListsNames (held_of entries.now) folder.now (names_of names.items)) }
+    ensures kinds { IfOk result
+        (λ names. SaysKinds (held_of entries.now) folder.now names.items) }
 {
     let mut names = Vec::new(alloc);
     for entry in entries {
-        if let Some(name) = name_in(entry.name.as_str(), folder)? {
-            let is_regular = matches!(entry.stored, Stored::File(_));
+        let path = entry.name.as_str();
+        if let Some(name) = name_in(path, folder)? {
+            let is_regular = is_file(entries, path);
             add_name(&mut names, alloc, name, is_regular)?;
         }
     }
@@ -175,12 +189,25 @@ fn put_file(disk: &mut MemoryDisk, place: String, bytes: Vec<u8>)
     });
 }
 
+/// Has the file of this name hold these bytes, if there is memory for that.
+pub(crate) fn let_go(disk: &mut MemoryDisk, name: &str, bytes: Vec<u8>)
+    ensures { LetsGo (Some (held_of disk.old.entries.items)) (Some (held_of disk.new.entries.items))
+        name.now (Some bytes.items) }
+{
+    let Ok(place) = place_for(disk, name) else {
+        return;
+    };
+    put_file(disk, place, bytes);
+}
+
 impl Disk for MemoryDisk {
     type Reader = Cursor<Vec<u8>>;
 
     type New = Vec<u8>;
 
     type Grown = Vec<u8>;
+
+    type Hold = ();
 
     ghost holds = { λ s. Some (held_of s.entries.items) };
 
@@ -238,6 +265,11 @@ impl Disk for MemoryDisk {
         }
     }
 
+    fn hold(&mut self, name: &str) -> io::Result<()> {
+        let _held = copied(self.alloc, &self.entries, name)?;
+        Ok(())
+    }
+
     fn grow(&mut self, name: &str, _synced: bool) -> io::Result<Vec<u8>> {
         copied(self.alloc, &self.entries, name)
     }
@@ -252,5 +284,7 @@ impl Disk for MemoryDisk {
         }
     }
 
-    fn abandon(&mut self, _grown: Vec<u8>, _name: String) {}
+    fn abandon(&mut self, grown: Vec<u8>, name: String) {
+        let_go(self, name.as_str(), grown);
+    }
 }

@@ -85,6 +85,8 @@ impl<C: FileCalls> Disk for SystemDisk<C> {
 
     type Grown = GrownFile<C::End>;
 
+    type Hold = C::End;
+
     ghost holds = { λ disk. C.holds disk.calls };
 
     ghost leaves = { λ disk. C.leaves disk.calls };
@@ -133,6 +135,10 @@ impl<C: FileCalls> Disk for SystemDisk<C> {
 
     fn lock(&mut self, name: &str) -> io::Result<()> {
         self.calls.lock(name)
+    }
+
+    fn hold(&mut self, name: &str) -> io::Result<C::End> {
+        self.calls.open_end(name)
     }
 
     fn grow(&mut self, name: &str, synced: bool) -> io::Result<GrownFile<C::End>> {

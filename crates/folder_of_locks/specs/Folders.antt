@@ -140,7 +140,7 @@ pub record AreStartedIn (folder : List ℕ) (has : Bool) (range : Option Segment
 pub record AreStarted (folder : List ℕ) (word : Option (List ℕ)) (holders : List Hold)
     (before after : Option Held) (p : Place) : Type 0 where
   pub entries : List FolderEntry
-  pub listed : Lists before folder (names_of entries)
+  pub listed : Lists before folder entries
   pub range : Option SegmentNumbers
   pub right : IsRightNumbers entries (Ok range)
   pub started : AreStartedIn folder (is_among (names_of entries) list_name) range word holders
@@ -260,7 +260,7 @@ abbrev pub AreUnstarted : Option Held → List ℕ → Option (List ℕ) → Lis
 AreUnstarted files folder word holders e =
     (e ≡ fault.Folder folders.Unlisted)
     ⊎ ((entries : List FolderEntry)
-    × Lists files folder (names_of entries)
+    × Lists files folder entries
     × (((error : FolderError)
     × (e ≡ fault.Folder error)
     × IsRightNumbers entries (Err error))

@@ -263,7 +263,7 @@ pub record AreNamesStartedIn (folder : List ℕ) (has : Bool) (range : Option Se
 pub record AreNamesStarted (folder : List ℕ) (word : Option (List ℕ)) (most : ℕ)
     (holders : List Hold) (before after : Option Held) (p : NamePlace) : Type 0 where
   pub entries : List FolderEntry
-  pub among : Lists before folder (names_of entries)
+  pub among : Lists before folder entries
   pub range : Option SegmentNumbers
   pub right : IsRightNumbers entries (Ok range)
   pub started : AreNamesStartedIn folder (is_among (names_of entries) list_name) range word most
@@ -307,7 +307,7 @@ abbrev pub AreNamesUnstarted : Option Held → List ℕ → Option (List ℕ) �
 AreNamesUnstarted files folder word most holders e =
     (e ≡ fault.Folder folders.Unlisted)
     ⊎ ((entries : List FolderEntry)
-    × Lists files folder (names_of entries)
+    × Lists files folder entries
     × (((error : FolderError)
     × (e ≡ fault.Folder error)
     × IsRightNumbers entries (Err error))
@@ -332,7 +332,7 @@ IsPoolFiled files folder has =
 abbrev pub HasNoFile : Option Held → List ℕ → Type 0
 HasNoFile files folder =
     (entries : List FolderEntry)
-    × Lists files folder (names_of entries)
+    × Lists files folder entries
     × (is_among (names_of entries) list_name ≡ false)
 
 -- the list that the word names has a pool, or the list of the folder's file; or neither has

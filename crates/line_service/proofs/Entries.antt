@@ -114,7 +114,7 @@ refused_entry es (Irregular n) a = a
 refused_entry es (Missing n) a = absurd a.4
 refused_entry es OutOfMemory a = tt
 
-pub folder_answer : (files : Option Held) (folder : List ℕ) (es : List FolderEntry) (r : Result (Option SegmentNumbers) FolderError) → Lists files folder (names_of es) → IsRightNumbers es r → IsFolderAnswer files folder r
+pub folder_answer : (files : Option Held) (folder : List ℕ) (es : List FolderEntry) (r : Result (Option SegmentNumbers) FolderError) → Lists files folder es → IsRightNumbers es r → IsFolderAnswer files folder r
 folder_answer files folder es (Ok r) listed is = (es, listed, is)
 folder_answer files folder es (Err Unlisted) listed is = tt
 folder_answer files folder es (Err (Foreign name)) listed is = (es, listed, is)

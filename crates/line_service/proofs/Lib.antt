@@ -4,6 +4,7 @@ pub mod Telling
 pub mod Parting
 mod Lasting
 pub mod Hashing
+mod Letting
 pub mod Changing
 pub mod SegmentParts
 pub mod Noting

@@ -4,7 +4,8 @@ use Rattle.std.specs.Io.KnownBytes.{Appends, Consumes, IsAtEnd}
 use Rattle.std.specs.List.{AllByRecursion}
 use Rattle.std.proofs.lemmas.List.{append-nil}
 use Rattle.std.proofs.lemmas.Bool.{false≢true}
-use Rattle.disks.specs.Held.{Held}
+use Rattle.disks.specs.Held.{Held, LetsGo}
+use Rattle.line_service.specs.SegmentNames.{segment_file}
 use Rattle.text_lines.proofs.Writing.{appends_then, appends_nil}
 use Rattle.line_service.specs.declared.faults.LoopFault.{LoopFault}
 use Rattle.line_service.specs.declared.faults.LoopFault.TheVariants as fault
@@ -123,10 +124,11 @@ module _ {S : Type 0} (A : AnsweringWith S) (G : Segmenting S) (folder : List �
       let more : n + 1 ≤ length (d.read ++ p.read) + length (all_lines (d.parts ++ part ∷ [])) = omega (arith, many, some, lines, length-append (all_lines d.parts) joined, length-append d.read p.read) in
       more
 
-  pub one_stops : (new : S) (files : Option Held) (journal rest after : Option (List ℕ)) →
-      ServesSomeOf (by_stand A) (stand_of from) (stand new files) d.begun unread middle rest (record { journal = from.journal; out = before }) (record { journal = journal; out = after }) →
+  pub one_stops : (new : S) (between files : Option Held) (journal rest after : Option (List ℕ)) →
+      ServesSomeOf (by_stand A) (stand_of from) (stand new between) d.begun unread middle rest (record { journal = from.journal; out = before }) (record { journal = journal; out = after }) →
+      LetsGo between files (segment_file folder from.number) journal →
       ServesSomeSegments A G folder a new files input rest out after
-  one_stops new files journal rest after p = record {
+  one_stops new between files journal rest after p gone = record {
     parts = d.parts;
     mid = b;
     bytes = d.read ++ p.0;
@@ -137,7 +139,7 @@ module _ {S : Type 0} (A : AnsweringWith S) (G : Segmenting S) (folder : List �
     split = ap (λ (x : List ℕ). x ++ p.0) d.split
         ∙ (append_assoc (all_lines d.parts) (d.begun ++ unread) p.0 ∙ ap (λ (x : List ℕ). all_lines d.parts ++ x) (append_assoc d.begun unread p.0));
     wrote = d.wrote;
-    stopped = inr (kept, from, journal, ready, p.2);
+    stopped = inr (kept, from, journal, between, ready, p.2, gone);
   }
 
 -- ---- an input that is too long

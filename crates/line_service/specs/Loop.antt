@@ -210,6 +210,14 @@ ServesSomeBy A holds remaining was disk begun unread input is later rest before 
     ServesSomeOf (by_stand A) (stand was (holds disk)) (stand is (holds later)) begun unread
     (remaining input) (remaining rest) before after
 
+-- the same up to these files
+abbrev pub ServesSomeThen : {S D I : Type 0} → AnsweringWith S → (D → Option Held)
+    → (I → Option (List ℕ)) → S → D → List ℕ → List ℕ → I → S → Option Held → I → Written → Written
+    → Type 0
+ServesSomeThen A holds remaining was disk begun unread input is between rest before after =
+    ServesSomeOf (by_stand A) (stand was (holds disk)) (stand is between) begun unread
+    (remaining input) (remaining rest) before after
+
 -- the part was served, or of it some lines were answered
 abbrev pub ServesIn : {E S : Type 0} → Result Ending E → Answering S → S → S → List ℕ → List ℕ
     → List ℕ → List ℕ → Option (List ℕ) → Option (List ℕ) → Written → Written → Type 0

@@ -87,7 +87,7 @@ abbrev pub IsFolderAnswer : Option Held → List ℕ → Result (Option SegmentN
 IsFolderAnswer files folder (Err Unlisted) = Unit {0}
 IsFolderAnswer files folder answer =
     (entries : List FolderEntry)
-    × Lists files folder (names_of entries)
+    × Lists files folder entries
     × IsRightNumbers entries answer
 
 -- ---- the steps

@@ -192,7 +192,7 @@ IsReadyAt G folder contents holds service disk segment next later ready =
     (moment_at contents next (holds later) ready.segment)
 
 -- What the disk has where it could neither be ended nor continue: the files as they were; or the
--- file of the segment is settled; and then perhaps that of the next one was put there.
+-- file of the segment holds what its writer had; and then perhaps that of the next one was put there.
 abbrev pub IsLeft : {S : Type 0} → Segmenting S → List ℕ → Moment S → Option Held → Type 0
 IsLeft {S} G folder a is =
     (is ≡ a.files)

@@ -2,9 +2,10 @@
 use Rattle.std.specs.Prelude.{◌≡◌, ℕ, ◌≤◌, ◌^◌, List, [], ◌∷◌, ◌++◌, length, Option, Some, ◌⊎◌}
 use Rattle.std.specs.List.{AllByRecursion}
 use Rattle.std.specs.Io.KnownBytes.{Appends, Consumes, IsAtEnd}
-use Rattle.disks.specs.Held.{Held}
+use Rattle.disks.specs.Held.{Held, LetsGo}
 use Rattle.line_service.specs.declared.faults.LoopFault.{LoopFault}
 use Rattle.line_service.specs.declared.faults.LoopFault.TheVariants as fault
+use Rattle.line_service.specs.SegmentNames.{segment_file}
 use Rattle.line_service.specs.Answering.{IsLine, HasNoEnd, Answers, joined_lines}
 use Rattle.line_service.specs.Stands.{AnsweringWith, by_stand, stand}
 use Rattle.line_service.specs.Loop.{Stops}
@@ -61,7 +62,8 @@ pub record ServesSegments {S : Type 0} (A : AnsweringWith S) (G : Segmenting S) 
   pub wrote : Appends out after (all_said parts)
 
 -- After some parts no more was answered, and this is what the disk has; or some of the lines after
--- them were answered, as the serving of a part stops.
+-- them were answered, as the serving of a part stops, and then the file of the segment was let go: it
+-- holds the notes that were added, and no others.
 abbrev pub IsStopped : {S : Type 0} → AnsweringWith S → Segmenting S → List ℕ → Moment S → S
     → Option Held → Option (List ℕ) → Option (List ℕ) → List ℕ → Type 0
 IsStopped A G folder mid new is before after behind =
@@ -69,9 +71,11 @@ IsStopped A G folder mid new is before after behind =
     ⊎ ((kept : Option EndFault)
     × (from : Moment _)
     × (journal : Option (List ℕ))
+    × (between : Option Held)
     × IsReady G folder kept mid from
     × Stops (by_stand A) (stand_of from) (record { journal = from.journal; out = before })
-    (record { journal = journal; out = after }) behind (stand new is))
+    (record { journal = journal; out = after }) behind (stand new between)
+    × LetsGo between is (segment_file folder from.number) journal)
 
 -- the reported reason why a part ended: in a segment that continues since the next file could not
 -- be written it is `Journal`, and not memory

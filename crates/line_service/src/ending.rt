@@ -2,7 +2,7 @@
 
 ghost use Rattle.std.specs.Prelude.{◌≡◌, ℕ, List, true, false, IfOk, IfErr, OnOk, OnErr, IsSome, Some, string_bytes};
 ghost use Rattle.std.specs.Io.KnownBytes.{Keeps};
-ghost use Rattle.disks.specs.Held.{Replaces};
+ghost use Rattle.disks.specs.Held.{LetsGo, Replaces};
 ghost use Rattle.disks.specs.Lasting.{bytes_in, Leaves, MayLeave};
 ghost use Rattle.sha2.specs.Hashers.{Holds256};
 ghost use Rattle.line_service.specs.declared.faults.LoopFault.TheVariants as fault;
@@ -115,6 +115,8 @@ fn settle<D: Disk>(disk: &mut D, writer: Digested<D::Grown>, name: &str) -> Resu
     ensures left { OnErr result (D.leaves disk.new ≡ D.leaves disk.old) }
     ensures given { IfErr result (λ inner.
         Keeps (D.Grown.lasting writer.inner) (D.Grown.lasting inner)) }
+    ensures same { IfErr result (λ inner.
+        D.Grown.contents inner ≡ D.Grown.contents writer.inner) }
 {
     let Digested { inner, hasher } = writer;
     match disk.close_synced(inner, name) {
@@ -137,12 +139,13 @@ pub(crate) fn cause_of(fault: ReplaceFault) -> EndFault
 ///
 /// # Errors
 ///
-/// `Journal` if it is not known to be on the disk. No file has changed.
+/// `Journal` if it is not known to be on the disk. Its file holds what its writer had, and no other has changed.
 pub fn close_segment<D: Disk>(disk: &mut D, segment: OpenSegment<D::Grown>) -> Result<(), LoopFault>
     ensures ok { OnOk result (Replaces (D.holds disk.old) (D.holds disk.new)
         (string_bytes segment.name) (segment_holds D.Grown.contents segment)) }
     ensures err { IfErr result (λ e. e ≡ fault.Journal) }
-    ensures kept { OnErr result (D.holds disk.new ≡ D.holds disk.old) }
+    ensures held { OnErr result (LetsGo (D.holds disk.old) (D.holds disk.new)
+        (string_bytes segment.name) (segment_holds D.Grown.contents segment)) }
     ensures lasts { OnOk result (Leaves (D.leaves disk.old) (D.leaves disk.new)
         (string_bytes segment.name) (D.Grown.contents segment.writer.inner)) }
     ensures left { OnErr result (LeavesOpen D.Grown.lasting (D.leaves disk.old) segment
@@ -158,9 +161,10 @@ pub fn close_segment<D: Disk>(disk: &mut D, segment: OpenSegment<D::Grown>) -> R
     }
 }
 
-/// Lets the file of a segment go as it is.
+/// Lets the file of a segment go as it is: it holds what its writer has.
 pub fn abandon_segment<D: Disk>(disk: &mut D, segment: OpenSegment<D::Grown>)
-    ensures kept { D.holds disk.new ≡ D.holds disk.old }
+    ensures held { LetsGo (D.holds disk.old) (D.holds disk.new) (string_bytes segment.name)
+        (segment_holds D.Grown.contents segment) }
     ensures left { LeavesOpen D.Grown.lasting (D.leaves disk.old) segment (D.leaves disk.new) }
 {
     let OpenSegment { name, writer, .. } = segment;

@@ -1,9 +1,10 @@
 //! Lines that are served in segments.
 
 ghost use Rattle.std.specs.Prelude.{◌≡◌, ℕ, List, Option, false, IfOk, IfErr, OnOk, OnErr, is_some, string_bytes};
+ghost use Rattle.disks.specs.Held.{Held, LetsGo};
 ghost use Rattle.line_service.specs.Stands.{LeavesFiles};
 ghost use Rattle.line_service.specs.declared.faults.LoopFault.{LoopFault};
-ghost use Rattle.line_service.specs.Loop.{FromBegun, ServesPartBy, ServesSomeBy, IsEnding, IsPartFault, LastsOn, written};
+ghost use Rattle.line_service.specs.Loop.{FromBegun, ServesPartBy, ServesSomeThen, IsEnding, IsPartFault, LastsOn, written};
 ghost use Rattle.line_service.specs.Segments.{IsNamed, segment_holds, segment_lasts, written_in, lasting_in, moment_at};
 ghost use Rattle.line_service.specs.Service.{told_of, ServesSegments, ServesSomeSegments, IsFaultOf};
 ghost use Rattle.line_service.specs.Notes.{ToldLinesAreNoted, ForJournal};
@@ -60,19 +61,22 @@ fn serve_in<S: AnswersLines, D: Disk, I: Read, W: Write>(
         (is_some ready.kept) unread.new (I.remaining input.new)) }
     ensures same { IfOk result (λ end. (end.segment.number ≡ ready.segment.number)
         × (string_bytes end.segment.name ≡ string_bytes ready.segment.name)) }
-    ensures err { OnErr result (FromBegun line.old.items (λ begun. (journal : Option (List ℕ))
-        × ServesSomeBy S.is_answered D.holds I.remaining service.old disk.old begun unread.old
-        input.old service.new disk.new input.new
+    ensures err { OnErr result (FromBegun line.old.items (λ begun. (between : Option Held)
+        × (journal : Option (List ℕ))
+        × ServesSomeThen S.is_answered D.holds I.remaining service.old disk.old begun unread.old
+        input.old service.new between input.new
         (written_in D.Grown.contents W.contents ready.segment out.old)
-        (written journal (W.contents out.new)))) }
+        (written journal (W.contents out.new))
+        × LetsGo between (D.holds disk.new) (string_bytes ready.segment.name) journal)) }
     ensures long { IfErr result (λ e.
         IsPartFault e (I.remaining input.old) (I.remaining input.new)) }
     ensures told { IfErr result (λ e. (why : LoopFault) × (e ≡ told_of why ready.kept)) }
     ensures whole { IfOk result (λ end. LastsOn (segment_holds D.Grown.contents)
         (segment_lasts D.Grown.lasting) ready.segment end.segment) }
-    ensures spared { OnErr result (FromBegun line.old.items (λ begun. (journal : Option (List ℕ))
-        × ServesSomeBy S.is_answered D.holds I.remaining service.old disk.old begun unread.old
-        input.old service.new disk.new input.new
+    ensures spared { OnErr result (FromBegun line.old.items (λ begun. (between : Option Held)
+        × (journal : Option (List ℕ))
+        × ServesSomeThen S.is_answered D.holds I.remaining service.old disk.old begun unread.old
+        input.old service.new between input.new
         (lasting_in D.Grown.lasting W.contents ready.segment out.old)
         (written journal (W.contents out.new))
         × LeavesBytes ready.segment (D.leaves disk.new) journal)) }

@@ -130,6 +130,8 @@ impl Disk for Full {
 
     type Grown = Vec<u8>;
 
+    type Hold = ();
+
     fn open(&self, name: &str) -> io::Result<Cursor<Vec<u8>>> {
         self.files.open(name)
     }
@@ -168,6 +170,10 @@ impl Disk for Full {
 
     fn lock(&mut self, name: &str) -> io::Result<()> {
         self.files.lock(name)
+    }
+
+    fn hold(&mut self, name: &str) -> io::Result<()> {
+        self.files.hold(name)
     }
 
     fn grow(&mut self, name: &str, synced: bool) -> io::Result<Vec<u8>> {

@@ -18,7 +18,7 @@ use Rattle.name_service.specs.State.{name_state_lines}
 use Rattle.tool_parts.specs.declared.requests.LocksWords.{LocksWords}
 use Rattle.tool_parts.specs.declared.faults.ToolError.{ToolError}
 use Rattle.tool_parts.specs.Locking.{IsLocked, StandsLocked}
-use Rattle.tool_parts.proofs.LockedFolders.{Stands, stands_locked, same_locked, put_locked, settled_locked, if_held, is_known}
+use Rattle.tool_parts.proofs.LockedFolders.{Stands, stands_locked, same_locked, put_locked, settled_locked, gone_locked, if_held, is_known}
 use Rattle.lock_commands.specs.Locks.{folder_of, list_of, StaysLocked}
 use Rattle.lock_commands.specs.NamesStarted.{NamesService, names_answering, names_by_segments, HasBegunFrom, NamesHaveStarted}
 use Rattle.lock_commands.specs.NameRuns.{IsNamesRun, IsNamesRunRefused, NamesAreUnderLock}
@@ -89,10 +89,10 @@ names_refused_locked words holders start before there listed after was is old ne
     let s = broken.served in
     inr (served.stopped_locked names_answering names_by_segments names_line_same folder s.mid broken.end after s.before new s.behind s.stopped
     (parts_stand folder first s.mid s.parts s.served (begun_stands words holders start before there listed locked started some first begun)))
-names_refused_locked words holders start before there listed after was is old new e locked started some (inr (first, begun, inr (last, all, same, named))) =
+names_refused_locked words holders start before there listed after was is old new e locked started some (inr (first, begun, inr (last, all, gone, named))) =
     let folder = folder_of words in
-    inr (same_locked last.files after folder same
-    (parts_stand folder first last all.parts all.served (begun_stands words holders start before there listed locked started some first begun)).0)
+    let last_stands = parts_stand folder first last all.parts all.served (begun_stands words holders start before there listed locked started some first begun) in
+    inr (gone_locked last.files after folder (segment_file folder last.number) last_stands.1 last.journal last_stands.2 gone last_stands.0)
 
 -- ---- files that are known
 

@@ -12,7 +12,7 @@ use Rattle.line_service.specs.Segments.{Moment, IsUnprepared, IsFileCause, IsRea
 use Rattle.line_service.specs.Service.{Part, IsPart, AreParts, IsStopped}
 use Rattle.line_service.proofs.SegmentLasting.{Knows, ready_knows, appended_known}
 use Rattle.tool_parts.specs.Locking.{StandsLocked}
-use Rattle.tool_parts.proofs.LockedFolders.{Stands, same_locked, put_locked, settled_locked, ended_stand, kept_stand, added_stand}
+use Rattle.tool_parts.proofs.LockedFolders.{Stands, same_locked, put_locked, settled_locked, gone_locked, ended_stand, kept_stand, added_stand}
 
 -- the files after a line are those before it
 abbrev pub ChangesNoFile : {S : Type 0} → AnsweringWith S → Type 0
@@ -68,11 +68,14 @@ module _ {S : Type 0} (A : AnsweringWith S) (G : Segmenting S) (line_same : Chan
 
   pub stopped_locked : (mid : Moment S) (new : S) (is : Option Held) (before after : Option (List ℕ)) (behind : List ℕ) → IsStopped A G folder mid new is before after behind → Stands mid.files mid.journal folder → StandsLocked is folder
   stopped_locked mid new is before after behind (inl h) s = left_locked mid is h.2 s
-  stopped_locked mid new is before after behind (inr (kept, from, journal, ready, stops)) s =
-      same_locked from.files is folder
-      (lines_same stops.mid (stand new is) stops.untold.lines stops.unsaid (stops.front ++ stops.back) stops.untold.answers
+  stopped_locked mid new is before after behind (inr (kept, from, journal, between, ready, stops, gone)) s =
+      let at = ready_stands kept mid from ready s in
+      let there = same_locked from.files between folder
+      (lines_same stops.mid (stand new between) stops.untold.lines stops.unsaid (stops.front ++ stops.back) stops.untold.answers
       ∙ lines_same (stand_of from) stops.mid stops.told.lines stops.said stops.noted stops.told.answers)
-      (ready_stands kept mid from ready s).0
+      at.0 in
+      let has = added_stand between from.journal journal folder (stops.noted ++ stops.front) stops.wrote_notes there at.1 at.2 in
+      gone_locked between is folder (segment_file folder from.number) has.1 journal has.2 gone there
 
   -- ---- where the content of files is known
 

@@ -16,7 +16,7 @@ use Rattle.line_service.specs.Segments.{Moment}
 use Rattle.line_service.specs.Service.{Part, AreParts}
 use Rattle.tool_parts.specs.declared.requests.LocksWords.{LocksWords}
 use Rattle.tool_parts.specs.Locking.{IsLocked, StandsLocked}
-use Rattle.tool_parts.proofs.LockedFolders.{Stands, stands_locked, same_locked, put_locked, settled_locked, if_held}
+use Rattle.tool_parts.proofs.LockedFolders.{Stands, stands_locked, same_locked, put_locked, settled_locked, gone_locked, if_held}
 use Rattle.lock_life.specs.Runs.{Service, answering, by_segments}
 use Rattle.lock_commands.specs.Locks.{folder_of, list_of, HasStarted, IsRun, IsRunRefused, AreUnderLock, StaysLocked}
 use Rattle.tool_parts.specs.declared.faults.ToolError.{ToolError}
@@ -72,7 +72,7 @@ refused_locked words holders start before there listed after was is old new e lo
     let s = broken.served in
     inr (served.stopped_locked answering by_segments line_same folder s.mid broken.end after s.before new s.behind s.stopped
     (parts_stand folder first s.mid s.parts s.served (begun_stands words holders start before there listed locked started some first begun)))
-refused_locked words holders start before there listed after was is old new e locked started some (inr (first, begun, inr (last, served, same, named))) =
+refused_locked words holders start before there listed after was is old new e locked started some (inr (first, begun, inr (last, served, gone, named))) =
     let folder = folder_of words in
-    inr (same_locked last.files after folder same
-    (parts_stand folder first last served.parts served.served (begun_stands words holders start before there listed locked started some first begun)).0)
+    let last_stands = parts_stand folder first last served.parts served.served (begun_stands words holders start before there listed locked started some first begun) in
+    inr (gone_locked last.files after folder (segment_file folder last.number) last_stands.1 last.journal last_stands.2 gone last_stands.0)

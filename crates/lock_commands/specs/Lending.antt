@@ -1,7 +1,7 @@
 -- `locks`, by its list: locks of a list, or locks by any name (this project's own).
 use Rattle.std.specs.Prelude.{◌≡◌, ◌⊎◌, true, false, List, ℕ, Option, None, Some, Err}
 use Rattle.disks.specs.Held.{Held}
-use Rattle.disks.specs.Folders.{Lists, names_of}
+use Rattle.disks.specs.Folders.{Lists}
 use Rattle.disks.specs.declared.disk.FolderEntry.{FolderEntry}
 use Rattle.line_service.specs.SegmentNumbers.{IsRightNumbers}
 use Rattle.line_service.specs.declared.folder_errors.FolderError.{FolderError}
@@ -70,7 +70,7 @@ IsListRefused folder file files why e =
     IsStartName folder file (start.Folder folders.Unlisted) e
     ⊎ (((error : FolderError)
     × (entries : List FolderEntry)
-    × Lists files folder (names_of entries)
+    × Lists files folder entries
     × IsRightNumbers entries (Err error)
     × IsFolderFault folder error e)
     ⊎ IsStartName folder file why e)

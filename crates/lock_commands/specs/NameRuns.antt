@@ -2,7 +2,7 @@
 use Rattle.std.specs.Prelude.{◌≡◌, ℕ, ◌⊎◌, true, List, [], Option, None, Some, is_some, IsSome}
 use Rattle.std.specs.List.{AllByRecursion}
 use Rattle.std.specs.Io.KnownBytes.{Appends}
-use Rattle.disks.specs.Held.{Held, Replaces}
+use Rattle.disks.specs.Held.{Held, LetsGo, Replaces}
 use Rattle.line_service.specs.SegmentNames.{segment_file}
 use Rattle.line_service.specs.declared.faults.LoopFault.{LoopFault}
 use Rattle.line_service.specs.declared.faults.LoopFault.TheVariants as loop
@@ -81,7 +81,7 @@ IsUnended folder mid after e =
     ⊎ ((last : Moment NamesService)
     × ServesNothing folder mid last
     × (names_by_segments.is_due last.service ≡ true)
-    × (after ≡ last.files)
+    × LetsGo last.files after (segment_file folder last.number) last.journal
     × IsLoopName folder loop.Journal e)
 
 -- the file of the segment of this number could not be put there with this text

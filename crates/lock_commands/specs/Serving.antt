@@ -1,6 +1,6 @@
 -- All lines of an input are served, from an open segment on (this project's own).
 use Rattle.std.specs.Prelude.{◌≡◌, ℕ, ◌⊎◌, List, Option}
-use Rattle.disks.specs.Held.{Held, Replaces}
+use Rattle.disks.specs.Held.{Held, LetsGo, Replaces}
 use Rattle.line_service.specs.SegmentNames.{segment_file}
 use Rattle.line_service.specs.Stands.{AnsweringWith}
 use Rattle.line_service.specs.Segmenting.{Segmenting}
@@ -33,14 +33,15 @@ pub record AreCutShort {S : Type 0} (A : AnsweringWith S) (G : Segmenting S) (fo
   pub long : IsFaultOf why was is
   pub named : IsLoopName folder why e
 
--- all lines were answered, and the last segment cannot be settled: that changed no file
+-- all lines were answered, and the last segment cannot be settled: its file was let go with the notes
+-- that were added
 abbrev pub AreUnsettled : {S : Type 0} → AnsweringWith S → Segmenting S → List ℕ → Moment S
     → Option Held → Option (List ℕ) → Option (List ℕ) → Option (List ℕ) → Option (List ℕ)
     → ToolError → Type 0
 AreUnsettled A G folder first after was is old new e =
     (last : Moment _)
     × ServesSegments A G folder first last was is old new
-    × (after ≡ last.files)
+    × LetsGo last.files after (segment_file folder last.number) last.journal
     × IsLoopName folder loop.Journal e
 
 -- not all lines were served

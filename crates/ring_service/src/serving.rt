@@ -287,27 +287,30 @@ pub(crate) fn answer_by<D: Disk>(
 }
 
 /// The writer of a journal, if one is kept.
-fn writer_of<J: Drop>(journal: Option<Journal<'_, J>>) -> Option<J>
+fn writer_of<J>(journal: Option<Journal<'_, J>>) -> Option<J>
     ensures held { (contents : J → Option (List ℕ))
         → written_by contents result ≡ held_by contents journal.entry }
     ensures some { is_some result ≡ is_some (named_by journal.entry) }
 {
     match journal {
         None => None,
-        Some(journal) => Some(journal.writer),
+        Some(Journal { writer, .. }) => Some(writer),
     }
 }
 
 /// The journal of this name with this writer, if one is kept.
-fn journal_of<'n, J: Drop>(name: Option<&'n str>, writer: Option<J>) -> Option<Journal<'n, J>>
+fn journal_of<'n, J>(name: Option<&'n str>, writer: Option<J>) -> Option<Journal<'n, J>>
     requires { is_some writer ≡ is_some (option_map (λ name. name.now) name) }
     ensures held { (contents : J → Option (List ℕ))
         → held_by contents result ≡ written_by contents writer }
     ensures named { named_by result ≡ option_map (λ name. name.now) name.entry }
 {
-    match (name, writer) {
-        (Some(name), Some(writer)) => Some(Journal { name, writer }),
-        (_, _) => None,
+    match writer {
+        None => None,
+        Some(writer) => {
+            let Some(name) = name else { unreachable!() };
+            Some(Journal { name, writer })
+        }
     }
 }
 
@@ -331,7 +334,7 @@ pub fn are_right(served: &Served)
 /// The first error of the reader, of the journal or of the writer; `OutOfMemory` where there was none for what a block is
 /// answered; `TooLong` where no more blocks are counted. The lines before were answered. The writer holds a prefix of their
 /// answers, and the journal the notes of each delivered line.
-pub fn serve<D: Disk, I: Read, J: Grow + Drop, W: Write>(
+pub fn serve<D: Disk, I: Read, J: Grow, W: Write>(
     alloc: Global,
     served: &mut Served,
     disk: &mut D,
@@ -386,7 +389,8 @@ pub fn serve<D: Disk, I: Read, J: Grow + Drop, W: Write>(
         out,
     );
     *served = service.into_rings();
-    *journal = journal_of(name, writer);
+    let none = mem::replace(journal, journal_of(name, writer));
+    let None = none else { unreachable!() };
     match ended {
         Ok(_) => Ok(()),
         Err(fault) => Err(fault),

@@ -60,6 +60,6 @@ put_still (Some was) (Some begun) (Some is) name bytes put h = h ∙ put.here na
 
 -- so it is after some of the lines, or all of them
 pub part_still : (terms : Terms) (name : List ℕ) (start : List Standing) (before begun after : Option Held) (first was is old new : Option (List ℕ)) (bytes : List ℕ) → Replaces before begun name (Some bytes) → terms.journal ≡ Some name →
-    IsServedPart terms start begun after first was is old new → IfSome before (λ _. IsHeld after name bytes)
+    (h : IsServedPart terms start begun after first was is old new) → IfSome before (λ _. IsHeld h.between name bytes)
 part_still terms name start before begun after first was is old new bytes put named h =
-    put_still before begun after name bytes put (stops_still terms name start h.end begun after _ _ h.served.bytes named h.served.ended)
+    put_still before begun h.between name bytes put (stops_still terms name start h.end begun h.between _ _ h.served.bytes named h.served.ended)

@@ -1,7 +1,7 @@
 -- The answer of `serve`.
 use Rattle.std.specs.Prelude.{◌≡◌, ℕ, ◌≤◌, ◌<◌, ◌^◌, ◌⊎◌, List, [], length, codes, Bool, true, Option, None, Some, IfSome, Err, ⊤}
 use Rattle.std.specs.Option.{option_map}
-use Rattle.disks.specs.Held.{Held, HaveFolders, bytes_of, LeadsToNoFolder, Creates, Grows, Replaces, IsHeld}
+use Rattle.disks.specs.Held.{Held, HaveFolders, bytes_of, LeadsToNoFolder, Creates, Grows, LetsGo, Replaces, IsHeld}
 use Rattle.saved_history.specs.declared.saved.Saved.{Saved}
 use Rattle.saved_history.specs.declared.saved.SavedRing.{SavedRing}
 use Rattle.saved_history.specs.Content.{content}
@@ -240,15 +240,23 @@ IsServingFault journal tool.Write = Unit {0}
 IsServingFault journal tool.OutOfMemory = Unit {0}
 IsServingFault journal _ = ⊥
 
+-- the journal's file, if one is kept, was let go with these bytes; no other has changed
+abbrev pub LetsJournalGo : Option (List ℕ) → Option Held → Option Held → Option (List ℕ) → Type 0
+LetsJournalGo None was is bytes = is ≡ was
+LetsJournalGo (Some name) was is bytes = LetsGo was is name bytes
+
 -- Some of the lines were delivered, or all of them, from where the rings began and the journal's
 -- writer held this. If a journal is kept, its writer has the notes of each delivered line after
--- that, and the rings that are recovered of it have its call.
+-- that, and the rings that are recovered of it have its call. Then its file is let go with what the
+-- writer has, and no more.
 pub record IsServedPart (terms : Terms) (start : List Standing) (before after : Option Held)
     (first was is old new : Option (List ℕ)) : Type 0 where
   pub end : List Standing
   pub last : Option (List ℕ)
-  pub served : AnsweredCallsAreRecovered terms start end before after was is
+  pub between : Option Held
+  pub served : AnsweredCallsAreRecovered terms start end before between was is
       (record { journal = first; out = old }) (record { journal = last; out = new })
+  pub gone : LetsJournalGo terms.journal between after last
 
 -- A journal in the file of this name, which had been begun with these rings, was not served to the
 -- end: no line was read, since it cannot be opened; or serving was broken off.
@@ -262,7 +270,7 @@ IsBegunPart permits name start begun after was is old new e =
     × IsServedPart (terms_of (Some name) permits) start begun after first was is old new)
 
 -- with a journal in the file of this name: it was put there with the saved text of the rings as
--- they began, and that it holds still
+-- they began, which no line replaced before it was let go
 pub record IsNotedPart (permits : Permits) (name : List ℕ) (start : List Standing)
     (before after : Option Held) (was is old new : Option (List ℕ)) : Type 0 where
   pub begun : Option Held
@@ -270,7 +278,7 @@ pub record IsNotedPart (permits : Permits) (name : List ℕ) (start : List Stand
   pub put : Replaces before begun name (Some (journal_head (content_of start)))
   pub opened : Grows begun name first
   pub part : IsServedPart (terms_of (Some name) permits) start begun after first was is old new
-  pub kept : IfSome before (λ _. IsHeld after name (journal_head (content_of start)))
+  pub kept : IfSome before (λ _. IsHeld part.between name (journal_head (content_of start)))
 
 -- Rings that began without a journal were not served to the end.
 abbrev pub IsPlainPart : Permits → List Standing → Option Held → Option Held → Option (List ℕ)

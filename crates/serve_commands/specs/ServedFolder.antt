@@ -2,7 +2,7 @@
 use Rattle.std.specs.Prelude.{◌≡◌, ◌≢◌, ℕ, ◌⊎◌, max, List, Bool, true, false, Option, None, Some, IfSome, IsSome, Ok, Err, codes}
 use Rattle.std.specs.List.{AllByRecursion, list_any}
 use Rattle.std.specs.Result.{is_ok}
-use Rattle.disks.specs.Held.{Held, IsOneFile, Replaces, IsHeld}
+use Rattle.disks.specs.Held.{Held, IsOneFile, LetsGo, Replaces, IsHeld}
 use Rattle.disks.specs.Folders.{Lists, is_among, names_of, path_in}
 use Rattle.disks.specs.declared.disk.FolderEntry.{FolderEntry}
 use Rattle.line_service.specs.SegmentNames.{list_name, segment_file}
@@ -89,7 +89,7 @@ StandsAmong files folder entries saved p =
 pub record StandsIn (files : Option Held) (folder : List ℕ) (saved : Option Saved) (p : Place) :
     Type 0 where
   pub entries : List FolderEntry
-  pub listed : Lists files folder (names_of entries)
+  pub listed : Lists files folder entries
   pub plain : is_among (names_of entries) list_name ≡ false
   pub stands : StandsAmong files folder entries saved p
 
@@ -199,7 +199,7 @@ abbrev pub IsUnknown : Option Held → List ℕ → Option Saved → ToolError �
 IsUnknown files folder saved e =
     IsFolderFault folder names.Unlisted e
     ⊎ ((entries : List FolderEntry)
-    × Lists files folder (names_of entries)
+    × Lists files folder entries
     × (((is_among (names_of entries) list_name ≡ true) × IsListFault folder e)
     ⊎ IsUnknownAmong files folder entries saved e))
 
@@ -216,7 +216,7 @@ IsUnlocked words folder before after e =
 
 -- From a place on some lines were delivered, or all of them. The file of the segment that was being
 -- written has the notes of each delivered line in it, and the rings that are recovered of it have
--- its call.
+-- its call. It is let go with these notes, and no others.
 pub record IsRunPart (s : ChainRules) (start : Place) (before after : Option Held)
     (was is old new : Option (List ℕ)) : Type 0 where
   pub first : Moment ServiceView
@@ -227,7 +227,7 @@ pub record IsRunPart (s : ChainRules) (start : Place) (before after : Option Hel
   pub served : ServesSomeSegments IsServed segmenting (folder_of s) first end after was is old new
       ⊎ ((last : Moment ServiceView)
       × ServesSegments IsServed segmenting (folder_of s) first last was is old new
-      × (after ≡ last.files))
+      × LetsGo last.files after (segment_file (folder_of s) last.number) last.journal)
 
 -- The segment with which they began cannot be begun, and no line is read: the files are as they
 -- were, or its whole file was put there. Or serving was broken off.

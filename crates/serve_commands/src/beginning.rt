@@ -17,7 +17,7 @@ use std::alloc::Global;
 use std::io::Write;
 use tool_parts::faults::ToolError;
 use tool_parts::handing::save_fault;
-use tool_parts::locking::open_journal;
+use tool_parts::locking::hold_journal;
 
 /// The beginning of a journal of these rings, which its file is to hold.
 #[derive(Drop)]
@@ -68,7 +68,7 @@ fn begin_locked<'a, D: Disk>(
     disk: &mut D,
     saved: Option<Saved>,
     name: &'a str,
-) -> Result<(D::Grown, Served), ToolError<'a>>
+) -> Result<(D::Hold, Served), ToolError<'a>>
     requires rings { CanBeginWith saved }
     ensures ok { IfOk result (λ begun. (from : Saved)
         × IsNoted (D.holds disk.old) name.now saved from
@@ -78,7 +78,7 @@ fn begin_locked<'a, D: Disk>(
     ensures kept { OnErr result (D.holds disk.new ≡ D.holds disk.old) }
     ensures err { IfErr result (λ e. IsUnbegun (D.holds disk.old) name.now saved e) }
 {
-    let lock = match open_journal(disk, name, false) {
+    let lock = match hold_journal(disk, name) {
         Ok(lock) => lock,
         Err(fault) => return Err(fault),
     };
@@ -120,7 +120,7 @@ pub(crate) fn begin_journal<'a, D: Disk>(
     disk: &mut D,
     saved: Option<Saved>,
     name: &'a str,
-) -> Result<(D::Grown, Served), ToolError<'a>>
+) -> Result<(D::Hold, Served), ToolError<'a>>
     requires rings { CanBeginWith saved }
     ensures ok { IfOk result (λ begun. (from : Saved)
         × IsNoted (D.holds disk.old) name.now saved from

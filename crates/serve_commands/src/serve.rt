@@ -3,7 +3,7 @@
 ghost use Rattle.std.specs.Prelude.{◌≡◌, ℕ, List, true, None, Some, Option, OnOk, OnErr, IfOk, IfErr, IfSome, IsSome, length, string_bytes};
 ghost use Rattle.std.specs.Option.{option_map};
 ghost use Rattle.std.specs.Io.KnownBytes.{Appends};
-ghost use Rattle.disks.specs.Held.{Replaces};
+ghost use Rattle.disks.specs.Held.{LetsGo, Replaces};
 ghost use Rattle.disks.specs.Lasting.{HasFront, Leaves, bytes_in, outlives};
 ghost use Rattle.saved_history.specs.declared.saved.Saved.{Saved};
 ghost use Rattle.ring_service.specs.Standings.{Standing};
@@ -101,7 +101,7 @@ fn serve_plain<'a, D: Disk, I: Read, W: Write>(
 ///
 /// # Errors
 ///
-/// `Save` if it is not known to be. No file has changed.
+/// `Save` if it is not known to be. The file holds what its writer had, and no other has changed.
 fn settle_journal<'a, D: Disk>(
     disk: &mut D,
     writer: D::Grown,
@@ -112,7 +112,8 @@ fn settle_journal<'a, D: Disk>(
     ensures ok { OnOk result (Replaces (D.holds disk.old) (D.holds disk.new) name.now
         (D.Grown.contents writer)) }
     ensures err { IfErr result (λ e. IsServingFault (Some name.now) e) }
-    ensures kept { OnErr result (D.holds disk.new ≡ D.holds disk.old) }
+    ensures held { OnErr result (LetsGo (D.holds disk.old) (D.holds disk.new) name.now
+        (D.Grown.contents writer)) }
     ensures lasts { OnOk result (Leaves (D.leaves disk.old) (D.leaves disk.new) name.now
         (D.Grown.contents writer)) }
     ensures left { OnErr result (IfSome (D.leaves disk.new)

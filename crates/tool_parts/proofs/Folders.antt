@@ -19,13 +19,13 @@ held_no_folder None name bytes h = tt
 held_no_folder (Some held) name bytes h = no_folder (held.at (held.place name)) bytes h
 
 -- what is listed is a folder
-listed : (files : Option Held) (folder : List ℕ) (names : List (List ℕ)) → Lists files folder names → LeadsToFolder files folder
-listed None folder names h = tt
-listed (Some held) folder names h = h.0
+listed : (files : Option Held) (folder : List ℕ) (entries : List FolderEntry) → Lists files folder entries → LeadsToFolder files folder
+listed None folder entries h = tt
+listed (Some held) folder entries h = h.0
 
 pub entered : (files : Option Held) (folder : List ℕ) (entries : List FolderEntry) → IsFolder files folder entries → LeadsToFolder files folder
 entered files folder entries h = listed files folder _ h.listed
 
-pub listed_ok : {A E : Type 0} (r : Result A E) (names : A → List (List ℕ)) (files : Option Held) (folder : List ℕ) → is_ok r ≡ true → IfOk r (λ a. Lists files folder (names a)) → LeadsToFolder files folder
-listed_ok (Ok a) names files folder ok h = listed files folder (names a) h
-listed_ok (Err e) names files folder ok h = absurd (false≢true ok)
+pub listed_ok : {A E : Type 0} (r : Result A E) (entries : A → List FolderEntry) (files : Option Held) (folder : List ℕ) → is_ok r ≡ true → IfOk r (λ a. Lists files folder (entries a)) → LeadsToFolder files folder
+listed_ok (Ok a) entries files folder ok h = listed files folder (entries a) h
+listed_ok (Err e) entries files folder ok h = absurd (false≢true ok)

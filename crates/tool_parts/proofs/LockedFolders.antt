@@ -3,7 +3,7 @@ use Rattle.std.proofs.Common.{◌≡◌, ◌∙◌, ℕ, List, [], Bool, true, f
 use Rattle.std.specs.Prelude.{IsSome, IfSome}
 use Rattle.std.specs.Io.KnownBytes.{Appends}
 use Rattle.std.proofs.lemmas.Bool.{false≢true}
-use Rattle.disks.specs.Held.{Held, Replaces, Creates, Locks}
+use Rattle.disks.specs.Held.{Held, Replaces, LetsGo, Creates, Locks}
 use Rattle.tool_parts.specs.Locking.{lock_of, IsLocked, StandsLocked}
 
 replaced_known : (was is : Option Held) (name : List ℕ) (contents : Option (List ℕ)) → Replaces was is name contents → IsSome was → IsSome is
@@ -47,6 +47,12 @@ put_locked was is folder name bytes put l = after is (subst (λ (x : Option Held
 -- of a writer whose bytes are known
 pub settled_locked : (was is : Option Held) (folder name bytes : List ℕ) (contents : Option (List ℕ)) → contents ≡ Some bytes → Replaces was is name contents → StandsLocked was folder → StandsLocked is folder
 settled_locked was is folder name bytes contents known put l = put_locked was is folder name bytes (subst (λ (x : Option (List ℕ)). Replaces was is name x) known put) l
+
+-- of one that was let go
+pub gone_locked : (was is : Option Held) (folder name bytes : List ℕ) (contents : Option (List ℕ)) → contents ≡ Some bytes → LetsGo was is name contents → StandsLocked was folder → StandsLocked is folder
+gone_locked None is folder name bytes contents known gone l = same_locked None is folder gone l
+gone_locked (Some was) is folder name bytes contents known (inl same) l = same_locked (Some was) is folder same l
+gone_locked (Some was) is folder name bytes contents known (inr put) l = settled_locked (Some was) is folder name bytes contents known put l
 
 pub is_known : (files : Option Held) (folder : List ℕ) → StandsLocked files folder → IsSome files
 is_known files folder l = subst (λ (x : Option Held). IsSome x) (sym l.1) refl

@@ -2,7 +2,7 @@
 use Rattle.std.specs.Prelude.{◌≡◌, ℕ, ◌+◌, ◌<◌, ◌==◌, cond, List, [], ◌∷◌, ◌++◌, length, Bool, Option, Some, None, Ok, Err, codes, decimal, ◌⊎◌}
 use Rattle.std.specs.Io.KnownBytes.{Appends}
 use Rattle.disks.specs.Held.{Held, Opens, IsHeld}
-use Rattle.disks.specs.Folders.{names_of, Lists}
+use Rattle.disks.specs.Folders.{Lists}
 use Rattle.disks.specs.declared.disk.FolderEntry.{FolderEntry}
 use Rattle.line_service.specs.SegmentNames.{segment_file}
 use Rattle.line_service.specs.SegmentNumbers.{IsRightNumbers}
@@ -76,7 +76,7 @@ pub record IsChainIn (files : Option Held) (name : List ℕ) (r : SegmentNumbers
 -- A name leads to a folder in which there is something: these are its entries.
 pub record IsFolder (files : Option Held) (name : List ℕ) (entries : List FolderEntry) : Type 0
   where
-    pub listed : Lists files name (names_of entries)
+    pub listed : Lists files name entries
     pub some : 0 < length entries
 
 -- the name leads to a folder whose segments held a chain with these sums, and with this digest of the

@@ -1,7 +1,7 @@
 //! The lock of a folder, and files that one process at a time writes at their end.
 
-ghost use Rattle.std.specs.Prelude.{◌≡◌, true, OnOk, OnErr, IfOk, IfErr, string_bytes};
-ghost use Rattle.disks.specs.Held.{Grows};
+ghost use Rattle.std.specs.Prelude.{◌≡◌, ℕ, List, true, OnOk, OnErr, IfOk, IfErr, string_bytes};
+ghost use Rattle.disks.specs.Held.{Grows, IsHeld};
 ghost use Rattle.disks.specs.Lasting.{outlives};
 ghost use Rattle.tool_parts.specs.Locking.{lock_of, IsUnopenedJournal, IsLocked, IsLockLeft, IsUnkeptFolder};
 
@@ -24,6 +24,21 @@ pub fn open_journal<'a, D: Disk>(
 {
     match disk.grow(name, synced) {
         Ok(grown) => Ok(grown),
+        Err(error) => match error.kind() {
+            ErrorKind::WouldBlock => Err(ToolError::InUse(name)),
+            _ => Err(ToolError::Save(name)),
+        },
+    }
+}
+
+/// Keeps the journal's file from other processes.
+pub fn hold_journal<'a, D: Disk>(disk: &mut D, name: &'a str) -> Result<D::Hold, ToolError<'a>>
+    ensures ok { OnOk result ((bytes : List ℕ) × IsHeld (D.holds disk.old) name.now bytes) }
+    ensures kept { D.holds disk.new ≡ D.holds disk.old }
+    ensures err { IfErr result (λ e. IsUnopenedJournal name.now e) }
+{
+    match disk.hold(name) {
+        Ok(hold) => Ok(hold),
         Err(error) => match error.kind() {
             ErrorKind::WouldBlock => Err(ToolError::InUse(name)),
             _ => Err(ToolError::Save(name)),

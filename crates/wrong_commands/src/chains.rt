@@ -35,6 +35,8 @@ pub fn answers_in_a_segment_that_is_due<D: Disk, I: Read>(
     rules: ChainRules<'_>,
     input: &mut I,
 ) -> Option<Told<D::Grown>>
+where
+    D::Grown: Drop,
     requires { is_due (Some rules.limit) served.old ≡ true }
     ensures wrong { IfSome result (λ told. LeadNowhere D.Grown.contents D.holds rules.entry
         served.old disk.old first served.new disk.new told.segment (I.remaining input.old)
@@ -88,6 +90,8 @@ fn cut<D: Disk>(
     behind: [u8; DIGEST_DIGITS],
     rules: ChainRules<'_>,
 ) -> Option<OpenSegment<D::Grown>>
+where
+    D::Grown: Drop,
     requires { DigestFits behind }
     ensures number { IfSome result (λ end. end.number ≡ first.number + 1) }
     ensures rings { IfSome result (λ _. served.new ≡ next) }
@@ -125,6 +129,8 @@ pub fn names_the_digest_of_the_head_alone<D: Disk>(
     rules: ChainRules<'_>,
     head: &[u8],
 ) -> Option<OpenSegment<D::Grown>>
+where
+    D::Grown: Drop,
     requires due { is_due (Some rules.limit) served.old ≡ true }
     requires apart { (bytes : List ℕ) → segment_holds D.Grown.contents first ≡ Some bytes
         → digest_of head.now ≢ digest_of bytes }
@@ -150,6 +156,8 @@ pub fn ends_with_a_base_that_forgets_the_grants<D: Disk>(
     rules: ChainRules<'_>,
     ring: &EndlessRing,
 ) -> Option<OpenSegment<D::Grown>>
+where
+    D::Grown: Drop,
     requires due { is_due (Some rules.limit) served.old ≡ true }
     requires one { served.old ≡ standing_of ring.now ∷ [] }
     requires grants { 1 ≤ ring.now.base.grants }
@@ -203,6 +211,8 @@ pub fn begins_one_call_late<D: Disk>(
     ring: &EndlessRing,
     machine: u32,
 ) -> Option<OpenSegment<D::Grown>>
+where
+    D::Grown: Drop,
     requires due { is_due (Some rules.limit) served.old ≡ true }
     requires one { served.old ≡ standing_of ring.now ∷ [] }
     ensures wrong { IfSome result (EndsNowhere D.Grown.contents D.holds rules.entry served.old

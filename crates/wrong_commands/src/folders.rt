@@ -19,7 +19,7 @@ use segment_files::{ChainSums, DIGEST_DIGITS};
 use std::alloc::Global;
 use tool_parts::chain::chain_in;
 use tool_parts::faults::ToolError;
-use tool_parts::locking::open_journal;
+use tool_parts::locking::hold_journal;
 use tool_parts::requests::JoinWords;
 
 /// Between two segments none is missing: here a gap is accepted, whichever the first and the last are said to be.
@@ -103,7 +103,7 @@ pub fn lets_the_lock_go<'a, D: Disk>(
     let Ok(_made) = disk.create(name) else {
         return Err(ToolError::Save(name));
     };
-    match open_journal(disk, name, false) {
+    match hold_journal(disk, name) {
         Ok(lock) => {
             drop(lock);
             Ok(())

@@ -1,7 +1,7 @@
 //! A wrong list of a folder.
 
 ghost use Rattle.std.specs.Prelude.{IsSome, IfSome};
-ghost use Rattle.disks.specs.Folders.{names_of, Lists};
+ghost use Rattle.disks.specs.Folders.{Lists};
 
 use disks::{Disk, FolderEntry};
 use std::alloc::Global;
@@ -14,7 +14,7 @@ pub fn folder_that_looks_empty<D: Disk>(
 ) -> Option<Vec<FolderEntry>>
     requires { IsSome (D.holds disk.now) }
     ensures wrong { IfSome result
-        (λ entries. Lists (D.holds disk.now) folder.now (names_of entries.items) → ⊥) }
+        (λ entries. Lists (D.holds disk.now) folder.now entries.items → ⊥) }
 {
     match disk.list(folder) {
         Ok(entries) if !entries.is_empty() => Some(Vec::new(alloc)),

@@ -49,6 +49,8 @@ pub fn file_whose_write_failed<D: Disk, C: Contents>(
 
 /// A file that is opened to be written at its end is there, and can be read: it is said that there is none.
 pub fn grown_file_that_cannot_be_opened<D: Disk>(disk: &mut D, name: &str) -> io::Result<()>
+where
+    D::Grown: Drop,
     requires known { IsSome (D.holds disk.old) }
     ensures wrong { OnOk result (IfSome (D.holds disk.new)
         (λ held. bytes_of held name.now ≡ None) → ⊥) }

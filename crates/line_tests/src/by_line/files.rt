@@ -19,6 +19,8 @@ impl Disk for Stuck {
 
     type Grown = Vec<u8>;
 
+    type Hold = ();
+
     fn open(&self, _name: &str) -> io::Result<Cursor<Vec<u8>>> {
         Err(io::Error::from(ErrorKind::NotFound))
     }
@@ -52,6 +54,10 @@ impl Disk for Stuck {
     }
 
     fn lock(&mut self, _name: &str) -> io::Result<()> {
+        Err(io::Error::from(ErrorKind::PermissionDenied))
+    }
+
+    fn hold(&mut self, _name: &str) -> io::Result<()> {
         Err(io::Error::from(ErrorKind::PermissionDenied))
     }
 

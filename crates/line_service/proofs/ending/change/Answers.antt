@@ -5,7 +5,9 @@ use Rattle.disks.specs.Lasting.{bytes_in, BeginsWith, Leaves, MayLeave}
 use Rattle.std.specs.Prelude.{string_bytes}
 use Rattle.line_service.specs.Digested.{hashed}
 use Rattle.line_service.specs.Segments.{moment_of}
+use Rattle.line_service.specs.SegmentNames.{segment_file}
 use Rattle.line_service.proofs.Hashing.{is_hashed}
+use Rattle.line_service.proofs.Letting.{given_back, left_let_go}
 use Rattle.line_service.proofs.SegmentLasting.{replaced_known, replaced_bytes, if_some, digest_known, spares_settled, spares_next, spares_same, front_has, front_kept, front_leaves, begins_all, spares_leaves}
 use Rattle.line_service.specs.Lasting.{LeavesEarlier}
 use Rattle.line_service.proofs.Changing.{has_ended, is_kept}
@@ -43,6 +45,16 @@ returns-in-Ok-open_segment-2-clause-ok g c =
           c.keep_on.new.self c.cause_of-why.result (g.D.Disk.holds c.replace.new.disk) (g.D.Disk.holds c.open_segment-in-Err-replace.new.disk) c.in-Ok-open_segment-2.segment.number (hashed (g.D.Grown.Grow.contents v.inner) v.hasher)
           c.in-Ok.hasher c.cause_of-why.ensures c.keep_on.ensures.kept c.in-Ok-open_segment-2.ensures.ok.0 c.in-Err-replace.ensures.kept c.in-Ok-open_segment-2.ensures.kept c.in-Ok.ensures.hasher c.in-Ok-open_segment-2.ensures.known,
     )
+
+pub returns-in-Err-clause-left : goal.returns-in-Err-clause-left
+returns-in-Err-clause-left g c =
+    let w = c.args.segment.writer in
+    let was = g.D.Disk.holds c.args.disk.now in
+    let is = g.D.Disk.holds c.abandon.new.self in
+    let name = string_bytes c.args.segment.name in
+    let contents = g.D.Grown.Grow.contents w.inner in
+    left_let_go was is name (segment_file c.args.rules.folder.now c.args.segment.number) (hashed contents w.hasher) _ c.requires.named
+    (given_back was (g.D.Disk.holds c.settle.new.disk) is name contents (g.D.Grown.Grow.contents c.in-Err.inner) w.hasher c.in-Err.ensures.kept c.in-Err.ensures.same c.abandon.ensures.held)
 
 pub returns-in-Err-clause-spared : goal.returns-in-Err-clause-spared
 returns-in-Err-clause-spared g c = λ some bytes known lasts.

@@ -3,7 +3,14 @@ use Rattle.std.specs.Prelude.{string_bytes}
 use Rattle.disks.specs.Held.{Held}
 use Rattle.disks.specs.Lasting.{LeavesFront}
 use Rattle.line_service.proofs.SegmentLasting.{front_kept}
+use Rattle.line_service.proofs.Letting.{given_back}
 use Rattle.line_service.proofs.ending.close_segment.Goals as goal
+
+pub returns-in-Err-clause-held : goal.returns-in-Err-clause-held
+returns-in-Err-clause-held g c =
+    let w = c.args.segment.writer in
+    given_back (g.D.Disk.holds c.args.disk.now) (g.D.Disk.holds c.settle.new.disk) (g.D.Disk.holds c.abandon.new.self) (string_bytes c.args.segment.name)
+    (g.D.Grown.Grow.contents w.inner) (g.D.Grown.Grow.contents c.in-Err.inner) w.hasher c.in-Err.ensures.kept c.in-Err.ensures.same c.abandon.ensures.held
 
 pub returns-in-Err-clause-left : goal.returns-in-Err-clause-left
 returns-in-Err-clause-left g c =

@@ -10,8 +10,25 @@ use Rattle.line_service.specs.declared.segmented.EndFault.{EndFault}
 use Rattle.line_service.specs.declared.segmented.EndFault.TheVariants as end
 use Rattle.line_service.specs.Service.{told_of}
 use Rattle.line_service.proofs.SegmentLasting.{front_has}
+use Rattle.line_service.specs.Digested.{hashed}
+use Rattle.line_service.proofs.Letting.{lets_go_hashed}
 use Rattle.line_service.proofs.Earlier.{changes_any}
 use Rattle.line_service.proofs.service.serve_in.Goals as goal
+
+pub returns-in-Err-clause-err : goal.returns-in-Err-clause-err
+returns-in-Err-clause-err g c = λ begun h.
+    let w = c.in-Some.writer in
+    let p = c.in-Err.ensures.err begun h in
+    let first = c.args.ready.segment.writer in
+    let journal = hashed (g.D.Grown.Grow.contents w.inner) w.hasher in
+    let before = hashed (g.D.Grown.Grow.contents first.inner) first.hasher in
+    let out = g.W.Write.contents c.args.out.now in
+    let after = g.W.Write.contents c.serve_part-served.new.out in
+    let bytes = begun ++ (c.args.unread.now ++ p.0) in
+    let between = g.D.Disk.holds c.serve_part-served.new.disk in
+    let old = stand c.args.service.now (g.D.Disk.holds c.args.disk.now) in
+    let told = subst (λ (j : Option _). Stops (by_stand g.S.AnswersLines.is_answered) old (record { journal = before; out = out }) (record { journal = written_by (λ d. hashed (g.D.Grown.Grow.contents d.inner) d.hasher) j; out = after }) bytes (stand c.serve_part-served.new.service between)) c.in-Some.is p.2 in
+    (between, journal, (p.0, p.1, told), lets_go_hashed between (g.D.Disk.holds c.abandon.new.self) (string_bytes c.args.ready.segment.name) (g.D.Grown.Grow.contents w.inner) w.hasher c.abandon.ensures.held)
 
 pub returns-in-Err-clause-spared : goal.returns-in-Err-clause-spared
 returns-in-Err-clause-spared g c = λ begun h.
@@ -24,8 +41,7 @@ returns-in-Err-clause-spared g c = λ begun h.
     let bytes = begun ++ (c.args.unread.now ++ p.0) in
     let old = stand c.args.service.now (g.D.Disk.holds c.args.disk.now) in
     let told = subst (λ (j : Option _). Stops (by_stand g.S.AnswersLines.is_answered) old (record { journal = before; out = out }) (record { journal = written_by (λ d. g.D.Grown.Grow.lasting d.inner) j; out = after }) bytes (stand c.serve_part-served.new.service (g.D.Disk.holds c.serve_part-served.new.disk))) c.in-Some.is p.2 in
-    let stops = subst (λ (f : Option Held). Stops (by_stand g.S.AnswersLines.is_answered) old (record { journal = before; out = out }) (record { journal = journal; out = after }) bytes (stand c.serve_part-served.new.service f)) (sym c.abandon.ensures.kept) told in
-    (journal, (p.0, p.1, stops), front_has (g.D.Disk.leaves c.serve_part-served.new.disk) (g.D.Disk.leaves c.abandon.new.self) (string_bytes c.args.ready.segment.name) journal c.abandon.ensures.left)
+    (g.D.Disk.holds c.serve_part-served.new.disk, journal, (p.0, p.1, told), front_has (g.D.Disk.leaves c.serve_part-served.new.disk) (g.D.Disk.leaves c.abandon.new.self) (string_bytes c.args.ready.segment.name) journal c.abandon.ensures.left)
 
 -- `TooLong` is only reported of an input that is too long
 told_long : (e : LoopFault) (kept : Option EndFault) (input rest : Option (List ℕ)) → IsPartFault e input rest → IsPartFault (told_of e kept) input rest

@@ -7,11 +7,12 @@ use Rattle.line_service.specs.Stands.{by_stand, stand}
 use Rattle.line_service.proofs.Telling.{consumes_then}
 use Rattle.line_service.specs.Digested.{hashed}
 use Rattle.line_service.specs.Segments.{Moment, moment_of, stand_of}
-use Rattle.disks.specs.Held.{Held}
+use Rattle.disks.specs.Held.{Held, LetsGo}
 use Rattle.disks.specs.Lasting.{BeginsWith, HasFront}
 use Rattle.line_service.proofs.SegmentParts.{long_part, no_long, none_served, one_served, one_counted, one_stops, many_long, parts_end, parts_stop}
 use Rattle.line_service.proofs.SegmentLasting.{last_is, known_is, appended_known, opened_lasts, ready_knows, front_has, front_leaves}
 use Rattle.line_service.proofs.Noting.{lines_known, all_told, some_told, all_last, some_last, all_each, some_each}
+use Rattle.line_service.proofs.Letting.{left_let_go}
 use Rattle.line_service.proofs.Earlier.{LeavesWhole, changes_left, front_file, file_map, none_whole, one_whole, whole_keeps}
 use Rattle.line_service.proofs.service.serve_segments.Goals as goal
 
@@ -52,7 +53,8 @@ returns-in-Err-serve_in-clause-err g c =
     let v = c.in-Ok.ready.segment.writer in
     let from : Moment _ = moment_of c.make_ready.new.service (g.D.Disk.holds c.make_ready.new.disk) c.in-Ok.ready.segment.number (hashed (g.D.Grown.Grow.contents v.inner) v.hasher) in
     let p = c.in-Err-serve_in.ensures.err d.begun d.keeps in
-    one_stops g.S.AnswersLines.is_answered g.S.Segmented.segmenting c.args.rules.folder.now start at from c.in-Ok.ready.kept c.parts.unread c.parts.line.items (g.I.Read.remaining c.args.input.now) (g.I.Read.remaining c.parts.input) (g.W.Write.contents c.args.out.now) (g.W.Write.contents c.parts.out) d c.in-Ok.ensures.ok c.serve_in.new.service (g.D.Disk.holds c.serve_in.new.disk) p.0 (g.I.Read.remaining c.serve_in.new.input) (g.W.Write.contents c.serve_in.new.out) p.1
+    one_stops g.S.AnswersLines.is_answered g.S.Segmented.segmenting c.args.rules.folder.now start at from c.in-Ok.ready.kept c.parts.unread c.parts.line.items (g.I.Read.remaining c.args.input.now) (g.I.Read.remaining c.parts.input) (g.W.Write.contents c.args.out.now) (g.W.Write.contents c.parts.out) d c.in-Ok.ensures.ok c.serve_in.new.service p.0 (g.D.Disk.holds c.serve_in.new.disk) p.1 (g.I.Read.remaining c.serve_in.new.input) (g.W.Write.contents c.serve_in.new.out) p.2
+    (subst (λ (n : List ℕ). LetsGo p.0 (g.D.Disk.holds c.serve_in.new.disk) n p.1) c.in-Ok.ensures.named p.3)
 
 pub returns-in-Err-serve_in-clause-long : goal.returns-in-Err-serve_in-clause-long
 returns-in-Err-serve_in-clause-long g c =
@@ -69,8 +71,8 @@ returns-in-Err-serve_in-clause-noted g c =
     let v = c.in-Ok.ready.segment.writer in
     let from : Moment _ = moment_of c.make_ready.new.service (g.D.Disk.holds c.make_ready.new.disk) c.in-Ok.ready.segment.number (hashed (g.D.Grown.Grow.contents v.inner) v.hasher) in
     let p = c.in-Err-serve_in.ensures.err d.begun d.keeps in (
-      p.0,
-      some_told g.S.AnswersLines.is_answered g.met.S.Segmented.knows g.S.Segmented.segmenting c.args.rules.folder.now start at from c.in-Ok.ready.kept c.parts.unread c.parts.line.items (g.I.Read.remaining c.args.input.now) (g.I.Read.remaining c.parts.input) (g.W.Write.contents c.args.out.now) (g.W.Write.contents c.parts.out) d c.in-Ok.ensures.ok c.serve_in.new.service (g.D.Disk.holds c.serve_in.new.disk) p.0 (g.I.Read.remaining c.serve_in.new.input) (g.W.Write.contents c.serve_in.new.out) p.1.0 (consumes_then (g.I.Read.remaining c.args.input.now) (g.I.Read.remaining c.parts.input) (g.I.Read.remaining c.serve_in.new.input) d.read p.1.0 d.consumed p.1.1) p.1.2,
+      p.1,
+      some_told g.S.AnswersLines.is_answered g.met.S.Segmented.knows g.S.Segmented.segmenting c.args.rules.folder.now start at from c.in-Ok.ready.kept c.parts.unread c.parts.line.items (g.I.Read.remaining c.args.input.now) (g.I.Read.remaining c.parts.input) (g.W.Write.contents c.args.out.now) (g.W.Write.contents c.parts.out) d c.in-Ok.ensures.ok c.serve_in.new.service p.0 p.1 (g.I.Read.remaining c.serve_in.new.input) (g.W.Write.contents c.serve_in.new.out) p.2.0 (consumes_then (g.I.Read.remaining c.args.input.now) (g.I.Read.remaining c.parts.input) (g.I.Read.remaining c.serve_in.new.input) d.read p.2.0 d.consumed p.2.1) p.2.2,
     )
 
 pub returns-in-End-clause-ok : goal.returns-in-End-clause-ok
@@ -161,7 +163,8 @@ returns-clause-err g c =
     let w = c.parts.segment.writer in
     let at : Moment _ = moment_of c.parts.service (g.D.Disk.holds c.parts.disk) c.parts.segment.number (hashed (g.D.Grown.Grow.contents w.inner) w.hasher) in
     let d = c.parts.invariant.1 in
-    parts_stop g.S.AnswersLines.is_answered g.S.Segmented.segmenting c.args.rules.folder.now start at c.parts.unread c.parts.line.items (g.I.Read.remaining c.args.input.now) (g.I.Read.remaining c.parts.input) (g.W.Write.contents c.args.out.now) (g.W.Write.contents c.parts.out) c.parts.service (g.D.Disk.holds c.abandon_segment.new.disk) d refl (inl c.abandon_segment.ensures.kept)
+    parts_stop g.S.AnswersLines.is_answered g.S.Segmented.segmenting c.args.rules.folder.now start at c.parts.unread c.parts.line.items (g.I.Read.remaining c.args.input.now) (g.I.Read.remaining c.parts.input) (g.W.Write.contents c.args.out.now) (g.W.Write.contents c.parts.out) c.parts.service (g.D.Disk.holds c.abandon_segment.new.disk) d refl
+    (left_let_go (g.D.Disk.holds c.parts.disk) (g.D.Disk.holds c.abandon_segment.new.disk) (string_bytes c.parts.segment.name) (segment_file c.args.rules.folder.now c.parts.segment.number) at.journal _ c.parts.invariant.0 c.abandon_segment.ensures.held)
 
 pub returns-clause-noted : goal.returns-clause-noted
 returns-clause-noted g c =
@@ -201,15 +204,15 @@ returns-in-Err-serve_in-clause-lasts g c = λ synced some all.
     let p = c.in-Err-serve_in.ensures.spared d.begun d.keeps in
     let out = g.W.Write.contents c.parts.out in
     let after = g.W.Write.contents c.serve_in.new.out in
-    let bytes = d.begun ++ (c.parts.unread ++ p.1.0) in
-    let new = stand c.serve_in.new.service (g.D.Disk.holds c.serve_in.new.disk) in
-    let stopped = subst (λ (j : Option (List ℕ)). Stops (by_stand g.S.AnswersLines.is_answered) (stand_of from) (record { journal = j; out = out }) (record { journal = p.0; out = after }) bytes new) (last_is from.journal (g.D.Grown.Grow.lasting v.inner) opened) p.1.2 in
-    let has = appended_known from.journal p.0 knows.1 (stopped.noted ++ stopped.front) knows.2 stopped.wrote_notes in
+    let bytes = d.begun ++ (c.parts.unread ++ p.2.0) in
+    let new = stand c.serve_in.new.service p.0 in
+    let stopped = subst (λ (j : Option (List ℕ)). Stops (by_stand g.S.AnswersLines.is_answered) (stand_of from) (record { journal = j; out = out }) (record { journal = p.1; out = after }) bytes new) (last_is from.journal (g.D.Grown.Grow.lasting v.inner) opened) p.2.2 in
+    let has = appended_known from.journal p.1 knows.1 (stopped.noted ++ stopped.front) knows.2 stopped.wrote_notes in
     let stops = subst (λ (j : Option (List ℕ)). Stops (by_stand g.S.AnswersLines.is_answered) (stand_of from) (record { journal = from.journal; out = out }) (record { journal = j; out = after }) bytes new) has.1 stopped in
     let left = g.D.Disk.leaves c.serve_in.new.disk in
     let name = string_bytes c.in-Ok.ready.segment.name in
-    let front = subst (λ (j : Option (List ℕ)). IfSome left (λ (held : Held). HasFront held name j)) has.1 p.2 in
-    some_last g.S.AnswersLines.is_answered g.met.S.Segmented.knows g.S.Segmented.segmenting c.args.rules.folder.now start at from c.in-Ok.ready.kept c.parts.unread c.parts.line.items (g.I.Read.remaining c.args.input.now) (g.I.Read.remaining c.parts.input) (g.W.Write.contents c.args.out.now) out d c.in-Ok.ensures.ok c.serve_in.new.service (g.D.Disk.holds c.serve_in.new.disk) has.0 (g.I.Read.remaining c.serve_in.new.input) after p.1.0 (consumes_then (g.I.Read.remaining c.args.input.now) (g.I.Read.remaining c.parts.input) (g.I.Read.remaining c.serve_in.new.input) d.read p.1.0 d.consumed p.1.1) stops
+    let front = subst (λ (j : Option (List ℕ)). IfSome left (λ (held : Held). HasFront held name j)) has.1 p.3 in
+    some_last g.S.AnswersLines.is_answered g.met.S.Segmented.knows g.S.Segmented.segmenting c.args.rules.folder.now start at from c.in-Ok.ready.kept c.parts.unread c.parts.line.items (g.I.Read.remaining c.args.input.now) (g.I.Read.remaining c.parts.input) (g.W.Write.contents c.args.out.now) out d c.in-Ok.ensures.ok c.serve_in.new.service p.0 has.0 (g.I.Read.remaining c.serve_in.new.input) after p.2.0 (consumes_then (g.I.Read.remaining c.args.input.now) (g.I.Read.remaining c.parts.input) (g.I.Read.remaining c.serve_in.new.input) d.read p.2.0 d.consumed p.2.1) stops
     left name c.in-Ok.ensures.named front
 
 pub returns-in-End-clause-lasts : goal.returns-in-End-clause-lasts
@@ -306,17 +309,17 @@ returns-in-Err-serve_in-clause-earlier g c = λ none synced some all.
     let p = c.in-Err-serve_in.ensures.spared d.begun d.keeps in
     let out = g.W.Write.contents c.parts.out in
     let after = g.W.Write.contents c.serve_in.new.out in
-    let bytes = d.begun ++ (c.parts.unread ++ p.1.0) in
-    let new = stand c.serve_in.new.service (g.D.Disk.holds c.serve_in.new.disk) in
-    let stopped = subst (λ (j : Option (List ℕ)). Stops (by_stand g.S.AnswersLines.is_answered) (stand_of from) (record { journal = j; out = out }) (record { journal = p.0; out = after }) bytes new) (last_is from.journal (g.D.Grown.Grow.lasting v.inner) opened) p.1.2 in
-    let has = appended_known from.journal p.0 knows.1 (stopped.noted ++ stopped.front) knows.2 stopped.wrote_notes in
+    let bytes = d.begun ++ (c.parts.unread ++ p.2.0) in
+    let new = stand c.serve_in.new.service p.0 in
+    let stopped = subst (λ (j : Option (List ℕ)). Stops (by_stand g.S.AnswersLines.is_answered) (stand_of from) (record { journal = j; out = out }) (record { journal = p.1; out = after }) bytes new) (last_is from.journal (g.D.Grown.Grow.lasting v.inner) opened) p.2.2 in
+    let has = appended_known from.journal p.1 knows.1 (stopped.noted ++ stopped.front) knows.2 stopped.wrote_notes in
     let stops = subst (λ (j : Option (List ℕ)). Stops (by_stand g.S.AnswersLines.is_answered) (stand_of from) (record { journal = from.journal; out = out }) (record { journal = j; out = after }) bytes new) has.1 stopped in
     let left = g.D.Disk.leaves c.serve_in.new.disk in
     let name = string_bytes c.in-Ok.ready.segment.name in
-    let front = subst (λ (j : Option (List ℕ)). IfSome left (λ (held : Held). HasFront held name j)) has.1 p.2 in
+    let front = subst (λ (j : Option (List ℕ)). IfSome left (λ (held : Held). HasFront held name j)) has.1 p.3 in
     let ended = λ (up : c.in-Ok.ready.segment.number ≡ c.parts.segment.number + 1). file_map c.args.rules.folder.now at.number (g.D.Disk.leaves c.make_ready.new.disk) (λ (has : Option (List ℕ)). has ≡ Some known.0) (λ (has : Option (List ℕ)). has ≡ at.journal) (λ has e. e ∙ sym known.1) (c.in-Ok.ensures.ended now.0 known.0 known.1 up) in
     let ready_left = g.D.Disk.leaves c.make_ready.new.disk in
-    some_each g.S.AnswersLines.is_answered g.met.S.Segmented.knows g.S.Segmented.segmenting c.args.rules.folder.now start at from c.in-Ok.ready.kept c.parts.unread c.parts.line.items (g.I.Read.remaining c.args.input.now) (g.I.Read.remaining c.parts.input) (g.W.Write.contents c.args.out.now) out d c.in-Ok.ensures.ok c.serve_in.new.service (g.D.Disk.holds c.serve_in.new.disk) has.0 (g.I.Read.remaining c.serve_in.new.input) after p.1.0 (consumes_then (g.I.Read.remaining c.args.input.now) (g.I.Read.remaining c.parts.input) (g.I.Read.remaining c.serve_in.new.input) d.read p.1.0 d.consumed p.1.1) stops
+    some_each g.S.AnswersLines.is_answered g.met.S.Segmented.knows g.S.Segmented.segmenting c.args.rules.folder.now start at from c.in-Ok.ready.kept c.parts.unread c.parts.line.items (g.I.Read.remaining c.args.input.now) (g.I.Read.remaining c.parts.input) (g.W.Write.contents c.args.out.now) out d c.in-Ok.ensures.ok c.serve_in.new.service p.0 has.0 (g.I.Read.remaining c.serve_in.new.input) after p.2.0 (consumes_then (g.I.Read.remaining c.args.input.now) (g.I.Read.remaining c.parts.input) (g.I.Read.remaining c.serve_in.new.input) d.read p.2.0 d.consumed p.2.1) stops
     (g.D.Disk.leaves c.parts.disk) ready_left left name c.in-Ok.ensures.named front (c.parts.invariant.4 none synced some all) (c.make_ready.ensures.earlier now.0) ended
     (changes_left c.args.rules.folder.now from.number from.number ready_left left name (λ (_ : Option (List ℕ)). ⊤) c.in-Ok.ensures.named (omega arith) (c.in-Err-serve_in.ensures.others (c.make_ready.ensures.files ∙ c.parts.invariant.5 none)))
     (front_file c.args.rules.folder.now from.number left name (Some has.0) c.in-Ok.ensures.named front)

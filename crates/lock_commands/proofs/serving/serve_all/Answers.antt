@@ -1,6 +1,6 @@
 use Rattle.std.proofs.Common.{ℕ, List, refl, subst, inl, inr}
 use Rattle.std.specs.Prelude.{string_bytes}
-use Rattle.disks.specs.Held.{Replaces}
+use Rattle.disks.specs.Held.{LetsGo, Replaces}
 use Rattle.line_service.specs.Digested.{hashed}
 use Rattle.line_service.proofs.SegmentLasting.{whole_leaves}
 use Rattle.lock_commands.proofs.serving.serve_all.Goals as goal
@@ -27,7 +27,14 @@ returns-in-Err-clause-err g c =
     })
 
 pub returns-in-Err-close_segment-clause-err : goal.returns-in-Err-close_segment-clause-err
-returns-in-Err-close_segment-clause-err g c = inr (_, c.in-Ok.ensures.ok, c.in-Err-close_segment.ensures.kept, refl)
+returns-in-Err-close_segment-clause-err g c =
+    let w = c.in-Ok.last.writer in
+    inr (
+      _,
+      c.in-Ok.ensures.ok,
+      subst (λ (n : List ℕ). LetsGo (g.D.Disk.holds c.serve_segments.new.disk) (g.D.Disk.holds c.close_segment.new.disk) n (hashed (g.D.Grown.Grow.contents w.inner) w.hasher)) c.in-Ok.ensures.named c.in-Err-close_segment.ensures.held,
+      refl,
+    )
 
 -- ---- what was delivered is noted
 

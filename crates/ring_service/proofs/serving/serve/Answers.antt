@@ -15,14 +15,14 @@ pub returns-in-Ok-clause-ok : goal.returns-in-Ok-clause-ok
 returns-in-Ok-clause-ok g c =
     let contents = g.J.Grow.contents in
     let same = c.writer_of-writer.ensures.held contents ∙ ap (λ (j : _). held_by contents j) c.replace.ensures.value in
-    served_all c.file_of-name.result c.args.permits c.serve_part-ended.new.service c.file_of-name.ensures c.in_file-service.ensures.is c.replace-rings.ensures.value c.into_rings.ensures same (c.journal_of.ensures.held contents) c.none-unread.ensures
+    served_all c.file_of-name.result c.args.permits c.serve_part-ended.new.service c.file_of-name.ensures c.in_file-service.ensures.is c.replace-rings.ensures.value c.into_rings.ensures same (ap (λ (j : _). held_by contents j) c.replace-none.ensures.after ∙ c.journal_of.ensures.held contents) c.none-unread.ensures
     (c.in-Ok.ensures.ok [] (first_begun c.new-line.result.items c.new-line.ensures.items)) c.in-Ok.ensures.ends
 
 pub returns-clause-err : goal.returns-clause-err
 returns-clause-err g c =
     let contents = g.J.Grow.contents in
     let same = c.writer_of-writer.ensures.held contents ∙ ap (λ (j : _). held_by contents j) c.replace.ensures.value in
-    served_some c.file_of-name.result c.args.permits c.serve_part-ended.new.service c.file_of-name.ensures c.in_file-service.ensures.is c.replace-rings.ensures.value c.into_rings.ensures (g.I.Read.remaining c.args.input.now) (g.I.Read.remaining c.serve_part-ended.new.input) same (c.journal_of.ensures.held contents) c.none-unread.ensures
+    served_some c.file_of-name.result c.args.permits c.serve_part-ended.new.service c.file_of-name.ensures c.in_file-service.ensures.is c.replace-rings.ensures.value c.into_rings.ensures (g.I.Read.remaining c.args.input.now) (g.I.Read.remaining c.serve_part-ended.new.input) same (ap (λ (j : _). held_by contents j) c.replace-none.ensures.after ∙ c.journal_of.ensures.held contents) c.none-unread.ensures
     (c.in-Err.ensures.err [] (first_begun c.new-line.result.items c.new-line.ensures.items))
 
 -- ---- what is recovered of the journal
@@ -42,7 +42,7 @@ pub returns-in-Ok-clause-lasts : goal.returns-in-Ok-clause-lasts
 returns-in-Ok-clause-lasts g c =
     let lasting = g.J.Grow.lasting in
     let same = c.writer_of-writer.ensures.held lasting ∙ ap (λ (j : _). held_by lasting j) c.replace.ensures.value in
-    let all = served_all c.file_of-name.result c.args.permits c.serve_part-ended.new.service c.file_of-name.ensures c.in_file-service.ensures.is c.replace-rings.ensures.value c.into_rings.ensures same (c.journal_of.ensures.held lasting) c.none-unread.ensures
+    let all = served_all c.file_of-name.result c.args.permits c.serve_part-ended.new.service c.file_of-name.ensures c.in_file-service.ensures.is c.replace-rings.ensures.value c.into_rings.ensures same (ap (λ (j : _). held_by lasting j) c.replace-none.ensures.after ∙ c.journal_of.ensures.held lasting) c.none-unread.ensures
     (c.in-Ok.ensures.lasts [] (first_begun c.new-line.result.items c.new-line.ensures.items)) c.in-Ok.ensures.ends in
     some_recovered (all.bytes, all.read, told_stops all.told) (held_some lasting c.args.journal.now) c.are_right.ensures
 
@@ -50,6 +50,6 @@ pub returns-clause-lasts : goal.returns-clause-lasts
 returns-clause-lasts g c =
     let lasting = g.J.Grow.lasting in
     let same = c.writer_of-writer.ensures.held lasting ∙ ap (λ (j : _). held_by lasting j) c.replace.ensures.value in
-    let stopped = served_some c.file_of-name.result c.args.permits c.serve_part-ended.new.service c.file_of-name.ensures c.in_file-service.ensures.is c.replace-rings.ensures.value c.into_rings.ensures (g.I.Read.remaining c.args.input.now) (g.I.Read.remaining c.serve_part-ended.new.input) same (c.journal_of.ensures.held lasting) c.none-unread.ensures
+    let stopped = served_some c.file_of-name.result c.args.permits c.serve_part-ended.new.service c.file_of-name.ensures c.in_file-service.ensures.is c.replace-rings.ensures.value c.into_rings.ensures (g.I.Read.remaining c.args.input.now) (g.I.Read.remaining c.serve_part-ended.new.input) same (ap (λ (j : _). held_by lasting j) c.replace-none.ensures.after ∙ c.journal_of.ensures.held lasting) c.none-unread.ensures
     (c.in-Err.ensures.lasts [] (first_begun c.new-line.result.items c.new-line.ensures.items)) in
     some_recovered stopped (held_some lasting c.args.journal.now) c.are_right.ensures

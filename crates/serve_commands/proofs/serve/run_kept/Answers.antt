@@ -1,6 +1,5 @@
 use Rattle.std.proofs.Common.{◌≡◌, ◌∙◌, ℕ, List, Option, Some, inl, inr, refl, subst, sym}
 use Rattle.disks.specs.Held.{Held}
-use Rattle.disks.specs.Folders.{names_of}
 use Rattle.saved_history.specs.declared.saved.Saved.{Saved}
 use Rattle.tool_parts.specs.declared.requests.ServeWords.{ServeWords}
 use Rattle.ring_service.specs.Standings.{Standing}
@@ -22,11 +21,11 @@ noted words saved name end before after was is old new some h = record {
 
 pub returns-in-Ok-clause-ok : goal.returns-in-Ok-clause-ok
 returns-in-Ok-clause-ok g c =
-    inr (c.args.name.now, c.requires.named, listed_ok c.list.result (λ entries. names_of entries.items) (g.D.Disk.holds c.args.disk.now) c.args.name.now (sym c.is_ok.ensures.value ∙ c.if-is_ok.true) c.list.ensures, c.in-Ok.ensures.ok)
+    inr (c.args.name.now, c.requires.named, listed_ok c.list.result (λ entries. entries.items) (g.D.Disk.holds c.args.disk.now) c.args.name.now (sym c.is_ok.ensures.value ∙ c.if-is_ok.true) c.list.ensures, c.in-Ok.ensures.ok)
 
 pub returns-in-Err-clause-err : goal.returns-in-Err-clause-err
 returns-in-Err-clause-err g c =
-    inr (c.args.name.now, c.requires.named, listed_ok c.list.result (λ entries. names_of entries.items) (g.D.Disk.holds c.args.disk.now) c.args.name.now (sym c.is_ok.ensures.value ∙ c.if-is_ok.true) c.list.ensures, c.in-Err.ensures.err)
+    inr (c.args.name.now, c.requires.named, listed_ok c.list.result (λ entries. entries.items) (g.D.Disk.holds c.args.disk.now) c.args.name.now (sym c.is_ok.ensures.value ∙ c.if-is_ok.true) c.list.ensures, c.in-Err.ensures.err)
 
 pub returns-in-Ok-run_with_journal-clause-ok : goal.returns-in-Ok-run_with_journal-clause-ok
 returns-in-Ok-run_with_journal-clause-ok g c =
@@ -40,11 +39,11 @@ returns-then-names_stream-clause-lasts g c = λ synced some. inr (inl (refl, ref
 
 pub returns-in-Ok-clause-lasts : goal.returns-in-Ok-clause-lasts
 returns-in-Ok-clause-lasts g c = λ synced some.
-    inl (listed_ok c.list.result (λ entries. names_of entries.items) (g.D.Disk.holds c.args.disk.now) c.args.name.now (sym c.is_ok.ensures.value ∙ c.if-is_ok.true) c.list.ensures, c.run_in_folder.ensures.lasts synced some)
+    inl (listed_ok c.list.result (λ entries. entries.items) (g.D.Disk.holds c.args.disk.now) c.args.name.now (sym c.is_ok.ensures.value ∙ c.if-is_ok.true) c.list.ensures, c.run_in_folder.ensures.lasts synced some)
 
 pub returns-in-Err-clause-lasts : goal.returns-in-Err-clause-lasts
 returns-in-Err-clause-lasts g c = λ synced some.
-    inl (listed_ok c.list.result (λ entries. names_of entries.items) (g.D.Disk.holds c.args.disk.now) c.args.name.now (sym c.is_ok.ensures.value ∙ c.if-is_ok.true) c.list.ensures, c.run_in_folder.ensures.lasts synced some)
+    inl (listed_ok c.list.result (λ entries. entries.items) (g.D.Disk.holds c.args.disk.now) c.args.name.now (sym c.is_ok.ensures.value ∙ c.if-is_ok.true) c.list.ensures, c.run_in_folder.ensures.lasts synced some)
 
 pub returns-in-Ok-run_with_journal-clause-lasts : goal.returns-in-Ok-run_with_journal-clause-lasts
 returns-in-Ok-run_with_journal-clause-lasts g c = λ synced some. inr (c.run_with_journal.ensures.lasts synced some)

@@ -1,6 +1,6 @@
 use Rattle.std.proofs.Common.{◌≡◌, ℕ, List, Option, Some, refl, sym, subst}
 use Rattle.std.specs.Prelude.{IfSome}
-use Rattle.disks.specs.Held.{Held}
+use Rattle.disks.specs.Held.{Held, LetsGo}
 use Rattle.disks.specs.Lasting.{HasFront, Leaves, LeavesFront}
 use Rattle.line_service.proofs.SegmentLasting.{front_has}
 use Rattle.ring_service.specs.declared.serving.Journal.{Journal}
@@ -8,20 +8,21 @@ use Rattle.ring_service.specs.Permits.{Terms}
 use Rattle.ring_service.specs.Recovered.{AnsweredCallsAreRecovered}
 use Rattle.ring_service.specs.Serving.{held_by, ServesAll}
 use Rattle.ring_service.specs.Standings.{Standing}
-use Rattle.serve_commands.specs.Served.{IsServedPart}
+use Rattle.serve_commands.specs.Served.{IsServedPart, LetsJournalGo}
 use Rattle.serve_commands.proofs.LastingJournals.{told_of, closed_has}
 use Rattle.serve_commands.proofs.serve.serve_with_journal.Goals as goal
 
 -- what is recovered of a journal's writer, that began with these bytes, by these files
-part : {J : Type 0} (view : J → Option (List ℕ)) {terms : Terms} {start end : List Standing} {before after : Option Held} {was is old new had : Option (List ℕ)} {journal : Option (Journal J)} (kept : Journal J) (first : Option (List ℕ)) (later : Option Held) → journal ≡ Some kept → had ≡ first → later ≡ after →
+part : {J : Type 0} (view : J → Option (List ℕ)) {terms : Terms} {start end : List Standing} {before after : Option Held} {was is old new had : Option (List ℕ)} {journal : Option (Journal J)} (kept : Journal J) (first : Option (List ℕ)) (later : Option Held) → journal ≡ Some kept → had ≡ first → LetsJournalGo terms.journal after later (view kept.writer) →
     AnsweredCallsAreRecovered terms start end before after was is (record { journal = had; out = old }) (record { journal = held_by view journal; out = new }) →
     IsServedPart terms start before later first was is old new
-part {J} view {terms} {start} {end} {before} {after} {was} {is} {old} {new} {had} {journal} kept first later e f k h = record {
+part {J} view {terms} {start} {end} {before} {after} {was} {is} {old} {new} {had} {journal} kept first later e f gone h = record {
   end = end;
   last = view kept.writer;
-  served = subst (λ (j : Option (Journal J)). AnsweredCallsAreRecovered terms start end before later was is (record { journal = first; out = old }) (record { journal = held_by view j; out = new })) e
-      (subst (λ (x : Option (List ℕ)). AnsweredCallsAreRecovered terms start end before later was is (record { journal = x; out = old }) (record { journal = held_by view journal; out = new })) f
-      (subst (λ (x : Option Held). AnsweredCallsAreRecovered terms start end before x was is (record { journal = had; out = old }) (record { journal = held_by view journal; out = new })) (sym k) h));
+  between = after;
+  served = subst (λ (j : Option (Journal J)). AnsweredCallsAreRecovered terms start end before after was is (record { journal = first; out = old }) (record { journal = held_by view j; out = new })) e
+      (subst (λ (x : Option (List ℕ)). AnsweredCallsAreRecovered terms start end before after was is (record { journal = x; out = old }) (record { journal = held_by view journal; out = new })) f h);
+  gone = gone;
 }
 
 -- the whole input was served
@@ -34,7 +35,9 @@ all_of {J} view {terms} {start} {end} {before} {after} {was} {is} {old} {new} {f
 pub returns-in-Err-clause-err : goal.returns-in-Err-clause-err
 returns-in-Err-clause-err g c = (
   c.serving_refusal.ensures,
-  part g.D.Grown.Grow.contents c.in-Some.field-0 (g.D.Grown.Grow.contents c.args.journal) (g.D.Disk.holds c.abandon.new.self) c.in-Some.is refl c.abandon.ensures.kept c.serve-ended.ensures.recovered,
+  part g.D.Grown.Grow.contents c.in-Some.field-0 (g.D.Grown.Grow.contents c.args.journal) (g.D.Disk.holds c.abandon.new.self) c.in-Some.is refl
+      (subst (λ (n : List ℕ). LetsGo (g.D.Disk.holds c.serve-ended.new.disk) (g.D.Disk.holds c.abandon.new.self) n (g.D.Grown.Grow.contents c.in-Some.field-0.writer)) c.requires.named c.abandon.ensures.held)
+      c.serve-ended.ensures.recovered,
 )
 
 pub returns-in-Ok-settle_journal-clause-ok : goal.returns-in-Ok-settle_journal-clause-ok
@@ -48,7 +51,7 @@ returns-in-Ok-settle_journal-clause-ok g c = record {
 pub returns-in-Err-settle_journal-clause-err : goal.returns-in-Err-settle_journal-clause-err
 returns-in-Err-settle_journal-clause-err g c = (
   c.in-Err-settle_journal.ensures.err,
-  part g.D.Grown.Grow.contents c.in-Some.field-0 (g.D.Grown.Grow.contents c.args.journal) (g.D.Disk.holds c.settle_journal.new.disk) c.in-Some.is refl c.in-Err-settle_journal.ensures.kept c.serve-ended.ensures.recovered,
+  part g.D.Grown.Grow.contents c.in-Some.field-0 (g.D.Grown.Grow.contents c.args.journal) (g.D.Disk.holds c.settle_journal.new.disk) c.in-Some.is refl c.in-Err-settle_journal.ensures.held c.serve-ended.ensures.recovered,
 )
 
 -- ---- what a loss of power leaves

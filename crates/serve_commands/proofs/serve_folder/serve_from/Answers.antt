@@ -1,6 +1,6 @@
 use Rattle.std.proofs.Common.{List, ℕ, refl, subst, inl, inr}
 use Rattle.std.specs.Prelude.{string_bytes}
-use Rattle.disks.specs.Held.{Replaces}
+use Rattle.disks.specs.Held.{LetsGo, Replaces}
 use Rattle.line_service.specs.Digested.{hashed}
 use Rattle.line_service.proofs.SegmentLasting.{front_has, whole_leaves}
 use Rattle.ring_service.proofs.Known.{first_lasts}
@@ -30,6 +30,7 @@ returns-in-Err-serve_segments-clause-err g c =
 
 pub returns-clause-err : goal.returns-clause-err
 returns-clause-err g c =
+    let w = c.in-Ok-serve_segments.last.writer in
     inr (
       refl,
       record {
@@ -38,7 +39,11 @@ returns-clause-err g c =
         end = _;
         journal = _;
         recovered = recovered c.in-Ok-serve_segments.ensures.noted c.in_segment-service.ensures.journal c.in_segment-service.ensures.right;
-        served = inr (_, c.in-Ok-serve_segments.ensures.ok, c.in-Err-close_segment.ensures.kept);
+        served = inr (
+          _,
+          c.in-Ok-serve_segments.ensures.ok,
+          subst (λ (n : List ℕ). LetsGo (g.D.Disk.holds c.serve_segments.new.disk) (g.D.Disk.holds c.close_segment.new.disk) n (hashed (g.D.Grown.Grow.contents w.inner) w.hasher)) c.in-Ok-serve_segments.ensures.named c.in-Err-close_segment.ensures.held,
+        );
       },
     )
 

@@ -1,0 +1,6 @@
+use Rattle.disks.proofs.Lasting.{opened_there}
+use Rattle.disks.proofs.system.SystemDiskDisk.hold.Goals as goal
+
+pub returns-clause-there : goal.returns-clause-there
+returns-clause-there g c =
+    opened_there c.open_end.result (g.C.FileCalls.holds c.args.self.now.calls) c.args.name.now g.C.End.EndFile.written c.open_end.ensures.opened
