@@ -19,7 +19,7 @@ mod line_ends;
 pub mod lists;
 pub mod locking;
 pub mod looks;
-mod one_line;
+pub mod one_line;
 pub mod outside;
 pub mod reading;
 pub mod requests;

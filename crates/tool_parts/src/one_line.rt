@@ -7,7 +7,7 @@ use std::fmt;
 
 /// A text whose control characters are escaped when it is printed: a name that has an end of line in it begins no line of its own.
 #[derive(Clone, Copy)]
-pub(crate) struct OneLine<'a>(pub(crate) &'a str);
+pub struct OneLine<'a>(pub &'a str);
 
 /// Writes a character, or its escape.
 fn put_char<W: fmt::Write>(c: char, f: &mut fmt::Formatter<W>) -> fmt::Result
