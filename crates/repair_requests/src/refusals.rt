@@ -41,6 +41,11 @@ impl Refusal<'_> {
 }
 
 impl fmt::Display for Refusal<'_> {
+    ghost use Rattle.std.specs.Prelude.{Some};
+    ghost use Rattle.repair_requests.specs.Refusals.{line_of};
+
+    ghost output = { λ e. Some (line_of e) };
+
     fn fmt<W: fmt::Write>(&self, f: &mut fmt::Formatter<W>) -> fmt::Result {
         match self {
             Refusal::Tool(fault) => fmt::Display::fmt(fault, f),

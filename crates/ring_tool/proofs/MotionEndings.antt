@@ -2,13 +2,13 @@
 use Rattle.std.proofs.Common.{◌≡◌, ◌≤◌, ℕ, List, Bool, true, false, cond, Option, None, inl, inr, arith}
 use Rattle.disks.specs.Held.{Held}
 use Rattle.motion_commands.specs.Moved.{IsAnimateAnswer, IsAnimateRefusal}
-use Rattle.motion_commands.specs.Refusals.{is_bad_list, status_of}
+use Rattle.motion_commands.specs.Refusals.{is_bad_list, status_of, line_of}
 use Rattle.motion_commands.specs.declared.refusals.Refusal.{Refusal}
 use Rattle.tool_parts.specs.Reading.{names_stream}
 use Rattle.tool_parts.specs.Worlds.{World, world}
 use Rattle.tool_parts.specs.declared.requests.PictureWords.{PictureWords}
-use Rattle.ring_tool.specs.Left.{HasFront, HasEndedAnswered}
-use Rattle.ring_tool.specs.Moved.{HasMoved, HasMotionLine}
+use Rattle.ring_tool.specs.Left.{HasFront, SaysLine, HasEndedAnswered}
+use Rattle.ring_tool.specs.Moved.{HasMoved}
 
 one_or_two : (b : Bool) → (1 ≤ cond {A = ℕ} b 2 1) × (cond {A = ℕ} b 2 1 ≤ 2)
 one_or_two true = (omega arith, omega arith)
@@ -29,7 +29,7 @@ ended_moved words status told old_files files old_input input old printed out sa
 
 -- the end of one that was refused
 pub ended_unmoved : (words : PictureWords) (e : Refusal) (status : ℕ) (told : Bool) (old_files files : Option Held) (old_input input old printed out said err : Option (List ℕ)) →
-    status ≡ status_of e → IsAnimateRefusal words (world old_files old_input old None) (world files input printed None) e → (names_stream words.file.now ≡ false → input ≡ old_input) → HasFront printed out → HasMotionLine e told said err →
+    status ≡ status_of e → IsAnimateRefusal words (world old_files old_input old None) (world files input printed None) e → (names_stream words.file.now ≡ false → input ≡ old_input) → HasFront printed out → SaysLine (line_of e) told said err →
     HasMoved words status told (world old_files old_input old said) (world files input out err)
 ended_unmoved words e status told old_files files old_input input old printed out said err same refused unread front line =
     let range = one_or_two (is_bad_list e) in

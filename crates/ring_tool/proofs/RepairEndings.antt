@@ -3,15 +3,15 @@ use Rattle.std.proofs.Common.{◌≡◌, ◌∙◌, ◌≤◌, ◌⊎◌, ℕ, L
 use Rattle.std.proofs.lemmas.Bool.{false≢true}
 use Rattle.disks.specs.Held.{Held}
 use Rattle.repair_commands.specs.Repaired.{IsRepairsAnswer, IsRepairsRefusal}
-use Rattle.repair_requests.specs.Refusals.{is_bad_list, status_of}
+use Rattle.repair_requests.specs.Refusals.{is_bad_list, status_of, line_of}
 use Rattle.repair_requests.specs.declared.refusals.Refusal.{Refusal}
 use Rattle.repair_requests.specs.declared.refusals.Refusal.TheVariants as refusal
 use Rattle.repair_requests.specs.declared.words.RepairsWords.{RepairsWords}
 use Rattle.tool_parts.specs.Worlds.{World, world}
 use Rattle.tool_parts.specs.declared.faults.ToolError.{ToolError}
 use Rattle.tool_parts.specs.declared.faults.ToolError.TheVariants as tool
-use Rattle.ring_tool.specs.Left.{HasFront, HasEndedAnswered}
-use Rattle.ring_tool.specs.Repaired.{HasRepaired, HasRefusalLine}
+use Rattle.ring_tool.specs.Left.{HasFront, SaysLine, HasEndedAnswered}
+use Rattle.ring_tool.specs.Repaired.{HasRepaired}
 use Rattle.ring_tool.proofs.Endings.{bad_list}
 
 -- it reads no list
@@ -54,7 +54,7 @@ ended_repaired words status told old_files files old printed out said err answer
 
 -- the end of repairs that were refused
 pub ended_unrepaired : (words : RepairsWords) (e : Refusal) (status : ℕ) (told : Bool) (old_files files : Option Held) (old printed out said err : Option (List ℕ)) →
-    status ≡ status_of e → IsRepairsRefusal words (world old_files None old None) (world files None printed None) e → HasFront printed out → HasRefusalLine e told said err →
+    status ≡ status_of e → IsRepairsRefusal words (world old_files None old None) (world files None printed None) e → HasFront printed out → SaysLine (line_of e) told said err →
     HasRepaired words status told (world old_files None old said) (world files None out err)
 ended_unrepaired words e status told old_files files old printed out said err same refused front line =
     let one : status ≡ 1 = same ∙ one_unless (is_bad_list e) (λ h. not_read words (world old_files None old None) (world files None printed None) e h refused) in

@@ -29,15 +29,21 @@ abbrev pub HasText : List ℕ → Bool → Option (List ℕ) → Option (List �
 HasText text true old new = Appends old new text
 HasText text false old new = AppendsFront old new text
 
--- the text is the line of a refusal, with its end
-abbrev pub IsLineOf : ToolError → List ℕ → Type 0
-IsLineOf e text = text ≡ line_of e ++ codes "\n"
+-- the text is this line, with its end
+abbrev pub IsLine : List ℕ → List ℕ → Type 0
+IsLine line text = text ≡ line ++ codes "\n"
 
--- standard error has the line of a refusal after what it had, or only a front of it; without memory
--- for that line it is the one of a lack of memory
+-- standard error has this line after what it had, or only a front of it; without memory for it, it
+-- is the line of a lack of memory
+abbrev pub SaysLine : List ℕ → Bool → Option (List ℕ) → Option (List ℕ) → Type 0
+SaysLine line told old new =
+    (text : List ℕ)
+    × (IsLine line text ⊎ IsLine (line_of tool.OutOfMemory) text)
+    × HasText text told old new
+
+-- standard error has the line of a refusal after what it had
 abbrev pub HasLine : ToolError → Bool → Option (List ℕ) → Option (List ℕ) → Type 0
-HasLine e told old new =
-    (text : List ℕ) × (IsLineOf e text ⊎ IsLineOf tool.OutOfMemory text) × HasText text told old new
+HasLine e = SaysLine (line_of e)
 
 -- How a run ends that was answered. Status 0: every byte that was printed is in the output below,
 -- and standard error is as it was. Status 1: a byte is missing there, and standard error has the

@@ -2,24 +2,13 @@
 use Rattle.std.specs.Prelude.{◌≡◌, ◌<◌, ◌≤◌, ℕ, List, Bool, false, Option, None, ◌⊎◌}
 use Rattle.std.specs.Io.KnownBytes.{Keeps}
 use Rattle.motion_commands.specs.Moved.{IsAnimateAnswer, IsAnimateRefusal}
-use Rattle.motion_commands.specs.Refusals.{status_of}
+use Rattle.motion_commands.specs.Refusals.{status_of, line_of}
 use Rattle.motion_commands.specs.declared.refusals.Refusal.{Refusal}
-use Rattle.motion_commands.specs.declared.refusals.Refusal.TheVariants as refusal
 use Rattle.tool_parts.specs.Reading.{names_stream}
 use Rattle.tool_parts.specs.Worlds.{World, world}
 use Rattle.tool_parts.specs.declared.requests.PictureWords.{PictureWords}
 use Rattle.tool_parts.specs.declared.faults.ToolError.TheVariants as tool
-use Rattle.ring_tool.specs.Left.{HasFront, IsCut, HasText, HasLine, IsLineOf}
-use Rattle.ring_tool.specs.Repaired.{IsRefusalLine}
-
--- standard error has the line of a refusal after what it had, or only a front of it; without memory
--- for that line it is the one of a lack of memory
-abbrev pub HasMotionLine : Refusal → Bool → Option (List ℕ) → Option (List ℕ) → Type 0
-HasMotionLine (refusal.Tool e) told old new = HasLine e told old new
-HasMotionLine (refusal.ManyMachines place) told old new =
-    (text : List ℕ)
-    × (IsRefusalLine text ⊎ IsLineOf tool.OutOfMemory text)
-    × HasText text told old new
+use Rattle.ring_tool.specs.Left.{HasFront, IsCut, HasLine, SaysLine}
 
 -- the files and the input of a world, where this was printed
 abbrev pub read_with : World → Option (List ℕ) → World
@@ -48,7 +37,7 @@ IsUnmoved words e told was is =
     (printed : Option (List ℕ))
     × IsAnimateRefusal words (read_with was was.out) (read_with is printed) e
     × HasFront printed is.out
-    × HasMotionLine e told was.err is.err
+    × SaysLine (line_of e) told was.err is.err
 
 -- Status 0: it was answered, with every byte. Another: with a byte missing, which is status 1, or it
 -- was refused, and has the status of that. Standard input is read only for the dash.

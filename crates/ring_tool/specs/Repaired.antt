@@ -1,26 +1,13 @@
 -- How `repairs` ends: its status, exactly by what was done.
-use Rattle.std.specs.Prelude.{◌≡◌, ◌≤◌, ℕ, List, ◌++◌, codes, Bool, Option, None, ◌⊎◌}
+use Rattle.std.specs.Prelude.{◌≡◌, ◌≤◌, ℕ, List, Bool, Option, None, ◌⊎◌}
 use Rattle.std.specs.Io.KnownBytes.{Keeps}
 use Rattle.repair_commands.specs.Repaired.{IsRepairsAnswer, IsRepairsRefusal}
+use Rattle.repair_requests.specs.Refusals.{line_of}
 use Rattle.repair_requests.specs.declared.refusals.Refusal.{Refusal}
-use Rattle.repair_requests.specs.declared.refusals.Refusal.TheVariants as refusal
 use Rattle.repair_requests.specs.declared.words.RepairsWords.{RepairsWords}
 use Rattle.tool_parts.specs.Worlds.{World, world}
 use Rattle.tool_parts.specs.declared.faults.ToolError.TheVariants as tool
-use Rattle.ring_tool.specs.Left.{HasFront, IsCut, HasText, HasLine, IsLineOf}
-
--- a line, with its end
-abbrev pub IsRefusalLine : List ℕ → Type 0
-IsRefusalLine text = (line : List ℕ) × (text ≡ line ++ codes "\n")
-
--- standard error has the line of a refusal after what it had, or only a front of it; without memory
--- for that line it is the one of a lack of memory
-abbrev pub HasRefusalLine : Refusal → Bool → Option (List ℕ) → Option (List ℕ) → Type 0
-HasRefusalLine (refusal.Tool e) told old new = HasLine e told old new
-HasRefusalLine _ told old new =
-    (text : List ℕ)
-    × (IsRefusalLine text ⊎ IsLineOf tool.OutOfMemory text)
-    × HasText text told old new
+use Rattle.ring_tool.specs.Left.{HasFront, IsCut, HasLine, SaysLine}
 
 -- the files of a world, where this was printed
 abbrev pub files_with : World → Option (List ℕ) → World
@@ -49,7 +36,7 @@ IsUnrepaired words e told was is =
     (printed : Option (List ℕ))
     × IsRepairsRefusal words (files_with was was.out) (files_with is printed) e
     × HasFront printed is.out
-    × HasRefusalLine e told was.err is.err
+    × SaysLine (line_of e) told was.err is.err
 
 -- Status 0: it was answered, with every byte. Status 1: with a byte missing, or it was refused.
 pub record HasRepaired (words : RepairsWords) (status : ℕ) (told : Bool) (was is : World) : Type 0

@@ -1,19 +1,17 @@
 -- How `run` ends with settings that are read strictly.
-use Rattle.std.specs.Prelude.{◌≡◌, ◌⊎◌, ℕ, List, ◌++◌, Bool, false, codes, Option, None, Some}
+use Rattle.std.specs.Prelude.{◌≡◌, ◌⊎◌, ℕ, List, Bool, false, codes, Option, None, Some}
 use Rattle.command_line.specs.declared.words.StrictWords.{StrictWords}
+use Rattle.strict_settings.specs.Refusals.{status_of, line_of}
 use Rattle.strict_settings.specs.Strict.{IsStrictly, IsStrictRefusal}
 use Rattle.strict_settings.specs.declared.refusals.StrictRefusal.{StrictRefusal}
-use Rattle.strict_settings.specs.declared.refusals.StrictRefusal.TheVariants as strict
-use Rattle.tool_parts.specs.Faults as faults
 use Rattle.tool_parts.specs.Reading.{names_stream}
 use Rattle.tool_parts.specs.Worlds.{World, world}
-use Rattle.tool_parts.specs.declared.faults.ToolError.TheVariants as tool
 use Rattle.tool_parts.specs.declared.requests.Request.TheVariants as request
 use Rattle.tool_parts.specs.declared.requests.RunWords.{RunWords}
 use Rattle.tool_requests.specs.declared.wanted.Wanted.{Wanted}
 use Rattle.tool_requests.specs.declared.wanted.Wanted.TheVariants as wanted
 use Rattle.ring_tool.specs.Ended.{HasEnded}
-use Rattle.ring_tool.specs.Left.{HasFront, HasText, HasLine, IsLineOf}
+use Rattle.ring_tool.specs.Left.{HasFront, SaysLine}
 
 -- the same words of `run`, but the settings are standard input
 pub record IsOverStream (words over : RunWords) : Type 0 where
@@ -45,24 +43,6 @@ IsStrictRun words status told was is =
     × IsStrictly words.run was.files was.input is.input bytes
     × HasEndedOver words bytes status told was is
 
--- the status of a refusal
-abbrev pub status_of : StrictRefusal → ℕ
-status_of (strict.Tool e) = faults.status_of e
-status_of (strict.Unread name) = 1
-
--- a line, with its end
-abbrev pub IsUnreadLine : List ℕ → Type 0
-IsUnreadLine text = (line : List ℕ) × (text ≡ line ++ codes "\n")
-
--- standard error has the line of a refusal after what it had, or only a front of it; without memory
--- for that line it is the one of a lack of memory
-abbrev pub HasStrictLine : StrictRefusal → Bool → Option (List ℕ) → Option (List ℕ) → Type 0
-HasStrictLine (strict.Tool e) told old new = HasLine e told old new
-HasStrictLine (strict.Unread name) told old new =
-    (text : List ℕ)
-    × (IsUnreadLine text ⊎ IsLineOf tool.OutOfMemory text)
-    × HasText text told old new
-
 -- the settings are refused before they are run, standard error has the line of that, and every file is
 -- as it was
 abbrev pub IsStrictlyRefused : StrictWords → ℕ → Bool → World → World → Type 0
@@ -70,7 +50,7 @@ IsStrictlyRefused words status told was is =
     (e : StrictRefusal)
     × IsStrictRefusal words.run was.files was.input is.input e
     × (status ≡ status_of e)
-    × HasStrictLine e told was.err is.err
+    × SaysLine (line_of e) told was.err is.err
     × HasFront was.out is.out
     × (is.files ≡ was.files)
 

@@ -4,9 +4,10 @@ ghost use Rattle.std.specs.Prelude.{◌≡◌, ◌≤◌, IfSome};
 ghost use Rattle.std.specs.Io.Buffered.{writer_contents};
 ghost use Rattle.std.specs.Io.KnownBytes.{append_known};
 ghost use Rattle.tool_parts.specs.Faults.{status_of};
-ghost use Rattle.ring_tool.specs.Left.{HasLeft, HasFront, HasText, HasLine, IsLineOf, HasEndedAnswered};
+ghost use Rattle.ring_tool.specs.Left.{HasLeft, HasFront, HasText, HasLine, SaysLine, IsLine, HasEndedAnswered};
 
 use std::alloc::Global;
+use std::fmt::Display;
 use std::io::{BufWriter, Write};
 use text_lines::put;
 use tool_parts::faults::ToolError;
@@ -37,21 +38,21 @@ pub fn emptied<O: Write + Drop>(out: BufWriter<O>) -> (O, bool)
 }
 
 /// The line of a refusal, with its end; `None` if there is no memory for it.
-fn line_of(alloc: Global, fault: &ToolError<'_>) -> Option<Vec<u8>>
-    ensures { IfSome result (λ text. IsLineOf fault.now text.items) }
+fn line_of<F: Display>(alloc: Global, refusal: &F) -> Option<Vec<u8>>
+    ensures { IfSome (F.output refusal.now) (λ line. IfSome result (λ text. IsLine line text.items)) }
 {
     let mut text = Vec::new(alloc);
-    if write!(text, "{fault}").is_err() || text.push(b'\n').is_err() {
+    if write!(text, "{refusal}").is_err() || text.push(b'\n').is_err() {
         return None;
     }
     Some(text)
 }
 
 /// What standard error gets where there is no memory for the line of a refusal.
-pub(crate) const NO_MEMORY: &str = "out of memory\n";
+const NO_MEMORY: &str = "out of memory\n";
 
 /// Writes a text, and returns whether each byte of it is written.
-pub(crate) fn put_whole<E: Write>(err: &mut E, text: &[u8]) -> bool
+fn put_whole<E: Write>(err: &mut E, text: &[u8]) -> bool
     ensures { HasText text.now result (E.contents err.old) (E.contents err.new) }
 {
     match put(err, text) {
@@ -62,12 +63,36 @@ pub(crate) fn put_whole<E: Write>(err: &mut E, text: &[u8]) -> bool
 
 /// Writes the line of a refusal, or where there is no memory for it that of a lack of memory. Returns whether each byte of it is
 /// written.
-pub(crate) fn tell<E: Write>(alloc: Global, fault: &ToolError<'_>, err: &mut E) -> bool
-    ensures { HasLine fault.now result (E.contents err.old) (E.contents err.new) }
+fn tell<F: Display, E: Write>(alloc: Global, refusal: &F, err: &mut E) -> bool
+    ensures { IfSome (F.output refusal.now)
+        (λ line. SaysLine line result (E.contents err.old) (E.contents err.new)) }
 {
-    match line_of(alloc, fault) {
+    match line_of(alloc, refusal) {
         Some(text) => put_whole(err, text.as_slice()),
         None => put_whole(err, NO_MEMORY.as_bytes()),
+    }
+}
+
+/// Ends a run that was refused: what was printed leaves, and standard error has the line of the refusal, as its `Display` writes it. The
+/// status is this one.
+pub fn fail_with<F: Display, O: Write + Drop, E: Write>(
+    alloc: Global,
+    refusal: &F,
+    status: u8,
+    out: BufWriter<O>,
+    err: &mut E,
+) -> Ending<O>
+    ensures status { result.status ≡ status }
+    ensures told { IfSome (F.output refusal.now)
+        (λ line. SaysLine line result.told (E.contents err.old) (E.contents err.new)) }
+    ensures front { HasFront (writer_contents O.contents out) (O.contents result.out) }
+{
+    let (below, _) = emptied(out);
+    let told = tell(alloc, refusal, err);
+    Ending {
+        status,
+        told,
+        out: below,
     }
 }
 
@@ -82,13 +107,7 @@ pub fn fail<O: Write + Drop, E: Write>(
     ensures told { HasLine fault.now result.told (E.contents err.old) (E.contents err.new) }
     ensures front { HasFront (writer_contents O.contents out) (O.contents result.out) }
 {
-    let (below, _) = emptied(out);
-    let told = tell(alloc, fault, err);
-    Ending {
-        status: fault.status(),
-        told,
-        out: below,
-    }
+    fail_with(alloc, fault, fault.status(), out, err)
 }
 
 /// Ends a run that was answered: what was printed leaves. Its status is 0, or 1 if a byte could not leave, as standard

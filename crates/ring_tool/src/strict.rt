@@ -1,79 +1,20 @@
 //! Does `run` with settings that are read strictly, and ends the run.
 
-ghost use Rattle.std.specs.Prelude.{◌≡◌, ◌≤◌, None, IfSome};
+ghost use Rattle.std.specs.Prelude.{◌≤◌, None};
 ghost use Rattle.std.specs.Io.Buffered.{writer_contents};
-ghost use Rattle.ring_tool.specs.Left.{HasFront};
-ghost use Rattle.ring_tool.specs.Strictly.{IsWantedOver, HasEndedOver, HasRunStrictly, HasStrictLine, IsUnreadLine, status_of};
+ghost use Rattle.ring_tool.specs.Strictly.{IsWantedOver, HasEndedOver, HasRunStrictly};
 ghost use Rattle.tool_parts.specs.Worlds.{world};
 
-use crate::ends::{Ending, NO_MEMORY, emptied, put_whole, tell};
+use crate::ends::{Ending, fail_with};
 use crate::wanted::do_wanted;
 use command_line::StrictWords;
 use disks::Disk;
-use std::alloc::Global;
 use std::io::{BufWriter, Read, Write};
 use std::sync::Wait;
 use std::thread::Threads;
-use strict_settings::{StrictRefusal, strict_bytes};
+use strict_settings::strict_bytes;
 use tool_parts::requests::{Request, RunWords};
 use tool_requests::{InTurnWords, Wanted};
-
-/// The exit status after a refusal.
-fn status_of(refusal: &StrictRefusal<'_>) -> u8
-    ensures is { result ≡ status_of refusal.now }
-    ensures most { result ≤ 2 }
-{
-    match refusal {
-        StrictRefusal::Tool(fault) => fault.status(),
-        StrictRefusal::Unread(_) => 1,
-    }
-}
-
-/// The line of a refusal, with its end; `None` if there is no memory for it.
-fn line_of(alloc: Global, refusal: &StrictRefusal<'_>) -> Option<Vec<u8>>
-    ensures { IfSome result (λ text. IsUnreadLine text.items) }
-{
-    let mut text = Vec::new(alloc);
-    if write!(text, "{refusal}").is_err() || text.push(b'\n').is_err() {
-        return None;
-    }
-    Some(text)
-}
-
-/// Writes the line of a refusal, or where there is no memory for it that of a lack of memory. Returns whether each byte of it is
-/// written.
-fn tell_refusal<E: Write>(alloc: Global, refusal: &StrictRefusal<'_>, err: &mut E) -> bool
-    ensures { HasStrictLine refusal.now result (E.contents err.old) (E.contents err.new) }
-{
-    if let StrictRefusal::Tool(fault) = refusal {
-        return tell(alloc, fault, err);
-    }
-    match line_of(alloc, refusal) {
-        Some(text) => put_whole(err, text.as_slice()),
-        None => put_whole(err, NO_MEMORY.as_bytes()),
-    }
-}
-
-/// Ends a run whose settings were refused: what was printed leaves, and standard error says why. Its status is that of the refusal.
-fn fail_strictly<O: Write + Drop, E: Write>(
-    alloc: Global,
-    refusal: &StrictRefusal<'_>,
-    out: BufWriter<O>,
-    err: &mut E,
-) -> Ending<O>
-    ensures most { result.status ≤ 2 }
-    ensures status { result.status ≡ status_of refusal.now }
-    ensures told { HasStrictLine refusal.now result.told (E.contents err.old) (E.contents err.new) }
-    ensures front { HasFront (writer_contents O.contents out) (O.contents result.out) }
-{
-    let (below, _) = emptied(out);
-    let told = tell_refusal(alloc, refusal, err);
-    Ending {
-        status: status_of(refusal),
-        told,
-        out: below,
-    }
-}
 
 /// What the words want, but of settings that are standard input.
 fn wanted_over<'a>(words: &StrictWords<'a>) -> Wanted<'a>
@@ -136,6 +77,6 @@ pub fn do_strictly<
 {
     match strict_bytes(rt.alloc(), disk, &words.run, input) {
         Ok(bytes) => run_bytes(rt, disk, words, bytes.as_slice(), out, err),
-        Err(refusal) => fail_strictly(rt.alloc(), &refusal, out, err),
+        Err(refusal) => fail_with(rt.alloc(), &refusal, refusal.status(), out, err),
     }
 }

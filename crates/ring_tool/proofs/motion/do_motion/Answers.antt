@@ -1,4 +1,4 @@
-use Rattle.std.proofs.Common.{None, ap}
+use Rattle.std.proofs.Common.{◌∙◌, None, ap}
 use Rattle.std.specs.Io.Buffered.{writer_contents}
 use Rattle.tool_parts.specs.Worlds.{world}
 use Rattle.motion_commands.specs.Moved.{IsAnimateAnswer, IsAnimateRefusal}
@@ -22,10 +22,10 @@ pub returns-in-Err : goal.returns-in-Err
 returns-in-Err g c =
     let was = world (g.D.Disk.holds c.args.disk.now) (g.I.Read.remaining c.args.input.now) (writer_contents g.O.Write.contents c.args.out) None in
     let is = world (g.D.Disk.holds c.run.new.disk) (g.I.Read.remaining c.run.new.input) (writer_contents g.O.Write.contents c.run.new.out) None in
-    ended_unmoved c.args.words.now c.in-Err.refusal c.fail_motion.result.status c.fail_motion.result.told (g.D.Disk.holds c.args.disk.now) (g.D.Disk.holds c.run.new.disk)
+    ended_unmoved c.args.words.now c.in-Err.refusal c.fail_with.result.status c.fail_with.result.told (g.D.Disk.holds c.args.disk.now) (g.D.Disk.holds c.run.new.disk)
     (g.I.Read.remaining c.args.input.now) (g.I.Read.remaining c.run.new.input)
-    (writer_contents g.O.Write.contents c.args.out) (writer_contents g.O.Write.contents c.run.new.out) (g.O.Write.contents c.fail_motion.result.out) (g.E.Write.contents c.args.err.now) (g.E.Write.contents c.fail_motion.new.err)
-    c.fail_motion.ensures.status
+    (writer_contents g.O.Write.contents c.args.out) (writer_contents g.O.Write.contents c.run.new.out) (g.O.Write.contents c.fail_with.result.out) (g.E.Write.contents c.args.err.now) (g.E.Write.contents c.fail_with.new.err)
+    (c.fail_with.ensures.status ∙ c.status.ensures.value)
     (of_err (λ (e : Refusal). IsAnimateRefusal c.args.words.now was is e) c.run.result c.in-Err.refusal c.in-Err.is c.run.ensures.err)
     (λ q. ap g.I.Read.remaining (c.run.ensures.unread q))
-    c.fail_motion.ensures.front c.fail_motion.ensures.told
+    c.fail_with.ensures.front c.fail_with.ensures.told

@@ -1,4 +1,4 @@
-use Rattle.std.proofs.Common.{None}
+use Rattle.std.proofs.Common.{◌∙◌, None}
 use Rattle.std.specs.Io.Buffered.{writer_contents}
 use Rattle.tool_parts.specs.Worlds.{world}
 use Rattle.repair_commands.specs.Repaired.{IsRepairsAnswer, IsRepairsRefusal}
@@ -20,8 +20,8 @@ pub returns-in-Err : goal.returns-in-Err
 returns-in-Err g c =
     let was = world (g.D.Disk.holds c.args.disk.now) None (writer_contents g.O.Write.contents c.args.out) None in
     let is = world (g.D.Disk.holds c.run.new.disk) None (writer_contents g.O.Write.contents c.run.new.out) None in
-    ended_unrepaired c.args.words.now c.in-Err.refusal c.fail_repairs.result.status c.fail_repairs.result.told (g.D.Disk.holds c.args.disk.now) (g.D.Disk.holds c.run.new.disk)
-    (writer_contents g.O.Write.contents c.args.out) (writer_contents g.O.Write.contents c.run.new.out) (g.O.Write.contents c.fail_repairs.result.out) (g.E.Write.contents c.args.err.now) (g.E.Write.contents c.fail_repairs.new.err)
-    c.fail_repairs.ensures.status
+    ended_unrepaired c.args.words.now c.in-Err.refusal c.fail_with.result.status c.fail_with.result.told (g.D.Disk.holds c.args.disk.now) (g.D.Disk.holds c.run.new.disk)
+    (writer_contents g.O.Write.contents c.args.out) (writer_contents g.O.Write.contents c.run.new.out) (g.O.Write.contents c.fail_with.result.out) (g.E.Write.contents c.args.err.now) (g.E.Write.contents c.fail_with.new.err)
+    (c.fail_with.ensures.status ∙ c.status.ensures.value)
     (of_err (λ (e : Refusal). IsRepairsRefusal c.args.words.now was is e) c.run.result c.in-Err.refusal c.in-Err.is c.run.ensures.err)
-    c.fail_repairs.ensures.front c.fail_repairs.ensures.told
+    c.fail_with.ensures.front c.fail_with.ensures.told

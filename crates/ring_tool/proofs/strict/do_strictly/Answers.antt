@@ -1,4 +1,4 @@
-use Rattle.std.proofs.Common.{ap, refl}
+use Rattle.std.proofs.Common.{◌∙◌, ap, refl}
 use Rattle.ring_tool.proofs.StrictEndings.{strict_ran, strict_refused}
 use Rattle.ring_tool.proofs.strict.do_strictly.Goals as goal
 
@@ -9,5 +9,5 @@ returns-in-Ok-clause-ended g c =
 
 pub returns-in-Err-clause-ended : goal.returns-in-Err-clause-ended
 returns-in-Err-clause-ended g c =
-    strict_refused c.args.words.now _ _ _ _ c.in-Err.refusal c.in-Err.ensures.err c.fail_strictly.ensures.status c.fail_strictly.ensures.told c.fail_strictly.ensures.front refl
+    strict_refused c.args.words.now _ _ _ _ c.in-Err.refusal c.in-Err.ensures.err (c.fail_with.ensures.status ∙ c.status.ensures.is) c.fail_with.ensures.told c.fail_with.ensures.front refl
     (λ q. ap g.I.Read.remaining (c.strict_bytes.ensures.unread q))
