@@ -1,12 +1,12 @@
 -- A journal whose file was there, or was made, empty, before it was read.
 use Rattle.std.proofs.Common.{◌≡◌, ◌⊎◌, ◌∙◌, ℕ, List, [], get_or, arith, Bool, true, false, Option, None, Some, Result, Ok, Err, IfOk, refl, sym, ap, subst, inl, inr}
-use Rattle.std.specs.Prelude.{OnOk, OnErr, IfSome}
+use Rattle.std.specs.Prelude.{OnOk, OnErr, IfSome, IsSome}
 use Rattle.std.specs.Option.{unwrap_or}
 use Rattle.std.specs.Result.{is_err}
 use Rattle.std.specs.Str.{bytes_eq}
 use Rattle.std.proofs.lemmas.Bool.{false≢true}
 use Rattle.std.proofs.lemmas.Slice.Eq.{bytes_eq-Decides}
-use Rattle.disks.specs.Held.{Held, file_bytes, bytes_of, IsReplaced, IsRemoved, Creates, Discards, Replaces}
+use Rattle.disks.specs.Held.{Held, Thing, Nothing, Folder, File, file_bytes, is_a_folder, is_a_thing, bytes_of, is_there, IsReplaced, IsRemoved, Creates, Discards, Replaces}
 use Rattle.saved_history.specs.declared.saved.Saved.{Saved}
 use Rattle.saved_history.specs.Content.{Content, content}
 use Rattle.journal.specs.Spelling.{journal_head}
@@ -32,12 +32,32 @@ noted_before (Some was) (Some is) name true given from c (plain, inl h) =
 noted_before (Some was) (Some is) name true given from c (plain, inr h) =
     absurd (unrecovered h.bytes (content from) (ap (λ (o : Option (List ℕ)). unwrap_or o []) (sym h.held ∙ c.1.here name refl)) h.recovered)
 
+thing_stays : (x y : Thing) → is_a_folder y ≡ is_a_folder x → (IsSome (file_bytes x) → IsSome (file_bytes y)) → is_a_thing x ≡ true → is_a_thing y ≡ true
+thing_stays Nothing y folders files there = absurd (false≢true there)
+thing_stays Folder Nothing folders files there = absurd (false≢true folders)
+thing_stays Folder Folder folders files there = refl
+thing_stays Folder (File bytes) folders files there = refl
+thing_stays (File bytes) Nothing folders files there = absurd (false≢true (files refl))
+thing_stays (File bytes) Folder folders files there = refl
+thing_stays (File bytes) (File more) folders files there = refl
+
+-- where a file is replaced what was there is there
+stays_there : (was is : Held) (name bytes : List ℕ) → IsReplaced was is name bytes → (other : List ℕ) → is_there was other ≡ true → is_there is other ≡ true
+stays_there was is name bytes put other there = thing_stays (was.at (was.place other)) (is.at (is.place other)) (put.folders other) (at (bytes_eq (was.place name) (was.place other)) refl) there
+  where
+    at : (b : Bool) → bytes_eq (was.place name) (was.place other) ≡ b → IsSome (bytes_of was other) → IsSome (bytes_of is other)
+    at true e some = subst (λ (x : Option (List ℕ)). IsSome x) (sym (put.here other ((bytes_eq-Decides (was.place name) (was.place other)).0 e))) refl
+    at false e some =
+        let differs : was.place name ≡ was.place other → ⊥ = λ same. false≢true (sym e ∙ (bytes_eq-Decides (was.place name) (was.place other)).1 same) in
+        subst (λ (x : Option (List ℕ)). IsSome x) (sym (put.others other differs)) some
+
 -- what replaces an empty file that was made replaces none
 put_before : (was there begun : Held) (name bytes : List ℕ) → IsReplaced was there name [] → IsReplaced there begun name bytes → IsReplaced was begun name bytes
 put_before was there begun name bytes made put = record {
   places = λ other. put.places other ∙ made.places other;
   folders = λ other. put.folders other ∙ made.folders other;
   locks = λ place. put.locks place ∙ made.locks place;
+  kinds = λ other known. put.kinds other (stays_there was there name [] made other known) ∙ made.kinds other known;
   here = λ other same. put.here other (made.places name ∙ same ∙ sym (made.places other));
   others = λ other differs. put.others other (λ same. differs (sym (made.places name) ∙ same ∙ made.places other)) ∙ made.others other differs;
 }

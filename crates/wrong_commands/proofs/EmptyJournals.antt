@@ -5,7 +5,7 @@ use Rattle.std.specs.Io.KnownBytes.{Appends}
 use Rattle.std.proofs.lemmas.Bool.{false≢true}
 use Rattle.std.proofs.lemmas.List.{append-nil}
 use Rattle.std.specs.Option.{is_some, unwrap_or}
-use Rattle.disks.specs.Held.{Held, bytes_of, is_folder, LeadsToFolder, Grows, Replaces}
+use Rattle.disks.specs.Held.{Held, bytes_of, is_folder, IsHeld, LeadsToFolder, Grows, LetsGo, Replaces}
 use Rattle.saved_history.specs.declared.saved.Saved.{Saved}
 use Rattle.saved_history.specs.Content.{Content}
 use Rattle.journal.specs.Spelling.{journal_head}
@@ -40,14 +40,6 @@ module _ (name : List ℕ) (was is : Held) (b : ℕ) (bs : List ℕ) (some : byt
   of_untouched (inl h) = not_same (h.files name)
   of_untouched (inr h) = false≢true (ap (λ (o : Option (List ℕ)). is_some o) (sym h.0 ∙ some))
 
-  of_broken : (permits : Permits) (start : List Standing) (input rest out after : Option (List ℕ)) (e : ToolError) → IsBrokenOff permits name start (Some was) (Some is) input rest out after e → ⊥
-  of_broken permits start input rest out after e (inl h) = not_begun (content_of start) [] (h.2.here name refl ∙ ap (λ (x : List ℕ). Some x) (sym (append-nil _)))
-  of_broken permits start input rest out after e (inr h) = not_begun (content_of start) [] (h.1.kept ∙ ap (λ (x : List ℕ). Some x) (sym (append-nil _)))
-
-  of_value : (permits : Permits) (saved : Option Saved) (input rest out after : Option (List ℕ)) (e : ToolError) → IsRefusedFrom permits (Some was) (Some is) (Some name) saved input rest out after e → ⊥
-  of_value permits saved input rest out after e (inl h) = of_untouched h.1
-  of_value permits saved input rest out after e (inr h) = of_broken permits h.2 input rest out after e h.4
-
   -- what the journal's writer has in the end
   grown : (files : Option Held) (began : Content) (first : Option (List ℕ)) → Replaces (Some was) files name (Some (journal_head began)) → Grows files name first → first ≡ Some (journal_head began)
   grown None began first put opened = absurd put
@@ -59,6 +51,25 @@ module _ (name : List ℕ) (was is : Held) (b : ℕ) (bs : List ℕ) (some : byt
       at : (last : Option (List ℕ)) → Appends (Some (journal_head began)) last noted → last ≡ Some (journal_head began ++ noted)
       at None a = absurd a
       at (Some bytes) a = ap (λ (x : List ℕ). Some x) a
+
+  -- the journal's file was let go with what its writer has
+  of_gone : (began : Content) (between : Option Held) (last : Option (List ℕ)) (more : List ℕ) → last ≡ Some (journal_head began ++ more) → IsHeld between name (journal_head began) → LetsGo between (Some is) name last → ⊥
+  of_gone began None last more has kept gone = false≢true (sym (ap (λ (o : Option Held). is_some o) gone))
+  of_gone began (Some mid) last more has kept (inl same) =
+      not_begun began [] (ap (λ (o : Option Held). bytes_of (unwrap_or o is) name) same ∙ kept ∙ ap (λ (x : List ℕ). Some x) (sym (append-nil _)))
+  of_gone began (Some mid) last more has kept (inr put) = not_begun began more ((subst (λ (x : Option (List ℕ)). Replaces (Some mid) (Some is) name x) has put).here name refl)
+
+  of_broken : (permits : Permits) (start : List Standing) (input rest out after : Option (List ℕ)) (e : ToolError) → IsBrokenOff permits name start (Some was) (Some is) input rest out after e → ⊥
+  of_broken permits start input rest out after e (inl h) = not_begun (content_of start) [] (h.2.here name refl ∙ ap (λ (x : List ℕ). Some x) (sym (append-nil _)))
+  of_broken permits start input rest out after e (inr h) =
+      let part = h.1.part in
+      let stops = part.served.ended in
+      let first = grown h.1.begun (content_of start) h.1.first h.1.put h.1.opened in
+      of_gone (content_of start) part.between part.last (stops.noted ++ stops.front) (appended h.1.first part.last (content_of start) (stops.noted ++ stops.front) first stops.wrote_notes) h.1.kept part.gone
+
+  of_value : (permits : Permits) (saved : Option Saved) (input rest out after : Option (List ℕ)) (e : ToolError) → IsRefusedFrom permits (Some was) (Some is) (Some name) saved input rest out after e → ⊥
+  of_value permits saved input rest out after e (inl h) = of_untouched h.1
+  of_value permits saved input rest out after e (inr h) = of_broken permits h.2 input rest out after e h.4
 
   of_noted : (permits : Permits) (start end : List Standing) (input rest out after : Option (List ℕ)) → IsServedNoted permits name start end (Some was) (Some is) input rest out after → ⊥
   of_noted permits start end input rest out after h =
