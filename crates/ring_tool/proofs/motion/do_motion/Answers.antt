@@ -25,7 +25,7 @@ returns-in-Err g c =
     ended_unmoved c.args.words.now c.in-Err.refusal c.fail_with.result.status c.fail_with.result.told (g.D.Disk.holds c.args.disk.now) (g.D.Disk.holds c.run.new.disk)
     (g.I.Read.remaining c.args.input.now) (g.I.Read.remaining c.run.new.input)
     (writer_contents g.O.Write.contents c.args.out) (writer_contents g.O.Write.contents c.run.new.out) (g.O.Write.contents c.fail_with.result.out) (g.E.Write.contents c.args.err.now) (g.E.Write.contents c.fail_with.new.err)
-    (c.fail_with.ensures.status ∙ c.status.ensures.value)
+    (c.fail_with.ensures.status ∙ c.status.ensures)
     (of_err (λ (e : Refusal). IsAnimateRefusal c.args.words.now was is e) c.run.result c.in-Err.refusal c.in-Err.is c.run.ensures.err)
     (λ q. ap g.I.Read.remaining (c.run.ensures.unread q))
     c.fail_with.ensures.front c.fail_with.ensures.told
