@@ -56,11 +56,32 @@ const SEGMENT: &str =
 /// Calls, of which a reader gives a line each time.
 const CALLS: &[u8] = b"pass 0 0 0 5\npass 0 0 1 7\npass 0 0 2 1\n";
 
-/// How often the output is flushed, how many bytes of the calls are read then, and what has been written.
-const SERVED: [(u32, usize, &str); 2] = [
-    (0, 13, "granted 1 5\n"),
-    (1, 26, "granted 1 5\ngranted 2 12\n"),
+/// How often the output is flushed, how many bytes of the calls are read then, what has been written, and the notes of that.
+const SERVED: [(u32, usize, &str, &str); 2] = [
+    (0, 13, "granted 1 5\n", "0 p 0 0 5 g 1 5\n"),
+    (
+        1,
+        26,
+        "granted 1 5\ngranted 2 12\n",
+        "0 p 0 0 5 g 1 5\n0 p 0 1 7 g 2 12\n",
+    ),
 ];
+
+/// Compares what the file of this name holds: how it began, and then these notes.
+fn expect_noted(
+    rt: &impl Abort,
+    disk: &MemoryDisk,
+    name: &str,
+    begun: &str,
+    noted: &str,
+) -> io::Result<()> {
+    let mut text = Vec::new(disk.alloc);
+    text.extend_from_slice(begun.as_bytes())?;
+    text.extend_from_slice(noted.as_bytes())?;
+    let held = bytes_of(disk.alloc, disk, name)?;
+    assert!(rt; held.as_slice() == text.as_slice());
+    Ok(())
+}
 
 /// Serves the calls on these words, to an output that can be flushed so often, and compares what was read and written.
 fn expect_stuck(
@@ -86,7 +107,7 @@ fn expect_stuck(
 
 #[test]
 fn serve_ends_where_its_output_is_stuck(rt: HostRuntime) -> Result<(), Fail> {
-    for (flushes, read, written) in SERVED {
+    for (flushes, read, written, _) in SERVED {
         let mut disk = no_files(rt.alloc());
         put(&mut disk, "s", SAVED.as_bytes())?;
         let plain = serve_words(Some("s"), None, false);
@@ -95,16 +116,14 @@ fn serve_ends_where_its_output_is_stuck(rt: HostRuntime) -> Result<(), Fail> {
     Ok(())
 }
 
-// In memory a file holds what was written to it once it is closed: a journal that is left has what it began with.
 #[test]
 fn serve_leaves_its_journal_where_its_output_is_stuck(rt: HostRuntime) -> Result<(), Fail> {
-    for (flushes, read, written) in SERVED {
+    for (flushes, read, written, notes) in SERVED {
         let mut disk = no_files(rt.alloc());
         put(&mut disk, "j", BEGUN.as_bytes())?;
         let noted = serve_words(None, Some("j"), false);
         expect_stuck(&rt, &mut disk, &noted, flushes, read, written);
-        let held = bytes_of(rt.alloc(), &disk, "j")?;
-        assert!(rt; held.as_slice() == BEGUN.as_bytes());
+        expect_noted(&rt, &disk, "j", BEGUN, notes)?;
     }
     Ok(())
 }
@@ -128,8 +147,8 @@ fn locks_end_where_their_output_is_stuck(rt: HostRuntime) -> Result<(), Fail> {
         assert!(rt; matches!(ended, Err(ToolError::Write)));
         assert!(rt; out.text.as_slice() == written.as_bytes() && err.is_empty());
         assert!(rt; input.given == read);
-        let held = bytes_of(alloc, &disk, "j/0000000001.ring")?;
-        assert!(rt; held.as_slice() == SEGMENT.as_bytes());
+        let notes = "0 p 0 0 77 g 1 77\n";
+        expect_noted(&rt, &disk, "j/0000000001.ring", SEGMENT, notes)?;
     }
     Ok(())
 }
