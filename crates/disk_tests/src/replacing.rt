@@ -1,12 +1,12 @@
 //! A file that is replaced by one that is written as a whole.
 
 use crate::playing::{Play, expect_bytes, expect_count, play_in};
-use disks::{Contents, ContentsFault, Disk, ReplaceFault, SystemDisk, replace};
+use disks::{Contents, ContentsFault, Disk, ReplaceFault, SystemDisk, put_new, replace};
 use std::io::{self, Write};
 use std::process::Abort;
 use std::rt::Files;
 use std::test::Fail;
-use test_files::{bytes_of, folder_of, no_files, put, within};
+use test_files::{bytes_of, folder_of, make_folder, no_files, put, within};
 
 /// Two lines, or the fault that comes after the first.
 #[derive(Drop, Clone, Copy)]
@@ -50,7 +50,8 @@ fn a_file_in_memory_is_replaced_as_a_whole(rt: HostRuntime) -> Result<(), Fail> 
     put(&mut disk, "a", b"old")?;
     put(&mut disk, "b", b"other")?;
     for (lines, fault) in [
-        (BROKEN, ReplaceFault::Write),
+        // No write failed, so what was short is memory.
+        (BROKEN, ReplaceFault::OutOfMemory),
         (STARVED, ReplaceFault::OutOfMemory),
     ] {
         let answer = replace(rt.alloc(), &mut disk, "a", &lines);
@@ -81,12 +82,32 @@ impl Play for ReplaceInFolder {
         assert!(rt; replace(rt.alloc(), disk, &name, &WHOLE) == Ok(()));
         expect_bytes(rt, &name, b"one\ntwo\n")?;
         put(disk, &name, b"old")?;
-        assert!(rt; replace(rt.alloc(), disk, &name, &BROKEN) == Err(ReplaceFault::Write));
+        assert!(rt; replace(rt.alloc(), disk, &name, &BROKEN) == Err(ReplaceFault::OutOfMemory));
         expect_bytes(rt, &name, b"old")?;
+        assert!(rt; replace(rt.alloc(), disk, "/dev/full", &WHOLE) == Err(ReplaceFault::Write));
         let within = within(rt, &name, "b")?;
         assert!(rt; replace(rt.alloc(), disk, &within, &WHOLE) == Err(ReplaceFault::Make));
         expect_count(rt, folder, 1)
     }
+}
+
+#[test]
+fn a_file_in_memory_is_put_where_nothing_is(rt: HostRuntime) -> Result<(), Fail> {
+    let mut disk = no_files(rt.alloc());
+    assert!(rt; put_new(rt.alloc(), &mut disk, "f", "a", &WHOLE) == Err(ReplaceFault::Unlisted));
+    make_folder(&mut disk, "f")?;
+    assert!(rt; put_new(rt.alloc(), &mut disk, "f", "a", &WHOLE) == Ok(()));
+    for name in ["a", "f/b"] {
+        put(&mut disk, name, b"old")?;
+    }
+    for name in ["a", "b"] {
+        let answer = put_new(rt.alloc(), &mut disk, "f", name, &WHOLE);
+        assert!(rt; answer == Err(ReplaceFault::Taken));
+    }
+    for (name, bytes) in [("a", "old"), ("f/a", "one\ntwo\n"), ("f/b", "old")] {
+        assert!(rt; bytes_of(rt.alloc(), &disk, name)?.as_slice() == bytes.as_bytes());
+    }
+    Ok(())
 }
 
 #[test]

@@ -2,3 +2,6 @@ pub mod Finding
 mod Listing
 mod Growing
 mod Lasting
+mod EntryNames
+mod Free
+pub mod Causes

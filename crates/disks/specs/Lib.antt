@@ -5,3 +5,6 @@ pub mod Lasting
 pub mod Calls
 pub mod GrownFile
 pub mod Left
+pub mod Said
+pub mod Replacing
+pub mod Reading

@@ -1,11 +1,12 @@
 //! A file that is written at its end, under a lock.
 
-ghost use Rattle.std.specs.Prelude.{◌≡◌, ℕ, List, Option, None, Bool, true, false, if◌then◌else◌, IfOk, OnOk};
+ghost use Rattle.std.specs.Prelude.{◌≡◌, ◌<◌, ℕ, List, Option, None, Bool, true, false, if◌then◌else◌, length, IfOk, IfErr, OnOk, OnErr};
 ghost use Rattle.std.specs.Io.{WritesAtMost};
 ghost use Rattle.std.specs.Io.KnownBytes.{WriteAppends, Keeps};
 ghost use Rattle.std.proofs.Props.{props};
 ghost use Rattle.disks.specs.Calls.{Syncs};
 ghost use Rattle.disks.specs.Lasting.{Adds, outlives};
+ghost use Rattle.disks.specs.Said.{HasFailed, says_in_use};
 
 use crate::grow::Grow;
 use crate::same_file::leads_to;
@@ -32,12 +33,18 @@ pub trait EndFile {
     /// No sync has failed. After one has, what was written may be lost with no further error.
     ghost is_sound: { Self → Bool } = { λ _. true };
 
+    /// A call on such a file failed, with an error that says that somebody else has it, or not: whoever is generic in the file knows
+    /// that only from a call.
+    ghost failed: { Bool → Type 0 } = { λ _. Unit {0} };
+
     /// Writes some of the first of these bytes, and says how many.
     fn put(&mut self, bytes: &[u8]) -> io::Result<usize>
         ensures bound { WritesAtMost result bytes.now }
         ensures bytes { WriteAppends (written self.old) (written self.new) result bytes.now }
         ensures on_disk { on_disk self.new ≡ on_disk self.old }
-        ensures sound { is_sound self.new ≡ is_sound self.old };
+        ensures sound { is_sound self.new ≡ is_sound self.old }
+        ensures failed { IfErr result (λ e. failed (says_in_use e)) }
+        ensures full { IfOk result (λ n. n ≡ 0 → 0 < length bytes.now → failed false) };
 
     /// Has the bytes outlive the process.
     fn keep(&mut self) -> io::Result<()>
@@ -45,21 +52,24 @@ pub trait EndFile {
             (on_disk self.old) (on_disk self.new) }
         ensures stays { keeps_written ≡ false → on_disk self.new ≡ on_disk self.old }
         ensures written { written self.new ≡ written self.old }
-        ensures sound { OnOk result (is_sound self.new ≡ is_sound self.old) };
+        ensures sound { OnOk result (is_sound self.new ≡ is_sound self.old) }
+        ensures failed { IfErr result (λ e. failed (says_in_use e)) };
 
     /// Puts the bytes on the disk.
     fn sync(&mut self) -> io::Result<()>
         ensures synced { Syncs result (is_sound self.old) (written self.old) (on_disk self.old)
             (on_disk self.new) }
         ensures written { written self.new ≡ written self.old }
-        ensures sound { OnOk result (is_sound self.new ≡ is_sound self.old) };
+        ensures sound { OnOk result (is_sound self.new ≡ is_sound self.old) }
+        ensures failed { IfErr result (λ e. failed (says_in_use e)) };
 
     /// The same with all that is known of the file.
     fn sync_whole(&mut self) -> io::Result<()>
         ensures synced { Syncs result (is_sound self.old) (written self.old) (on_disk self.old)
             (on_disk self.new) }
         ensures written { written self.new ≡ written self.old }
-        ensures sound { OnOk result (is_sound self.new ≡ is_sound self.old) };
+        ensures sound { OnOk result (is_sound self.new ≡ is_sound self.old) }
+        ensures failed { IfErr result (λ e. failed (says_in_use e)) };
 }
 
 /// The system's. Nothing is said of its bytes.
@@ -95,6 +105,7 @@ pub struct GrownFile<F: EndFile> {
     ghost sound: { failed ≡ false → F.EndFile.is_sound file ≡ true } by { Prim.hlevel props },
     ghost settled: { failed ≡ false → outlives F.EndFile.keeps_written synced ≡ true
         → F.EndFile.on_disk file ≡ F.EndFile.written file } by { Prim.hlevel props },
+    ghost said: { failed ≡ true → HasFailed F.EndFile.failed } by { Prim.hlevel props },
 }
 
 /// Writes all of these bytes.
@@ -102,10 +113,12 @@ pub struct GrownFile<F: EndFile> {
 /// # Errors
 ///
 /// How many of the first were written, where the file took no more.
+#[tactic(auto, using(crate::proofs::Causes::some_failed))]
 fn put_all<F: EndFile>(file: &mut F, bytes: &[u8]) -> Result<(), usize>
     ensures added { Adds result (F.EndFile.written file.old) (F.EndFile.written file.new) bytes.now }
     ensures on_disk { F.EndFile.on_disk file.new ≡ F.EndFile.on_disk file.old }
     ensures sound { F.EndFile.is_sound file.new ≡ F.EndFile.is_sound file.old }
+    ensures failed { OnErr result (HasFailed F.EndFile.failed) }
 {
     let mut done = 0;
     while done < bytes.len() {
@@ -120,11 +133,13 @@ fn put_all<F: EndFile>(file: &mut F, bytes: &[u8]) -> Result<(), usize>
 
 /// Has the bytes of a file that is not synced outlive the process, and puts them on the disk once this many are not there. Answers
 /// how many are not there then.
+#[tactic(auto, using(crate::proofs::Causes::some_failed))]
 fn keep_ahead<F: EndFile>(file: &mut F, behind: u64) -> io::Result<u64>
     ensures kept { F.EndFile.keeps_written ≡ true → Syncs result (F.EndFile.is_sound file.old)
         (F.EndFile.written file.old) (F.EndFile.on_disk file.old) (F.EndFile.on_disk file.new) }
     ensures written { F.EndFile.written file.new ≡ F.EndFile.written file.old }
     ensures sound { OnOk result (F.EndFile.is_sound file.new ≡ F.EndFile.is_sound file.old) }
+    ensures failed { OnErr result (HasFailed F.EndFile.failed) }
 {
     if behind <= AHEAD {
         file.keep()?;
@@ -141,6 +156,7 @@ fn sync_asked<F: EndFile>(file: &mut F, synced: bool) -> io::Result<()>
     ensures synced { OnOk result (outlives F.EndFile.keeps_written synced ≡ true
         → F.EndFile.is_sound file.old ≡ true
         → F.EndFile.on_disk file.new ≡ F.EndFile.written file.new) }
+    ensures failed { IfErr result (λ e. F.EndFile.failed (says_in_use e)) }
 {
     if !synced {
         return file.keep();
@@ -154,6 +170,9 @@ impl<F: EndFile> Grow for GrownFile<F> {
     ghost lasting = { λ g. if outlives F.EndFile.keeps_written g.synced
         then F.EndFile.on_disk g.file else None };
 
+    ghost failed = { HasFailed F.EndFile.failed };
+
+    #[tactic(auto, using(crate::proofs::Causes::some_failed))]
     fn add(&mut self, bytes: &[u8]) -> Result<(), usize> {
         if self.failed {
             return Err(0);
@@ -161,9 +180,9 @@ impl<F: EndFile> Grow for GrownFile<F> {
         self.failed = true;
         put_all(&mut self.file, bytes)?;
         if self.synced {
-            if self.file.sync().is_err() {
+            let Ok(()) = self.file.sync() else {
                 return Err(bytes.len());
-            }
+            };
         } else {
             let behind = self.behind.saturating_add(bytes.len() as u64);
             let Ok(after) = keep_ahead(&mut self.file, behind) else {
@@ -189,14 +208,17 @@ impl<F: EndFile> GrownFile<F> {
         ensures mode { IfOk result (λ grown. is_synced grown ≡ synced) }
         ensures settled { IfOk result (λ grown. outlives F.EndFile.keeps_written synced ≡ true
             → F.EndFile.on_disk (file_of grown) ≡ F.EndFile.written file) }
+        ensures failed { IfErr result (λ e. F.EndFile.failed (says_in_use e)) }
     {
-        sync_asked(&mut file, synced)?;
-        Ok(GrownFile {
-            file,
-            synced,
-            behind: 0,
-            failed: false,
-        })
+        match sync_asked(&mut file, synced) {
+            Ok(()) => Ok(GrownFile {
+                file,
+                synced,
+                behind: 0,
+                failed: false,
+            }),
+            Err(fault) => Err(fault),
+        }
     }
 
     /// The file that is written.
@@ -215,6 +237,7 @@ impl<F: EndFile> GrownFile<F> {
     }
 
     /// Puts all written bytes on the disk, with all that is known of the file.
+    #[tactic(auto, using(crate::proofs::Causes::some_failed))]
     pub(crate) fn settle(&mut self) -> io::Result<()>
         ensures ok { OnOk result
             (F.EndFile.on_disk (file_of self.new) ≡ F.EndFile.written (file_of self.old)) }
@@ -225,6 +248,7 @@ impl<F: EndFile> GrownFile<F> {
             then F.EndFile.on_disk (file_of self.old) else None)
             (if outlives F.EndFile.keeps_written (is_synced self.new)
             then F.EndFile.on_disk (file_of self.new) else None) }
+        ensures failed { OnErr result (HasFailed F.EndFile.failed) }
     {
         if self.failed {
             return Err(io::Error::from(ErrorKind::Other));

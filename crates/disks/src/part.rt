@@ -2,6 +2,7 @@
 
 use crate::descriptors::is_printed_into;
 use crate::same_file::{FileId, end_of_links, file_id, folder_of, names};
+use crate::streams::Sink;
 use std::alloc::AllocError;
 use std::fs::{self, File, Metadata, OpenOptions, TryLockError};
 use std::io::{self, ErrorKind, Write};
@@ -27,6 +28,8 @@ pub struct NewFile<'a, R: Files> {
     name: String,
     /// None if the target is not a regular file: it is written as it is.
     beside: Option<Beside>,
+    /// A write failed or took no byte, or a flush failed.
+    failed: bool,
 }
 
 impl<R: Files> Drop for NewFile<'_, R> {
@@ -36,6 +39,7 @@ impl<R: Files> Drop for NewFile<'_, R> {
             file,
             name: _,
             beside,
+            failed: _,
         } = self;
         if let Some(beside) = beside {
             let _ = fs::remove_file(files, beside.part.as_str());
@@ -46,11 +50,34 @@ impl<R: Files> Drop for NewFile<'_, R> {
 
 impl<R: Files> Write for NewFile<'_, R> {
     fn write(&mut self, buf: &[u8]) -> io::Result<usize> {
-        self.file.write(buf)
+        match self.file.write(buf) {
+            Ok(count) => {
+                if count == 0 && !buf.is_empty() {
+                    self.failed = true;
+                }
+                Ok(count)
+            }
+            Err(error) => {
+                self.failed = true;
+                Err(error)
+            }
+        }
     }
 
     fn flush(&mut self) -> io::Result<()> {
-        self.file.flush()
+        match self.file.flush() {
+            Ok(()) => Ok(()),
+            Err(error) => {
+                self.failed = true;
+                Err(error)
+            }
+        }
+    }
+}
+
+impl<R: Files> Sink for NewFile<'_, R> {
+    fn has_failed(&self) -> bool {
+        self.failed
     }
 }
 
@@ -74,6 +101,7 @@ impl<R: Files<File = File>> NewFile<'_, R> {
             file,
             name: _,
             beside,
+            failed: _,
         } = self;
         let Some(beside) = beside else {
             return Ok(());
@@ -187,6 +215,7 @@ fn made_beside<'a, R: Files<File = File> + AllocGlobal>(
                 file,
                 name,
                 beside: Some(Beside { part, target }),
+                failed: false,
             });
         }
     }
@@ -204,6 +233,7 @@ fn standing<'a, R: Files<File = File> + AllocGlobal>(
         file: OpenOptions::new().write(true).open(files, name)?,
         name: kept,
         beside: None,
+        failed: false,
     })
 }
 

@@ -4,8 +4,10 @@ ghost use Rattle.std.specs.Prelude.{◌≡◌, ℕ, List, Some, OnOk, OnErr, IfO
 ghost use Rattle.std.specs.Io.KnownBytes.{Appends};
 ghost use Rattle.disks.specs.Held.{Replaces};
 ghost use Rattle.disks.specs.Lasting.{MayLeave};
+ghost use Rattle.disks.specs.Replacing.{IsUnwritten, IsUnreplaced};
 
 use crate::disk::Disk;
+use crate::streams::Sink;
 use std::alloc::Global;
 use std::io::{BufWriter, Write};
 
@@ -45,11 +47,26 @@ pub enum ReplaceFault {
     Write,
     /// The new file could not be put in its place.
     Finish,
+    /// The folder could not be listed, to look whether something has the name.
+    Unlisted,
+    /// Something has the name.
+    Taken,
     OutOfMemory,
 }
 
+/// Why a new file is not written that its contents gave up. Where no write failed, what is short is memory.
+fn unwritten<W: Sink>(out: &W) -> ReplaceFault
+    ensures { IsUnwritten W.Sink.failed result }
+{
+    if out.has_failed() {
+        ReplaceFault::Write
+    } else {
+        ReplaceFault::OutOfMemory
+    }
+}
+
 /// Writes these bytes through a buffer, flushes it, and returns the writer.
-fn written<W: Write + Drop, C: Contents>(
+pub(crate) fn written<W: Sink + Drop, C: Contents>(
     alloc: Global,
     contents: &C,
     out: W,
@@ -58,22 +75,24 @@ fn written<W: Write + Drop, C: Contents>(
     ensures written { IfOk result
         (λ after. Appends (W.contents out) (W.contents after) (C.bytes contents.now)) }
     ensures known { OnOk result (C.known contents.now) }
+    ensures said { IfErr result (λ e. IsUnwritten W.Sink.failed e) }
 {
     let Ok(mut buffer) = BufWriter::new(alloc, out) else {
         return Err(ReplaceFault::OutOfMemory);
     };
     match contents.write_to(&mut buffer) {
         Ok(()) => {}
-        Err(ContentsFault::Write) => return Err(ReplaceFault::Write),
+        Err(ContentsFault::Write) => return Err(unwritten(buffer.get_ref())),
         Err(ContentsFault::OutOfMemory) => return Err(ReplaceFault::OutOfMemory),
     }
-    let Ok(mut after) = buffer.into_inner() else {
-        return Err(ReplaceFault::Write);
+    let mut after = match buffer.into_inner() {
+        Ok(after) => after,
+        Err(stopped) => return Err(unwritten(stopped.into_inner().get_ref())),
     };
-    let Ok(()) = after.flush() else {
-        return Err(ReplaceFault::Write);
-    };
-    Ok(after)
+    match after.flush() {
+        Ok(()) => Ok(after),
+        Err(_) => Err(unwritten(&after)),
+    }
 }
 
 /// Replaces the file of this name by a new one with these bytes.
@@ -94,6 +113,7 @@ pub fn replace<D: Disk, C: Contents>(
     ensures kept { OnErr result (D.holds disk.new ≡ D.holds disk.old) }
     ensures left { IfSome (D.holds disk.old) (λ _. MayLeave (D.leaves disk.old) (D.leaves disk.new)
         name.now (Some (C.bytes contents.now))) }
+    ensures said { IfErr result (λ e. IsUnreplaced D.said name.now e) }
 {
     let Ok(made) = disk.make(name) else {
         return Err(ReplaceFault::Make);

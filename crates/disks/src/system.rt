@@ -4,6 +4,7 @@ ghost use Rattle.std.specs.Prelude.{◌≡◌, true, false, IfErr, OnOk, OnErr};
 ghost use Rattle.disks.specs.Held.{Replaces};
 ghost use Rattle.disks.specs.Lasting.{Leaves, outlives};
 ghost use Rattle.disks.specs.GrownFile.{file_of};
+ghost use Rattle.disks.specs.Said.{NotGrown, NotClosed, said_by, says_in_use};
 
 use crate::calls::FileCalls;
 use crate::disk::{Disk, FolderEntry};
@@ -50,6 +51,7 @@ fn keep_name<C: FileCalls>(calls: &mut C, end: &C::End, name: &str, synced: bool
     ensures stays { outlives C.End.keeps_written synced ≡ false
         → C.leaves calls.new ≡ C.leaves calls.old }
     ensures left { OnErr result (C.leaves calls.new ≡ C.leaves calls.old) }
+    ensures said { IfErr result (λ e. C.said (NotGrown name.now (says_in_use e))) }
 {
     if synced {
         calls.sync_name(end, name)
@@ -71,6 +73,7 @@ fn close_settled<C: FileCalls>(
         (C.End.on_disk (file_of grown))) }
     ensures left { OnErr result (C.leaves calls.new ≡ C.leaves calls.old) }
     ensures given { IfErr result (λ back. back ≡ grown) }
+    ensures said { OnErr result (C.said (NotClosed name.now)) }
 {
     match calls.close(grown.file(), name) {
         Ok(()) => Ok(()),
@@ -92,6 +95,8 @@ impl<C: FileCalls> Disk for SystemDisk<C> {
     ghost leaves = { λ disk. C.leaves disk.calls };
 
     ghost keeps_written = { C.End.keeps_written };
+
+    ghost said = { said_by C.said C.End.EndFile.failed };
 
     fn open(&self, name: &str) -> io::Result<C::Reader> {
         self.calls.open(name)
@@ -164,4 +169,10 @@ impl<C: FileCalls> Disk for SystemDisk<C> {
     fn abandon(&mut self, grown: GrownFile<C::End>, name: String) {
         self.calls.let_go(grown.into_file(), name);
     }
+
+    ghost reads = { C.reads };
+
+    ghost writes = { C.writes };
+
+    ghost adds = { λ failed. failed };
 }

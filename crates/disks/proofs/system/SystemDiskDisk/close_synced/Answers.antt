@@ -1,4 +1,5 @@
-use Rattle.std.proofs.Common.{List, ℕ, Option, subst}
+use Rattle.std.proofs.Common.{List, ℕ, Option, subst, inl}
+use Rattle.std.proofs.lemmas.Result.{on_err_weaker}
 use Rattle.std.specs.Prelude.{OnOk}
 use Rattle.disks.specs.Held.{Replaces}
 use Rattle.disks.specs.Lasting.{Leaves}
@@ -13,3 +14,6 @@ pub returns-in-Ok-clause-lasts : goal.returns-in-Ok-clause-lasts
 returns-in-Ok-clause-lasts g c =
     subst (λ (x : Option (List ℕ)). OnOk c.close_settled.result (Leaves (g.C.FileCalls.leaves c.args.self.now.calls) (g.C.FileCalls.leaves c.close_settled.new.calls) c.args.name.now x))
     c.in-Ok.ensures.ok c.close_settled.ensures.lasts
+
+pub returns-in-Ok-clause-said : goal.returns-in-Ok-clause-said
+returns-in-Ok-clause-said g c = on_err_weaker c.close_settled.result (λ told. inl told) c.close_settled.ensures.said

@@ -1,4 +1,5 @@
-use Rattle.std.proofs.Common.{List, ℕ, Option, refl, subst, ◌∙◌}
+use Rattle.std.proofs.Common.{List, ℕ, Option, refl, subst, inl, ◌∙◌}
+use Rattle.std.proofs.lemmas.Result.{on_err_weaker}
 use Rattle.std.specs.Prelude.{OnOk}
 use Rattle.disks.specs.Held.{Replaces}
 use Rattle.disks.specs.Lasting.{MayLeave}
@@ -18,3 +19,6 @@ returns-in-Ok-clause-left g c =
 pub returns-in-Err-clause-left : goal.returns-in-Err-clause-left
 returns-in-Err-clause-left g c =
     let left = g.C.FileCalls.leaves c.args.self.now.calls in left_stays left left c.args.name.now (g.C.Part.Write.contents c.args.made) refl
+
+pub returns-in-Ok-clause-said : goal.returns-in-Ok-clause-said
+returns-in-Ok-clause-said g c = on_err_weaker c.rename.result (λ told. inl told) c.rename.ensures.said
