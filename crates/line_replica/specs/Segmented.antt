@@ -22,4 +22,5 @@ segmenting G = record {
   HasNoText = λ r why. G.HasNoText r.numbered.inner why ⊎ (why ≡ end.OutOfMemory);
   IsKept = λ old why new. G.IsKept old.numbered.inner why new.numbered.inner × IsSameAround old new;
   HasText = λ r number behind. G.HasText r.numbered.inner number behind;
+  said = G.said;
 }

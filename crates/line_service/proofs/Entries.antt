@@ -10,6 +10,7 @@ use Rattle.std.proofs.lemmas.List.{map-append, take_more}
 use Rattle.std.proofs.lemmas.List.Elements.{All-push, All-nil}
 use Rattle.std.proofs.lemmas.List.Folds.{list_any-append}
 use Rattle.std.proofs.lemmas.Slice.Eq.{bytes_eq-Decides}
+use Rattle.disks.specs.Said.{Said}
 use Rattle.disks.specs.Held.{Held}
 use Rattle.disks.specs.Folders.{is_among, names_of, Lists}
 use Rattle.disks.specs.declared.disk.FolderEntry.{FolderEntry}
@@ -114,10 +115,10 @@ refused_entry es (Irregular n) a = a
 refused_entry es (Missing n) a = absurd a.4
 refused_entry es OutOfMemory a = tt
 
-pub folder_answer : (files : Option Held) (folder : List ℕ) (es : List FolderEntry) (r : Result (Option SegmentNumbers) FolderError) → Lists files folder es → IsRightNumbers es r → IsFolderAnswer files folder r
-folder_answer files folder es (Ok r) listed is = (es, listed, is)
-folder_answer files folder es (Err Unlisted) listed is = tt
-folder_answer files folder es (Err (Foreign name)) listed is = (es, listed, is)
-folder_answer files folder es (Err (Irregular n)) listed is = (es, listed, is)
-folder_answer files folder es (Err (Missing n)) listed is = (es, listed, is)
-folder_answer files folder es (Err OutOfMemory) listed is = (es, listed, is)
+pub folder_answer : (said : Said → Type 0) (files : Option Held) (folder : List ℕ) (es : List FolderEntry) (r : Result (Option SegmentNumbers) FolderError) → Lists files folder es → IsRightNumbers es r → IsFolderAnswer said files folder r
+folder_answer said files folder es (Ok r) listed is = (es, listed, is)
+folder_answer said files folder es (Err Unlisted) listed is = absurd is
+folder_answer said files folder es (Err (Foreign name)) listed is = (es, listed, is)
+folder_answer said files folder es (Err (Irregular n)) listed is = (es, listed, is)
+folder_answer said files folder es (Err (Missing n)) listed is = (es, listed, is)
+folder_answer said files folder es (Err OutOfMemory) listed is = (es, listed, is)

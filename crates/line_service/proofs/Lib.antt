@@ -14,4 +14,4 @@ pub mod Naming
 pub mod NameParts
 pub mod Ranges
 pub mod Entries
-mod EntryNames
+pub mod Failing

@@ -231,3 +231,10 @@ abbrev pub IsPartFault : LoopFault → Option (List ℕ) → Option (List ℕ) �
 IsPartFault fault.TooLong unread rest =
     (bytes : List ℕ) × Consumes unread rest bytes × (2 ^ 64 - 1 ≤ length bytes)
 IsPartFault _ unread rest = Unit {0}
+
+-- what is known if the lines are not served to their end: a read failed, or a call on the journal's
+-- file
+abbrev pub IsPartSaid : Type 0 → Type 0 → LoopFault → Type 0
+IsPartSaid read added fault.Read = read
+IsPartSaid read added fault.Journal = added
+IsPartSaid read added _ = Unit {0}

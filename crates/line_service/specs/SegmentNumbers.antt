@@ -3,6 +3,7 @@ use Rattle.std.specs.Prelude.{◌≡◌, ℕ, ◌<◌, ◌≤◌, ◌==◌, Bool
 use Rattle.std.specs.List.{Any, All, list_any}
 use Rattle.disks.specs.Held.{Held}
 use Rattle.disks.specs.Folders.{is_among, names_of, Lists}
+use Rattle.disks.specs.Said.{Said, NotListed}
 use Rattle.disks.specs.declared.disk.FolderEntry.{FolderEntry}
 use Rattle.line_service.specs.SegmentNames.{segment_name, IsNumber, IsSegmentName, IsOtherName}
 use Rattle.line_service.specs.declared.folder_errors.EntryName.{EntryName}
@@ -81,11 +82,11 @@ IsRightNumbers entries (Err Unlisted) = ⊥
 
 -- ---- folders
 
--- The right answer for a folder: that of its entries, unless they cannot be listed.
-abbrev pub IsFolderAnswer : Option Held → List ℕ → Result (Option SegmentNumbers) FolderError
-    → Type 0
-IsFolderAnswer files folder (Err Unlisted) = Unit {0}
-IsFolderAnswer files folder answer =
+-- The right answer for a folder: that of its entries, unless they cannot be listed, as a call said.
+abbrev pub IsFolderAnswer : (Said → Type 0) → Option Held → List ℕ
+    → Result (Option SegmentNumbers) FolderError → Type 0
+IsFolderAnswer said files folder (Err Unlisted) = said (NotListed folder)
+IsFolderAnswer said files folder answer =
     (entries : List FolderEntry)
     × Lists files folder entries
     × IsRightNumbers entries answer

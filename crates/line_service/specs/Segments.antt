@@ -2,7 +2,11 @@
 use Rattle.std.specs.Prelude.{◌≡◌, ℕ, ◌+◌, ◌≤◌, ◌^◌, Bool, true, false, List, Option, None, Some, IfSome, ◌⊎◌, string_bytes}
 use Rattle.disks.specs.Held.{Held, Replaces, bytes_of}
 use Rattle.disks.specs.Lasting.{outlives}
-use Rattle.line_service.specs.SegmentNames.{segment_file}
+use Rattle.disks.specs.Said.{Said, NotGrown}
+use Rattle.disks.specs.Replacing.{IsFree, IsUnput}
+use Rattle.disks.specs.declared.replacing.ReplaceFault.{ReplaceFault}
+use Rattle.disks.specs.declared.replacing.ReplaceFault.TheVariants as replace
+use Rattle.line_service.specs.SegmentNames.{segment_file, segment_name}
 use Rattle.sha2.specs.Hashers.{Holds256}
 use Rattle.sha2.specs.declared.Sha256.{Sha256}
 use Rattle.segment_files.specs.Spelling.{digest_of}
@@ -129,7 +133,7 @@ HasNotBegun G folder service number behind holds was is =
     IsFileUnbegun folder number (G.text service number behind) (holds was) (holds is)
 
 -- The segment was due, and its whole file was settled; then the file of the next one was put there,
--- with the digest of the file before and the next service's text.
+-- where nothing had its name, with the digest of the file before and the next service's text.
 pub record IsPut {S : Type 0} (G : Segmenting S) (folder : List ℕ) (a : Moment S) (next : S)
     (is : Option Held) : Type 0 where
   pub behind : List ℕ
@@ -137,6 +141,7 @@ pub record IsPut {S : Type 0} (G : Segmenting S) (folder : List ℕ) (a : Moment
   pub follows : G.IsNext a.service next
   pub digest : IfSome a.journal (λ bytes. behind ≡ digest_of bytes)
   pub settled : Replaces a.files between (segment_file folder a.number) a.journal
+  pub free : IsFree between folder (segment_name (a.number + 1))
   pub put : Replaces between is (segment_file folder (a.number + 1))
       (Some (G.text next (a.number + 1) behind))
   pub fits : G.HasText next (a.number + 1) behind
@@ -158,9 +163,26 @@ IsUnprepared {S} G service number why =
     ⊎ (((next : S) × G.IsNext service next × G.HasNoText next why)
     ⊎ (((why ≡ end.Full) × (2 ^ 64 ≤ number + 1)) ⊎ (why ≡ end.OutOfMemory)))
 
--- a file could not be made, written, put there or opened, or there was no memory for it
-abbrev pub IsFileCause : EndFault → Type 0
-IsFileCause why = (why ≡ end.File) ⊎ (why ≡ end.OutOfMemory)
+-- a call said why the file of the segment of this number was not put where nothing has its name
+abbrev pub IsUnputSegment : (Said → Type 0) → List ℕ → ℕ → ReplaceFault → Type 0
+IsUnputSegment said folder number replace.OutOfMemory = ⊥
+IsUnputSegment said folder number e = IsUnput said folder (segment_name number) e
+
+-- a call said why that file could not be put there or opened
+abbrev pub IsFileSaid : (Said → Type 0) → List ℕ → ℕ → Type 0
+IsFileSaid said folder number =
+    ((e : ReplaceFault) × IsUnputSegment said folder number e)
+    ⊎ ((in_use : Bool) × said (NotGrown (segment_file folder number) in_use))
+
+-- the reason that is given for what kept a file from its place: memory if that was short
+abbrev pub IsCauseOf : ReplaceFault → EndFault → Type 0
+IsCauseOf replace.OutOfMemory why = why ≡ end.OutOfMemory
+IsCauseOf _ why = why ≡ end.File
+
+-- that file could not be put there or opened, as a call said; or there was no memory for it
+abbrev pub IsFileCause : (Said → Type 0) → List ℕ → ℕ → EndFault → Type 0
+IsFileCause said folder number why =
+    ((why ≡ end.File) × IsFileSaid said folder number) ⊎ (why ≡ end.OutOfMemory)
 
 -- It continues, for this reason, and its file holds what it held: no file was touched, since there
 -- is nothing to begin the next one with; or it was settled, and that of the next one was not made.
@@ -171,7 +193,7 @@ pub record IsKept {S : Type 0} (G : Segmenting S) (folder : List ℕ) (why : End
   pub file : (IsUnprepared G a.service a.number why
       × (b.files ≡ a.files)
       × (b.journal ≡ a.journal))
-      ⊎ (IsFileCause why
+      ⊎ (IsFileCause G.said folder (a.number + 1) why
       × Replaces a.files b.files (segment_file folder a.number) a.journal
       × IfSome a.files (λ _. IfSome a.journal (λ bytes. b.journal ≡ Some bytes)))
 
@@ -215,7 +237,7 @@ HoldsFile files name hasher writer =
 
 -- ---- what is made before the file is closed
 
--- the next service, the number and the name of the next segment's file, and the text with which
+-- the next service, the number and the names of the next segment's file, and the text with which
 -- that begins
 pub record IsPrepared {S : Type 0} (G : Segmenting S) (service : S) (number : ℕ)
     (journal : Option (List ℕ)) (folder : List ℕ) (next : NextSegment S) : Type 0 where
@@ -223,6 +245,7 @@ pub record IsPrepared {S : Type 0} (G : Segmenting S) (service : S) (number : �
   pub next_service : G.IsNext service next.service
   pub next_number : next.number ≡ number + 1
   pub name : string_bytes next.name ≡ segment_file folder next.number
+  pub entry : string_bytes next.entry ≡ segment_name next.number
   pub digest : IfSome journal (λ bytes. behind ≡ digest_of bytes)
   pub text : next.text.items ≡ G.text next.service next.number behind
   pub hashes : Holds256 next.hasher next.text.items

@@ -3,16 +3,17 @@ use Rattle.std.specs.Prelude.{◌≡◌, ℕ, ◌≤◌, ◌^◌, List, [], ◌�
 use Rattle.std.specs.List.{AllByRecursion}
 use Rattle.std.specs.Io.KnownBytes.{Appends, Consumes, IsAtEnd}
 use Rattle.disks.specs.Held.{Held, LetsGo}
+use Rattle.disks.specs.Said.{Said, NotAdded, NotClosed}
 use Rattle.line_service.specs.declared.faults.LoopFault.{LoopFault}
 use Rattle.line_service.specs.declared.faults.LoopFault.TheVariants as fault
 use Rattle.line_service.specs.SegmentNames.{segment_file}
 use Rattle.line_service.specs.Answering.{IsLine, HasNoEnd, Answers, joined_lines}
 use Rattle.line_service.specs.Stands.{AnsweringWith, by_stand, stand}
-use Rattle.line_service.specs.Loop.{Stops}
+use Rattle.line_service.specs.Loop.{Stops, IsPartSaid}
 use Rattle.line_service.specs.declared.segmented.EndFault.{EndFault}
 use Rattle.line_service.specs.declared.segmented.EndFault.TheVariants as end
 use Rattle.line_service.specs.Segmenting.{Segmenting}
-use Rattle.line_service.specs.Segments.{Moment, stand_of, IsReady, IsLeft}
+use Rattle.line_service.specs.Segments.{Moment, stand_of, IsReady, IsLeft, IsFileSaid}
 
 -- lines that are served in one segment: from which moment to which, their text, the answers and
 -- the notes; and why the segment continues, if it was due
@@ -88,6 +89,18 @@ abbrev pub IsFaultOf : LoopFault → Option (List ℕ) → Option (List ℕ) →
 IsFaultOf fault.TooLong input rest =
     (bytes : List ℕ) × Consumes input rest bytes × (2 ^ 63 ≤ length bytes)
 IsFaultOf _ input rest = Unit {0}
+
+-- what calls said if the journal could not be written: the file of a segment took no more bytes, was
+-- not settled, or could not be put there or opened
+abbrev pub IsJournalSaid : (Said → Type 0) → List ℕ → Type 0
+IsJournalSaid said folder =
+    said NotAdded
+    ⊎ ((number : ℕ)
+    × (said (NotClosed (segment_file folder number)) ⊎ IsFileSaid said folder number))
+
+-- what is known if lines in segments are not served to their end
+abbrev pub IsServingSaid : (Said → Type 0) → Type 0 → List ℕ → LoopFault → Type 0
+IsServingSaid said read folder e = IsPartSaid read (IsJournalSaid said folder) e
 
 -- Of what the reader gave some lines were answered.
 pub record ServesSomeSegments {S : Type 0} (A : AnsweringWith S) (G : Segmenting S)

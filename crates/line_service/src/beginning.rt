@@ -30,7 +30,7 @@ pub fn begin_file<D: Disk>(
         disk.new D.Grown.contents) }
     ensures number { IfOk result (λ segment. segment.number ≡ number) }
     ensures named { IfOk result (λ segment. IsNamed rules.entry.folder.now segment) }
-    ensures err { IfErr result (λ e. IsFileCause e) }
+    ensures err { IfErr result (λ e. IsFileCause D.said rules.entry.folder.now number e) }
     ensures left { OnErr result (IsFileUnbegun rules.entry.folder.now number text.now
         (D.holds disk.old) (D.holds disk.new)) }
     ensures lasts { IfOk result (IsLasting D.keeps_written rules.entry.synced D.Grown.contents
@@ -70,7 +70,8 @@ pub fn begin_segment<S: Segmented, D: Disk>(
         behind D.holds disk.old disk.new D.Grown.contents) }
     ensures named { IfOk result (λ segment. IsNamed rules.entry.folder.now segment) }
     ensures err { IfErr result
-        (λ e. S.segmenting.HasNoText service.now e ⊎ IsFileCause e) }
+        (λ e. S.segmenting.HasNoText service.now e
+        ⊎ IsFileCause D.said rules.entry.folder.now number e) }
     ensures left { OnErr result (HasNotBegun S.segmenting rules.entry.folder.now service.now number
         behind D.holds disk.old disk.new) }
     ensures lasts { IfOk result (IsLasting D.keeps_written rules.entry.synced D.Grown.contents

@@ -25,6 +25,8 @@ impl<W: Grow> Grow for Digested<W> {
 
     ghost lasting = { λ d. W.lasting d.inner };
 
+    ghost failed = { W.failed };
+
     fn add(&mut self, bytes: &[u8]) -> Result<(), usize> {
         match self.inner.add(bytes) {
             Ok(()) => {

@@ -1,21 +1,26 @@
 //! A segment that is due is ended, and the next one begun.
 
-ghost use Rattle.std.specs.Prelude.{◌≡◌, ℕ, List, true, false, IfOk, IfErr, OnOk, OnErr, IsSome, Some, string_bytes};
+ghost use Rattle.std.specs.Prelude.{◌≡◌, ◌≢◌, ℕ, List, Bool, true, false, IfOk, IfErr, IfSome, OnOk, OnErr, IsSome, Some, string_bytes};
 ghost use Rattle.std.specs.Io.KnownBytes.{Keeps};
 ghost use Rattle.disks.specs.Held.{LetsGo, Replaces};
 ghost use Rattle.disks.specs.Lasting.{bytes_in, Leaves, MayLeave};
+ghost use Rattle.disks.specs.Folders.{path_in};
+ghost use Rattle.disks.specs.Replacing.{IsFree, IsUnput};
+ghost use Rattle.disks.specs.Said.{NotClosed, NotGrown};
 ghost use Rattle.sha2.specs.Hashers.{Holds256};
 ghost use Rattle.line_service.specs.declared.faults.LoopFault.TheVariants as fault;
 ghost use Rattle.line_service.specs.Digested.{hashed};
-ghost use Rattle.line_service.specs.Segments.{HoldsFile, IsPrepared, IsUnprepared, IsFileCause, IsLasting, IsNamed, IsReadyAt, IsLeftAt, StaysLasting, segment_holds};
+ghost use Rattle.line_service.specs.Segmenting.{over};
+ghost use Rattle.line_service.specs.Service.{IsJournalSaid};
+ghost use Rattle.line_service.specs.Segments.{HoldsFile, IsPrepared, IsUnprepared, IsCauseOf, IsLasting, IsNamed, IsReadyAt, IsLeftAt, StaysLasting, segment_holds};
 ghost use Rattle.line_service.specs.Lasting.{IsSpared, KeepsFront, LeavesEarlier, LeavesOpen, Remains};
 
 use crate::digested::Digested;
 use crate::faults::LoopFault;
-use crate::segment_names::segment_file;
+use crate::segment_names::{segment_file, segment_name};
 use crate::segmented::{EndFault, Segmented};
 use crate::segments::{OpenSegment, SegmentRules};
-use disks::{Contents, ContentsFault, Disk, Grow, ReplaceFault, replace};
+use disks::{Contents, ContentsFault, Disk, Grow, ReplaceFault, put_new};
 use sha2::{Digest, Sha256};
 use std::alloc::Global;
 use std::io::Write;
@@ -27,6 +32,8 @@ pub struct NextSegment<S> {
     service: S,
     number: u64,
     name: String,
+    /// Its name in the folder.
+    entry: String,
     text: Vec<u8>,
     hasher: Sha256,
 }
@@ -52,6 +59,7 @@ fn prepare<S: Segmented, W: Grow>(
         (λ next. S.changes_files next.service ≡ S.changes_files service.now) }
     ensures err { IfErr result
         (λ e. IsUnprepared S.segmenting service.now segment.now.number e) }
+    ensures cause { IfErr result (λ e. e ≢ EndFault.File) }
 {
     let next = match service.next(alloc) {
         Ok(next) => next,
@@ -62,6 +70,9 @@ fn prepare<S: Segmented, W: Grow>(
     }
     let number = segment.number + 1;
     let Ok(name) = segment_file(alloc, folder, number) else {
+        return Err(EndFault::OutOfMemory);
+    };
+    let Ok(entry) = segment_name(alloc, number) else {
         return Err(EndFault::OutOfMemory);
     };
     let Ok(behind) = segment.writer.digest() else {
@@ -76,6 +87,7 @@ fn prepare<S: Segmented, W: Grow>(
         service: next,
         number,
         name,
+        entry,
         text,
         hasher,
     })
@@ -117,6 +129,7 @@ fn settle<D: Disk>(disk: &mut D, writer: Digested<D::Grown>, name: &str) -> Resu
         Keeps (D.Grown.lasting writer.inner) (D.Grown.lasting inner)) }
     ensures same { IfErr result (λ inner.
         D.Grown.contents inner ≡ D.Grown.contents writer.inner) }
+    ensures said { OnErr result (D.said (NotClosed name.now)) }
 {
     let Digested { inner, hasher } = writer;
     match disk.close_synced(inner, name) {
@@ -127,7 +140,7 @@ fn settle<D: Disk>(disk: &mut D, writer: Digested<D::Grown>, name: &str) -> Resu
 
 /// Why a segment continues, where the next file was not made.
 pub(crate) fn cause_of(fault: ReplaceFault) -> EndFault
-    ensures { IsFileCause result }
+    ensures { IsCauseOf fault result }
 {
     match fault {
         ReplaceFault::OutOfMemory => EndFault::OutOfMemory,
@@ -150,6 +163,7 @@ pub fn close_segment<D: Disk>(disk: &mut D, segment: OpenSegment<D::Grown>) -> R
         (string_bytes segment.name) (D.Grown.contents segment.writer.inner)) }
     ensures left { OnErr result (LeavesOpen D.Grown.lasting (D.leaves disk.old) segment
         (D.leaves disk.new)) }
+    ensures said { OnErr result (D.said (NotClosed (string_bytes segment.name))) }
 {
     let OpenSegment { name, writer, .. } = segment;
     match settle(disk, writer, name.as_str()) {
@@ -194,6 +208,8 @@ pub fn open_segment<D: Disk>(
         D.Grown.lasting) }
     ensures left { MayLeave (D.leaves disk.old) (D.leaves disk.new) (string_bytes name)
         (bytes_in (D.holds disk.old) (string_bytes name)) }
+    ensures said { OnErr result
+        ((in_use : Bool) × D.said (NotGrown (string_bytes name) in_use)) }
 {
     let Ok(inner) = disk.grow(name.as_str(), synced) else {
         return Err(LoopFault::Journal);
@@ -204,6 +220,31 @@ pub fn open_segment<D: Disk>(
         name,
         writer,
     })
+}
+
+/// Puts the file of a segment with this text into its folder, where nothing has its name: a file or a link that somebody made
+/// meanwhile is not replaced.
+fn put_segment<D: Disk>(
+    alloc: Global,
+    disk: &mut D,
+    folder: &str,
+    name: &str,
+    entry: &str,
+    text: &[u8],
+) -> Result<(), ReplaceFault>
+    requires { name.now ≡ path_in folder.now entry.now }
+    ensures replaced { OnOk result
+        (Replaces (D.holds disk.old) (D.holds disk.new) name.now (Some text.now)) }
+    ensures free { OnOk result (IsFree (D.holds disk.old) folder.now entry.now) }
+    ensures kept { OnErr result (D.holds disk.new ≡ D.holds disk.old) }
+    ensures left { IfSome (D.holds disk.old) (λ _. MayLeave (D.leaves disk.old) (D.leaves disk.new)
+        name.now (Some text.now)) }
+    ensures said { IfErr result (λ e. IsUnput D.said folder.now entry.now e) }
+{
+    match put_new(alloc, disk, folder, entry, &Beginning { text }) {
+        Ok(()) => Ok(()),
+        Err(fault) => Err(fault),
+    }
 }
 
 /// Ends the segment and begins the next one; or opens its file again, if there is no next file.
@@ -221,24 +262,27 @@ fn change<S: Segmented, D: Disk>(
         (segment_holds D.Grown.contents segment) rules.folder.now next }
     requires open { S.is_over next.service ≡ false }
     requires files { S.changes_files next.service ≡ S.changes_files service.old }
-    ensures ok { IfOk result (IsReadyAt S.segmenting rules.entry.folder.now D.Grown.contents
-        D.holds service.old disk.old segment service.new disk.new) }
+    ensures ok { IfOk result (IsReadyAt (over S.segmenting D.said) rules.entry.folder.now
+        D.Grown.contents D.holds service.old disk.old segment service.new disk.new) }
     ensures open { OnOk result (S.is_over service.new ≡ false) }
     ensures files { S.changes_files service.new ≡ S.changes_files service.old }
     ensures named { IfOk result (λ ready. IsNamed rules.entry.folder.now ready.segment) }
     ensures err { IfErr result (λ e. (e ≡ fault.Journal) × (service.new ≡ service.old)) }
-    ensures left { OnErr result (IsLeftAt S.segmenting rules.entry.folder.now D.Grown.contents
-        D.holds service.old disk.old segment disk.new) }
+    ensures left { OnErr result (IsLeftAt (over S.segmenting D.said) rules.entry.folder.now
+        D.Grown.contents D.holds service.old disk.old segment disk.new) }
     ensures lasts { IfOk result (λ ready. StaysLasting D.keeps_written rules.entry.synced
         D.Grown.contents D.Grown.lasting segment ready.segment) }
-    ensures spared { OnErr result (IsSpared S.segmenting rules.entry.folder.now D.Grown.contents
-        D.Grown.lasting D.holds service.old disk.old segment (D.leaves disk.new)) }
+    ensures spared { OnErr result (IsSpared (over S.segmenting D.said) rules.entry.folder.now
+        D.Grown.contents D.Grown.lasting D.holds service.old disk.old segment (D.leaves disk.new)) }
     ensures earlier { IsSome (D.holds disk.old) → LeavesEarlier rules.entry.folder.now segment.number
         (D.leaves disk.old) (D.leaves disk.new) }
     ensures ended { IfOk result (λ ready. Remains rules.entry.folder.now (D.holds disk.old)
         D.Grown.contents segment ready.segment (D.leaves disk.new)) }
     ensures front { OnErr result (KeepsFront rules.entry.folder.now (D.holds disk.old)
         D.Grown.contents D.Grown.lasting segment (D.leaves disk.new)) }
+    ensures said { OnErr result (IsJournalSaid D.said rules.entry.folder.now) }
+    ensures told { IfOk result (λ ready. ready.kept ≡ Some EndFault.File
+        → IsJournalSaid D.said rules.entry.folder.now) }
 {
     let OpenSegment {
         number,
@@ -252,10 +296,14 @@ fn change<S: Segmented, D: Disk>(
             return Err(LoopFault::Journal);
         }
     };
-    let beginning = Beginning {
-        text: next.text.as_slice(),
-    };
-    match replace(alloc, disk, next.name.as_str(), &beginning) {
+    match put_segment(
+        alloc,
+        disk,
+        rules.folder,
+        next.name.as_str(),
+        next.entry.as_str(),
+        next.text.as_slice(),
+    ) {
         Ok(()) => match open_segment(disk, next.number, next.name, next.hasher, rules.synced) {
             Ok(segment) => {
                 *service = next.service;
@@ -294,24 +342,27 @@ pub(crate) fn make_ready<S: Segmented, D: Disk>(
     rules: SegmentRules<'_>,
 ) -> Result<Ready<D::Grown>, LoopFault>
     requires { IsNamed rules.folder.now segment }
-    ensures ok { IfOk result (IsReadyAt S.segmenting rules.entry.folder.now D.Grown.contents
-        D.holds service.old disk.old segment service.new disk.new) }
+    ensures ok { IfOk result (IsReadyAt (over S.segmenting D.said) rules.entry.folder.now
+        D.Grown.contents D.holds service.old disk.old segment service.new disk.new) }
     ensures open { OnOk result (S.is_over service.new ≡ false) }
     ensures files { S.changes_files service.new ≡ S.changes_files service.old }
     ensures named { IfOk result (λ ready. IsNamed rules.entry.folder.now ready.segment) }
     ensures err { IfErr result (λ e. (e ≡ fault.Journal) × (service.new ≡ service.old)) }
-    ensures left { OnErr result (IsLeftAt S.segmenting rules.entry.folder.now D.Grown.contents
-        D.holds service.old disk.old segment disk.new) }
+    ensures left { OnErr result (IsLeftAt (over S.segmenting D.said) rules.entry.folder.now
+        D.Grown.contents D.holds service.old disk.old segment disk.new) }
     ensures lasts { IfOk result (λ ready. StaysLasting D.keeps_written rules.entry.synced
         D.Grown.contents D.Grown.lasting segment ready.segment) }
-    ensures spared { OnErr result (IsSpared S.segmenting rules.entry.folder.now D.Grown.contents
-        D.Grown.lasting D.holds service.old disk.old segment (D.leaves disk.new)) }
+    ensures spared { OnErr result (IsSpared (over S.segmenting D.said) rules.entry.folder.now
+        D.Grown.contents D.Grown.lasting D.holds service.old disk.old segment (D.leaves disk.new)) }
     ensures earlier { IsSome (D.holds disk.old) → LeavesEarlier rules.entry.folder.now segment.number
         (D.leaves disk.old) (D.leaves disk.new) }
     ensures ended { IfOk result (λ ready. Remains rules.entry.folder.now (D.holds disk.old)
         D.Grown.contents segment ready.segment (D.leaves disk.new)) }
     ensures front { OnErr result (KeepsFront rules.entry.folder.now (D.holds disk.old)
         D.Grown.contents D.Grown.lasting segment (D.leaves disk.new)) }
+    ensures said { OnErr result (IsJournalSaid D.said rules.entry.folder.now) }
+    ensures told { IfOk result (λ ready. ready.kept ≡ Some EndFault.File
+        → IsJournalSaid D.said rules.entry.folder.now) }
 {
     if !service.is_due() {
         return Ok(Ready {

@@ -2,7 +2,7 @@
 
 ghost use Rattle.std.specs.Prelude.{◌≡◌, ◌≢◌, [], false, OnOk, OnErr, IfOk, IfErr, is_some};
 ghost use Rattle.line_service.specs.declared.faults.LoopFault.TheVariants as fault;
-ghost use Rattle.line_service.specs.Loop.{ServesBlock, FromBegun, ServesPartBy, ServesSomeBy, ServesIn, IsEnding, IsPartFault, LastsOn, written_by, written_to};
+ghost use Rattle.line_service.specs.Loop.{ServesBlock, FromBegun, ServesPartBy, ServesSomeBy, ServesIn, IsEnding, IsPartFault, IsPartSaid, LastsOn, written_by, written_to};
 ghost use Rattle.line_service.specs.Stands.{by_stand, stand, LeavesFiles};
 
 use crate::answering::AnswersLines;
@@ -11,9 +11,9 @@ use crate::pending::Pending;
 use crate::putting::put_pending;
 use crate::taking::take_bytes;
 use crate::unread::Unread;
-use disks::{Disk, Grow};
+use disks::{Disk, Grow, Source};
 use std::alloc::{AllocError, Global};
-use std::io::{Read, Write};
+use std::io::Write;
 
 /// Takes what is left of a block, up to the line after which it is over, if there is one, and all answers leave. Says whether it
 /// is over.
@@ -46,6 +46,7 @@ fn serve_block<S: AnswersLines, D: Disk, J: Grow, W: Write>(
         (LastsOn (written_by J.contents) (written_by J.lasting) journal.old journal.new) }
     ensures unchanged { LeavesFiles S.changes_files D.leaves service.old disk.old service.new
         disk.new }
+    ensures said { IfErr result (λ e. IsPartSaid ⊥ J.Grow.failed e) }
 {
     let taken = match take_bytes(service, disk, line, unread.bytes(), pending) {
         Ok(taken) => taken,
@@ -71,7 +72,7 @@ fn serve_block<S: AnswersLines, D: Disk, J: Grow, W: Write>(
 /// The first error of the reader, of the journal or of the writer; `OutOfMemory` where there was none for what a block is
 /// answered; `TooLong` where no more blocks are counted. The lines before were answered. The writer holds a prefix of their
 /// answers, and the journal the notes of each delivered line.
-pub fn serve_part<S: AnswersLines, D: Disk, I: Read, J: Grow, W: Write>(
+pub fn serve_part<S: AnswersLines, D: Disk, I: Source, J: Grow, W: Write>(
     alloc: Global,
     service: &mut S,
     disk: &mut D,
@@ -108,6 +109,7 @@ pub fn serve_part<S: AnswersLines, D: Disk, I: Read, J: Grow, W: Write>(
         (LastsOn (written_by J.contents) (written_by J.lasting) journal.old journal.new) }
     ensures unchanged { LeavesFiles S.changes_files D.leaves service.old disk.old service.new
         disk.new }
+    ensures said { IfErr result (λ e. IsPartSaid I.Source.failed J.Grow.failed e) }
 {
     let mut pending = Pending {
         answers: Vec::new(alloc),

@@ -1,10 +1,10 @@
 //! Bytes that leave: a journal's part first.
 
-ghost use Rattle.std.specs.Prelude.{◌≡◌, ◌≢◌, ℕ, List, [], OnOk, IfErr, IsTrue, is_some};
+ghost use Rattle.std.specs.Prelude.{◌≡◌, ◌≢◌, ℕ, List, [], OnOk, IfErr, IsTrue, IsFalse, is_some};
 ghost use Rattle.std.specs.Io.KnownBytes.{Appends};
 ghost use Rattle.text_lines.specs.Writing.{Wrote};
 ghost use Rattle.line_service.specs.declared.faults.LoopFault.TheVariants as fault;
-ghost use Rattle.line_service.specs.Loop.{Delivers, LastsOn, written_by};
+ghost use Rattle.line_service.specs.Loop.{Delivers, IsPartSaid, LastsOn, written_by};
 ghost use Rattle.line_service.specs.Stands.{by_stand};
 
 use crate::answering::AnswersLines;
@@ -40,6 +40,7 @@ fn add_notes<J: Grow>(journal: &mut J, bytes: &[u8]) -> bool
     ensures lasts_part { (left : List ℕ)
         × Wrote (J.lasting journal.old) (J.lasting journal.new) bytes.now left }
     ensures whole { IsTrue result → LastsOn J.contents J.lasting journal.old journal.new }
+    ensures said { IsFalse result → J.Grow.failed }
 {
     if bytes.is_empty() {
         return true;
@@ -60,6 +61,7 @@ fn put_notes<J: Grow>(journal: &mut Option<J>, bytes: &[u8]) -> bool
     ensures whole { IsTrue result
         → LastsOn (written_by J.contents) (written_by J.lasting) journal.old journal.new }
     ensures kept { is_some journal.new ≡ is_some journal.old }
+    ensures said { IsFalse result → J.Grow.failed }
 {
     match journal {
         None => true,
@@ -82,6 +84,7 @@ pub(crate) fn put_pending<S: AnswersLines, J: Grow, W: Write>(
         journal.old out.old journal.new out.new }
     ensures whole { OnOk result
         (LastsOn (written_by J.contents) (written_by J.lasting) journal.old journal.new) }
+    ensures said { IfErr result (λ e. IsPartSaid ⊥ J.Grow.failed e) }
 {
     if !put_notes(journal, pending.notes.as_slice()) {
         return Err(LoopFault::Journal);

@@ -4,11 +4,11 @@ ghost use Rattle.std.specs.Prelude.{◌≡◌, ◌≢◌, ◌-◌, ◌+◌, ◌�
 ghost use Rattle.disks.specs.Folders.{is_among, names_of};
 ghost use Rattle.text_lines.specs.Reading.{is_digit};
 ghost use Rattle.line_service.specs.NameReading.{IsPadded};
-ghost use Rattle.line_service.specs.SegmentNames.{segment_file, list_name, IsSegmentName, IsPartName, IsOtherName};
+ghost use Rattle.line_service.specs.SegmentNames.{segment_file, segment_name, list_name, IsSegmentName, IsPartName, IsOtherName};
 ghost use Rattle.line_service.specs.SegmentNumbers.{shown};
 
 use crate::folder_errors::EntryName;
-use disks::FolderEntry;
+use disks::{FolderEntry, has_name, path_of};
 use itoa::Buffer;
 use std::alloc::{AllocError, Global};
 use text_lines::{Stop, number64};
@@ -29,19 +29,25 @@ fn push_zeros(text: &mut String, count: usize) -> Result<(), AllocError>
     Ok(())
 }
 
-/// The name of the file of the segment of this number: the folder's name, a slash, the number with ten digits at least,
-/// and `.ring`.
-pub fn segment_file(alloc: Global, folder: &str, number: u64) -> Result<String, AllocError>
-    ensures { IfOk result (λ name. string_bytes name ≡ segment_file folder.now number) }
+/// The name that the segment of this number has in its folder: the number with ten digits at least, and `.ring`.
+pub(crate) fn segment_name(alloc: Global, number: u64) -> Result<String, AllocError>
+    ensures { IfOk result (λ name. string_bytes name ≡ segment_name number) }
 {
     let mut buffer = Buffer::new();
     let digits = buffer.format(number);
-    let mut name = String::from_str(alloc, folder)?;
-    name.push_str("/")?;
+    let mut name = String::new(alloc);
     push_zeros(&mut name, DIGITS.saturating_sub(digits.len()))?;
     name.push_str(digits)?;
     name.push_str(".ring")?;
     Ok(name)
+}
+
+/// The name of its file: the folder's name, a slash, and the name that it has there.
+pub fn segment_file(alloc: Global, folder: &str, number: u64) -> Result<String, AllocError>
+    ensures { IfOk result (λ name. string_bytes name ≡ segment_file folder.now number) }
+{
+    let name = segment_name(alloc, number)?;
+    path_of(alloc, folder, name.as_str())
 }
 
 /// How many zeros a name begins with.
@@ -119,12 +125,7 @@ pub fn list_name() -> EntryName
 pub fn has_list(entries: &[FolderEntry]) -> bool
     ensures { result ≡ is_among (names_of entries.now) list_name }
 {
-    for entry in entries {
-        if entry.name.as_str() == "locks" {
-            return true;
-        }
-    }
-    false
+    has_name(entries, "locks")
 }
 
 /// Whether a file of this name may be beside the segments.

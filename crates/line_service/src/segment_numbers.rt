@@ -108,7 +108,7 @@ pub fn numbers_in<D: Disk>(
     disk: &D,
     folder: &str,
 ) -> Result<Option<SegmentNumbers>, FolderError>
-    ensures { IsFolderAnswer (D.holds disk.now) folder.now result }
+    ensures { IsFolderAnswer D.said (D.holds disk.now) folder.now result }
 {
     let Ok(entries) = disk.list(folder) else {
         return Err(FolderError::Unlisted);

@@ -1,6 +1,6 @@
 //! What answers lines in segments.
 
-ghost use Rattle.std.specs.Prelude.{◌≡◌, ◌<◌, ℕ, true, false, IfOk, IfErr, OnOk};
+ghost use Rattle.std.specs.Prelude.{◌≡◌, ◌≢◌, ◌<◌, ℕ, true, false, IfOk, IfErr, OnOk};
 ghost use Rattle.segment_files.specs.Spelling.{DigestFits};
 ghost use Rattle.line_service.specs.Segmenting.{Segmenting, KeepsKnown};
 
@@ -33,18 +33,19 @@ pub trait Segmented: AnswersLines + Drop {
     ///
     /// # Errors
     ///
-    /// Why there is no next one.
+    /// Why there is no next one: never `File`, which is for a file that is not had.
     fn next(&self, alloc: Global) -> Result<Self, EndFault>
         ensures next { IfOk result (λ next. segmenting.IsNext self.now next) }
         ensures open { IfOk result (λ next. Self.is_over next ≡ false) }
         ensures files { IfOk result (λ next. Self.changes_files next ≡ Self.changes_files self.now) }
-        ensures why { IfErr result (λ e. segmenting.HasNoNext self.now e) };
+        ensures why { IfErr result (λ e. segmenting.HasNoNext self.now e) }
+        ensures cause { IfErr result (λ e. e ≢ EndFault.File) };
 
     /// The text with which the file of the segment of this number begins, after a file of this digest.
     ///
     /// # Errors
     ///
-    /// Why it has no such text.
+    /// Why it has no such text: never `File`.
     fn text(
         &self,
         alloc: Global,
@@ -55,6 +56,7 @@ pub trait Segmented: AnswersLines + Drop {
         requires digits { DigestFits behind }
         ensures text { IfOk result (λ text. text.items ≡ segmenting.text self.now number behind) }
         ensures why { IfErr result (λ e. segmenting.HasNoText self.now e) }
+        ensures cause { IfErr result (λ e. e ≢ EndFault.File) }
         ensures fits { OnOk result (segmenting.HasText self.now number behind) };
 
     /// The segment continues although it is due, for this reason: lines are answered again.

@@ -1,12 +1,16 @@
 //! Lines that are served in segments.
 
-ghost use Rattle.std.specs.Prelude.{◌≡◌, ℕ, List, Option, false, IfOk, IfErr, OnOk, OnErr, is_some, string_bytes};
+ghost use Rattle.std.specs.Prelude.{◌≡◌, ◌⊎◌, ℕ, List, Option, Some, false, IfOk, IfErr, OnOk, OnErr, is_some, string_bytes};
 ghost use Rattle.disks.specs.Held.{Held, LetsGo};
+ghost use Rattle.disks.specs.Said.{NotAdded};
+ghost use Rattle.line_service.specs.Segmenting.{over};
+ghost use Rattle.line_service.specs.declared.faults.LoopFault.TheVariants as fault;
+ghost use Rattle.line_service.specs.declared.segmented.EndFault.TheVariants as end;
 ghost use Rattle.line_service.specs.Stands.{LeavesFiles};
 ghost use Rattle.line_service.specs.declared.faults.LoopFault.{LoopFault};
-ghost use Rattle.line_service.specs.Loop.{FromBegun, ServesPartBy, ServesSomeThen, IsEnding, IsPartFault, LastsOn, written};
+ghost use Rattle.line_service.specs.Loop.{FromBegun, ServesPartBy, ServesSomeThen, IsEnding, IsPartFault, IsPartSaid, LastsOn, written};
 ghost use Rattle.line_service.specs.Segments.{IsNamed, segment_holds, segment_lasts, written_in, lasting_in, moment_at};
-ghost use Rattle.line_service.specs.Service.{told_of, ServesSegments, ServesSomeSegments, IsFaultOf};
+ghost use Rattle.line_service.specs.Service.{told_of, ServesSegments, ServesSomeSegments, IsFaultOf, IsServingSaid};
 ghost use Rattle.line_service.specs.Notes.{ToldLinesAreNoted, ForJournal};
 ghost use Rattle.line_service.specs.Lasting.{ChangesOneFile, EachSegmentLastsBy, LastsAfter, LeavesBytes, LeavesLasting, LeavesOpen, StaysWhole, ToldLinesLastBy};
 
@@ -18,9 +22,9 @@ use crate::parts::serve_part;
 use crate::segmented::{EndFault, Segmented};
 use crate::segments::{OpenSegment, SegmentRules};
 use crate::unread::Unread;
-use disks::Disk;
+use disks::{Disk, Source};
 use std::alloc::Global;
-use std::io::{Read, Write};
+use std::io::Write;
 
 /// A part of the lines that was served: why it ended, and its segment.
 #[derive(Drop)]
@@ -41,7 +45,7 @@ fn told_of(fault: LoopFault, kept: Option<EndFault>) -> LoopFault
 }
 
 /// Serves a part of the lines: in a segment that continues although it is due, up to the next block.
-fn serve_in<S: AnswersLines, D: Disk, I: Read, W: Write>(
+fn serve_in<S: AnswersLines, D: Disk, I: Source, W: Write>(
     alloc: Global,
     service: &mut S,
     disk: &mut D,
@@ -84,6 +88,8 @@ fn serve_in<S: AnswersLines, D: Disk, I: Read, W: Write>(
         service.new disk.new) }
     ensures others { OnErr result (S.changes_files service.old ≡ false
         → ChangesOneFile D.leaves disk.old disk.new (string_bytes ready.segment.name)) }
+    ensures said { IfErr result (λ e. ((e ≡ fault.Journal) × (ready.kept ≡ Some end.File))
+        ⊎ IsPartSaid I.Source.failed (D.said NotAdded) e) }
 {
     let Ready { segment, kept } = ready;
     let OpenSegment {
@@ -140,7 +146,7 @@ fn serve_in<S: AnswersLines, D: Disk, I: Read, W: Write>(
 /// continues since the next file could not be written; `Journal` too if the file of a segment that is due cannot be settled, or if
 /// that file, or the next one, cannot be opened. The folder then has the segment that was written, with all that was delivered; or
 /// it has the next one as the last, whose text says the same.
-pub fn serve_segments<S: Segmented, D: Disk, I: Read, W: Write>(
+pub fn serve_segments<S: Segmented, D: Disk, I: Source, W: Write>(
     alloc: Global,
     service: &mut S,
     disk: &mut D,
@@ -150,20 +156,20 @@ pub fn serve_segments<S: Segmented, D: Disk, I: Read, W: Write>(
     out: &mut W,
 ) -> Result<OpenSegment<D::Grown>, LoopFault>
     requires { IsNamed rules.folder.now first }
-    ensures ok { IfOk result (λ end. ServesSegments S.is_answered S.segmenting
+    ensures ok { IfOk result (λ end. ServesSegments S.is_answered (over S.segmenting D.said)
         rules.entry.folder.now (moment_at D.Grown.contents service.old (D.holds disk.old) first)
         (moment_at D.Grown.contents service.new (D.holds disk.new) end) (I.remaining input.old)
         (I.remaining input.new) (W.contents out.old) (W.contents out.new)) }
-    ensures err { OnErr result (ServesSomeSegments S.is_answered S.segmenting rules.entry.folder.now
-        (moment_at D.Grown.contents service.old (D.holds disk.old) first) service.new
+    ensures err { OnErr result (ServesSomeSegments S.is_answered (over S.segmenting D.said)
+        rules.entry.folder.now (moment_at D.Grown.contents service.old (D.holds disk.old) first) service.new
         (D.holds disk.new) (I.remaining input.old) (I.remaining input.new) (W.contents out.old)
         (W.contents out.new)) }
     ensures long { IfErr result (λ e.
         IsFaultOf e (I.remaining input.old) (I.remaining input.new)) }
     ensures named { IfOk result (λ end. IsNamed rules.entry.folder.now end) }
     ensures noted { ForJournal result (segment_holds D.Grown.contents)
-        (λ journal. ToldLinesAreNoted S.is_answered S.segmenting rules.entry.folder.now
-        (moment_at D.Grown.contents service.old (D.holds disk.old) first) service.new
+        (λ journal. ToldLinesAreNoted S.is_answered (over S.segmenting D.said)
+        rules.entry.folder.now (moment_at D.Grown.contents service.old (D.holds disk.old) first) service.new
         (I.remaining input.old) (I.remaining input.new) (W.contents out.old) (W.contents out.new)
         journal) }
 
@@ -171,17 +177,21 @@ pub fn serve_segments<S: Segmented, D: Disk, I: Read, W: Write>(
     ensures lasts { LastsAfter result D.keeps_written rules.entry.synced D.Grown.contents
         D.Grown.lasting D.holds D.leaves service.old disk.old first disk.new
         (λ _. LeavesLasting D.Grown.lasting)
-        (ToldLinesLastBy S.is_answered S.segmenting rules.entry.folder.now I.remaining W.contents
-        input.old out.old service.new input.new out.new) }
+        (ToldLinesLastBy S.is_answered (over S.segmenting D.said) rules.entry.folder.now
+        I.remaining W.contents input.old out.old service.new input.new out.new) }
     ensures whole { IfOk result (λ end. StaysWhole D.keeps_written rules.entry.synced
         (D.holds disk.old) D.Grown.contents D.Grown.lasting first end) }
+
+    // An error rests on a call that failed.
+    ensures said { IfErr result
+        (λ e. IsServingSaid D.said I.Source.failed rules.entry.folder.now e) }
 
     // Where answers change no file, the segments before the last are there too, whole.
     ensures earlier { S.changes_files service.old ≡ false → LastsAfter result D.keeps_written
         rules.entry.synced D.Grown.contents D.Grown.lasting D.holds D.leaves service.old disk.old
         first disk.new (LeavesOpen D.Grown.lasting)
-        (EachSegmentLastsBy S.is_answered S.segmenting rules.entry.folder.now I.remaining
-        W.contents input.old out.old service.new input.new out.new) }
+        (EachSegmentLastsBy S.is_answered (over S.segmenting D.said) rules.entry.folder.now
+        I.remaining W.contents input.old out.old service.new input.new out.new) }
 {
     let mut segment = first;
     let mut line = Vec::new(alloc);

@@ -1,12 +1,12 @@
 //! What was read of an input and is not taken yet.
 
-ghost use Rattle.std.specs.Prelude.{◌≡◌, ◌≤◌, [], length, drop, IfOk, IfErr};
+ghost use Rattle.std.specs.Prelude.{◌≡◌, ◌≤◌, [], length, drop, IfOk, IfErr, OnErr};
 ghost use Rattle.std.specs.Io.KnownBytes.{Keeps};
 ghost use Rattle.line_service.specs.declared.faults.LoopFault.TheVariants as fault;
 ghost use Rattle.line_service.specs.Loop.{IsFilled};
 
 use crate::faults::LoopFault;
-use std::io::Read;
+use disks::Source;
 use std::marker::Model;
 
 /// How many bytes are asked for at once.
@@ -58,15 +58,16 @@ impl Unread {
     }
 
     /// Reads a block, and says how many bytes it has: none only at the input's end.
-    pub(crate) fn fill<I: Read>(&mut self, input: &mut I) -> Result<usize, LoopFault>
+    pub(crate) fn fill<I: Source>(&mut self, input: &mut I) -> Result<usize, LoopFault>
         ensures ok { IfOk result
             (λ count. IsFilled count self.new (I.remaining input.old) (I.remaining input.new)) }
         ensures err { IfErr result (λ e. (e ≡ fault.Read)
             × Keeps (I.remaining input.old) (I.remaining input.new)) }
+        ensures said { OnErr result I.Source.failed }
     {
         self.from = 0;
         self.to = 0;
-        let Ok(count) = input.read(&mut self.block) else {
+        let Ok(count) = input.read_some(&mut self.block) else {
             return Err(LoopFault::Read);
         };
         self.to = count;

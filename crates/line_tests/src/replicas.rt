@@ -60,6 +60,7 @@ impl Segmented for Count {
       HasNoText = λ s why. why ≡ end.OutOfMemory;
       IsKept = λ old why new. new.lines ≡ old.lines;
       HasText = λ s number behind. Unit {0};
+      said = λ _. Unit {0};
     } };
 
     fn is_due(&self) -> bool {

@@ -12,7 +12,7 @@ use segment_files::DIGEST_DIGITS;
 use std::alloc::{AllocError, Global};
 use std::io::{self, Cursor, ErrorKind, Read};
 use std::process::Abort;
-use test_files::no_files;
+use test_files::{make_folder, no_files, put};
 
 /// A segment is due once more lines are answered in it than this.
 const MOST: u64 = 1;
@@ -21,6 +21,9 @@ const RULES: SegmentRules<'static> = SegmentRules {
     folder: "d",
     synced: false,
 };
+
+/// The name of the file of the second segment.
+const SECOND: &str = "d/0000000002.ring";
 
 /// Lines that were answered in a segment, which has a letter.
 #[derive(Drop)]
@@ -72,6 +75,7 @@ impl Segmented for Tally {
       HasNoText = λ s why. why ≡ end.OutOfMemory;
       IsKept = λ old why new. (new.told ≡ old.told) × (new.kept ≡ Some why);
       HasText = λ s number behind. Unit {0};
+      said = λ _. Unit {0};
     } };
 
     fn is_due(&self) -> bool {
@@ -215,6 +219,8 @@ struct Row {
     first: &'static [u8],
     /// Empty if there is none.
     second: &'static [u8],
+    /// What somebody put under the name of the second one meanwhile; empty if nobody did.
+    stray: &'static [u8],
     kept: Option<EndFault>,
 }
 
@@ -237,7 +243,7 @@ const SECOND_AFTER_THREE: &[u8] =
 
 const ONE_BLOCK: usize = 99;
 
-const ROWS: [Row; 5] = [
+const ROWS: [Row; 6] = [
     // Two segments, in one block and line by line.
     Row {
         input: b"1\n2\n3\n",
@@ -247,6 +253,7 @@ const ROWS: [Row; 5] = [
         out: b".\n.\n.\n",
         first: FIRST_OF_TWO,
         second: SECOND_AFTER_TWO,
+        stray: b"",
         kept: None,
     },
     Row {
@@ -257,6 +264,7 @@ const ROWS: [Row; 5] = [
         out: b".\n.\n.\n",
         first: FIRST_OF_TWO,
         second: SECOND_AFTER_TWO,
+        stray: b"",
         kept: None,
     },
     // No file can be made: the segment continues.
@@ -268,6 +276,7 @@ const ROWS: [Row; 5] = [
         out: b".\n.\n.\n.\n",
         first: FIRST_OF_FOUR,
         second: b"",
+        stray: b"",
         kept: Some(EndFault::File),
     },
     // The same, but it is tried again at the next block.
@@ -279,7 +288,20 @@ const ROWS: [Row; 5] = [
         out: b".\n.\n.\n.\n",
         first: FIRST_OF_THREE,
         second: SECOND_AFTER_THREE,
+        stray: b"",
         kept: None,
+    },
+    // Something has the name of the next file: it stays, and the segment continues.
+    Row {
+        input: b"1\n2\n3\n4\n",
+        size: ONE_BLOCK,
+        fails: 0,
+        poor: 0,
+        out: b".\n.\n.\n.\n",
+        first: FIRST_OF_FOUR,
+        second: b"stray\n",
+        stray: b"stray\n",
+        kept: Some(EndFault::File),
     },
     // There is no memory for the next segment.
     Row {
@@ -290,6 +312,7 @@ const ROWS: [Row; 5] = [
         out: b".\n.\n.\n.\n",
         first: FIRST_OF_THREE,
         second: SECOND_AFTER_THREE,
+        stray: b"",
         kept: None,
     },
 ];
@@ -309,6 +332,7 @@ fn play(rt: &impl Abort, alloc: Global, row: &Row) {
         files: no_files(alloc),
         fails: 0,
     };
+    assert!(rt; make_folder(&mut disk.files, RULES.folder).is_ok());
     let mut tally = Tally {
         letter: b'a',
         told: 0,
@@ -318,6 +342,9 @@ fn play(rt: &impl Abort, alloc: Global, row: &Row) {
     let Ok(first) = begin_segment(alloc, &mut disk, &tally, 1, [b'0'; DIGEST_DIGITS], RULES) else {
         panic!(rt; "the first file is made");
     };
+    if !row.stray.is_empty() {
+        assert!(rt; put(&mut disk.files, SECOND, row.stray).is_ok());
+    }
     disk.fails = row.fails;
     let mut input = Blocks {
         left: row.input,
@@ -332,7 +359,7 @@ fn play(rt: &impl Abort, alloc: Global, row: &Row) {
     }
     assert!(rt; out.as_slice() == row.out && tally.kept == row.kept);
     expect(rt, &disk, "d/0000000001.ring", row.first);
-    expect(rt, &disk, "d/0000000002.ring", row.second);
+    expect(rt, &disk, SECOND, row.second);
 }
 
 #[test]

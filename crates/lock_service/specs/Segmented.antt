@@ -28,4 +28,5 @@ segmenting = record {
   HasNoText = λ s why. HaveNoText s.segment.locks why;
   IsKept = λ old why new. new ≡ record old { stage = stage.KeptOn };
   HasText = λ s number behind. HasText number behind s.segment.locks;
+  said = λ _. Unit {0};
 }

@@ -40,4 +40,5 @@ name_segmenting = record {
   HasNoText = λ s why. HaveNoText s.segment.named.locks why;
   IsKept = λ old why new. new ≡ record old { stage = stage.KeptOn };
   HasText = λ s number behind. HasText number behind s.segment.named.locks;
+  said = λ _. Unit {0};
 }

@@ -97,4 +97,5 @@ segmenting = record {
   HasNoText = λ s why. HaveNoText s.rings why;
   IsKept = λ old why new. new ≡ with_refusal old (refusal_of why);
   HasText = λ s number behind. Unit {0};
+  said = λ _. Unit {0};
 }

@@ -4,7 +4,7 @@ ghost use Rattle.std.specs.Prelude.{◌≡◌, ℕ, List, Option, [], ◌++◌, 
 ghost use Rattle.std.specs.List.{AllByRecursion};
 ghost use Rattle.std.specs.Option.{option_map};
 ghost use Rattle.text_lines.specs.Writing.{Writes};
-ghost use Rattle.line_service.specs.Loop.{IsPartFault, written_by};
+ghost use Rattle.line_service.specs.Loop.{IsPartFault, IsPartSaid, written_by};
 ghost use Rattle.ring_service.specs.declared.answers.Answer.TheVariants as answer;
 ghost use Rattle.ring_service.specs.declared.answers.Refusal.TheVariants as refusal;
 ghost use Rattle.ring_service.specs.Answers.{answer_line};
@@ -23,11 +23,11 @@ use crate::saving::save_rings;
 use crate::served::{LineAnswer, Served, answer_line, no_call};
 use crate::service::RingService;
 use crate::turns::Trace;
-use disks::{Disk, Grow};
+use disks::{Disk, Grow, Source};
 use line_service::{LoopFault, Pending, Unread, segment_file, serve_part};
 use one_thread_ring::{put_events, put_survey};
 use std::alloc::{AllocError, Global};
-use std::io::{Read, Write};
+use std::io::Write;
 use std::mem;
 use text_lines::WriteFault;
 
@@ -334,7 +334,7 @@ pub fn are_right(served: &Served)
 /// The first error of the reader, of the journal or of the writer; `OutOfMemory` where there was none for what a block is
 /// answered; `TooLong` where no more blocks are counted. The lines before were answered. The writer holds a prefix of their
 /// answers, and the journal the notes of each delivered line.
-pub fn serve<D: Disk, I: Read, J: Grow, W: Write>(
+pub fn serve<D: Disk, I: Source, J: Grow, W: Write>(
     alloc: Global,
     served: &mut Served,
     disk: &mut D,
@@ -369,6 +369,9 @@ pub fn serve<D: Disk, I: Read, J: Grow, W: Write>(
         (I.remaining input.new)
         (record { journal = held_by J.lasting journal.old; out = W.contents out.old })
         (record { journal = held_by J.lasting journal.new; out = W.contents out.new }) }
+
+    // A read that failed did, and so did a call on the journal's file.
+    ensures said { IfErr result (λ e. IsPartSaid I.Source.failed J.Grow.failed e) }
 {
     are_right(served); // says: the rings are right, at each moment
     let name = file_of(journal);

@@ -5,7 +5,7 @@ ghost use Rattle.line_service.specs.Segments.{IsNamed};
 
 use super::streams::Drops;
 use super::{NOTHING, served};
-use disks::{Disk, FolderEntry, MemoryDisk, Stored, StoredEntry};
+use disks::{Disk, FolderEntry, MemoryDisk};
 use line_service::{
     LoopFault, OpenSegment, SegmentRules, close_segment, open_segment, segment_file, serve_segments,
 };
@@ -14,6 +14,7 @@ use sha2::{Digest, Sha256};
 use std::alloc::Global;
 use std::io::{self, Cursor, ErrorKind, Read};
 use std::process::Abort;
+use test_files::{make_folder, no_files, put};
 
 const FOLDER: &str = "d";
 
@@ -143,19 +144,13 @@ impl Disk for Full {
     }
 }
 
-/// The first file, on a disk on which the next few files cannot be made.
+/// The folder with the first file, on a disk on which the next few files cannot be made.
 fn disk_of(rt: &impl Abort, alloc: Global, fails: u32) -> Full {
-    let mut entries = Vec::new(alloc);
-    let (Ok(name), Ok(bytes)) = (
-        String::from_str(alloc, FIRST_NAME),
-        Vec::from_slice(alloc, FIRST),
-    ) else {
-        panic!(rt; "there is memory");
-    };
-    let stored = Stored::File(bytes);
-    assert!(rt; entries.push(StoredEntry { name, stored }).is_ok());
+    let mut files = no_files(alloc);
+    assert!(rt; make_folder(&mut files, FOLDER).is_ok());
+    assert!(rt; put(&mut files, FIRST_NAME, FIRST).is_ok());
     Full {
-        files: MemoryDisk { alloc, entries },
+        files,
         fails,
         opened: 0,
     }

@@ -1,6 +1,7 @@
 use Rattle.std.proofs.Common.{◌≤◌, [], ◌++◌, length, ◌∙◌, sym, refl, arith, length-append}
 use Rattle.line_service.specs.Loop.{Written, written_by}
 use Rattle.line_service.specs.Stands.{by_stand, stand}
+use Rattle.line_service.proofs.Failing.{part_known, read_known}
 use Rattle.line_service.proofs.Telling.{consumes_nil, consumes_then, consumes_kept}
 use Rattle.line_service.proofs.Parting.{going_begins, going_block, going_stops, going_ends, going_filled, going_part}
 use Rattle.line_service.proofs.parts.serve_part.Goals as goal
@@ -142,3 +143,9 @@ pub returns-clause-lasts : goal.returns-clause-lasts
 returns-clause-lasts g c = λ begun h.
     let inv = c.rounds.invariant in
     (inv.0, inv.1, going_ends (inv.8 begun h))
+
+pub returns-in-Err-clause-said : goal.returns-in-Err-clause-said
+returns-in-Err-clause-said g c = part_known ⊥ g.I.Source.failed g.J.Grow.failed c.in-Err.fault (λ no_read. absurd no_read) c.in-Err.ensures.said
+
+pub returns-in-Err-fill-clause-said : goal.returns-in-Err-fill-clause-said
+returns-in-Err-fill-clause-said g c = read_known g.I.Source.failed g.J.Grow.failed c.in-Err-fill.fault c.in-Err-fill.ensures.err.0 c.in-Err-fill.ensures.said

@@ -1,16 +1,18 @@
-use Rattle.std.proofs.Common.{◌++◌, ℕ, List, Option, None, Some, subst, sym}
+use Rattle.std.proofs.Common.{◌≡◌, ◌⊎◌, ◌++◌, ℕ, List, Option, None, Some, subst, sym}
 use Rattle.std.specs.Prelude.{string_bytes, ⊤}
 use Rattle.disks.specs.Held.{Held}
 use Rattle.disks.specs.Lasting.{BeginsWith, Changes}
 use Rattle.line_service.specs.declared.faults.LoopFault.{LoopFault}
 use Rattle.line_service.specs.declared.faults.LoopFault.TheVariants as fault
-use Rattle.line_service.specs.Loop.{Stops, written_by, IsPartFault}
+use Rattle.line_service.specs.Loop.{Stops, written_by, IsPartFault, IsPartSaid}
 use Rattle.line_service.specs.Stands.{by_stand, stand}
 use Rattle.line_service.specs.declared.segmented.EndFault.{EndFault}
 use Rattle.line_service.specs.declared.segmented.EndFault.TheVariants as end
 use Rattle.line_service.specs.Service.{told_of}
 use Rattle.line_service.proofs.SegmentLasting.{front_has}
 use Rattle.line_service.specs.Digested.{hashed}
+use Rattle.disks.specs.Said.{NotAdded}
+use Rattle.line_service.proofs.Failing.{told_known}
 use Rattle.line_service.proofs.Letting.{lets_go_hashed}
 use Rattle.line_service.proofs.Earlier.{changes_any}
 use Rattle.line_service.proofs.service.serve_in.Goals as goal
@@ -70,3 +72,8 @@ returns-in-Err-clause-others g c = λ none.
     let lasting = g.D.Grown.Grow.lasting c.in-Some.writer.inner in
     subst (λ (was : Option Held). Changes was left name (λ (_ : Option (List ℕ)). ⊤)) (c.serve_part-served.ensures.unchanged none).0
     (changes_any (g.D.Disk.leaves c.serve_part-served.new.disk) left name (λ (has : Option (List ℕ)). BeginsWith has lasting) c.abandon.ensures.left)
+
+pub returns-in-Err-clause-said : goal.returns-in-Err-clause-said
+returns-in-Err-clause-said g c =
+    subst (λ (e : LoopFault). ((e ≡ fault.Journal) × (c.args.ready.kept ≡ Some end.File)) ⊎ IsPartSaid g.I.Source.failed (g.D.Disk.said NotAdded) e) (sym c.told_of.ensures)
+    (told_known g.I.Source.failed g.D.Grown.Grow.failed (g.D.Disk.said NotAdded) c.in-Err.fault c.args.ready.kept g.met.D.Disk.adds c.in-Err.ensures.said)

@@ -1,7 +1,0 @@
-use Rattle.std.proofs.Common.{◌≡◌, take, codes, string_bytes, false}
-use Rattle.std.specs.List.{list_any}
-use Rattle.std.specs.Str.{bytes_eq}
-use Rattle.line_service.proofs.segment_names.has_list.Given as goal
-
-abbrev pub invariant-loop-entry : goal.invariant-loop-entry
-invariant-loop-entry l = list_any (λ e. bytes_eq (string_bytes e.name) (codes "locks")) (take l.entry-index l.entries) ≡ false
