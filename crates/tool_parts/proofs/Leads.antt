@@ -2,6 +2,7 @@
 use Rattle.std.proofs.Common.{◌≡◌, ℕ, ◌+◌, ◌<◌, List, [], ◌∷◌, ◌++◌, length, true, false, Option, Some, None, refl, sym, ap, subst, ◌∙◌, arith, length-append, eqb, eqb-true, eq-eqb}
 use Rattle.std.proofs.lemmas.Bool.{false_from_ne_true}
 use Rattle.disks.specs.Held.{Held, IsHeld}
+use Rattle.disks.specs.Said.{Said}
 use Rattle.line_service.specs.declared.segment_numbers.SegmentNumbers.{SegmentNumbers}
 use Rattle.tool_parts.specs.declared.faults.ToolError.{ToolError}
 use Rattle.line_service.specs.SegmentNames.{segment_file}
@@ -64,15 +65,15 @@ leads_end files name first last l m s bytes so h e a = record {
 -- ---- refusals
 
 -- a file before the last is refused, and the last one
-pub refused_at : (files : Option Held) (name : List ℕ) (r : SegmentNumbers) (next : ℕ) (l : Option State) (e : ToolError) → Leads files name r.first next l → next < r.last
-    → IsAddRefusal files name next l false e → IsFileRefused files name r e
-refused_at files name r next l e so before h =
+pub refused_at : (said : Said → Type 0) (files : Option Held) (name : List ℕ) (r : SegmentNumbers) (next : ℕ) (l : Option State) (e : ToolError) → Leads files name r.first next l → next < r.last
+    → IsAddRefusal said files name next l false e → IsFileRefused said files name r e
+refused_at said files name r next l e so before h =
     let flag : eqb (r.first + length so.fs) r.last ≡ false =
     false_from_ne_true (eqb (r.first + length so.fs) r.last) (λ y. let same = eqb-true (r.first + length so.fs) r.last y in let many = so.many in omega (arith, before)) in
-    (so.fs, l, so.lead, so.held, subst (λ b. IsAddRefusal files name (r.first + length so.fs) l b e) (sym flag) (subst (λ k. IsAddRefusal files name k l false e) (sym so.many) h))
+    (so.fs, l, so.lead, so.held, subst (λ b. IsAddRefusal said files name (r.first + length so.fs) l b e) (sym flag) (subst (λ k. IsAddRefusal said files name k l false e) (sym so.many) h))
 
-pub refused_last : (files : Option Held) (name : List ℕ) (r : SegmentNumbers) (l : Option State) (e : ToolError) → Leads files name r.first r.last l
-    → IsAddRefusal files name r.last l true e → IsFileRefused files name r e
-refused_last files name r l e so h =
+pub refused_last : (said : Said → Type 0) (files : Option Held) (name : List ℕ) (r : SegmentNumbers) (l : Option State) (e : ToolError) → Leads files name r.first r.last l
+    → IsAddRefusal said files name r.last l true e → IsFileRefused said files name r e
+refused_last said files name r l e so h =
     let flag : eqb (r.first + length so.fs) r.last ≡ true = eq-eqb (r.first + length so.fs) r.last so.many in
-    (so.fs, l, so.lead, so.held, subst (λ b. IsAddRefusal files name (r.first + length so.fs) l b e) (sym flag) (subst (λ k. IsAddRefusal files name k l true e) (sym so.many) h))
+    (so.fs, l, so.lead, so.held, subst (λ b. IsAddRefusal said files name (r.first + length so.fs) l b e) (sym flag) (subst (λ k. IsAddRefusal said files name k l true e) (sym so.many) h))

@@ -7,3 +7,4 @@ pub mod ListTexts
 pub mod LockedFolders
 pub mod PaddedNumbers
 pub mod EntryTexts
+pub mod Unread

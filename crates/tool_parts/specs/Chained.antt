@@ -3,6 +3,7 @@ use Rattle.std.specs.Prelude.{◌≡◌, ℕ, ◌+◌, ◌<◌, ◌==◌, cond, 
 use Rattle.std.specs.Io.KnownBytes.{Appends}
 use Rattle.disks.specs.Held.{Held, Opens, IsHeld}
 use Rattle.disks.specs.Folders.{Lists}
+use Rattle.disks.specs.Said.{Said, NotOpened, NotRead, NotListed}
 use Rattle.disks.specs.declared.disk.FolderEntry.{FolderEntry}
 use Rattle.line_service.specs.SegmentNames.{segment_file}
 use Rattle.line_service.specs.SegmentNumbers.{IsRightNumbers}
@@ -79,6 +80,12 @@ pub record IsFolder (files : Option Held) (name : List ℕ) (entries : List Fold
     pub listed : Lists files name entries
     pub some : 0 < length entries
 
+-- The name leads to no such folder: it cannot be listed, as a call said, or nothing is in it.
+abbrev pub IsNoFolder : (Said → Type 0) → Option Held → List ℕ → Type 0
+IsNoFolder said files name =
+    said (NotListed name)
+    ⊎ ((entries : List FolderEntry) × Lists files name entries × (length entries ≡ 0))
+
 -- the name leads to a folder whose segments held a chain with these sums, and with this digest of the
 -- last file
 abbrev pub AreFolderSums : List ℕ → Option Held → ChainSums → List ℕ → Type 0
@@ -105,38 +112,42 @@ IsChainAnswer name files old new =
 
 -- ---- refusals
 
--- the file of this segment cannot be read, or is too large; or there is no memory
-abbrev pub IsUnreadSegment : Option Held → List ℕ → ℕ → ToolError → Type 0
-IsUnreadSegment files name n (tool.UnreadSegment named number) =
-    (named.now ≡ name) × (number ≡ n)
-IsUnreadSegment files name n (tool.LargeSegment named number) =
+-- the file of this segment cannot be read, as a call said, or is too large; or there is no memory
+abbrev pub IsUnreadSegment : (Said → Type 0) → Option Held → List ℕ → ℕ → ToolError → Type 0
+IsUnreadSegment said files name n (tool.UnreadSegment named number) =
+    (named.now ≡ name)
+    × (number ≡ n)
+    × (said (NotOpened (segment_file name n)) ⊎ said NotRead)
+IsUnreadSegment said files name n (tool.LargeSegment named number) =
     (named.now ≡ name)
     × (number ≡ n)
     × ((from : Option (List ℕ))
     × (left : Option (List ℕ))
     × Opens files (segment_file name n) from
     × IsOver most_bytes from left)
-IsUnreadSegment files name n tool.OutOfMemory = Unit {0}
-IsUnreadSegment files name n _ = ⊥
+IsUnreadSegment said files name n tool.OutOfMemory = Unit {0}
+IsUnreadSegment said files name n _ = ⊥
 
 -- it cannot be read, or does not follow in the chain
-abbrev pub IsAddRefusal : Option Held → List ℕ → ℕ → Option State → Bool → ToolError → Type 0
-IsAddRefusal files name n l last (tool.Segment named number error) =
+abbrev pub IsAddRefusal : (Said → Type 0) → Option Held → List ℕ → ℕ → Option State → Bool
+    → ToolError → Type 0
+IsAddRefusal said files name n l last (tool.Segment named number error) =
     (bytes : List ℕ)
     × (named.now ≡ name)
     × (number ≡ n)
     × IsHeld files (segment_file name n) bytes
     × IsRightRefusal l bytes last error
-IsAddRefusal files name n l last e = IsUnreadSegment files name n e
+IsAddRefusal said files name n l last e = IsUnreadSegment said files name n e
 
 -- after files that follow one another the next one is refused
-abbrev pub IsFileRefused : Option Held → List ℕ → SegmentNumbers → ToolError → Type 0
-IsFileRefused files name r e =
+abbrev pub IsFileRefused : (Said → Type 0) → Option Held → List ℕ → SegmentNumbers → ToolError
+    → Type 0
+IsFileRefused said files name r e =
     (fs : List File)
     × (l : Option State)
     × LeadTo None fs l
     × AreHeldFrom files name r.first fs
-    × IsAddRefusal files name (r.first + length fs) l (r.first + length fs == r.last) e
+    × IsAddRefusal said files name (r.first + length fs) l (r.first + length fs == r.last) e
 
 -- the first file of a chain says another number than its name has
 abbrev pub IsNamedWrong : Option Held → List ℕ → SegmentNumbers → ToolError → Type 0
@@ -173,26 +184,26 @@ AreNamesRefused name entries e =
     ⊎ (IsRightNumbers entries (Ok None) × IsNoSegment name e)
 
 -- the names in a folder are refused, or its files
-abbrev pub AreSumsRefused : List ℕ → Option Held → ToolError → Type 0
-AreSumsRefused name files e =
+abbrev pub AreSumsRefused : (Said → Type 0) → List ℕ → Option Held → ToolError → Type 0
+AreSumsRefused said name files e =
     (entries : List FolderEntry)
     × IsFolder files name entries
     × (AreNamesRefused name entries e
     ⊎ ((r : SegmentNumbers)
     × IsRightNumbers entries (Ok (Some r))
-    × (IsFileRefused files name r e ⊎ IsNamedWrong files name r e)))
+    × (IsFileRefused said files name r e ⊎ IsNamedWrong files name r e)))
 
 -- Which refusals the check of a folder may meet: those of its names, those of its files, and the
 -- writer's, which got a prefix of the line.
-abbrev pub IsFolderRefusal : List ℕ → Option Held → Option (List ℕ) → Option (List ℕ)
-    → ToolError → Type 0
-IsFolderRefusal name files old new e =
+abbrev pub IsFolderRefusal : (Said → Type 0) → List ℕ → Option Held → Option (List ℕ)
+    → Option (List ℕ) → ToolError → Type 0
+IsFolderRefusal said name files old new e =
     (entries : List FolderEntry)
     × IsFolder files name entries
     × (AreNamesRefused name entries e
     ⊎ ((r : SegmentNumbers)
     × IsRightNumbers entries (Ok (Some r))
-    × (IsFileRefused files name r e
+    × (IsFileRefused said files name r e
     ⊎ (IsNamedWrong files name r e
     ⊎ ((e ≡ tool.Write)
     × ((fs : List File)

@@ -2,6 +2,7 @@
 use Rattle.std.specs.Prelude.{◌≡◌, ℕ, false, List, Option, ◌⊎◌}
 use Rattle.std.specs.Io.KnownBytes.{Appends}
 use Rattle.text_lines.specs.Texts.{IsCutShort, IsFirstBadLine}
+use Rattle.disks.specs.Said.{Said}
 use Rattle.saved_history.specs.Content.{Content}
 use Rattle.saved_history.specs.Spelling.{Fits, text}
 use Rattle.saved_history.specs.Meaning.{IsText}
@@ -10,7 +11,7 @@ use Rattle.ring_check.specs.declared.answers.Summary.{Summary}
 use Rattle.ring_check.specs.Lines.{lines}
 use Rattle.ring_check.specs.Legal.{IsFirstBad, summary_of}
 use Rattle.ring_check.specs.Meaning.{IsRightText}
-use Rattle.tool_parts.specs.Chained.{IsChainAnswer, IsFolderRefusal}
+use Rattle.tool_parts.specs.Chained.{IsChainAnswer, IsNoFolder, IsFolderRefusal}
 use Rattle.tool_parts.specs.CheckText.{legal_line}
 use Rattle.tool_parts.specs.Named.{IsNamed, IsNamedRefusal}
 use Rattle.tool_parts.specs.Reading.{names_stream}
@@ -72,16 +73,20 @@ IsCheckAnswer words was is = IsTextChecked words was is ⊎ IsChainChecked words
 
 -- Which refusals the check of a text may meet: those of reading what the word names, and those of
 -- the bytes that it gave.
-abbrev pub IsTextRefusal : CheckWords → World → World → ToolError → Type 0
-IsTextRefusal words was is e =
-    IsNamedRefusal words.file.now was.files was.input is.input e
+abbrev pub IsTextRefusal : (Said → Type 0) → Type 0 → CheckWords → World → World → ToolError
+    → Type 0
+IsTextRefusal said failed words was is e =
+    IsNamedRefusal said failed words.file.now was.files was.input is.input e
     ⊎ ((bytes : List ℕ)
     × IsNamed words.file.now was.files was.input is.input bytes
     × IsCheckRefusal bytes was.out is.out e)
 
--- Which refusals `check` may meet: those of a text, or those of a folder.
-abbrev pub IsCheckRunRefusal : CheckWords → World → World → ToolError → Type 0
-IsCheckRunRefusal words was is e =
-    IsTextRefusal words was is e
+-- Which refusals `check` may meet: those of a text, if the word names no folder in which there is
+-- something, or those of a folder.
+abbrev pub IsCheckRunRefusal : (Said → Type 0) → Type 0 → CheckWords → World → World → ToolError
+    → Type 0
+IsCheckRunRefusal said failed words was is e =
+    (IsTextRefusal said failed words was is e
+    × (names_stream words.file.now ≡ false → IsNoFolder said was.files words.file.now))
     ⊎ ((names_stream words.file.now ≡ false)
-    × IsFolderRefusal words.file.now was.files was.out is.out e)
+    × IsFolderRefusal said words.file.now was.files was.out is.out e)

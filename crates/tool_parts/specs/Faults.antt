@@ -139,11 +139,14 @@ IsPieceRefusal piece e =
 abbrev pub IsListRefusal : List ℕ → ToolError → Type 0
 IsListRefusal word e = ((e ≡ tool.BadList) × IsNoList word) ⊎ (e ≡ tool.OutOfMemory)
 
--- Which refusals the reading of a file may meet, by what its reader had left before and has now: a
--- read of the file of this name failed, and no more than are read were given until then; it has
--- more bytes than are read; or out of memory.
-abbrev pub IsReadRefusal : List ℕ → Option (List ℕ) → Option (List ℕ) → ToolError → Type 0
-IsReadRefusal file old new (tool.Read named) = (named.now ≡ file) × IsWithin most_bytes old new
-IsReadRefusal file old new (tool.TooLarge named) = (named.now ≡ file) × IsOver most_bytes old new
-IsReadRefusal file old new tool.OutOfMemory = Unit {0}
-IsReadRefusal file old new _ = ⊥
+-- Which refusals the reading of a file may meet, by whether a read failed, and by what its reader had
+-- left before and has now: a read of the file of this name failed, and no more than are read were
+-- given until then; it has more bytes than are read; or out of memory.
+abbrev pub IsReadRefusal : Type 0 → List ℕ → Option (List ℕ) → Option (List ℕ) → ToolError
+    → Type 0
+IsReadRefusal failed file old new (tool.Read named) =
+    (named.now ≡ file) × failed × IsWithin most_bytes old new
+IsReadRefusal failed file old new (tool.TooLarge named) =
+    (named.now ≡ file) × IsOver most_bytes old new
+IsReadRefusal failed file old new tool.OutOfMemory = Unit {0}
+IsReadRefusal failed file old new _ = ⊥

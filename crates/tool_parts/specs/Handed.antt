@@ -3,6 +3,8 @@
 use Rattle.std.specs.Prelude.{◌≡◌, ℕ, List, true, false, cond, Option, None, Some, ◌⊎◌}
 use Rattle.std.specs.Io.KnownBytes.{Appends}
 use Rattle.disks.specs.Held.{Held, Replaces}
+use Rattle.disks.specs.Said.{Said}
+use Rattle.disks.specs.Replacing.{IsNotReplaced}
 use Rattle.tool_parts.specs.Named.{IsStored}
 use Rattle.tool_parts.specs.Reading.{names_stream}
 use Rattle.tool_parts.specs.Worlds.{World}
@@ -11,15 +13,16 @@ use Rattle.tool_parts.specs.declared.faults.ToolError.{ToolError}
 use Rattle.tool_parts.specs.declared.faults.ToolError.TheVariants as tool
 
 -- The causes that may keep a text from its file, and the printed text from standard output: the
--- file, if one is named, out of memory, and a writer that got a prefix of the printed text, when
+-- file, if one is named and as a call said, out of memory, and a writer that got a prefix of the printed text, when
 -- the file was in its place.
-abbrev pub IsHandOutRefusal : Option (List ℕ) → List ℕ → List ℕ → Option Held → Option Held
-    → Option (List ℕ) → Option (List ℕ) → ToolError → Type 0
-IsHandOutRefusal file text line before after old new (tool.Save named) = Some named.now ≡ file
-IsHandOutRefusal file text line before after old new tool.OutOfMemory = Unit {0}
-IsHandOutRefusal file text line before after old new tool.Write =
+abbrev pub IsHandOutRefusal : (Said → Type 0) → Option (List ℕ) → List ℕ → List ℕ → Option Held
+    → Option Held → Option (List ℕ) → Option (List ℕ) → ToolError → Type 0
+IsHandOutRefusal said file text line before after old new (tool.Save named) =
+    (Some named.now ≡ file) × IsNotReplaced said named.now
+IsHandOutRefusal said file text line before after old new tool.OutOfMemory = Unit {0}
+IsHandOutRefusal said file text line before after old new tool.Write =
     AppendsFront old new line × IsStored file before after text
-IsHandOutRefusal file text line before after old new _ = ⊥
+IsHandOutRefusal said file text line before after old new _ = ⊥
 
 -- The causes that may keep a text from standard output, and the line from standard error: out of
 -- memory, and a writer that got a prefix of the text for it.
@@ -40,17 +43,18 @@ pub record IsHanded (word text line : List ℕ) (was is : World) : Type 0 where
       × Appends was.err is.err line
 
 -- The causes that may keep them from there.
-pub record IsHandRefusal (word text line : List ℕ) (was is : World) (e : ToolError) : Type 0 where
+pub record IsHandRefusal (said : Said → Type 0) (word text line : List ℕ) (was is : World)
+    (e : ToolError) : Type 0 where
   pub to_file : names_stream word ≡ false
-      → IsHandOutRefusal (Some word) text line was.files is.files was.out is.out e
+      → IsHandOutRefusal said (Some word) text line was.files is.files was.out is.out e
   pub to_output : names_stream word ≡ true
       → IsPrintRefusal text line was.out is.out was.err is.err e
 
--- the file of this name cannot be made or written, or there is no memory
-abbrev pub IsSaveRefusal : List ℕ → ToolError → Type 0
-IsSaveRefusal file (tool.Save named) = named.now ≡ file
-IsSaveRefusal file tool.OutOfMemory = Unit {0}
-IsSaveRefusal file _ = ⊥
+-- the file of this name cannot be made or written, as a call said, or there is no memory
+abbrev pub IsSaveRefusal : (Said → Type 0) → List ℕ → ToolError → Type 0
+IsSaveRefusal said file (tool.Save named) = (named.now ≡ file) × IsNotReplaced said file
+IsSaveRefusal said file tool.OutOfMemory = Unit {0}
+IsSaveRefusal said file _ = ⊥
 
 -- the file that a word names, if any: the dash names none
 abbrev pub file_of : Option (List ℕ) → Option (List ℕ)

@@ -5,7 +5,8 @@ use Rattle.std.specs.Path.{rsplit_once}
 use Rattle.disks.specs.Held.{Held, IsOneFile}
 use Rattle.disks.specs.Folders.{path_in, LeadsInto, LeadsToNoNew}
 use Rattle.disks.specs.declared.disk.FolderEntry.{FolderEntry}
-use Rattle.tool_parts.specs.Named.{IsApart}
+use Rattle.disks.specs.Said.{Said, NotCompared, NotFollowed, NotLookedAt, AreOne, LeadsIn, IsStandard}
+use Rattle.tool_parts.specs.Named.{IsApart, HasOtherName}
 use Rattle.tool_parts.specs.declared.faults.ToolError.{ToolError}
 use Rattle.tool_parts.specs.declared.faults.ToolError.TheVariants as tool
 
@@ -51,15 +52,37 @@ IsOutside files folder entries made =
     × IsNoneOf files folder entries made
     × IsNotNewIn files folder made
 
+-- a call said that it lies in the folder by its name, or that links lead into it from there
+abbrev pub LiesThere : (Said → Type 0) → Option Held → List ℕ → List ℕ → Type 0
+LiesThere said files folder made =
+    (LiesIn files folder made × said (AreOne folder (parent_of made)))
+    ⊎ (LeadsInto files folder made × said (LeadsIn folder made))
+
+-- a call said that the name, or its folder, or links from it, cannot be looked at
+abbrev pub IsUnknownThere : (Said → Type 0) → List ℕ → List ℕ → Type 0
+IsUnknownThere said folder made =
+    said (NotLookedAt made)
+    ⊎ (said (NotCompared folder (parent_of made)) ⊎ said (NotFollowed folder made))
+
+-- a call said that one of the files there cannot be looked at
+abbrev pub IsUnlookedThere : (Said → Type 0) → List ℕ → Type 0
+IsUnlookedThere said folder =
+    (name : List ℕ) × (made : List ℕ) × said (NotCompared (path_in folder name) made)
+
 -- By its name it lies in the folder, or links lead into it from there; or it is one of the files there
 -- by another name, or that of a standard descriptor; or it cannot be looked at or made; or a file
--- there cannot be looked at; or there is no memory.
-abbrev pub IsOutsideRefusal : Option Held → List ℕ → Option (List ℕ) → ToolError → Type 0
-IsOutsideRefusal files folder made (tool.InFolder named) =
-    (Some named.now ≡ made) × (LiesIn files folder named.now ⊎ LeadsInto files folder named.now)
-IsOutsideRefusal files folder made (tool.SameFile named) = Some named.now ≡ made
-IsOutsideRefusal files folder made (tool.Stream named) = Some named.now ≡ made
-IsOutsideRefusal files folder made (tool.Save named) = Some named.now ≡ made
-IsOutsideRefusal files folder made (tool.Read named) = named.now ≡ folder
-IsOutsideRefusal files folder made tool.OutOfMemory = Unit {0}
-IsOutsideRefusal files folder made _ = ⊥
+-- there cannot be looked at: each as a call said; or there is no memory.
+abbrev pub IsOutsideRefusal : (Said → Type 0) → Option Held → List ℕ → Option (List ℕ) → ToolError
+    → Type 0
+IsOutsideRefusal said files folder made (tool.InFolder named) =
+    (Some named.now ≡ made) × LiesThere said files folder named.now
+IsOutsideRefusal said files folder made (tool.SameFile named) =
+    (Some named.now ≡ made) × HasOtherName said named.now
+IsOutsideRefusal said files folder made (tool.Stream named) =
+    (Some named.now ≡ made) × said (IsStandard named.now)
+IsOutsideRefusal said files folder made (tool.Save named) =
+    (Some named.now ≡ made) × IsUnknownThere said folder named.now
+IsOutsideRefusal said files folder made (tool.Read named) =
+    (named.now ≡ folder) × IsUnlookedThere said folder
+IsOutsideRefusal said files folder made tool.OutOfMemory = Unit {0}
+IsOutsideRefusal said files folder made _ = ⊥

@@ -1,6 +1,6 @@
 //! A chain of segments in a folder: its files, one after the other, and the line of their sums.
 
-ghost use Rattle.std.specs.Prelude.{false, ◌≡◌, ◌≢◌, ◌⊎◌, ◌≤◌, ◌+◌, ◌++◌, ℕ, List, None, Some, Ok, IfOk, IfErr, IfSome, OnOk, codes, decimal};
+ghost use Rattle.std.specs.Prelude.{false, ◌≡◌, ◌≢◌, ◌⊎◌, ◌≤◌, ◌+◌, ◌++◌, ℕ, List, None, Some, Ok, IfOk, IfErr, IfSome, IsNone, OnOk, codes, decimal};
 ghost use Rattle.std.specs.Io.KnownBytes.{Appends};
 ghost use Rattle.text_lines.specs.Writing.{Writes};
 ghost use Rattle.disks.specs.Held.{Held, IsHeld};
@@ -9,7 +9,7 @@ ghost use Rattle.line_service.specs.SegmentNumbers.{IsRightNumbers};
 ghost use Rattle.segment_files.specs.Spelling.{no_digest};
 ghost use Rattle.segment_files.specs.Files.{File};
 ghost use Rattle.segment_files.specs.Chain.{State, IsAdded, sums_at, digest_at};
-ghost use Rattle.tool_parts.specs.Chained.{from_text, sums_text, chain_line, sums_of, last_digest, IsChainIn, IsFolder, AreFolderSums, IsChainAnswer, IsUnreadSegment, IsAddRefusal, IsFileRefused, IsNamedWrong, AreNamesRefused, AreSumsRefused, IsFolderRefusal};
+ghost use Rattle.tool_parts.specs.Chained.{from_text, sums_text, chain_line, sums_of, last_digest, IsChainIn, IsFolder, IsNoFolder, AreFolderSums, IsChainAnswer, IsUnreadSegment, IsAddRefusal, IsFileRefused, IsNamedWrong, AreNamesRefused, AreSumsRefused, IsFolderRefusal};
 ghost use Rattle.tool_parts.specs.ChainSteps.{Leads, Ends};
 ghost use Rattle.tool_parts.specs.Reading.{names_stream};
 
@@ -26,11 +26,18 @@ use text_lines::{WriteFault, put_all};
 
 /// The entries of a folder, if the name leads to one in which there is something.
 pub fn folder_entries<D: Disk>(disk: &D, name: &str) -> Option<Vec<FolderEntry>>
-    ensures { IfSome result (λ entries. IsFolder (D.holds disk.now) name.now entries.items) }
+    ensures some { IfSome result (λ entries. IsFolder (D.holds disk.now) name.now entries.items) }
+    ensures none { IsNone result → IsNoFolder D.said (D.holds disk.now) name.now }
 {
     match disk.list(name) {
-        Ok(entries) if !entries.is_empty() => Some(entries),
-        _ => None,
+        Ok(entries) => {
+            if entries.is_empty() {
+                None
+            } else {
+                Some(entries)
+            }
+        }
+        Err(_) => None,
     }
 }
 
@@ -39,6 +46,7 @@ pub fn folder_entries<D: Disk>(disk: &D, name: &str) -> Option<Vec<FolderEntry>>
 /// # Errors
 ///
 /// `UnreadSegment` if it cannot be opened or read, `LargeSegment`, and `OutOfMemory`.
+#[tactic(auto, using(crate::proofs::Unread::unread_file))]
 pub fn segment_bytes<'a, D: Disk>(
     alloc: Global,
     disk: &D,
@@ -47,7 +55,7 @@ pub fn segment_bytes<'a, D: Disk>(
 ) -> Result<Vec<u8>, ToolError<'a>>
     ensures ok { IfOk result
         (λ bytes. IsHeld (D.holds disk.now) (segment_file folder.now number) bytes.items) }
-    ensures err { IfErr result (λ e. IsUnreadSegment (D.holds disk.now) folder.now number e) }
+    ensures err { IfErr result (λ e. IsUnreadSegment D.said (D.holds disk.now) folder.now number e) }
 {
     let Ok(name) = segment_file(alloc, folder, number) else {
         return Err(ToolError::OutOfMemory);
@@ -78,7 +86,7 @@ pub fn add_segment<'a, D: Disk>(
         × (chain.new ≡ Some s)
         × IsAdded chain.old bytes last s) }
     ensures err { IfErr result
-        (λ e. IsAddRefusal (D.holds disk.now) folder.now number chain.old last e) }
+        (λ e. IsAddRefusal D.said (D.holds disk.now) folder.now number chain.old last e) }
 {
     let bytes = match segment_bytes(alloc, disk, folder, number) {
         Ok(bytes) => bytes,
@@ -103,7 +111,7 @@ fn add_before_last<'a, D: Disk>(
     requires up { numbers.first ≤ numbers.last }
     ensures ok { OnOk result
         (Leads (D.holds disk.now) folder.now numbers.first numbers.last chain.new) }
-    ensures err { IfErr result (λ e. IsFileRefused (D.holds disk.now) folder.now numbers e) }
+    ensures err { IfErr result (λ e. IsFileRefused D.said (D.holds disk.now) folder.now numbers e) }
 {
     for number in numbers.first..numbers.last {
         match add_segment(alloc, disk, folder, number, false, chain) {
@@ -124,7 +132,7 @@ fn whole_chain<'a, D: Disk>(
     requires up { numbers.first ≤ numbers.last }
     ensures ok { IfOk result
         (λ chain. Ends (D.holds disk.now) folder.now numbers.first numbers.last chain) }
-    ensures err { IfErr result (λ e. IsFileRefused (D.holds disk.now) folder.now numbers e) }
+    ensures err { IfErr result (λ e. IsFileRefused D.said (D.holds disk.now) folder.now numbers e) }
 {
     let mut chain = Chain::new();
     match add_before_last(alloc, disk, folder, numbers, &mut chain) {
@@ -154,7 +162,7 @@ pub fn chain_in<'a, D: Disk>(
         × IsChainIn (D.holds disk.now) folder.now numbers fs
         × (x.0 ≡ sums_of fs)
         × (x.1 ≡ last_digest no_digest fs)) }
-    ensures err { IfErr result (λ e. IsFileRefused (D.holds disk.now) folder.now numbers e
+    ensures err { IfErr result (λ e. IsFileRefused D.said (D.holds disk.now) folder.now numbers e
         ⊎ IsNamedWrong (D.holds disk.now) folder.now numbers e) }
 {
     let chain = match whole_chain(alloc, disk, folder, numbers) {
@@ -289,7 +297,7 @@ pub(crate) fn folder_sums<'a, D: Disk>(
 ) -> Result<(ChainSums, [u8; DIGEST_DIGITS]), ToolError<'a>>
     requires { IsFolder (D.holds disk.now) folder.now entries.now }
     ensures ok { IfOk result (λ x. AreFolderSums folder.now (D.holds disk.now) x.0 x.1) }
-    ensures err { IfErr result (λ e. AreSumsRefused folder.now (D.holds disk.now) e) }
+    ensures err { IfErr result (λ e. AreSumsRefused D.said folder.now (D.holds disk.now) e) }
 {
     let numbers = match folder_numbers(alloc, folder, entries) {
         Ok(numbers) => numbers,
@@ -317,7 +325,7 @@ pub fn check_folder<'a, D: Disk, W: Write>(
     requires { IsFolder (D.holds disk.now) folder.now entries.now }
     ensures ok { OnOk result (IsChainAnswer folder.now (D.holds disk.now) (W.contents out.old)
         (W.contents out.new)) }
-    ensures err { IfErr result (λ e. IsFolderRefusal folder.now (D.holds disk.now)
+    ensures err { IfErr result (λ e. IsFolderRefusal D.said folder.now (D.holds disk.now)
         (W.contents out.old) (W.contents out.new) e) }
     ensures nothing { IfErr result (λ e. e ≢ ToolError.Write → out.new ≡ out.old) }
 {
@@ -333,8 +341,10 @@ pub fn check_folder<'a, D: Disk, W: Write>(
 
 /// The entries of the folder that a word names, if it names one in which there is something.
 pub fn entries_of<D: Disk>(disk: &D, word: &str) -> Option<Vec<FolderEntry>>
-    ensures { IfSome result (λ entries. (names_stream word.now ≡ false)
+    ensures some { IfSome result (λ entries. (names_stream word.now ≡ false)
         × IsFolder (D.holds disk.now) word.now entries.items) }
+    ensures none { IsNone result → names_stream word.now ≡ false
+        → IsNoFolder D.said (D.holds disk.now) word.now }
 {
     if names_stream(word) {
         None

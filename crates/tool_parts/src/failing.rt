@@ -1,7 +1,7 @@
 //! A reader in memory that fails at a byte, and a law of what is read of it.
 
 ghost use Rattle.std.specs.Prelude.{◌≡◌, ◌≤◌, ◌⊎◌, length};
-ghost use Rattle.tool_parts.specs.declared.reading.ReadFault.TheVariants as fault;
+ghost use Rattle.disks.specs.declared.reading.ReadFault.TheVariants as fault;
 
 use crate::reading::{ReadFault, read_limited};
 use std::alloc::Global;

@@ -49,11 +49,44 @@ impl Contents for SavedText<'_> {
 /// The fault of a file that was to be replaced.
 pub fn save_fault(fault: ReplaceFault, file: &str) -> ToolError<'_>
     ensures blamed { IsSaveFault file.now fault result }
-    ensures refusal { IsSaveRefusal file.now result }
+    ensures refusal { IsSaveRefusal (λ _. Unit {0}) file.now result }
 {
     match fault {
         ReplaceFault::OutOfMemory => ToolError::OutOfMemory,
-        ReplaceFault::Make | ReplaceFault::Write | ReplaceFault::Finish => ToolError::Save(file),
+        ReplaceFault::Make
+        | ReplaceFault::Write
+        | ReplaceFault::Finish
+        | ReplaceFault::Unlisted
+        | ReplaceFault::Taken => ToolError::Save(file),
+    }
+}
+
+/// Replaces the file of this name by one with these bytes.
+///
+/// # Errors
+///
+/// `Save` with the name where it cannot be made, written or put there, and `OutOfMemory`. Every file is as it was then.
+pub fn save<'a, D: Disk, C: Contents>(
+    alloc: Global,
+    disk: &mut D,
+    contents: &C,
+    file: &'a str,
+) -> Result<(), ToolError<'a>>
+    requires { C.ready contents.now }
+    ensures stored { OnOk result (Replaces (D.holds disk.old) (D.holds disk.new) file.now
+        (Some (C.bytes contents.now))) }
+    ensures known { OnOk result (C.known contents.now) }
+    ensures err { IfErr result (λ e. IsSaveRefusal D.said file.now e) }
+    ensures kept { OnErr result (D.holds disk.new ≡ D.holds disk.old) }
+{
+    match replace(alloc, disk, file, contents) {
+        Ok(()) => Ok(()),
+        Err(ReplaceFault::OutOfMemory) => Err(ToolError::OutOfMemory),
+        Err(ReplaceFault::Make) => Err(ToolError::Save(file)),
+        Err(ReplaceFault::Write) => Err(ToolError::Save(file)),
+        Err(ReplaceFault::Finish) => Err(ToolError::Save(file)),
+        Err(ReplaceFault::Unlisted) => Err(ToolError::Save(file)),
+        Err(ReplaceFault::Taken) => Err(ToolError::Save(file)),
     }
 }
 
@@ -61,7 +94,7 @@ pub fn save_fault(fault: ReplaceFault, file: &str) -> ToolError<'_>
 ///
 /// # Errors
 ///
-/// `Save` with the name where it cannot be made, written or put there, and `OutOfMemory`. Every file is as it was then.
+/// Those of [`save`].
 fn save_value<'a, D: Disk>(
     alloc: Global,
     disk: &mut D,
@@ -71,12 +104,12 @@ fn save_value<'a, D: Disk>(
     requires { CanBeSaved (content saved.now) }
     ensures stored { OnOk result (Replaces (D.holds disk.old) (D.holds disk.new) file.now
         (Some (text (content saved.now)))) }
-    ensures err { IfErr result (λ e. IsSaveRefusal file.now e) }
+    ensures err { IfErr result (λ e. IsSaveRefusal D.said file.now e) }
     ensures kept { OnErr result (D.holds disk.new ≡ D.holds disk.old) }
 {
-    match replace(alloc, disk, file, &SavedText { saved }) {
+    match save(alloc, disk, &SavedText { saved }, file) {
         Ok(()) => Ok(()),
-        Err(fault) => Err(save_fault(fault, file)),
+        Err(fault) => Err(fault),
     }
 }
 
@@ -101,7 +134,7 @@ fn save_and_tell<'a, D: Disk, W: Write>(
         (Appends (W.contents out.old) (W.contents out.new)
         (legal_line value.now.1 ++ left_line left.now.bytes left.now.bad)) }
     ensures err { IfErr result (λ e.
-        IsHandOutRefusal (Some file.now) (text (content value.now.0))
+        IsHandOutRefusal D.said (Some file.now) (text (content value.now.0))
         (legal_line value.now.1 ++ left_line left.now.bytes left.now.bad) (D.holds disk.old)
         (D.holds disk.new) (W.contents out.old) (W.contents out.new) e) }
     ensures kept { IfErr result (λ e. e ≢ ToolError.Write → D.holds disk.new ≡ D.holds disk.old) }
@@ -162,7 +195,7 @@ pub fn hand_over_kept<'a, D: Disk, W: Write, E: Write>(
         (legal_line value.now.1 ++ left_line left.now.bytes left.now.bad)
         (world (D.holds disk.old) None (W.contents out.old) (E.contents err.old))
         (world (D.holds disk.new) None (W.contents out.new) (E.contents err.new))) }
-    ensures err { IfErr result (λ e. IsHandRefusal word.now (text (content value.now.0))
+    ensures err { IfErr result (λ e. IsHandRefusal D.said word.now (text (content value.now.0))
         (legal_line value.now.1 ++ left_line left.now.bytes left.now.bad)
         (world (D.holds disk.old) None (W.contents out.old) (E.contents err.old))
         (world (D.holds disk.new) None (W.contents out.new) (E.contents err.new)) e) }
@@ -196,7 +229,7 @@ pub fn hand_over<'a, D: Disk, W: Write, E: Write>(
         (legal_line value.now.1)
         (world (D.holds disk.old) None (W.contents out.old) (E.contents err.old))
         (world (D.holds disk.new) None (W.contents out.new) (E.contents err.new))) }
-    ensures err { IfErr result (λ e. IsHandRefusal word.now (text (content value.now.0))
+    ensures err { IfErr result (λ e. IsHandRefusal D.said word.now (text (content value.now.0))
         (legal_line value.now.1)
         (world (D.holds disk.old) None (W.contents out.old) (E.contents err.old))
         (world (D.holds disk.new) None (W.contents out.new) (E.contents err.new)) e) }

@@ -1,8 +1,9 @@
 //! The lock of a folder, and files that one process at a time writes at their end.
 
-ghost use Rattle.std.specs.Prelude.{◌≡◌, ℕ, List, true, OnOk, OnErr, IfOk, IfErr, string_bytes};
+ghost use Rattle.std.specs.Prelude.{◌≡◌, ℕ, List, true, IsTrue, OnOk, OnErr, IfOk, IfErr, string_bytes};
 ghost use Rattle.disks.specs.Held.{Grows, IsHeld};
 ghost use Rattle.disks.specs.Lasting.{outlives};
+ghost use Rattle.disks.specs.Said.{NotCompared};
 ghost use Rattle.tool_parts.specs.Locking.{lock_of, IsUnopenedJournal, IsLocked, IsLockLeft, IsUnkeptFolder};
 
 use crate::faults::ToolError;
@@ -18,7 +19,7 @@ pub fn open_journal<'a, D: Disk>(
 ) -> Result<D::Grown, ToolError<'a>>
     ensures ok { IfOk result (λ grown. Grows (D.holds disk.old) name.now (D.Grown.contents grown)) }
     ensures kept { D.holds disk.new ≡ D.holds disk.old }
-    ensures err { IfErr result (λ e. IsUnopenedJournal name.now e) }
+    ensures err { IfErr result (λ e. IsUnopenedJournal D.said name.now e) }
     ensures lasts { IfOk result (λ grown. outlives D.keeps_written synced ≡ true
         → D.Grown.lasting grown ≡ D.Grown.contents grown) }
 {
@@ -35,7 +36,7 @@ pub fn open_journal<'a, D: Disk>(
 pub fn hold_journal<'a, D: Disk>(disk: &mut D, name: &'a str) -> Result<D::Hold, ToolError<'a>>
     ensures ok { OnOk result ((bytes : List ℕ) × IsHeld (D.holds disk.old) name.now bytes) }
     ensures kept { D.holds disk.new ≡ D.holds disk.old }
-    ensures err { IfErr result (λ e. IsUnopenedJournal name.now e) }
+    ensures err { IfErr result (λ e. IsUnopenedJournal D.said name.now e) }
 {
     match disk.hold(name) {
         Ok(hold) => Ok(hold),
@@ -58,7 +59,9 @@ fn has_irregular<D: Disk>(disk: &D, folder: &str, name: &str) -> bool {
 
 /// Whether the lock of a folder is a link that leads to no file. What was made by it would be a file of another name, which the folder
 /// may not have.
-fn leads_nowhere<D: Disk>(disk: &D, folder: &str, lock: &str) -> bool {
+fn leads_nowhere<D: Disk>(disk: &D, folder: &str, lock: &str) -> bool
+    ensures { IsTrue result → D.said (NotCompared lock.now lock.now) }
+{
     disk.is_one_file(lock, lock).is_err() && has_irregular(disk, folder, "lock")
 }
 
@@ -74,7 +77,7 @@ pub fn lock_folder<'a, D: Disk>(
 ) -> Result<(), ToolError<'a>>
     ensures locked { OnOk result (IsLocked (D.holds disk.old) (D.holds disk.new) folder.now) }
     ensures left { OnErr result (IsLockLeft (D.holds disk.old) (D.holds disk.new) folder.now) }
-    ensures err { IfErr result (λ e. IsUnkeptFolder folder.now e) }
+    ensures err { IfErr result (λ e. IsUnkeptFolder D.said folder.now e) }
 {
     let Ok(name) = lock_file(alloc, folder) else {
         return Err(ToolError::OutOfMemory);

@@ -41,9 +41,9 @@ fn look_again<'a, D: Disk>(
     found: Result<(ChainSums, [u8; DIGEST_DIGITS]), ToolError<'a>>,
 ) -> Result<(ChainSums, [u8; DIGEST_DIGITS]), ToolError<'a>>
     requires ok { IfOk found (λ x. AreFolderSums folder.now (D.holds disk.now) x.0 x.1) }
-    requires err { IfErr found (λ e. AreSumsRefused folder.now (D.holds disk.now) e) }
+    requires err { IfErr found (λ e. AreSumsRefused D.said folder.now (D.holds disk.now) e) }
     ensures ok { IfOk result (λ x. AreFolderSums folder.now (D.holds disk.now) x.0 x.1) }
-    ensures err { IfErr result (λ e. AreSumsRefused folder.now (D.holds disk.now) e) }
+    ensures err { IfErr result (λ e. AreSumsRefused D.said folder.now (D.holds disk.now) e) }
 {
     match found {
         Ok(sums) => Ok(sums),
@@ -72,7 +72,7 @@ pub fn sums_in<'a, D: Disk>(
 ) -> Result<(ChainSums, [u8; DIGEST_DIGITS]), ToolError<'a>>
     requires { IsFolder (D.holds disk.now) folder.now entries.now }
     ensures ok { IfOk result (λ x. AreFolderSums folder.now (D.holds disk.now) x.0 x.1) }
-    ensures err { IfErr result (λ e. AreSumsRefused folder.now (D.holds disk.now) e) }
+    ensures err { IfErr result (λ e. AreSumsRefused D.said folder.now (D.holds disk.now) e) }
 {
     let mut found = folder_sums(alloc, disk, folder, entries);
     for _ in 0..MOST_LOOKS {

@@ -1,6 +1,6 @@
 //! Whether a file that is to be made lies outside of a folder that is read.
 
-ghost use Rattle.std.specs.Prelude.{◌≡◌, Some, OnOk, IfOk, IfErr, string_bytes};
+ghost use Rattle.std.specs.Prelude.{◌≡◌, Some, OnOk, IfErr, string_bytes};
 ghost use Rattle.disks.specs.Held.{LeadsToFolder};
 ghost use Rattle.disks.specs.Folders.{path_in};
 ghost use Rattle.tool_parts.specs.Named.{IsApart};
@@ -9,18 +9,8 @@ ghost use Rattle.tool_parts.specs.Handed.{file_of};
 
 use crate::faults::ToolError;
 use crate::reading::names_stream;
-use disks::{Disk, FolderEntry};
-use std::alloc::{AllocError, Global};
-
-/// The name of a file in a folder: a slash is between the two.
-fn path_of(alloc: Global, folder: &str, name: &str) -> Result<String, AllocError>
-    ensures { IfOk result (λ path. string_bytes path ≡ path_in folder.now name.now) }
-{
-    let mut path = String::from_str(alloc, folder)?;
-    path.push_str("/")?;
-    path.push_str(name)?;
-    Ok(path)
-}
+use disks::{Disk, FolderEntry, path_of};
+use std::alloc::Global;
 
 /// What is before a slash, as the name of a folder.
 fn before_slash(front: &str) -> &str
@@ -48,7 +38,7 @@ fn keep_parent_apart<'a, D: Disk>(
     requires folder { LeadsToFolder (D.holds disk.now) folder.now }
     ensures ok { OnOk result (LiesElsewhere (D.holds disk.now) folder.now (Some made.now)) }
     ensures err { IfErr result
-        (λ e. IsOutsideRefusal (D.holds disk.now) folder.now (Some made.now) e) }
+        (λ e. IsOutsideRefusal D.said (D.holds disk.now) folder.now (Some made.now) e) }
 {
     match disk.is_one_file(folder, parent_of(made)) {
         Ok(false) => Ok(()),
@@ -64,7 +54,7 @@ fn keep_stream_apart<'a, D: Disk>(
     made: &'a str,
 ) -> Result<(), ToolError<'a>>
     ensures { IfErr result
-        (λ e. IsOutsideRefusal (D.holds disk.now) folder.now (Some made.now) e) }
+        (λ e. IsOutsideRefusal D.said (D.holds disk.now) folder.now (Some made.now) e) }
 {
     match disk.is_standard(made) {
         Ok(false) => Ok(()),
@@ -77,7 +67,7 @@ fn keep_stream_apart<'a, D: Disk>(
 fn keep_links_apart<'a, D: Disk>(disk: &D, folder: &str, made: &'a str) -> Result<(), ToolError<'a>>
     ensures ok { OnOk result (IsNotNewIn (D.holds disk.now) folder.now (Some made.now)) }
     ensures err { IfErr result
-        (λ e. IsOutsideRefusal (D.holds disk.now) folder.now (Some made.now) e) }
+        (λ e. IsOutsideRefusal D.said (D.holds disk.now) folder.now (Some made.now) e) }
 {
     match disk.leads_into(folder, made) {
         Ok(false) => Ok(()),
@@ -97,7 +87,7 @@ fn keep_entry_apart<'a, D: Disk>(
     ensures ok { OnOk result (IsApart (D.holds disk.now)
         (path_in folder.now (string_bytes entry.now.name)) (Some made.now)) }
     ensures err { IfErr result
-        (λ e. IsOutsideRefusal (D.holds disk.now) folder.now (Some made.now) e) }
+        (λ e. IsOutsideRefusal D.said (D.holds disk.now) folder.now (Some made.now) e) }
 {
     let Ok(path) = path_of(alloc, folder, entry.name.as_str()) else {
         return Err(ToolError::OutOfMemory);
@@ -120,7 +110,7 @@ fn keep_entries_apart<'a, D: Disk>(
     ensures ok { OnOk result
         (IsNoneOf (D.holds disk.now) folder.now entries.now (Some made.now)) }
     ensures err { IfErr result
-        (λ e. IsOutsideRefusal (D.holds disk.now) folder.now (Some made.now) e) }
+        (λ e. IsOutsideRefusal D.said (D.holds disk.now) folder.now (Some made.now) e) }
 {
     for entry in entries {
         match keep_entry_apart(alloc, disk, folder, entry, made) {
@@ -150,7 +140,7 @@ pub fn keep_outside<'a, D: Disk>(
     ensures ok { OnOk result
         (IsOutside (D.holds disk.now) folder.now entries.now (file_of (Some word.now))) }
     ensures err { IfErr result (λ e.
-        IsOutsideRefusal (D.holds disk.now) folder.now (file_of (Some word.now)) e) }
+        IsOutsideRefusal D.said (D.holds disk.now) folder.now (file_of (Some word.now)) e) }
 {
     if names_stream(word) {
         return Ok(());

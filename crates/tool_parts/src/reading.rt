@@ -1,92 +1,40 @@
 //! Reading of whole files, up to a limit, by their names.
 
-ghost use Rattle.std.specs.Prelude.{◌≡◌, ◌≤◌, Some, false, vec_len, IfOk, OnOk, IfErr, IsErrOf};
-ghost use Rattle.std.specs.Io.KnownBytes.{Consumes, IsAtEnd};
+ghost use Rattle.std.specs.Prelude.{◌≡◌, Some, false, IfOk, OnOk, IfErr};
 ghost use Rattle.disks.specs.Held.{IsHeld};
+ghost use Rattle.disks.specs.Said.{IsStandard};
 ghost use Rattle.tool_parts.specs.Faults.{IsReadRefusal};
 ghost use Rattle.tool_parts.specs.Named.{IsNamed, IsFileRefusal, IsNamedRefusal, IsApart, IsApartRefusal};
-ghost use Rattle.tool_parts.specs.Reading.{most_bytes, names_stream, IsAllOf, IsWithin, IsOver};
+ghost use Rattle.tool_parts.specs.Reading.{most_bytes, names_stream, IsAllOf};
 
 use crate::faults::ToolError;
-use disks::Disk;
+use disks::{Disk, Source};
+pub use disks::{ReadFault, read_limited};
 use std::alloc::Global;
-use std::io::Read;
 
 /// The most bytes of a file that is read.
 pub const MOST_BYTES: u64 = 1_073_741_824;
-
-/// How many bytes are asked for at once.
-const BLOCK: usize = 8192;
-
-/// Why the bytes of a reader cannot be had.
-#[derive(Clone, Copy, Debug, PartialEq, Eq)]
-pub enum ReadFault {
-    /// A read failed.
-    Failed,
-    /// There is a byte more than may be read.
-    TooLarge,
-    OutOfMemory,
-}
-
-/// All bytes that a reader gives, at most `limit`.
-///
-/// It ends at the first error of a read, an interruption too, and at the first byte over the limit.
-/// It asks for memory as bytes come.
-///
-/// # Errors
-///
-/// `Failed` at an error of a read, `TooLarge` where one byte more than `limit` was read, and
-/// `OutOfMemory`.
-pub fn read_limited<R: Read>(
-    alloc: Global,
-    reader: &mut R,
-    limit: u64,
-) -> Result<Vec<u8>, ReadFault>
-    ensures most { IfOk result (λ bytes. vec_len bytes ≤ limit) }
-    ensures given { IfOk result
-        (λ bytes. Consumes (R.remaining reader.old) (R.remaining reader.new) bytes.items) }
-    ensures end { OnOk result (IsAtEnd (R.remaining reader.new)) }
-    ensures large { IsErrOf result ReadFault.TooLarge
-        → IsOver limit (R.remaining reader.old) (R.remaining reader.new) }
-    ensures failed { IsErrOf result ReadFault.Failed
-        → IsWithin limit (R.remaining reader.old) (R.remaining reader.new) }
-{
-    let mut bytes = Vec::new(alloc);
-    let mut block = [0u8; BLOCK];
-    while bytes.len() as u64 <= limit {
-        let room = (limit - bytes.len() as u64).min(BLOCK as u64 - 1) as usize + 1;
-        let Ok(count) = reader.read(&mut block[..room]) else {
-            return Err(ReadFault::Failed);
-        };
-        if count == 0 {
-            return Ok(bytes);
-        }
-        if bytes.extend_from_slice(&block[..count]).is_err() {
-            return Err(ReadFault::OutOfMemory);
-        }
-    }
-    Err(ReadFault::TooLarge)
-}
 
 /// All bytes of the file of this name, by its reader, at most [`MOST_BYTES`].
 ///
 /// # Errors
 ///
 /// `Read` at the first error of a read, `TooLarge`, each with the name, and `OutOfMemory`.
-pub fn read_whole<'a, R: Read>(
+pub fn read_whole<'a, R: Source>(
     alloc: Global,
-    file: &'a str,
+    name: &'a str,
     reader: &mut R,
 ) -> Result<Vec<u8>, ToolError<'a>>
     ensures ok { IfOk result (λ bytes.
         IsAllOf most_bytes (R.remaining reader.old) (R.remaining reader.new) bytes.items) }
     ensures err { IfErr result
-        (λ e. IsReadRefusal file.now (R.remaining reader.old) (R.remaining reader.new) e) }
+        (λ e. IsReadRefusal R.Source.failed name.now (R.remaining reader.old)
+        (R.remaining reader.new) e) }
 {
     match read_limited(alloc, reader, MOST_BYTES) {
         Ok(bytes) => Ok(bytes),
-        Err(ReadFault::Failed) => Err(ToolError::Read(file)),
-        Err(ReadFault::TooLarge) => Err(ToolError::TooLarge(file)),
+        Err(ReadFault::Failed) => Err(ToolError::Read(name)),
+        Err(ReadFault::TooLarge) => Err(ToolError::TooLarge(name)),
         Err(ReadFault::OutOfMemory) => Err(ToolError::OutOfMemory),
     }
 }
@@ -103,20 +51,23 @@ pub fn names_stream(word: &str) -> bool
 /// # Errors
 ///
 /// `Read` if the file cannot be opened, and those of [`read_whole`].
+#[tactic(auto, using(crate::proofs::Unread::read_failed, crate::proofs::Unread::too_large))]
 pub fn read_file<'a, D: Disk>(
     alloc: Global,
     disk: &D,
     file: &'a str,
 ) -> Result<Vec<u8>, ToolError<'a>>
     ensures ok { IfOk result (λ bytes. IsHeld (D.holds disk.now) file.now bytes.items) }
-    ensures err { IfErr result (λ e. IsFileRefusal (D.holds disk.now) file.now e) }
+    ensures err { IfErr result (λ e. IsFileRefusal D.said (D.holds disk.now) file.now e) }
 {
     let Ok(mut reader) = disk.open(file) else {
         return Err(ToolError::Read(file));
     };
-    match read_whole(alloc, file, &mut reader) {
+    match read_limited(alloc, &mut reader, MOST_BYTES) {
         Ok(bytes) => Ok(bytes),
-        Err(fault) => Err(fault),
+        Err(ReadFault::Failed) => Err(ToolError::Read(file)),
+        Err(ReadFault::TooLarge) => Err(ToolError::TooLarge(file)),
+        Err(ReadFault::OutOfMemory) => Err(ToolError::OutOfMemory),
     }
 }
 
@@ -126,7 +77,7 @@ pub fn read_file<'a, D: Disk>(
 /// # Errors
 ///
 /// Those of [`read_whole`] and [`read_file`].
-pub fn read_named<'a, D: Disk, I: Read>(
+pub fn read_named<'a, D: Disk, I: Source>(
     alloc: Global,
     disk: &D,
     word: &'a str,
@@ -134,8 +85,8 @@ pub fn read_named<'a, D: Disk, I: Read>(
 ) -> Result<Vec<u8>, ToolError<'a>>
     ensures ok { IfOk result (λ bytes. IsNamed word.now (D.holds disk.now) (I.remaining input.old)
         (I.remaining input.new) bytes.items) }
-    ensures err { IfErr result (λ e. IsNamedRefusal word.now (D.holds disk.now)
-        (I.remaining input.old) (I.remaining input.new) e) }
+    ensures err { IfErr result (λ e. IsNamedRefusal D.said I.Source.failed word.now
+        (D.holds disk.now) (I.remaining input.old) (I.remaining input.new) e) }
     ensures unread { names_stream word.now ≡ false → input.new ≡ input.old }
 {
     if names_stream(word) {
@@ -150,7 +101,8 @@ pub const STANDARD_INPUT: &str = "/dev/stdin";
 
 /// The fault of a file that was to be made, but which the process reads or writes by a standard descriptor.
 fn stream_fault<'a, D: Disk>(disk: &D, read: &str, made: &'a str) -> ToolError<'a>
-    ensures { IsApartRefusal (Some made.now) result }
+    requires { D.said (IsStandard made.now) }
+    ensures { IsApartRefusal D.said (Some made.now) result }
 {
     if names_stream(read) && matches!(disk.is_one_file(STANDARD_INPUT, made), Ok(true)) {
         ToolError::SameFile(made)
@@ -165,7 +117,7 @@ fn stream_fault<'a, D: Disk>(disk: &D, read: &str, made: &'a str) -> ToolError<'
 ///
 /// Those of [`stream_fault`], and `Save` with its name if it cannot be looked at or there is no folder for it.
 fn keep_from_streams<'a, D: Disk>(disk: &D, read: &str, made: &'a str) -> Result<(), ToolError<'a>>
-    ensures { IfErr result (λ e. IsApartRefusal (Some made.now) e) }
+    ensures { IfErr result (λ e. IsApartRefusal D.said (Some made.now) e) }
 {
     match disk.is_standard(made) {
         Ok(false) => Ok(()),
@@ -182,7 +134,7 @@ fn keep_from_streams<'a, D: Disk>(disk: &D, read: &str, made: &'a str) -> Result
 /// another one of a standard descriptor; and `Save` with it if it cannot be looked at or made.
 pub fn keep_apart<'a, D: Disk>(disk: &D, read: &str, made: &'a str) -> Result<(), ToolError<'a>>
     ensures ok { OnOk result (IsApart (D.holds disk.now) read.now (Some made.now)) }
-    ensures err { IfErr result (λ e. IsApartRefusal (Some made.now) e) }
+    ensures err { IfErr result (λ e. IsApartRefusal D.said (Some made.now) e) }
 {
     match keep_from_streams(disk, read, made) {
         Ok(()) => {}

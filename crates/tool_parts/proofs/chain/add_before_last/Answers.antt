@@ -12,7 +12,7 @@ loop-number-preserved g c =
     leads_on _ _ _ _ _ _ a.0 a.1 c.loop-number.invariant a.2 a.3 a.4
 
 pub returns-in-Err-clause-err : goal.returns-in-Err-clause-err
-returns-in-Err-clause-err g c = refused_at _ _ c.args.numbers _ _ c.in-Err.fault c.loop-number.invariant (omega arith) c.in-Err.ensures.err
+returns-in-Err-clause-err g c = refused_at _ _ _ c.args.numbers _ _ c.in-Err.fault c.loop-number.invariant (omega arith) c.in-Err.ensures.err
 
 pub returns-clause-ok : goal.returns-clause-ok
 returns-clause-ok g c = let end = c.requires.up in subst (λ n. Leads (g.D.Disk.holds c.args.disk.now) c.args.folder.now c.args.numbers.first n c.loop-number.chain) (omega arith) c.loop-number.invariant

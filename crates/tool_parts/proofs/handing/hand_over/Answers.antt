@@ -8,4 +8,4 @@ pub returns-in-Ok-clause-ok : goal.returns-in-Ok-clause-ok
 returns-in-Ok-clause-ok g c = handed_alone _ _ _ _ _ _ (ap (λ (l : LeftOut). left_line l.bytes l.bad) c.none.ensures) c.in-Ok.ensures.ok
 
 pub returns-in-Err-clause-err : goal.returns-in-Err-clause-err
-returns-in-Err-clause-err g c = unhanded_alone _ _ _ _ _ _ _ (ap (λ (l : LeftOut). left_line l.bytes l.bad) c.none.ensures) c.in-Err.ensures.err
+returns-in-Err-clause-err g c = unhanded_alone _ _ _ _ _ _ _ _ (ap (λ (l : LeftOut). left_line l.bytes l.bad) c.none.ensures) c.in-Err.ensures.err
