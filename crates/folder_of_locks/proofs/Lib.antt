@@ -19,4 +19,3 @@ mod HeldNames
 mod PoolWords
 mod NameRefused
 mod NameHanded
-mod Within

@@ -1,7 +1,10 @@
 -- The locks of a folder (this project's own).
 use Rattle.std.specs.Prelude.{◌≡◌, ◌≢◌, ℕ, ◌<◌, List, [], ◌++◌, length, slice_get, Bool, true, false, Option, Some, None, Ok, Err, ◌⊎◌}
 use Rattle.std.specs.Str.{IsUtf8}
-use Rattle.disks.specs.Held.{Held, Replaces, IsHeld}
+use Rattle.disks.specs.Held.{Held, Opens, Replaces, IsHeld}
+use Rattle.disks.specs.Said.{Said, NotOpened, NotRead, NotListed}
+use Rattle.disks.specs.Reading.{IsOver}
+use Rattle.disks.specs.Replacing.{IsNotReplaced}
 use Rattle.disks.specs.Folders.{Lists, is_among, names_of, path_in}
 use Rattle.disks.specs.declared.disk.FolderEntry.{FolderEntry}
 use Rattle.line_service.specs.SegmentNames.{list_name, segment_file}
@@ -167,11 +170,22 @@ IsDifference old new (fault.OtherLock i) =
     (i < length old) × (slice_get new i ≢ slice_get old i)
 IsDifference old new _ = ⊥
 
--- the file of this segment cannot be read
-abbrev pub IsUnread : ℕ → StartFault → Type 0
-IsUnread n (fault.UnreadSegment m) = m ≡ n
-IsUnread n fault.OutOfMemory = Unit {0}
-IsUnread n _ = ⊥
+-- the file of this name cannot be read, as a call said, or has more bytes than are read
+abbrev pub IsUnreadFile : (Said → Type 0) → Option Held → List ℕ → Type 0
+IsUnreadFile said files name =
+    said (NotOpened name)
+    ⊎ (said NotRead
+    ⊎ ((from : Option (List ℕ))
+    × (left : Option (List ℕ))
+    × Opens files name from
+    × IsOver most_bytes from left))
+
+-- the file of this segment cannot be
+abbrev pub IsUnread : (Said → Type 0) → Option Held → List ℕ → ℕ → StartFault → Type 0
+IsUnread said files folder n (fault.UnreadSegment m) =
+    (m ≡ n) × IsUnreadFile said files (segment_file folder n)
+IsUnread said files folder n fault.OutOfMemory = Unit {0}
+IsUnread said files folder n _ = ⊥
 
 -- no chain can end with these bytes, or they say another number
 abbrev pub IsNoEnd : ℕ → List ℕ → StartFault → Type 0
@@ -184,26 +198,26 @@ IsNoEnd n bytes fault.OutOfMemory = Unit {0}
 IsNoEnd n bytes _ = ⊥
 
 -- the segment of this number cannot be read, or its bytes are refused
-abbrev pub IsSegmentFault : Option Held → List ℕ → ℕ → StartFault → Type 0
-IsSegmentFault files folder n e =
-    IsUnread n e
+abbrev pub IsSegmentFault : (Said → Type 0) → Option Held → List ℕ → ℕ → StartFault → Type 0
+IsSegmentFault said files folder n e =
+    IsUnread said files folder n e
     ⊎ ((bytes : List ℕ) × IsHeld files (segment_file folder n) bytes × IsNoEnd n bytes e)
 
 -- the locks do not start: the last segment is refused, or its rings are
 abbrev pub IsFirstFault : List Listed → StartFault → Type 0
 IsFirstFault ls e = AreRingsRefused [] [] ls e
 
-abbrev pub IsLastFault : Option Held → List ℕ → ℕ → List Listed → StartFault → Type 0
-IsLastFault files folder n ls e =
-    IsSegmentFault files folder n e
+abbrev pub IsLastFault : (Said → Type 0) → Option Held → List ℕ → ℕ → List Listed → StartFault → Type 0
+IsLastFault said files folder n ls e =
+    IsSegmentFault said files folder n e
     ⊎ ((s : LastSegment)
     × IsAtLast files folder n s
     × AreRingsRefused s.head.bases.items s.saved.rings.items ls e)
 
-abbrev pub IsPlaceFault : Option Held → List ℕ → Option SegmentNumbers → List Listed → StartFault
+abbrev pub IsPlaceFault : (Said → Type 0) → Option Held → List ℕ → Option SegmentNumbers → List Listed → StartFault
     → Type 0
-IsPlaceFault files folder None ls e = IsFirstFault ls e
-IsPlaceFault files folder (Some r) ls e = IsLastFault files folder r.last ls e
+IsPlaceFault said files folder None ls e = IsFirstFault ls e
+IsPlaceFault said files folder (Some r) ls e = IsLastFault said files folder r.last ls e
 
 -- the hold of a line is not open, or no lock has its name; or out of memory
 abbrev pub IsUnhanded : Names → List LockView → List Hold → StartFault → Type 0
@@ -212,10 +226,10 @@ IsUnhanded names locks holders fault.OutOfMemory = Unit {0}
 IsUnhanded names locks holders _ = ⊥
 
 -- the locks do not start, or a hold is not open
-abbrev pub IsHandingFault : Option Held → List ℕ → Option SegmentNumbers → List Listed
+abbrev pub IsHandingFault : (Said → Type 0) → Option Held → List ℕ → Option SegmentNumbers → List Listed
     → List Hold → StartFault → Type 0
-IsHandingFault files folder range ls holders e =
-    IsPlaceFault files folder range ls e
+IsHandingFault said files folder range ls holders e =
+    IsPlaceFault said files folder range ls e
     ⊎ ((found : Found)
     × StandsAt files folder range ls found
     × IsUnhanded (names_in ls) found.locks holders e)
@@ -228,19 +242,19 @@ IsListless range word _ = ⊥
 
 -- the file of locks cannot be read, or is that of no list; or the list that is named does not
 -- continue it
-abbrev pub IsFileRefusal : Option Held → List ℕ → StartFault → Type 0
-IsFileRefusal files folder e =
-    (e ≡ fault.UnreadLocks)
+abbrev pub IsFileRefusal : (Said → Type 0) → Option Held → List ℕ → StartFault → Type 0
+IsFileRefusal said files folder e =
+    ((e ≡ fault.UnreadLocks) × IsUnreadFile said files (locks_file folder))
     ⊎ ((e ≡ fault.OutOfMemory)
     ⊎ ((bytes : List ℕ) × IsHeld files (locks_file folder) bytes × IsTextFault bytes e))
 
 -- Why the locks of a folder do not start, by whether it has a file of locks. Every file is as it
 -- was.
-abbrev pub IsStartRefusal : Option Held → List ℕ → Bool → Option SegmentNumbers
+abbrev pub IsStartRefusal : (Said → Type 0) → Option Held → List ℕ → Bool → Option SegmentNumbers
     → Option (List ℕ) → List Hold → StartFault → Type 0
-IsStartRefusal files folder has range word holders e =
+IsStartRefusal said files folder has range word holders e =
     ((has ≡ false) × IsListless range word e)
-    ⊎ (((has ≡ true) × IsFileRefusal files folder e)
+    ⊎ (((has ≡ true) × IsFileRefusal said files folder e)
     ⊎ (((w : List ℕ) × (word ≡ Some w) × IsWordRefusal w e)
     ⊎ (((w : List ℕ)
     × (old : List Listed)
@@ -251,14 +265,15 @@ IsStartRefusal files folder has range word holders e =
     × IsDifference old ls e)
     ⊎ (((ls : List Listed)
     × AreLocksOf files folder has range word ls
-    × IsHandingFault files folder range ls holders e)
-    ⊎ ((e ≡ fault.Unsaved) ⊎ (e ≡ fault.OutOfMemory))))))
+    × IsHandingFault said files folder range ls holders e)
+    ⊎ (((e ≡ fault.Unsaved) × IsNotReplaced said (locks_file folder))
+    ⊎ (e ≡ fault.OutOfMemory))))))
 
 -- the same of the folder; or its names are refused
-abbrev pub AreUnstarted : Option Held → List ℕ → Option (List ℕ) → List Hold → StartFault
+abbrev pub AreUnstarted : (Said → Type 0) → Option Held → List ℕ → Option (List ℕ) → List Hold → StartFault
     → Type 0
-AreUnstarted files folder word holders e =
-    (e ≡ fault.Folder folders.Unlisted)
+AreUnstarted said files folder word holders e =
+    ((e ≡ fault.Folder folders.Unlisted) × said (NotListed folder))
     ⊎ ((entries : List FolderEntry)
     × Lists files folder entries
     × (((error : FolderError)
@@ -266,5 +281,5 @@ AreUnstarted files folder word holders e =
     × IsRightNumbers entries (Err error))
     ⊎ ((range : Option SegmentNumbers)
     × IsRightNumbers entries (Ok range)
-    × IsStartRefusal files folder (is_among (names_of entries) list_name) range word holders
+    × IsStartRefusal said files folder (is_among (names_of entries) list_name) range word holders
     e)))

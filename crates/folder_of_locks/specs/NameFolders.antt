@@ -2,6 +2,8 @@
 use Rattle.std.specs.Prelude.{◌≡◌, ℕ, ◌+◌, ◌-◌, ◌<◌, ◌≤◌, nat_le, if◌then◌else◌, List, [], length, Bool, true, false, Option, Some, None, is_some, option_map, Ok, Err, ◌⊎◌}
 use Rattle.std.specs.Str.{IsUtf8}
 use Rattle.disks.specs.Held.{Held, Replaces, IsHeld}
+use Rattle.disks.specs.Said.{Said, NotListed}
+use Rattle.disks.specs.Replacing.{IsNotReplaced}
 use Rattle.disks.specs.Folders.{Lists, is_among, names_of}
 use Rattle.disks.specs.declared.disk.FolderEntry.{FolderEntry}
 use Rattle.ring_state.specs.Sizes.{Size}
@@ -24,7 +26,7 @@ use Rattle.folder_of_locks.specs.Pools.{Pooled, IsPooledWord, IsPooledFile, IsPo
 use Rattle.folder_of_locks.specs.Rings.{AreBegun, AreRingsRefused}
 use Rattle.folder_of_locks.specs.declared.faults.StartFault.{StartFault}
 use Rattle.folder_of_locks.specs.declared.faults.StartFault.TheVariants as fault
-use Rattle.folder_of_locks.specs.Folders.{locks_file, IsUnread, IsListless}
+use Rattle.folder_of_locks.specs.Folders.{locks_file, IsUnreadFile, IsUnread, IsListless}
 use Rattle.folder_of_locks.specs.Fronts.{IsFront, IsFrontFault, AreKeptLines, IsRemarkFault, AreRightLines, AreWrongLines}
 use Rattle.folder_of_locks.specs.NameRings.{with_rings, AreNamed, AreUnnamed, front_text}
 use Rattle.folder_of_locks.specs.Holders.{Hold}
@@ -164,25 +166,25 @@ IsNamingFault n front s ls z e =
     × IsTellingFault n kept s ls vs e))
 
 -- the segment of this number cannot be read, or its bytes are refused
-abbrev pub IsFrontUnread : Option Held → List ℕ → ℕ → StartFault → Type 0
-IsFrontUnread files folder n e =
-    IsUnread n e
+abbrev pub IsFrontUnread : (Said → Type 0) → Option Held → List ℕ → ℕ → StartFault → Type 0
+IsFrontUnread said files folder n e =
+    IsUnread said files folder n e
     ⊎ ((bytes : List ℕ)
     × IsHeld files (segment_file folder n) bytes
     × IsFrontFault n bytes e)
 
-abbrev pub IsLastNamesFault : Option Held → List ℕ → ℕ → List Listed → Size → StartFault → Type 0
-IsLastNamesFault files folder n ls z e =
-    IsFrontUnread files folder n e
+abbrev pub IsLastNamesFault : (Said → Type 0) → Option Held → List ℕ → ℕ → List Listed → Size → StartFault → Type 0
+IsLastNamesFault said files folder n ls z e =
+    IsFrontUnread said files folder n e
     ⊎ ((front : List ℕ)
     × (s : LastSegment)
     × IsFrontAt files folder n front s
     × IsNamingFault n front s ls z e)
 
-abbrev pub AreUnnamedAt : Option Held → List ℕ → Option SegmentNumbers → List Listed → Size → ℕ
+abbrev pub AreUnnamedAt : (Said → Type 0) → Option Held → List ℕ → Option SegmentNumbers → List Listed → Size → ℕ
     → StartFault → Type 0
-AreUnnamedAt files folder None ls z most e = IsFirstNamesFault ls z most e
-AreUnnamedAt files folder (Some r) ls z most e = IsLastNamesFault files folder r.last ls z e
+AreUnnamedAt said files folder None ls z most e = IsFirstNamesFault ls z most e
+AreUnnamedAt said files folder (Some r) ls z most e = IsLastNamesFault said files folder r.last ls z e
 
 -- ---- which list a folder has
 
@@ -228,9 +230,9 @@ IsChange old new (fault.OtherLock i) = IsOtherAt old new i
 IsChange old new _ = ⊥
 
 -- the file of locks cannot be read, or is that of no list
-abbrev pub IsListFileRefusal : Option Held → List ℕ → StartFault → Type 0
-IsListFileRefusal files folder e =
-    (e ≡ fault.UnreadLocks)
+abbrev pub IsListFileRefusal : (Said → Type 0) → Option Held → List ℕ → StartFault → Type 0
+IsListFileRefusal said files folder e =
+    ((e ≡ fault.UnreadLocks) × IsUnreadFile said files (locks_file folder))
     ⊎ ((e ≡ fault.OutOfMemory)
     ⊎ ((bytes : List ℕ) × IsHeld files (locks_file folder) bytes × IsPooledTextFault bytes e))
 
@@ -270,24 +272,24 @@ pub record AreNamesStarted (folder : List ℕ) (word : Option (List ℕ)) (most 
       holders before after p
 
 -- the list has no pool, or the locks do not get their names, or a hold is not open
-abbrev pub NamesDoNotStand : Option Held → List ℕ → Option SegmentNumbers → Pooled → ℕ
+abbrev pub NamesDoNotStand : (Said → Type 0) → Option Held → List ℕ → Option SegmentNumbers → Pooled → ℕ
     → List Hold → StartFault → Type 0
-NamesDoNotStand files folder range l most holders e =
+NamesDoNotStand said files folder range l most holders e =
     ((l.pool ≡ None) × (e ≡ fault.NoPool))
     ⊎ ((size : Size)
     × (l.pool ≡ Some size)
-    × (AreUnnamedAt files folder range l.locks size most e
+    × (AreUnnamedAt said files folder range l.locks size most e
     ⊎ ((found : NamePlace)
     × AreNamedAt files folder range l.locks size most found
     × IsNameUnhanded found.names holders e)))
 
 -- Why the locks of a folder do not start, by whether it has a file of locks. Every file is as it
 -- was.
-abbrev pub IsNameRefusal : Option Held → List ℕ → Bool → Option SegmentNumbers
+abbrev pub IsNameRefusal : (Said → Type 0) → Option Held → List ℕ → Bool → Option SegmentNumbers
     → Option (List ℕ) → ℕ → List Hold → StartFault → Type 0
-IsNameRefusal files folder has range word most holders e =
+IsNameRefusal said files folder has range word most holders e =
     ((has ≡ false) × IsListless range word e)
-    ⊎ (((has ≡ true) × IsListFileRefusal files folder e)
+    ⊎ (((has ≡ true) × IsListFileRefusal said files folder e)
     ⊎ (((w : List ℕ) × (word ≡ Some w) × IsPooledWordRefusal w e)
     ⊎ (((w : List ℕ)
     × (old : Pooled)
@@ -298,14 +300,15 @@ IsNameRefusal files folder has range word most holders e =
     × IsChange old l e)
     ⊎ (((l : Pooled)
     × IsListOf files folder has range word l
-    × NamesDoNotStand files folder range l most holders e)
-    ⊎ ((e ≡ fault.Unsaved) ⊎ (e ≡ fault.OutOfMemory))))))
+    × NamesDoNotStand said files folder range l most holders e)
+    ⊎ (((e ≡ fault.Unsaved) × IsNotReplaced said (locks_file folder))
+    ⊎ (e ≡ fault.OutOfMemory))))))
 
 -- the same of the folder; or its names are refused
-abbrev pub AreNamesUnstarted : Option Held → List ℕ → Option (List ℕ) → ℕ → List Hold
+abbrev pub AreNamesUnstarted : (Said → Type 0) → Option Held → List ℕ → Option (List ℕ) → ℕ → List Hold
     → StartFault → Type 0
-AreNamesUnstarted files folder word most holders e =
-    (e ≡ fault.Folder folders.Unlisted)
+AreNamesUnstarted said files folder word most holders e =
+    ((e ≡ fault.Folder folders.Unlisted) × said (NotListed folder))
     ⊎ ((entries : List FolderEntry)
     × Lists files folder entries
     × (((error : FolderError)
@@ -313,7 +316,7 @@ AreNamesUnstarted files folder word most holders e =
     × IsRightNumbers entries (Err error))
     ⊎ ((range : Option SegmentNumbers)
     × IsRightNumbers entries (Ok range)
-    × IsNameRefusal files folder (is_among (names_of entries) list_name) range word most holders
+    × IsNameRefusal said files folder (is_among (names_of entries) list_name) range word most holders
     e)))
 
 -- ---- whether a list has a pool
@@ -342,7 +345,8 @@ IsPoolSaid files folder word false =
     IsPoolNamed word false × (HasNoFile files folder ⊎ IsPoolFiled files folder false)
 
 -- the word names no list, or the folder or its file cannot be read, or the file is that of no list
-abbrev pub IsPoolUnsaid : Option Held → List ℕ → Option (List ℕ) → StartFault → Type 0
-IsPoolUnsaid files folder word e =
+abbrev pub IsPoolUnsaid : (Said → Type 0) → Option Held → List ℕ → Option (List ℕ) → StartFault → Type 0
+IsPoolUnsaid said files folder word e =
     ((w : List ℕ) × (word ≡ Some w) × IsPooledWordRefusal w e)
-    ⊎ ((e ≡ fault.Folder folders.Unlisted) ⊎ IsListFileRefusal files folder e)
+    ⊎ (((e ≡ fault.Folder folders.Unlisted) × said (NotListed folder))
+    ⊎ IsListFileRefusal said files folder e)

@@ -2,6 +2,7 @@
 
 ghost use Rattle.std.specs.Prelude.{◌≡◌, ◌⊎◌, ◌<◌, map, true, false, Some, IfOk, IfErr, OnErr};
 ghost use Rattle.std.specs.Option.{option_map};
+ghost use Rattle.disks.specs.Replacing.{IsNotReplaced};
 ghost use Rattle.disks.specs.Held.{Replaces};
 ghost use Rattle.segment_files.specs.Spelling.{DigestFits};
 ghost use Rattle.folder_of_locks.specs.Lists.{listed, file_text};
@@ -32,9 +33,10 @@ fn start_named<D: Disk>(
     ensures fits { IfOk result (λ start. DigestFits start.behind) }
     ensures some { IfOk result (λ start. 0 < start.number) }
     ensures kept { OnErr result (D.holds disk.new ≡ D.holds disk.old) }
-    ensures err { IfErr result (λ e. IsHandingFault (D.holds disk.old) folder.now range
+    ensures err { IfErr result (λ e. IsHandingFault D.said (D.holds disk.old) folder.now range
         (map listed list.now) (map hold_of holders.now) e
-        ⊎ ((e ≡ StartFault.Unsaved) ⊎ (e ≡ StartFault.OutOfMemory))) }
+        ⊎ (((e ≡ StartFault.Unsaved) × IsNotReplaced D.said (locks_file folder.now))
+        ⊎ (e ≡ StartFault.OutOfMemory))) }
 {
     let start = match place_handed(alloc, disk, folder, range, list, holders) {
         Ok(start) => start,
@@ -61,7 +63,7 @@ fn start_new<D: Disk>(
     ensures fits { IfOk result (λ start. DigestFits start.behind) }
     ensures some { IfOk result (λ start. 0 < start.number) }
     ensures kept { OnErr result (D.holds disk.new ≡ D.holds disk.old) }
-    ensures err { IfErr result (λ e. IsStartRefusal (D.holds disk.old) folder.now false range
+    ensures err { IfErr result (λ e. IsStartRefusal D.said (D.holds disk.old) folder.now false range
         (option_map (λ w. w.now) word.entry) (map hold_of holders.now) e) }
 {
     if range.is_some() {
@@ -97,7 +99,7 @@ fn start_again<D: Disk>(
     ensures fits { IfOk result (λ start. DigestFits start.behind) }
     ensures some { IfOk result (λ start. 0 < start.number) }
     ensures kept { OnErr result (D.holds disk.new ≡ D.holds disk.old) }
-    ensures err { IfErr result (λ e. IsStartRefusal (D.holds disk.old) folder.now true range
+    ensures err { IfErr result (λ e. IsStartRefusal D.said (D.holds disk.old) folder.now true range
         (option_map (λ w. w.now) word.entry) (map hold_of holders.now) e) }
 {
     let Some(word) = word else {
@@ -132,7 +134,7 @@ fn start_old<D: Disk>(
     ensures fits { IfOk result (λ start. DigestFits start.behind) }
     ensures some { IfOk result (λ start. 0 < start.number) }
     ensures kept { OnErr result (D.holds disk.new ≡ D.holds disk.old) }
-    ensures err { IfErr result (λ e. IsStartRefusal (D.holds disk.old) folder.now true range
+    ensures err { IfErr result (λ e. IsStartRefusal D.said (D.holds disk.old) folder.now true range
         (option_map (λ w. w.now) word.entry) (map hold_of holders.now) e) }
 {
     let bytes = match list_bytes(alloc, disk, folder) {
@@ -165,7 +167,7 @@ fn start_in<D: Disk>(
     ensures fits { IfOk result (λ start. DigestFits start.behind) }
     ensures some { IfOk result (λ start. 0 < start.number) }
     ensures kept { OnErr result (D.holds disk.new ≡ D.holds disk.old) }
-    ensures err { IfErr result (λ e. IsStartRefusal (D.holds disk.old) folder.now has range
+    ensures err { IfErr result (λ e. IsStartRefusal D.said (D.holds disk.old) folder.now has range
         (option_map (λ w. w.now) word.entry) (map hold_of holders.now) e) }
 {
     if has {
@@ -197,7 +199,7 @@ pub fn start_locks<D: Disk>(
     ensures fits { IfOk result (λ start. DigestFits start.behind) }
     ensures some { IfOk result (λ start. 0 < start.number) }
     ensures kept { OnErr result (D.holds disk.new ≡ D.holds disk.old) }
-    ensures err { IfErr result (λ e. AreUnstarted (D.holds disk.old) folder.now
+    ensures err { IfErr result (λ e. AreUnstarted D.said (D.holds disk.old) folder.now
         (option_map (λ w. w.now) word.entry) (map hold_of holders.now) e) }
 {
     let Ok(entries) = disk.list(folder) else {

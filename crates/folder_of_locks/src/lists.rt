@@ -3,19 +3,20 @@
 ghost use Rattle.std.specs.Prelude.{◌≡◌, ◌≤◌, ◌⊎◌, map, string_bytes, vec_len, OnOk, OnErr, IfOk, IfErr, IfSome, Some};
 ghost use Rattle.disks.specs.Held.{Replaces, IsHeld};
 ghost use Rattle.folder_of_locks.specs.Lists.{listed, file_text, IsLockFile, IsLockList};
-ghost use Rattle.folder_of_locks.specs.Folders.{most_bytes, locks_file, IsTextFault, IsWordRefusal, IsDifference, Continues};
+ghost use Rattle.folder_of_locks.specs.Folders.{most_bytes, locks_file, IsUnreadFile, IsTextFault, IsWordRefusal, IsDifference, Continues};
+ghost use Rattle.disks.specs.Replacing.{IsNotReplaced};
 
 use crate::checks::first_difference;
 use crate::faults::StartFault;
 use crate::list_reading::{read_list_file, read_list_word};
 use crate::locks::{ListError, ListedLock};
 use crate::writing::put_list;
-use disks::{Contents, ContentsFault, Disk, ReplaceFault, replace};
+use disks::{Contents, ContentsFault, Disk, ReadFault, ReplaceFault, read_limited, replace};
 use std::alloc::{AllocError, Global};
-use std::io::{Read, Write};
+use std::io::Write;
 
 /// The most bytes of a file that is read.
-const MOST_BYTES: u32 = 1_073_741_824;
+const MOST_BYTES: u64 = 1_073_741_824;
 
 /// The name of the file of locks in a folder.
 pub(crate) fn list_file(alloc: Global, folder: &str) -> Result<String, AllocError>
@@ -26,20 +27,6 @@ pub(crate) fn list_file(alloc: Global, folder: &str) -> Result<String, AllocErro
     Ok(name)
 }
 
-/// All bytes that a reader gives, if they are at most `limit`; none if it fails, or gives a byte more.
-fn bytes_within<R: Read + Drop>(alloc: Global, reader: R, limit: u32) -> Option<Vec<u8>>
-    ensures most { IfSome result (λ bytes. vec_len bytes ≤ limit) }
-    ensures all { IfSome result
-        (λ bytes. IfSome (R.remaining reader) (λ rest. bytes.items ≡ rest)) }
-{
-    let mut bytes = Vec::new(alloc);
-    let mut limited = reader.take(limit as u64 + 1);
-    match limited.read_to_end(&mut bytes) {
-        Ok(count) if count <= limit as usize => Some(bytes),
-        _ => None,
-    }
-}
-
 /// All bytes of the file of this name, which has at most [`MOST_BYTES`].
 pub(crate) fn file_bytes<D: Disk>(
     alloc: Global,
@@ -48,14 +35,18 @@ pub(crate) fn file_bytes<D: Disk>(
 ) -> Result<Vec<u8>, StartFault>
     ensures ok { IfOk result (λ bytes. IsHeld (D.holds disk.now) name.now bytes.items) }
     ensures most { IfOk result (λ bytes. vec_len bytes ≤ most_bytes) }
-    ensures err { IfErr result (λ e. e ≡ StartFault.UnreadLocks) }
+    ensures err { IfErr result
+        (λ e. ((e ≡ StartFault.UnreadLocks) × IsUnreadFile D.said (D.holds disk.now) name.now)
+        ⊎ (e ≡ StartFault.OutOfMemory)) }
 {
-    let Ok(reader) = disk.open(name) else {
+    let Ok(mut reader) = disk.open(name) else {
         return Err(StartFault::UnreadLocks);
     };
-    match bytes_within(alloc, reader, MOST_BYTES) {
-        Some(bytes) => Ok(bytes),
-        None => Err(StartFault::UnreadLocks),
+    match read_limited(alloc, &mut reader, MOST_BYTES) {
+        Ok(bytes) => Ok(bytes),
+        Err(ReadFault::Failed) => Err(StartFault::UnreadLocks),
+        Err(ReadFault::TooLarge) => Err(StartFault::UnreadLocks),
+        Err(ReadFault::OutOfMemory) => Err(StartFault::OutOfMemory),
     }
 }
 
@@ -66,7 +57,9 @@ pub(crate) fn file_bytes<D: Disk>(
 /// `UnreadLocks` if it cannot be read, or has more; `OutOfMemory`.
 pub fn list_bytes<D: Disk>(alloc: Global, disk: &D, folder: &str) -> Result<Vec<u8>, StartFault>
     ensures ok { IfOk result (λ bytes. IsHeld (D.holds disk.now) (locks_file folder.now) bytes.items) }
-    ensures err { IfErr result (λ e. (e ≡ StartFault.UnreadLocks) ⊎ (e ≡ StartFault.OutOfMemory)) }
+    ensures err { IfErr result (λ e. ((e ≡ StartFault.UnreadLocks)
+        × IsUnreadFile D.said (D.holds disk.now) (locks_file folder.now))
+        ⊎ (e ≡ StartFault.OutOfMemory)) }
 {
     let Ok(name) = list_file(alloc, folder) else {
         return Err(StartFault::OutOfMemory);
@@ -158,7 +151,9 @@ pub(crate) fn save_list<D: Disk>(
     ensures ok { OnOk result (Replaces (D.holds disk.old) (D.holds disk.new) (locks_file folder.now)
         (Some (file_text (map listed list.now)))) }
     ensures kept { OnErr result (D.holds disk.new ≡ D.holds disk.old) }
-    ensures err { IfErr result (λ e. (e ≡ StartFault.Unsaved) ⊎ (e ≡ StartFault.OutOfMemory)) }
+    ensures err { IfErr result
+        (λ e. ((e ≡ StartFault.Unsaved) × IsNotReplaced D.said (locks_file folder.now))
+        ⊎ (e ≡ StartFault.OutOfMemory)) }
 {
     let Ok(name) = list_file(alloc, folder) else {
         return Err(StartFault::OutOfMemory);
@@ -166,6 +161,10 @@ pub(crate) fn save_list<D: Disk>(
     match replace(alloc, disk, name.as_str(), &ListFile { list }) {
         Ok(()) => Ok(()),
         Err(ReplaceFault::OutOfMemory) => Err(StartFault::OutOfMemory),
-        Err(_) => Err(StartFault::Unsaved),
+        Err(ReplaceFault::Make) => Err(StartFault::Unsaved),
+        Err(ReplaceFault::Write) => Err(StartFault::Unsaved),
+        Err(ReplaceFault::Finish) => Err(StartFault::Unsaved),
+        Err(ReplaceFault::Unlisted) => Err(StartFault::Unsaved),
+        Err(ReplaceFault::Taken) => Err(StartFault::Unsaved),
     }
 }

@@ -1,6 +1,7 @@
 //! The list of the locks of a folder, which may have a pool.
 
 ghost use Rattle.std.specs.Prelude.{◌≡◌, ◌⊎◌, OnOk, OnErr, IfOk, IfErr, Some};
+ghost use Rattle.disks.specs.Replacing.{IsNotReplaced};
 ghost use Rattle.disks.specs.Held.{Replaces};
 ghost use Rattle.folder_of_locks.specs.Pools.{pooled, pooled_text, IsPooledWord, IsPooledFile, ContinuesPooled};
 ghost use Rattle.folder_of_locks.specs.Folders.{locks_file};
@@ -92,7 +93,9 @@ pub(crate) fn save_folder_list<D: Disk>(
     ensures ok { OnOk result (Replaces (D.holds disk.old) (D.holds disk.new) (locks_file folder.now)
         (Some (pooled_text (pooled list.now)))) }
     ensures kept { OnErr result (D.holds disk.new ≡ D.holds disk.old) }
-    ensures err { IfErr result (λ e. (e ≡ StartFault.Unsaved) ⊎ (e ≡ StartFault.OutOfMemory)) }
+    ensures err { IfErr result
+        (λ e. ((e ≡ StartFault.Unsaved) × IsNotReplaced D.said (locks_file folder.now))
+        ⊎ (e ≡ StartFault.OutOfMemory)) }
 {
     let Ok(name) = list_file(alloc, folder) else {
         return Err(StartFault::OutOfMemory);
@@ -100,6 +103,10 @@ pub(crate) fn save_folder_list<D: Disk>(
     match replace(alloc, disk, name.as_str(), &FolderListFile { list }) {
         Ok(()) => Ok(()),
         Err(ReplaceFault::OutOfMemory) => Err(StartFault::OutOfMemory),
-        Err(_) => Err(StartFault::Unsaved),
+        Err(ReplaceFault::Make) => Err(StartFault::Unsaved),
+        Err(ReplaceFault::Write) => Err(StartFault::Unsaved),
+        Err(ReplaceFault::Finish) => Err(StartFault::Unsaved),
+        Err(ReplaceFault::Unlisted) => Err(StartFault::Unsaved),
+        Err(ReplaceFault::Taken) => Err(StartFault::Unsaved),
     }
 }

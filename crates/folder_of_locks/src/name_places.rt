@@ -228,7 +228,7 @@ fn last_front<D: Disk>(
     ensures many { IfOk result (λ file. length file.front.last.head.bases.items
         ≡ length file.front.last.saved.rings.items) }
     ensures bases { IfOk result (λ file. All IsBase file.front.last.head.bases.items) }
-    ensures err { IfErr result (λ e. IsFrontUnread (D.holds disk.now) folder.now number e) }
+    ensures err { IfErr result (λ e. IsFrontUnread D.said (D.holds disk.now) folder.now number e) }
 {
     let bytes = match segment_bytes(alloc, disk, folder, number) {
         Ok(bytes) => bytes,
@@ -253,7 +253,7 @@ fn last_names<D: Disk>(
         (map listed list.now) size (name_place_of start)) }
     ensures fits { IfOk result (λ start. DigestFits start.behind) }
     ensures some { IfOk result (λ start. 0 < start.number) }
-    ensures err { IfErr result (λ e. IsLastNamesFault (D.holds disk.now) folder.now number
+    ensures err { IfErr result (λ e. IsLastNamesFault D.said (D.holds disk.now) folder.now number
         (map listed list.now) size e) }
 {
     let LastFront { bytes, front } = match last_front(alloc, disk, folder, number) {
@@ -280,7 +280,7 @@ pub(crate) fn names_at<D: Disk>(
         (map listed list.now) size most (name_place_of start)) }
     ensures fits { IfOk result (λ start. DigestFits start.behind) }
     ensures some { IfOk result (λ start. 0 < start.number) }
-    ensures err { IfErr result (λ e. AreUnnamedAt (D.holds disk.now) folder.now range
+    ensures err { IfErr result (λ e. AreUnnamedAt D.said (D.holds disk.now) folder.now range
         (map listed list.now) size most e) }
 {
     match range {

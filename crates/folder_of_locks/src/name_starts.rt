@@ -2,6 +2,7 @@
 
 ghost use Rattle.std.specs.Prelude.{◌≡◌, ◌⊎◌, ◌<◌, map, true, false, Some, IfOk, IfErr, OnErr};
 ghost use Rattle.std.specs.Option.{option_map};
+ghost use Rattle.disks.specs.Replacing.{IsNotReplaced};
 ghost use Rattle.disks.specs.Held.{Replaces};
 ghost use Rattle.segment_files.specs.Spelling.{DigestFits};
 ghost use Rattle.folder_of_locks.specs.Holders.{hold_of};
@@ -70,7 +71,7 @@ fn stand<D: Disk>(
         (pooled list.now) given.entry.most (map hold_of given.entry.holders.now) (name_place_of start)) }
     ensures fits { IfOk result (λ start. DigestFits start.behind) }
     ensures some { IfOk result (λ start. 0 < start.number) }
-    ensures err { IfErr result (λ e. NamesDoNotStand (D.holds disk.now) folder.now range
+    ensures err { IfErr result (λ e. NamesDoNotStand D.said (D.holds disk.now) folder.now range
         (pooled list.now) given.entry.most (map hold_of given.entry.holders.now) e) }
 {
     let Some(size) = list.pool else {
@@ -102,9 +103,10 @@ fn start_named<D: Disk>(
     ensures fits { IfOk result (λ start. DigestFits start.behind) }
     ensures some { IfOk result (λ start. 0 < start.number) }
     ensures kept { OnErr result (D.holds disk.new ≡ D.holds disk.old) }
-    ensures err { IfErr result (λ e. NamesDoNotStand (D.holds disk.old) folder.now range
+    ensures err { IfErr result (λ e. NamesDoNotStand D.said (D.holds disk.old) folder.now range
         (pooled list.now) given.entry.most (map hold_of given.entry.holders.now) e
-        ⊎ ((e ≡ StartFault.Unsaved) ⊎ (e ≡ StartFault.OutOfMemory))) }
+        ⊎ (((e ≡ StartFault.Unsaved) × IsNotReplaced D.said (locks_file folder.now))
+        ⊎ (e ≡ StartFault.OutOfMemory))) }
 {
     let start = match stand(alloc, disk, folder, range, list, given) {
         Ok(start) => start,
@@ -131,7 +133,7 @@ fn start_new<D: Disk>(
     ensures fits { IfOk result (λ start. DigestFits start.behind) }
     ensures some { IfOk result (λ start. 0 < start.number) }
     ensures kept { OnErr result (D.holds disk.new ≡ D.holds disk.old) }
-    ensures err { IfErr result (λ e. IsNameRefusal (D.holds disk.old) folder.now false range
+    ensures err { IfErr result (λ e. IsNameRefusal D.said (D.holds disk.old) folder.now false range
         (option_map (λ w. w.now) word.entry) given.entry.most (map hold_of given.entry.holders.now) e) }
 {
     if range.is_some() {
@@ -167,7 +169,7 @@ fn start_again<D: Disk>(
     ensures fits { IfOk result (λ start. DigestFits start.behind) }
     ensures some { IfOk result (λ start. 0 < start.number) }
     ensures kept { OnErr result (D.holds disk.new ≡ D.holds disk.old) }
-    ensures err { IfErr result (λ e. IsNameRefusal (D.holds disk.old) folder.now true range
+    ensures err { IfErr result (λ e. IsNameRefusal D.said (D.holds disk.old) folder.now true range
         (option_map (λ w. w.now) word.entry) given.entry.most (map hold_of given.entry.holders.now) e) }
 {
     let Some(word) = word else {
@@ -202,7 +204,7 @@ fn start_old<D: Disk>(
     ensures fits { IfOk result (λ start. DigestFits start.behind) }
     ensures some { IfOk result (λ start. 0 < start.number) }
     ensures kept { OnErr result (D.holds disk.new ≡ D.holds disk.old) }
-    ensures err { IfErr result (λ e. IsNameRefusal (D.holds disk.old) folder.now true range
+    ensures err { IfErr result (λ e. IsNameRefusal D.said (D.holds disk.old) folder.now true range
         (option_map (λ w. w.now) word.entry) given.entry.most (map hold_of given.entry.holders.now) e) }
 {
     let bytes = match list_bytes(alloc, disk, folder) {
@@ -235,7 +237,7 @@ fn start_in<D: Disk>(
     ensures fits { IfOk result (λ start. DigestFits start.behind) }
     ensures some { IfOk result (λ start. 0 < start.number) }
     ensures kept { OnErr result (D.holds disk.new ≡ D.holds disk.old) }
-    ensures err { IfErr result (λ e. IsNameRefusal (D.holds disk.old) folder.now has range
+    ensures err { IfErr result (λ e. IsNameRefusal D.said (D.holds disk.old) folder.now has range
         (option_map (λ w. w.now) word.entry) given.entry.most (map hold_of given.entry.holders.now) e) }
 {
     if has {
@@ -270,7 +272,7 @@ pub fn start_names<D: Disk>(
     ensures fits { IfOk result (λ start. DigestFits start.behind) }
     ensures some { IfOk result (λ start. 0 < start.number) }
     ensures kept { OnErr result (D.holds disk.new ≡ D.holds disk.old) }
-    ensures err { IfErr result (λ e. AreNamesUnstarted (D.holds disk.old) folder.now
+    ensures err { IfErr result (λ e. AreNamesUnstarted D.said (D.holds disk.old) folder.now
         (option_map (λ w. w.now) word.entry) most (map hold_of holders.now) e) }
 {
     let Ok(entries) = disk.list(folder) else {

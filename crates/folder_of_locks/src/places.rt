@@ -53,13 +53,15 @@ pub(crate) fn segment_bytes<D: Disk>(
 ) -> Result<Vec<u8>, StartFault>
     ensures ok { IfOk result
         (λ bytes. IsHeld (D.holds disk.now) (segment_file folder.now number) bytes.items) }
-    ensures err { IfErr result (λ e. IsUnread number e) }
+    ensures err { IfErr result
+        (λ e. IsUnread D.said (D.holds disk.now) folder.now number e) }
 {
     let Ok(name) = segment_file(alloc, folder, number) else {
         return Err(StartFault::OutOfMemory);
     };
     match file_bytes(alloc, disk, name.as_str()) {
         Ok(bytes) => Ok(bytes),
+        Err(StartFault::OutOfMemory) => Err(StartFault::OutOfMemory),
         Err(_) => Err(StartFault::UnreadSegment(number)),
     }
 }
@@ -97,7 +99,7 @@ fn last_segment<D: Disk>(
     ensures many { IfOk result
         (λ last. length last.head.bases.items ≡ length last.saved.rings.items) }
     ensures bases { IfOk result (λ last. All IsBase last.head.bases.items) }
-    ensures err { IfErr result (λ e. IsSegmentFault (D.holds disk.now) folder.now number e) }
+    ensures err { IfErr result (λ e. IsSegmentFault D.said (D.holds disk.now) folder.now number e) }
 {
     let bytes = match segment_bytes(alloc, disk, folder, number) {
         Ok(bytes) => bytes,
@@ -140,7 +142,7 @@ fn last_place<D: Disk>(
     ensures fits { IfOk result (λ found. DigestFits found.behind) }
     ensures some { IfOk result (λ found. 0 < found.number) }
     ensures err { IfErr result
-        (λ e. IsLastFault (D.holds disk.now) folder.now number (map listed list.now) e) }
+        (λ e. IsLastFault D.said (D.holds disk.now) folder.now number (map listed list.now) e) }
 {
     let last = match last_segment(alloc, disk, folder, number) {
         Ok(last) => last,
@@ -170,7 +172,7 @@ fn place<D: Disk>(
     ensures fits { IfOk result (λ found. DigestFits found.behind) }
     ensures some { IfOk result (λ found. 0 < found.number) }
     ensures err { IfErr result
-        (λ e. IsPlaceFault (D.holds disk.now) folder.now range (map listed list.now) e) }
+        (λ e. IsPlaceFault D.said (D.holds disk.now) folder.now range (map listed list.now) e) }
 {
     match range {
         None => first_place(alloc, list),
@@ -220,7 +222,7 @@ pub(crate) fn place_handed<D: Disk>(
         (map listed list.now) (map hold_of holders.now) (place_of start)) }
     ensures fits { IfOk result (λ start. DigestFits start.behind) }
     ensures some { IfOk result (λ start. 0 < start.number) }
-    ensures err { IfErr result (λ e. IsHandingFault (D.holds disk.now) folder.now range
+    ensures err { IfErr result (λ e. IsHandingFault D.said (D.holds disk.now) folder.now range
         (map listed list.now) (map hold_of holders.now) e) }
 {
     let found = match place(alloc, disk, folder, range, list) {

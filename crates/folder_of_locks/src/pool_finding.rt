@@ -14,7 +14,7 @@ use std::alloc::Global;
 /// Whether the list of a folder's file has a pool.
 fn file_has_pool<D: Disk>(alloc: Global, disk: &D, folder: &str) -> Result<bool, StartFault>
     ensures ok { IfOk result (λ has. IsPoolFiled (D.holds disk.now) folder.now has) }
-    ensures err { IfErr result (λ e. IsListFileRefusal (D.holds disk.now) folder.now e) }
+    ensures err { IfErr result (λ e. IsListFileRefusal D.said (D.holds disk.now) folder.now e) }
 {
     let bytes = match list_bytes(alloc, disk, folder) {
         Ok(bytes) => bytes,
@@ -56,7 +56,7 @@ pub fn has_pool<D: Disk>(
 ) -> Result<bool, StartFault>
     ensures ok { IfOk result (λ has. IsPoolSaid (D.holds disk.now) folder.now
         (option_map (λ w. w.now) word.entry) has) }
-    ensures err { IfErr result (λ e. IsPoolUnsaid (D.holds disk.now) folder.now
+    ensures err { IfErr result (λ e. IsPoolUnsaid D.said (D.holds disk.now) folder.now
         (option_map (λ w. w.now) word.entry) e) }
 {
     let named = match word_has_pool(alloc, word) {

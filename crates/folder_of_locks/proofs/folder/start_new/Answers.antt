@@ -4,4 +4,4 @@ use Rattle.folder_of_locks.proofs.Refused.{by_word}
 use Rattle.folder_of_locks.proofs.folder.start_new.Goals as goal
 
 pub returns-in-Err-clause-err : goal.returns-in-Err-clause-err
-returns-in-Err-clause-err g c = by_word _ _ _ _ _ c.in-Some.word.now (map hold_of c.args.holders.now) c.in-Err.fault (rw c.in-Some.is refl) c.in-Err.ensures.err
+returns-in-Err-clause-err g c = by_word _ _ _ _ _ _ c.in-Some.word.now (map hold_of c.args.holders.now) c.in-Err.fault (rw c.in-Some.is refl) c.in-Err.ensures.err
