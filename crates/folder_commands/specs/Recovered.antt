@@ -1,10 +1,12 @@
 -- The answer of `recover`.
+use Rattle.disks.specs.Said.{Said}
 use Rattle.std.specs.Prelude.{◌≡◌, ℕ, ◌-◌, false, Bool, List, ◌++◌, length, Option, Some, ◌⊎◌}
 use Rattle.disks.specs.Held.{Held}
 use Rattle.saved_history.specs.Content.{Content}
 use Rattle.saved_history.specs.Spelling.{text}
 use Rattle.ring_check.specs.Legal.{summary_of}
 use Rattle.journal.specs.declared.errors.RecoverError.{RecoverError}
+use Rattle.tool_parts.specs.Chained.{IsNoFolder}
 use Rattle.tool_parts.specs.CheckText.{legal_line}
 use Rattle.tool_parts.specs.Faults.{fault_of_recovery}
 use Rattle.tool_parts.specs.Handed.{IsHanded, IsHandRefusal}
@@ -63,22 +65,23 @@ IsRecoveryRefusal salvage bytes e =
 
 -- Which refusals the recovery of a journal may meet: those of reading what the word names, that both
 -- names are of one file, that nothing is kept of the bytes, and those of handing out what is.
-abbrev pub IsJournalUnrecovered : RecoverWords → World → World → ToolError → Type 0
-IsJournalUnrecovered words was is e =
-    IsNamedRefusal words.file.now was.files was.input is.input e
+abbrev pub IsJournalUnrecovered : (Said → Type 0) → Type 0 → RecoverWords → World → World → ToolError → Type 0
+IsJournalUnrecovered said failed words was is e =
+    IsNamedRefusal said failed words.file.now was.files was.input is.input e
     ⊎ ((bytes : List ℕ)
     × IsNamed words.file.now was.files was.input is.input bytes
-    × (IsApartRefusal (made_file words) e
+    × (IsApartRefusal said (made_file words) e
     ⊎ (IsRecoveryRefusal words.salvage bytes e
     ⊎ ((c : Content)
     × (many : ℕ)
     × (bad : Option RecoverError)
     × IsKept words.salvage bytes c many bad
-    × IsHandRefusal words.new.now (text c)
+    × IsHandRefusal said words.new.now (text c)
     (legal_line (summary_of c) ++ left_line (length bytes - many) bad) was is e))))
 
 -- Which refusals `recover` may meet: those of a journal, or those of a folder.
-abbrev pub IsRecoverRefusal : RecoverWords → World → World → ToolError → Type 0
-IsRecoverRefusal words was is e =
-    IsJournalUnrecovered words was is e
-    ⊎ ((names_stream words.file.now ≡ false) × IsFolderUnrecovered words was is e)
+abbrev pub IsRecoverRefusal : (Said → Type 0) → Type 0 → RecoverWords → World → World → ToolError → Type 0
+IsRecoverRefusal said failed words was is e =
+    (IsJournalUnrecovered said failed words was is e
+    × (names_stream words.file.now ≡ false → IsNoFolder said was.files words.file.now))
+    ⊎ ((names_stream words.file.now ≡ false) × IsFolderUnrecovered said words was is e)

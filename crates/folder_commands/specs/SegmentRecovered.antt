@@ -1,4 +1,5 @@
 -- The answer of `recover` to a folder: the history of its last segment.
+use Rattle.disks.specs.Said.{Said}
 use Rattle.std.specs.Prelude.{◌≡◌, ℕ, List, ◌++◌, Bool, true, false, Option, None, Some, Ok, ◌⊎◌}
 use Rattle.std.specs.Io.KnownBytes.{Appends}
 use Rattle.disks.specs.Held.{Held, IsHeld}
@@ -41,14 +42,14 @@ IsLastFile files name x =
     × IsHeld files (segment_file name r.last) x.bytes.items
 
 -- the names in a folder are refused, or the file of the last segment cannot be read
-abbrev pub IsLastRefused : Option Held → List ℕ → ToolError → Type 0
-IsLastRefused files name e =
+abbrev pub IsLastRefused : (Said → Type 0) → Option Held → List ℕ → ToolError → Type 0
+IsLastRefused said files name e =
     (entries : List FolderEntry)
     × IsFolder files name entries
     × (AreNamesRefused name entries e
     ⊎ ((r : SegmentNumbers)
     × IsRightNumbers entries (Ok (Some r))
-    × IsUnreadSegment files name r.last e))
+    × IsUnreadSegment said files name r.last e))
 
 -- the file with these bytes, as it is recovered
 abbrev pub file_as : List ℕ → RecoveredSegment → File
@@ -88,9 +89,9 @@ IsSegmentHanded word f line place was is =
     × IsHeadTold word f.head place mid is
 
 -- The causes that may keep them from there.
-abbrev pub IsSegmentUnhanded : List ℕ → File → List ℕ → List ℕ → World → World → ToolError → Type 0
-IsSegmentUnhanded word f line place was is e =
-    IsHandRefusal word (text f.content) (legal_line (summary_of f.content) ++ line) was is e
+abbrev pub IsSegmentUnhanded : (Said → Type 0) → List ℕ → File → List ℕ → List ℕ → World → World → ToolError → Type 0
+IsSegmentUnhanded said word f line place was is e =
+    IsHandRefusal said word (text f.content) (legal_line (summary_of f.content) ++ line) was is e
     ⊎ ((e ≡ tool.Write)
     × ((mid : World)
     × IsHanded word (text f.content) (legal_line (summary_of f.content) ++ line) was mid
@@ -139,19 +140,19 @@ IsSegmentFault salvage name n bytes _ = ⊥
 
 -- Which refusals it may meet: those of the names in the folder; of reading the last segment; that
 -- the file that is made lies there; that nothing is kept of it; and those of handing out what is.
-abbrev pub IsFolderUnrecovered : RecoverWords → World → World → ToolError → Type 0
-IsFolderUnrecovered words was is e =
+abbrev pub IsFolderUnrecovered : (Said → Type 0) → RecoverWords → World → World → ToolError → Type 0
+IsFolderUnrecovered said words was is e =
     (entries : List FolderEntry)
     × IsFolder was.files words.file.now entries
     × (AreNamesRefused words.file.now entries e
     ⊎ ((r : SegmentNumbers)
     × IsRightNumbers entries (Ok (Some r))
-    × (IsUnreadSegment was.files words.file.now r.last e
+    × (IsUnreadSegment said was.files words.file.now r.last e
     ⊎ ((bytes : List ℕ)
     × IsHeld was.files (segment_file words.file.now r.last) bytes
-    × (IsOutsideRefusal was.files words.file.now (file_of (Some words.new.now)) e
+    × (IsOutsideRefusal said was.files words.file.now (file_of (Some words.new.now)) e
     ⊎ (IsSegmentFault words.salvage words.file.now r.last bytes e
     ⊎ ((f : File)
     × (k : IsFileKept words.salvage f)
     × (f.bytes ≡ bytes)
-    × IsSegmentUnhanded words.new.now f (file_left k) (file_place k) was is e)))))))
+    × IsSegmentUnhanded said words.new.now f (file_left k) (file_place k) was is e)))))))

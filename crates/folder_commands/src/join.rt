@@ -49,7 +49,7 @@ fn join_segment<'a, D: Disk>(
         × IsHeld (D.holds disk.now) (segment_file folder.now number) bytes
         × IsJoinedWith before bytes last new) }
     ensures err { IfErr result
-        (λ e. IsUnjoined (D.holds disk.now) folder.now number before last e) }
+        (λ e. IsUnjoined D.said (D.holds disk.now) folder.now number before last e) }
 {
     let bytes = match segment_bytes(alloc, disk, folder, number) {
         Ok(bytes) => bytes,
@@ -73,7 +73,7 @@ fn join_before_last<'a, D: Disk>(
     requires up { numbers.first ≤ numbers.last }
     ensures ok { IfOk result
         (λ l. JoinLeads (D.holds disk.now) folder.now numbers.first numbers.last l) }
-    ensures err { IfErr result (λ e. IsJoinRefused (D.holds disk.now) folder.now numbers e) }
+    ensures err { IfErr result (λ e. IsJoinRefused D.said (D.holds disk.now) folder.now numbers e) }
 {
     let mut found = Join::new(alloc);
     for number in numbers.first..numbers.last {
@@ -95,7 +95,7 @@ fn join_all<'a, D: Disk>(
     requires up { numbers.first ≤ numbers.last }
     ensures ok { IfOk result
         (λ l. JoinEnds (D.holds disk.now) folder.now numbers.first numbers.last l) }
-    ensures err { IfErr result (λ e. IsJoinRefused (D.holds disk.now) folder.now numbers e) }
+    ensures err { IfErr result (λ e. IsJoinRefused D.said (D.holds disk.now) folder.now numbers e) }
 {
     let before = match join_before_last(alloc, disk, folder, numbers) {
         Ok(before) => before,
@@ -126,7 +126,7 @@ fn whole_history<'a, D: Disk>(
     ensures legal { IfOk result (λ x. IsLegalText (content x.0)) }
     ensures sums { IfOk result (λ x. x.1 ≡ summary_of (content x.0)) }
     ensures saved { IfOk result (λ x. CanBeSaved (content x.0)) }
-    ensures err { IfErr result (λ e. AreUnjoined (D.holds disk.now) folder.now numbers e) }
+    ensures err { IfErr result (λ e. AreUnjoined D.said (D.holds disk.now) folder.now numbers e) }
 {
     let found = match join_all(alloc, disk, folder, numbers) {
         Ok(found) => found,
@@ -179,7 +179,7 @@ fn join_folder<'a, D: Disk, W: Write, E: Write>(
     ensures ok { OnOk result ((early late : Option (List ℕ)) → IsJoinAnswer words.now
         (world (D.holds disk.old) early (W.contents out.old) (E.contents err.old))
         (world (D.holds disk.new) late (W.contents out.new) (E.contents err.new))) }
-    ensures err { IfErr result (λ e. (early late : Option (List ℕ)) → IsJoinRefusal words.now
+    ensures err { IfErr result (λ e. (early late : Option (List ℕ)) → IsJoinRefusal D.said words.now
         (world (D.holds disk.old) early (W.contents out.old) (E.contents err.old))
         (world (D.holds disk.new) late (W.contents out.new) (E.contents err.new)) e) }
     ensures kept { IfErr result (λ e. e ≢ ToolError.Write → D.holds disk.new ≡ D.holds disk.old) }
@@ -227,7 +227,7 @@ pub fn run<'a, D: Disk, W: Write, E: Write>(
     ensures ok { OnOk result ((early late : Option (List ℕ)) → IsJoinAnswer words.now
         (world (D.holds disk.old) early (W.contents out.old) (E.contents err.old))
         (world (D.holds disk.new) late (W.contents out.new) (E.contents err.new))) }
-    ensures err { IfErr result (λ e. (early late : Option (List ℕ)) → IsJoinRefusal words.now
+    ensures err { IfErr result (λ e. (early late : Option (List ℕ)) → IsJoinRefusal D.said words.now
         (world (D.holds disk.old) early (W.contents out.old) (E.contents err.old))
         (world (D.holds disk.new) late (W.contents out.new) (E.contents err.new)) e) }
     ensures kept { IfErr result (λ e. e ≢ ToolError.Write → D.holds disk.new ≡ D.holds disk.old) }

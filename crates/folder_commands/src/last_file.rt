@@ -31,7 +31,7 @@ fn file_among<'a, D: Disk>(
 ) -> Result<LastFile, ToolError<'a>>
     requires { IsFolder (D.holds disk.now) folder.now entries.items }
     ensures ok { IfOk result (λ x. IsLastFile (D.holds disk.now) folder.now x) }
-    ensures err { IfErr result (λ e. IsLastRefused (D.holds disk.now) folder.now e) }
+    ensures err { IfErr result (λ e. IsLastRefused D.said (D.holds disk.now) folder.now e) }
 {
     let numbers = match folder_numbers(alloc, folder, &entries) {
         Ok(numbers) => numbers,
@@ -56,9 +56,9 @@ fn look_again<'a, D: Disk>(
     found: Result<LastFile, ToolError<'a>>,
 ) -> Result<LastFile, ToolError<'a>>
     requires ok { IfOk found (λ x. IsLastFile (D.holds disk.now) folder.now x) }
-    requires err { IfErr found (λ e. IsLastRefused (D.holds disk.now) folder.now e) }
+    requires err { IfErr found (λ e. IsLastRefused D.said (D.holds disk.now) folder.now e) }
     ensures ok { IfOk result (λ x. IsLastFile (D.holds disk.now) folder.now x) }
-    ensures err { IfErr result (λ e. IsLastRefused (D.holds disk.now) folder.now e) }
+    ensures err { IfErr result (λ e. IsLastRefused D.said (D.holds disk.now) folder.now e) }
 {
     match found {
         Ok(file) => Ok(file),
@@ -87,7 +87,7 @@ pub(crate) fn last_file<'a, D: Disk>(
 ) -> Result<LastFile, ToolError<'a>>
     requires { IsFolder (D.holds disk.now) folder.now entries.items }
     ensures ok { IfOk result (λ x. IsLastFile (D.holds disk.now) folder.now x) }
-    ensures err { IfErr result (λ e. IsLastRefused (D.holds disk.now) folder.now e) }
+    ensures err { IfErr result (λ e. IsLastRefused D.said (D.holds disk.now) folder.now e) }
 {
     let mut found = file_among(alloc, disk, folder, entries);
     for _ in 0..MOST_LOOKS {

@@ -219,7 +219,7 @@ fn hand_out_segment<'a, D: Disk, W: Write, E: Write>(
         (world (D.holds disk.old) early (W.contents out.old) (E.contents err.old))
         (world (D.holds disk.new) late (W.contents out.new) (E.contents err.new))) }
     ensures err { IfErr result (λ e. (bytes : List ℕ) (early late : Option (List ℕ))
-        → IsSegmentUnhanded word.now (file_as bytes recovered.now)
+        → IsSegmentUnhanded D.said word.now (file_as bytes recovered.now)
         (left_line recovered.now.left.bytes recovered.now.left.bad) recovered.now.place.now
         (world (D.holds disk.old) early (W.contents out.old) (E.contents err.old))
         (world (D.holds disk.new) late (W.contents out.new) (E.contents err.new)) e) }
@@ -265,7 +265,7 @@ pub(crate) fn recover_folder<'a, D: Disk, W: Write, E: Write>(
     ensures ok { OnOk result ((early late : Option (List ℕ)) → IsFolderRecovered words.now
         (world (D.holds disk.old) early (W.contents out.old) (E.contents err.old))
         (world (D.holds disk.new) late (W.contents out.new) (E.contents err.new))) }
-    ensures err { IfErr result (λ e. (early late : Option (List ℕ)) → IsFolderUnrecovered words.now
+    ensures err { IfErr result (λ e. (early late : Option (List ℕ)) → IsFolderUnrecovered D.said words.now
         (world (D.holds disk.old) early (W.contents out.old) (E.contents err.old))
         (world (D.holds disk.new) late (W.contents out.new) (E.contents err.new)) e) }
     ensures kept { IfErr result (λ e. e ≢ ToolError.Write → D.holds disk.new ≡ D.holds disk.old) }

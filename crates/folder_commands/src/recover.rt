@@ -12,12 +12,12 @@ ghost use Rattle.folder_commands.specs.Recovered.{IsRecoveryRefusal, IsJournalRe
 ghost use Rattle.tool_parts.specs.Worlds.{world};
 
 use crate::last_segment::recover_folder;
-use disks::Disk;
+use disks::{Disk, Source};
 use journal::{RecoverError, recover_journal, salvage_journal};
 use ring_check::{Summary, check_saved};
 use saved_history::Saved;
 use std::alloc::Global;
-use std::io::{Read, Write};
+use std::io::Write;
 use tool_parts::chain::entries_of;
 use tool_parts::faults::ToolError;
 use tool_parts::handing::hand_over_kept;
@@ -105,7 +105,7 @@ pub(crate) fn keep_word_apart<'a, D: Disk>(
     word: &'a str,
 ) -> Result<(), ToolError<'a>>
     ensures ok { OnOk result (IsApart (D.holds disk.now) read.now (file_of (Some word.now))) }
-    ensures err { IfErr result (λ e. IsApartRefusal (file_of (Some word.now)) e) }
+    ensures err { IfErr result (λ e. IsApartRefusal D.said (file_of (Some word.now)) e) }
 {
     if names_stream(word) {
         Ok(())
@@ -124,7 +124,7 @@ pub(crate) fn keep_word_apart<'a, D: Disk>(
 /// nothing is recovered: no file is made then. `Save` with the other name where that cannot be made, written or put in its place,
 /// and `OutOfMemory`. Every file is as it was then, and nothing is written. `Write` where a writer fails, when the new file is in
 /// its place: the bytes written until then are a prefix.
-fn recover_text<'a, D: Disk, I: Read, W: Write, E: Write>(
+fn recover_text<'a, D: Disk, I: Source, W: Write, E: Write>(
     alloc: Global,
     disk: &mut D,
     words: &RecoverWords<'a>,
@@ -136,7 +136,7 @@ fn recover_text<'a, D: Disk, I: Read, W: Write, E: Write>(
         (world (D.holds disk.old) (I.remaining input.old) (W.contents out.old) (E.contents err.old))
         (world (D.holds disk.new) (I.remaining input.new) (W.contents out.new)
         (E.contents err.new))) }
-    ensures err { IfErr result (λ e. IsJournalUnrecovered words.now
+    ensures err { IfErr result (λ e. IsJournalUnrecovered D.said I.Source.failed words.now
         (world (D.holds disk.old) (I.remaining input.old) (W.contents out.old) (E.contents err.old))
         (world (D.holds disk.new) (I.remaining input.new) (W.contents out.new)
         (E.contents err.new)) e) }
@@ -167,7 +167,7 @@ fn recover_text<'a, D: Disk, I: Read, W: Write, E: Write>(
 /// file; `Truncated`, `Syntax` or `Bad` if nothing is recovered: no file is made then. `Save` with the other name where that
 /// cannot be made, written or put in its place, and `OutOfMemory`. Every file is as it was then, and nothing is written. `Write`
 /// where a writer fails, when the new file is in its place: the bytes written until then are a prefix.
-pub fn run<'a, D: Disk, I: Read, W: Write, E: Write>(
+pub fn run<'a, D: Disk, I: Source, W: Write, E: Write>(
     alloc: Global,
     disk: &mut D,
     words: &RecoverWords<'a>,
@@ -179,7 +179,7 @@ pub fn run<'a, D: Disk, I: Read, W: Write, E: Write>(
         (world (D.holds disk.old) (I.remaining input.old) (W.contents out.old) (E.contents err.old))
         (world (D.holds disk.new) (I.remaining input.new) (W.contents out.new)
         (E.contents err.new))) }
-    ensures err { IfErr result (λ e. IsRecoverRefusal words.now
+    ensures err { IfErr result (λ e. IsRecoverRefusal D.said I.Source.failed words.now
         (world (D.holds disk.old) (I.remaining input.old) (W.contents out.old) (E.contents err.old))
         (world (D.holds disk.new) (I.remaining input.new) (W.contents out.new)
         (E.contents err.new)) e) }

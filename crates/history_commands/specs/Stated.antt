@@ -1,4 +1,5 @@
 -- The answer of `states`.
+use Rattle.disks.specs.Said.{Said}
 use Rattle.std.specs.Prelude.{◌≡◌, ℕ, ◌≤◌, List, [], ◌∷◌, length, slice_get, cond, Option, None, Some, Result, Ok, Err, ◌⊎◌}
 use Rattle.std.specs.Io.KnownBytes.{Appends}
 use Rattle.text_lines.specs.Writing.{Wrote}
@@ -93,9 +94,9 @@ IsStatesAnswer words was is =
 
 -- Which refusals `states` may meet: those of reading what the word names, with nothing printed, and
 -- those of the bytes that it gave.
-abbrev pub IsStatesRefusal : StatesWords → World → World → ToolError → Type 0
-IsStatesRefusal words was is e =
-    (IsNamedRefusal words.file.now was.files was.input is.input e × (is.out ≡ was.out))
+abbrev pub IsStatesRefusal : (Said → Type 0) → Type 0 → StatesWords → World → World → ToolError → Type 0
+IsStatesRefusal said failed words was is e =
+    (IsNamedRefusal said failed words.file.now was.files was.input is.input e × (is.out ≡ was.out))
     ⊎ ((bytes : List ℕ)
     × IsNamed words.file.now was.files was.input is.input bytes
     × IsStatesBytesRefusal words bytes was.out is.out e)

@@ -1,4 +1,5 @@
 -- The answer of `report` with repairs.
+use Rattle.disks.specs.Said.{Said}
 use Rattle.std.specs.Prelude.{◌≡◌, ℕ, ◌<◌, ◌≤◌, ◌++◌, List, length, slice_get, Option, Some, ◌⊎◌}
 use Rattle.std.specs.List.{All}
 use Rattle.std.specs.Io.KnownBytes.{Appends}
@@ -72,9 +73,9 @@ IsRepairsAnswer words was is =
 
 -- Which refusals it may meet: those of reading what the word names, with nothing printed, and those
 -- of the bytes that it gave.
-abbrev pub IsRepairsRefusal : ReportWords → World → World → ToolError → Type 0
-IsRepairsRefusal words was is e =
-    (IsNamedRefusal words.file.now was.files was.input is.input e × (is.out ≡ was.out))
+abbrev pub IsRepairsRefusal : (Said → Type 0) → Type 0 → ReportWords → World → World → ToolError → Type 0
+IsRepairsRefusal said failed words was is e =
+    (IsNamedRefusal said failed words.file.now was.files was.input is.input e × (is.out ≡ was.out))
     ⊎ ((bytes : List ℕ)
     × IsNamed words.file.now was.files was.input is.input bytes
     × IsRepairsBytesRefusal bytes was.out is.out e)

@@ -9,12 +9,12 @@ ghost use Rattle.tool_parts.specs.Reading.{names_stream};
 ghost use Rattle.tool_parts.specs.Worlds.{world};
 ghost use Rattle.history_commands.specs.WithRepairs.{fault_of_report, IsRepairsReportOf, IsRepairsTextRefusal, IsRepairsBytesRefusal, IsRepairsAnswer, IsRepairsRefusal};
 
-use disks::Disk;
+use disks::{Disk, Source};
 use history_repairs::{repairs_are_bounded, repairs_lines};
 use ring_text::{ReportFault, report};
 use saved_history::Saved;
 use std::alloc::Global;
-use std::io::{Read, Write};
+use std::io::Write;
 use text_lines::put;
 use tool_parts::faults::ToolError;
 use tool_parts::legal::legal_saved;
@@ -99,7 +99,7 @@ pub fn print_report<'a, W: Write>(
 ///
 /// Those of reading the source that the word names, and those of [`print_report`]. Where a file is named, standard input stays
 /// as it was.
-pub fn run<'a, D: Disk, I: Read, W: Write>(
+pub fn run<'a, D: Disk, I: Source, W: Write>(
     alloc: Global,
     disk: &D,
     words: &ReportWords<'a>,
@@ -110,7 +110,7 @@ pub fn run<'a, D: Disk, I: Read, W: Write>(
         (world (D.holds disk.now) (I.remaining input.old) (W.contents out.old) None)
         (world (D.holds disk.now) (I.remaining input.new) (W.contents out.new) None)) }
     ensures err { IfErr result (λ e.
-        IsRepairsRefusal words.now
+        IsRepairsRefusal D.said I.Source.failed words.now
         (world (D.holds disk.now) (I.remaining input.old) (W.contents out.old) None)
         (world (D.holds disk.now) (I.remaining input.new) (W.contents out.new) None) e) }
     ensures unread { names_stream words.now.file.now ≡ false → input.new ≡ input.old }

@@ -9,11 +9,11 @@ ghost use Rattle.tool_parts.specs.Reading.{names_stream};
 ghost use Rattle.tool_parts.specs.Worlds.{world};
 ghost use Rattle.history_commands.specs.Stated.{told_by, form_of, IsTableFault, IsOneRefusal, IsTableOf, IsChosenRefusal, IsStatesText, IsStatesBytesRefusal, IsStatesAnswer, IsStatesRefusal};
 
-use disks::Disk;
+use disks::{Disk, Source};
 use history_states::{Form, StatesFault, write_ring, write_states};
 use saved_history::{Saved, SavedRing};
 use std::alloc::Global;
-use std::io::{Read, Write};
+use std::io::Write;
 use tool_parts::faults::ToolError;
 use tool_parts::legal::legal_saved;
 use tool_parts::reading::read_named;
@@ -142,7 +142,7 @@ pub fn print_states<'a, W: Write>(
 ///
 /// Those of reading the source that the word names, and those of [`print_states`]. Where a file is named, standard input stays
 /// as it was.
-pub fn run<'a, D: Disk, I: Read, W: Write>(
+pub fn run<'a, D: Disk, I: Source, W: Write>(
     alloc: Global,
     disk: &D,
     words: &StatesWords<'a>,
@@ -153,7 +153,7 @@ pub fn run<'a, D: Disk, I: Read, W: Write>(
         (world (D.holds disk.now) (I.remaining input.old) (W.contents out.old) None)
         (world (D.holds disk.now) (I.remaining input.new) (W.contents out.new) None)) }
     ensures err { IfErr result (λ e.
-        IsStatesRefusal words.now
+        IsStatesRefusal D.said I.Source.failed words.now
         (world (D.holds disk.now) (I.remaining input.old) (W.contents out.old) None)
         (world (D.holds disk.now) (I.remaining input.new) (W.contents out.new) None) e) }
     ensures unread { names_stream words.now.file.now ≡ false → input.new ≡ input.old }

@@ -1,4 +1,5 @@
 -- The names by which `holds` calls the locks of a folder (this project's own).
+use Rattle.disks.specs.Said.{Said}
 use Rattle.std.specs.Prelude.{◌≡◌, ℕ, ◌<◌, ◌≤◌, List, [], length, Bool, true, false, Option, Some, None, ◌⊎◌}
 use Rattle.disks.specs.Held.{Held}
 use Rattle.ring_state.specs.Sizes.{Size}
@@ -41,15 +42,15 @@ IsTooShort l rings why =
     (l.pool ≡ None) × (length l.locks < rings) × (why ≡ start.OtherRing (length l.locks))
 
 -- the file of locks cannot be read, or is not that of a list; or the list is too short
-abbrev pub IsListRefused : Option Held → List ℕ → ℕ → StartFault → Type 0
-IsListRefused files folder rings why =
-    IsListFileRefusal files folder why
+abbrev pub IsListRefused : (Said → Type 0) → Option Held → List ℕ → ℕ → StartFault → Type 0
+IsListRefused said files folder rings why =
+    IsListFileRefusal said files folder why
     ⊎ ((l : Pooled) × IsOfListFile files folder l × IsTooShort l rings why)
 
 -- a folder's file of locks is refused so, by the name that `locks` has for it
-abbrev pub AreNoNamesIn : Option Held → List ℕ → Bool → ℕ → ToolError → Type 0
-AreNoNamesIn files folder has rings e =
+abbrev pub AreNoNamesIn : (Said → Type 0) → Option Held → List ℕ → Bool → ℕ → ToolError → Type 0
+AreNoNamesIn said files folder has rings e =
     (has ≡ true)
     × ((why : StartFault)
-    × IsListRefused files folder rings why
+    × IsListRefused said files folder rings why
     × IsStartName folder [] why e)

@@ -1,4 +1,5 @@
 -- The file that says who gets the open holds (this project's own).
+use Rattle.disks.specs.Said.{Said}
 use Rattle.std.specs.Prelude.{◌≡◌, ℕ, List, [], Option, None, Some, ◌⊎◌}
 use Rattle.std.specs.Option.{option_map}
 use Rattle.disks.specs.Held.{Held, IsHeld}
@@ -30,8 +31,8 @@ IsNoHolders file bytes tool.OutOfMemory = Unit {0}
 IsNoHolders file bytes _ = ⊥
 
 -- it cannot be read, or its bytes are not the lines of holds
-abbrev pub HasNoHolders : Option Held → Option (List ℕ) → ToolError → Type 0
-HasNoHolders files None e = ⊥
-HasNoHolders files (Some file) e =
-    IsFileRefusal files file e
+abbrev pub HasNoHolders : (Said → Type 0) → Option Held → Option (List ℕ) → ToolError → Type 0
+HasNoHolders said files None e = ⊥
+HasNoHolders said files (Some file) e =
+    IsFileRefusal said files file e
     ⊎ ((bytes : List ℕ) × IsHeld files file bytes × IsNoHolders file bytes e)

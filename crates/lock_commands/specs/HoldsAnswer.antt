@@ -1,4 +1,5 @@
 -- The answer of `holds` (this project's own).
+use Rattle.disks.specs.Said.{Said}
 use Rattle.std.specs.Prelude.{◌≡◌, ℕ, ◌+◌, ◌==◌, List, [], length, map, Bool, true, false, Option, Some, None, Ok, Err, ◌⊎◌}
 use Rattle.std.specs.List.{flat_map}
 use Rattle.std.specs.Ordering.{nat_cmp}
@@ -149,77 +150,77 @@ IsUnheldText name bytes e =
     × IsBlockRefusal name legal.content.rings e)
 
 -- what the word names cannot be read, or the bytes that it gave are refused
-abbrev pub IsTextUnheld : List ℕ → Option Held → Option (List ℕ) → Option (List ℕ) → ToolError
+abbrev pub IsTextUnheld : (Said → Type 0) → Type 0 → List ℕ → Option Held → Option (List ℕ) → Option (List ℕ) → ToolError
     → Type 0
-IsTextUnheld word files was is e =
-    IsNamedRefusal word files was is e
+IsTextUnheld said failed word files was is e =
+    IsNamedRefusal said failed word files was is e
     ⊎ ((bytes : List ℕ) × IsNamed word files was is bytes × IsUnheldText word bytes e)
 
 -- after what was read of the files before, that of this segment cannot be read, or does not follow
 -- in the chain; or a segment in it is not that of a lock
-abbrev pub IsUnheld : Option Held → List ℕ → ℕ → HoldsSoFar → Bool → ToolError → Type 0
-IsUnheld files name n before last (tool.NoHold named lock at) =
+abbrev pub IsUnheld : (Said → Type 0) → Option Held → List ℕ → ℕ → HoldsSoFar → Bool → ToolError → Type 0
+IsUnheld said files name n before last (tool.NoHold named lock at) =
     (bytes : List ℕ)
     × (named.now ≡ name)
     × IsHeld files (segment_file name n) bytes
     × IsHoldRefusal before bytes last (unheld.NoHold lock at)
-IsUnheld files name n before last e = IsAddRefusal files name n before.state last e
+IsUnheld said files name n before last e = IsAddRefusal said files name n before.state last e
 
 -- after files that follow one another, and show holds, the next one is refused
-abbrev pub IsFileUnheld : Option Held → List ℕ → SegmentNumbers → ToolError → Type 0
-IsFileUnheld files name r e =
+abbrev pub IsFileUnheld : (Said → Type 0) → Option Held → List ℕ → SegmentNumbers → ToolError → Type 0
+IsFileUnheld said files name r e =
     (fs : List File)
     × (before : HoldsSoFar)
     × segments.LeadTo None fs before.state
     × LeadTo [] fs before.locks
     × AreHeldFrom files name r.first fs
-    × IsUnheld files name (r.first + length fs) before (r.first + length fs == r.last) e
+    × IsUnheld said files name (r.first + length fs) before (r.first + length fs == r.last) e
 
 -- One of the files of a folder is refused, or the first says another number than its name has; or
 -- there is no memory.
-abbrev pub AreFilesUnheld : Option Held → List ℕ → SegmentNumbers → ToolError → Type 0
-AreFilesUnheld files name r e =
-    IsFileUnheld files name r e ⊎ (IsNamedWrong files name r e ⊎ (e ≡ tool.OutOfMemory))
+abbrev pub AreFilesUnheld : (Said → Type 0) → Option Held → List ℕ → SegmentNumbers → ToolError → Type 0
+AreFilesUnheld said files name r e =
+    IsFileUnheld said files name r e ⊎ (IsNamedWrong files name r e ⊎ (e ≡ tool.OutOfMemory))
 
 -- `check` refuses the files of a folder; or they held a chain, and are refused all the same
-abbrev pub IsUnheldChain : Option Held → List ℕ → SegmentNumbers → ToolError → Type 0
-IsUnheldChain files name r e =
-    (IsFileRefused files name r e ⊎ IsNamedWrong files name r e)
-    ⊎ (((fs : List File) × IsChainIn files name r fs) × AreFilesUnheld files name r e)
+abbrev pub IsUnheldChain : (Said → Type 0) → Option Held → List ℕ → SegmentNumbers → ToolError → Type 0
+IsUnheldChain said files name r e =
+    (IsFileRefused said files name r e ⊎ IsNamedWrong files name r e)
+    ⊎ (((fs : List File) × IsChainIn files name r fs) × AreFilesUnheld said files name r e)
 
 -- the files of a folder are refused; or its list of locks, where they show these holds
-abbrev pub IsListUnheld : Option Held → List ℕ → Bool → SegmentNumbers → ToolError → Type 0
-IsListUnheld files name has r e =
-    IsUnheldChain files name r e
+abbrev pub IsListUnheld : (Said → Type 0) → Option Held → List ℕ → Bool → SegmentNumbers → ToolError → Type 0
+IsListUnheld said files name has r e =
+    IsUnheldChain said files name r e
     ⊎ ((holds : List (List Hold))
-    × (said : List RingBinding)
-    × AreFilesHolds files name r holds said
-    × AreNoNamesIn files name has (length holds) e)
+    × (bound : List RingBinding)
+    × AreFilesHolds files name r holds bound
+    × AreNoNamesIn said files name has (length holds) e)
 
 -- the names in a folder are refused, or its files, or its list
-abbrev pub IsFolderUnheld : List ℕ → Option Held → ToolError → Type 0
-IsFolderUnheld name files e =
+abbrev pub IsFolderUnheld : (Said → Type 0) → List ℕ → Option Held → ToolError → Type 0
+IsFolderUnheld said name files e =
     (entries : List FolderEntry)
     × IsFolder files name entries
     × (AreNamesRefused name entries e
     ⊎ ((r : SegmentNumbers)
     × IsRightNumbers entries (Ok (Some r))
-    × IsListUnheld files name (has_locks entries) r e))
+    × IsListUnheld said files name (has_locks entries) r e))
 
 -- a folder shows holds, and `check` refuses what its files say of names
-abbrev pub IsFolderMisnamed : List ℕ → Option Held → ToolError → Type 0
-IsFolderMisnamed name files e =
+abbrev pub IsFolderMisnamed : (Said → Type 0) → List ℕ → Option Held → ToolError → Type 0
+IsFolderMisnamed said name files e =
     (names : Called)
     × (holds : List (List Hold))
     × AreFolderHolds name files names holds
-    × AreNamesWrong name files e
+    × AreNamesWrong said name files e
 
 -- a text is refused, or, if the word is not a standard stream, a folder
-abbrev pub IsNamedUnheld : List ℕ → World → World → ToolError → Type 0
-IsNamedUnheld word was is e =
-    IsTextUnheld word was.files was.input is.input e
+abbrev pub IsNamedUnheld : (Said → Type 0) → Type 0 → List ℕ → World → World → ToolError → Type 0
+IsNamedUnheld said failed word was is e =
+    IsTextUnheld said failed word was.files was.input is.input e
     ⊎ ((names_stream word ≡ false)
-    × (IsFolderUnheld word was.files e ⊎ IsFolderMisnamed word was.files e))
+    × (IsFolderUnheld said word was.files e ⊎ IsFolderMisnamed said word was.files e))
 
 -- there are the holds, but not all of their lines are written; or there is no memory to count them
 abbrev pub AreHoldsUntold : HoldsWords → Called → List (List Hold) → Option (List ℕ)
@@ -229,9 +230,9 @@ AreHoldsUntold words names holds old new tool.OutOfMemory = words.by_label ≡ t
 AreHoldsUntold words names holds old new _ = ⊥
 
 -- Which refusals `holds` may meet: those of what the word names, and those of the lines.
-abbrev pub IsHoldsRefusal : HoldsWords → World → World → ToolError → Type 0
-IsHoldsRefusal words was is e =
-    IsNamedUnheld words.file.now was is e
+abbrev pub IsHoldsRefusal : (Said → Type 0) → Type 0 → HoldsWords → World → World → ToolError → Type 0
+IsHoldsRefusal said failed words was is e =
+    IsNamedUnheld said failed words.file.now was is e
     ⊎ ((names : Called)
     × (holds : List (List Hold))
     × AreNamedHolds words.file.now was is names holds

@@ -1,4 +1,5 @@
 -- `locks`, by its list: locks of a list, or locks by any name (this project's own).
+use Rattle.disks.specs.Said.{Said, NotListed}
 use Rattle.std.specs.Prelude.{◌≡◌, ◌⊎◌, true, false, List, ℕ, Option, None, Some, Err}
 use Rattle.disks.specs.Held.{Held}
 use Rattle.disks.specs.Folders.{Lists}
@@ -56,13 +57,14 @@ abbrev pub IsWordUnknown : LocksWords → ToolError → Type 0
 IsWordUnknown words e = IsNoPooledListFor (list_of words) e ⊎ (e ≡ tool.OutOfMemory)
 
 -- the folder cannot be listed, or its file of locks cannot be read, or is that of no list
-abbrev pub IsFolderUnknown : LocksWords → Option Held → StartFault → Type 0
-IsFolderUnknown words files why =
-    (why ≡ start.Folder folders.Unlisted) ⊎ IsListFileRefusal files (folder_of words) why
+abbrev pub IsFolderUnknown : (Said → Type 0) → LocksWords → Option Held → StartFault → Type 0
+IsFolderUnknown said words files why =
+    ((why ≡ start.Folder folders.Unlisted) × said (NotListed (folder_of words)))
+    ⊎ IsListFileRefusal said files (folder_of words) why
 
-abbrev pub IsUnknown : LocksWords → Option Held → Unknown → Type 0
-IsUnknown words files (unknown.Word e) = IsWordUnknown words e
-IsUnknown words files (unknown.Folder why) = IsFolderUnknown words files why
+abbrev pub IsUnknown : (Said → Type 0) → LocksWords → Option Held → Unknown → Type 0
+IsUnknown said words files (unknown.Word e) = IsWordUnknown words e
+IsUnknown said words files (unknown.Folder why) = IsFolderUnknown said words files why
 
 -- the names in the folder are refused, as they come before its list; or that is, for this
 abbrev pub IsListRefused : List ℕ → List ℕ → Option Held → StartFault → ToolError → Type 0
@@ -77,23 +79,23 @@ IsListRefused folder file files why e =
 
 -- The folder is refused for this, after what a start looks at before: the file of the holders, and
 -- the lock of the folder.
-abbrev pub IsRefusedUnknown : LocksWords → Option Held → Option Held → StartFault → ToolError
+abbrev pub IsRefusedUnknown : (Said → Type 0) → LocksWords → Option Held → Option Held → StartFault → ToolError
     → Type 0
-IsRefusedUnknown words before after why e =
-    ((after ≡ before) × HasNoHolders before (holders_word words) e)
+IsRefusedUnknown said words before after why e =
+    ((after ≡ before) × HasNoHolders said before (holders_word words) e)
     ⊎ ((holders : List Hold)
     × AreHoldersOf before (holders_word words) holders
-    × ((IsLockLeft before after (folder_of words) × IsUnkeptFolder (folder_of words) e)
+    × ((IsLockLeft before after (folder_of words) × IsUnkeptFolder said (folder_of words) e)
     ⊎ (IsLocked before after (folder_of words)
     × IsListRefused (folder_of words) (name_of (holders_word words)) after why e)))
 
 -- so it is refused, and no more than the lock was made
-abbrev pub IsFolderRefused : LocksWords → World → World → ToolError → Type 0
-IsFolderRefused words was is e =
+abbrev pub IsFolderRefused : (Said → Type 0) → LocksWords → World → World → ToolError → Type 0
+IsFolderRefused said words was is e =
     (why : StartFault)
-    × IsFolderUnknown words was.files why
+    × IsFolderUnknown said words was.files why
     × (is ≡ record was { files = is.files })
-    × IsRefusedUnknown words was.files is.files why e
+    × IsRefusedUnknown said words was.files is.files why e
 
 -- ---- the command
 
@@ -107,12 +109,12 @@ IsLendingAnswer words was is =
 -- The list that is named is none, or there is no memory, and nothing has changed; or that of the
 -- folder is refused. Or, only where the list has no pool, the locks refuse the words; or, with a pool,
 -- the names do.
-abbrev pub IsLendingRefusal : LocksWords → World → World → ToolError → Type 0
-IsLendingRefusal words was is e =
+abbrev pub IsLendingRefusal : (Said → Type 0) → Type 0 → LocksWords → World → World → ToolError → Type 0
+IsLendingRefusal said failed words was is e =
     ((is ≡ was) × IsWordUnknown words e)
-    ⊎ (IsFolderRefused words was is e
-    ⊎ ((HasNoPool words was.files × IsLocksRefusal words was is e)
-    ⊎ (HasSomePool words was.files × IsNamesRefusal words was is e)))
+    ⊎ (IsFolderRefused said words was is e
+    ⊎ ((HasNoPool words was.files × IsLocksRefusal said failed words was is e)
+    ⊎ (HasSomePool words was.files × IsNamesRefusal said failed words was is e)))
 
 -- what was delivered is left
 abbrev pub LentLast : LocksWords → World → World → Option Held → Type 0

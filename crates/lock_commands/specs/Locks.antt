@@ -1,4 +1,6 @@
 -- The answer of `locks` (this project's own).
+use Rattle.disks.specs.Said.{Said}
+use Rattle.line_service.specs.Segmenting.{over}
 use Rattle.std.specs.Prelude.{◌≡◌, ℕ, ◌⊎◌, max, true, false, List, [], Option, Some, IsSome}
 use Rattle.std.specs.List.{AllByRecursion}
 use Rattle.std.specs.Option.{option_map}
@@ -26,7 +28,7 @@ use Rattle.tool_parts.specs.declared.faults.ToolError.{ToolError}
 use Rattle.tool_parts.specs.declared.faults.ToolError.TheVariants as tool
 use Rattle.tool_parts.specs.Worlds.{IsUnserved, World}
 use Rattle.tool_parts.specs.Locking.{IsLocked, StandsLocked, IsLockLeft, IsUnkeptFolder}
-use Rattle.lock_commands.specs.Refusals.{IsStartName, IsBeginName, IsListIf, IsNoListFor}
+use Rattle.lock_commands.specs.Refusals.{IsStartName, IsBeginRefusal, IsListIf, IsNoListFor}
 use Rattle.lock_commands.specs.HoldersFile.{holders_word, name_of, AreHoldersOf, HasNoHolders}
 use Rattle.lock_commands.specs.Totals.{total_line, IsUntold}
 use Rattle.lock_commands.specs.Serving.{AreNotAllServed}
@@ -120,66 +122,66 @@ pub record IsLocksAnswer (words : LocksWords) (was is : World) : Type 0 where
 
 -- there is no memory for the service, and no file has changed; or its first segment cannot be begun,
 -- and the files are as they were, or its whole file was put there
-abbrev pub IsUnbegun : LocksWords → Place → Option Held → Option Held → ToolError → Type 0
-IsUnbegun words start before after e =
+abbrev pub IsUnbegun : (Said → Type 0) → LocksWords → Place → Option Held → Option Held → ToolError → Type 0
+IsUnbegun said words start before after e =
     ((after ≡ before) × (e ≡ tool.OutOfMemory))
     ⊎ ((service : Service)
     × BeginsWith words start.names start.locks service
     × IsFileUnbegun (folder_of words) start.number
     (by_segments.text service start.number start.behind) before after
-    × ((why : EndFault) × IsBeginName (folder_of words) why e))
+    × IsBeginRefusal said (folder_of words) start.number e)
 
 -- the locks that start here are not served to the end
-abbrev pub IsRunRefused : LocksWords → Place → Option Held → Option Held → Option (List ℕ)
+abbrev pub IsRunRefused : (Said → Type 0) → Type 0 → LocksWords → Place → Option Held → Option Held → Option (List ℕ)
     → Option (List ℕ) → Option (List ℕ) → Option (List ℕ) → ToolError → Type 0
-IsRunRefused words start before after was is old new e =
-    (IsUnserved was is old new × IsUnbegun words start before after e)
+IsRunRefused said failed words start before after was is old new e =
+    (IsUnserved was is old new × IsUnbegun said words start before after e)
     ⊎ ((first : Moment Service)
     × HasStarted words start before first
-    × AreNotAllServed answering by_segments (folder_of words) first after was is old new e)
+    × AreNotAllServed failed answering (over by_segments said) (folder_of words) first after was is old new e)
 
 -- the locks of the folder do not start, and only the lock of the folder was made
-abbrev pub IsStartRefused : LocksWords → List Hold → Option Held → Option Held → ToolError
+abbrev pub IsStartRefused : (Said → Type 0) → LocksWords → List Hold → Option Held → Option Held → ToolError
     → Type 0
-IsStartRefused words holders there after e =
+IsStartRefused said words holders there after e =
     (after ≡ there)
     × ((why : StartFault)
-    × AreUnstarted there (folder_of words) (list_of words) holders why
+    × AreUnstarted said there (folder_of words) (list_of words) holders why
     × IsStartName (folder_of words) (name_of (holders_word words)) why e)
 
 -- The folder is not to be had, or its locks do not start, and no line is read; or they are not
 -- served to the end.
-abbrev pub IsRefusedIn : LocksWords → List Hold → Option Held → Option Held
+abbrev pub IsRefusedIn : (Said → Type 0) → Type 0 → LocksWords → List Hold → Option Held → Option Held
     → Option (List ℕ) → Option (List ℕ) → Option (List ℕ) → Option (List ℕ) → ToolError → Type 0
-IsRefusedIn words holders before after was is old new e =
+IsRefusedIn said failed words holders before after was is old new e =
     (IsUnserved was is old new
     × IsLockLeft before after (folder_of words)
-    × IsUnkeptFolder (folder_of words) e)
+    × IsUnkeptFolder said (folder_of words) e)
     ⊎ ((there : Option Held)
     × IsLocked before there (folder_of words)
-    × ((IsUnserved was is old new × IsStartRefused words holders there after e)
+    × ((IsUnserved was is old new × IsStartRefused said words holders there after e)
     ⊎ ((listed : Option Held)
     × (start : Place)
     × AreStarted (folder_of words) (list_of words) holders there listed start
-    × IsRunRefused words start listed after was is old new e)))
+    × IsRunRefused said failed words start listed after was is old new e)))
 
 -- with these holders: those of the folder, and those while lines are served, where nothing is
 -- written to standard error; and, when all lines have been served, those of the sums
-abbrev pub IsRefusedWith : LocksWords → List Hold → World → World → ToolError → Type 0
-IsRefusedWith words holders was is e =
+abbrev pub IsRefusedWith : (Said → Type 0) → Type 0 → LocksWords → List Hold → World → World → ToolError → Type 0
+IsRefusedWith said failed words holders was is e =
     ((is.err ≡ was.err)
-    × IsRefusedIn words holders was.files is.files was.input is.input was.out is.out e)
+    × IsRefusedIn said failed words holders was.files is.files was.input is.input was.out is.out e)
     ⊎ ((end : Service)
     × IsServedIn words holders end was.files is.files was.input is.input was.out is.out
     × IsUntold end.inner.numbered.inner.segment.locks was.err is.err e)
 
 -- Which refusals `locks` may meet: that of the list that is named, and that of the file of the
 -- holders, where nothing has changed at all; and those of the locks that start with these holders.
-abbrev pub IsLocksRefusal : LocksWords → World → World → ToolError → Type 0
-IsLocksRefusal words was is e =
+abbrev pub IsLocksRefusal : (Said → Type 0) → Type 0 → LocksWords → World → World → ToolError → Type 0
+IsLocksRefusal said failed words was is e =
     ((is ≡ was) × IsNoListFor (list_of words) e)
     ⊎ (IsListIf (list_of words)
-    × (((is ≡ was) × HasNoHolders was.files (holders_word words) e)
+    × (((is ≡ was) × HasNoHolders said was.files (holders_word words) e)
     ⊎ ((holders : List Hold)
     × AreHoldersOf was.files (holders_word words) holders
-    × IsRefusedWith words holders was is e)))
+    × IsRefusedWith said failed words holders was is e)))

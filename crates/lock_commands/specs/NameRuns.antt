@@ -1,4 +1,7 @@
 -- The answer of `locks` with a list that has a pool (this project's own).
+use Rattle.disks.specs.Said.{Said, NotClosed}
+use Rattle.line_service.specs.Segmenting.{over}
+use Rattle.line_service.specs.Service.{IsServingSaid}
 use Rattle.std.specs.Prelude.{◌≡◌, ℕ, ◌⊎◌, true, List, [], Option, None, Some, is_some, IsSome}
 use Rattle.std.specs.List.{AllByRecursion}
 use Rattle.std.specs.Io.KnownBytes.{Appends}
@@ -16,7 +19,7 @@ use Rattle.tool_parts.specs.declared.requests.LocksWords.{LocksWords}
 use Rattle.tool_parts.specs.declared.faults.ToolError.{ToolError}
 use Rattle.tool_parts.specs.Locking.{IsLocked, StandsLocked, IsLockLeft, IsUnkeptFolder}
 use Rattle.tool_parts.specs.Worlds.{World, IsUnserved}
-use Rattle.lock_commands.specs.Refusals.{IsStartName, IsBeginName, IsLoopName, IsPooledListIf, IsNoPooledListFor}
+use Rattle.lock_commands.specs.Refusals.{IsStartName, IsBeginRefusal, IsLoopName, IsPooledListIf, IsNoPooledListFor}
 use Rattle.lock_commands.specs.HoldersFile.{holders_word, name_of, AreHoldersOf, HasNoHolders}
 use Rattle.lock_commands.specs.Totals.{total_line, IsUntold}
 use Rattle.lock_commands.specs.Serving.{AreNotAllServed}
@@ -69,100 +72,102 @@ pub record IsNamesAnswer (words : LocksWords) (was is : World) : Type 0 where
 
 -- Of the last file, which was put there with its lines, the segment could not be ended: the serving
 -- of an input without a byte has a fault, or after it the segment is to end still.
-abbrev pub IsUnended : List ℕ → Moment NamesService → Option Held → ToolError → Type 0
-IsUnended folder mid after e =
+abbrev pub IsUnended : (Said → Type 0) → List ℕ → Moment NamesService → Option Held → ToolError → Type 0
+IsUnended said folder mid after e =
     ((why : LoopFault)
     × (end : NamesService)
     × (rest : Option (List ℕ))
     × (out : Option (List ℕ))
     × ServesSomeSegments names_answering names_by_segments folder mid end after (Some []) rest
     (Some []) out
+    × IsServingSaid said ⊥ folder why
     × IsLoopName folder why e)
     ⊎ ((last : Moment NamesService)
     × ServesNothing folder mid last
     × (names_by_segments.is_due last.service ≡ true)
     × LetsGo last.files after (segment_file folder last.number) last.journal
+    × said (NotClosed (segment_file folder last.number))
     × IsLoopName folder loop.Journal e)
 
 -- the file of the segment of this number could not be put there with this text
-abbrev pub IsTextUnbegun : List ℕ → ℕ → List ℕ → Option Held → Option Held → ToolError → Type 0
-IsTextUnbegun folder number text before after e =
+abbrev pub IsTextUnbegun : (Said → Type 0) → List ℕ → ℕ → List ℕ → Option Held → Option Held → ToolError → Type 0
+IsTextUnbegun said folder number text before after e =
     IsFileUnbegun folder number text before after
-    × ((why : EndFault) × IsBeginName folder why e)
+    × IsBeginRefusal said folder number e
 
 -- It could not be put there with these lines; or it was, and could not be ended.
-abbrev pub HasNotBegunAfter : List ℕ → ℕ → List ℕ → NamesService → Option Held → Option Held
+abbrev pub HasNotBegunAfter : (Said → Type 0) → List ℕ → ℕ → List ℕ → NamesService → Option Held → Option Held
     → ToolError → Type 0
-HasNotBegunAfter folder number lines service before after e =
-    IsTextUnbegun folder number lines before after e
+HasNotBegunAfter said folder number lines service before after e =
+    IsTextUnbegun said folder number lines before after e
     ⊎ ((mid : Moment NamesService)
     × (mid.service ≡ service)
     × (mid.number ≡ number)
     × IsBegun folder number lines before mid.files mid.journal
-    × IsUnended folder mid after e)
+    × IsUnended said folder mid after e)
 
 -- the first segment whose lines are served could not be begun: after these lines, or with the text of
 -- the service
-abbrev pub HasNotBegunFrom : List ℕ → ℕ → List ℕ → Option (List ℕ) → NamesService → Option Held
+abbrev pub HasNotBegunFrom : (Said → Type 0) → List ℕ → ℕ → List ℕ → Option (List ℕ) → NamesService → Option Held
     → Option Held → ToolError → Type 0
-HasNotBegunFrom folder number behind None service before after e =
-    IsTextUnbegun folder number (names_by_segments.text service number behind) before after e
-HasNotBegunFrom folder number behind (Some lines) service before after e =
-    HasNotBegunAfter folder number lines service before after e
+HasNotBegunFrom said folder number behind None service before after e =
+    IsTextUnbegun said folder number (names_by_segments.text service number behind) before after e
+HasNotBegunFrom said folder number behind (Some lines) service before after e =
+    HasNotBegunAfter said folder number lines service before after e
 
 -- there is no memory for the service or for a text, and no file has changed; or its first segment
 -- cannot be begun
-abbrev pub AreNamesUnbegun : LocksWords → NamePlace → Option Held → Option Held → ToolError
+abbrev pub AreNamesUnbegun : (Said → Type 0) → LocksWords → NamePlace → Option Held → Option Held → ToolError
     → Type 0
-AreNamesUnbegun words start before after e =
-    ((after ≡ before) × ((why : EndFault) × IsBeginName (folder_of words) why e))
+AreNamesUnbegun said words start before after e =
+    ((after ≡ before) × IsBeginRefusal said (folder_of words) start.number e)
     ⊎ ((lines : Option (List ℕ))
     × (service : NamesService)
     × IsPutAgain (names_begin start.number start.behind start.names) start.front lines
     × NamesBeginWith words (is_some lines) start.names start.size service
-    × HasNotBegunFrom (folder_of words) start.number start.behind lines service before after e)
+    × HasNotBegunFrom said (folder_of words) start.number start.behind lines service before after e)
 
 -- the names that start here are not served to the end
-abbrev pub IsNamesRunRefused : LocksWords → NamePlace → Option Held → Option Held
+abbrev pub IsNamesRunRefused : (Said → Type 0) → Type 0 → LocksWords → NamePlace → Option Held → Option Held
     → Option (List ℕ) → Option (List ℕ) → Option (List ℕ) → Option (List ℕ) → ToolError → Type 0
-IsNamesRunRefused words start before after was is old new e =
-    (IsUnserved was is old new × AreNamesUnbegun words start before after e)
+IsNamesRunRefused said failed words start before after was is old new e =
+    (IsUnserved was is old new × AreNamesUnbegun said words start before after e)
     ⊎ ((first : Moment NamesService)
     × NamesHaveStarted words start before first
-    × AreNotAllServed names_answering names_by_segments (folder_of words) first after was is old new
+    × AreNotAllServed failed names_answering (over names_by_segments said) (folder_of words) first after was is old new
     e)
 
 -- the names of the folder do not start, and only the lock of the folder was made
-abbrev pub AreNamesStartRefused : LocksWords → List Hold → Option Held → Option Held → ToolError
+abbrev pub AreNamesStartRefused : (Said → Type 0) → LocksWords → List Hold → Option Held → Option Held → ToolError
     → Type 0
-AreNamesStartRefused words holders there after e =
+AreNamesStartRefused said words holders there after e =
     (after ≡ there)
     × ((why : StartFault)
-    × AreNamesUnstarted there (folder_of words) (list_of words) words.most_names holders why
+    × AreNamesUnstarted said there (folder_of words) (list_of words) words.most_names holders why
     × IsStartName (folder_of words) (name_of (holders_word words)) why e)
 
 -- The folder is not to be had, or its names do not start, and no line is read; or they are not
 -- served to the end.
-abbrev pub AreNamesRefusedIn : LocksWords → List Hold → Option Held → Option Held
+abbrev pub AreNamesRefusedIn : (Said → Type 0) → Type 0 → LocksWords → List Hold → Option Held → Option Held
     → Option (List ℕ) → Option (List ℕ) → Option (List ℕ) → Option (List ℕ) → ToolError → Type 0
-AreNamesRefusedIn words holders before after was is old new e =
+AreNamesRefusedIn said failed words holders before after was is old new e =
     (IsUnserved was is old new
     × IsLockLeft before after (folder_of words)
-    × IsUnkeptFolder (folder_of words) e)
+    × IsUnkeptFolder said (folder_of words) e)
     ⊎ ((there : Option Held)
     × IsLocked before there (folder_of words)
-    × ((IsUnserved was is old new × AreNamesStartRefused words holders there after e)
+    × ((IsUnserved was is old new × AreNamesStartRefused said words holders there after e)
     ⊎ ((listed : Option Held)
     × (start : NamePlace)
     × AreNamesStarted (folder_of words) (list_of words) words.most_names holders there listed start
-    × IsNamesRunRefused words start listed after was is old new e)))
+    × IsNamesRunRefused said failed words start listed after was is old new e)))
 
 -- with these holders: those of the folder, and those while lines are served, where nothing is
 -- written to standard error; and, when all lines have been served, those of the sums
-abbrev pub AreNamesRefusedWith : LocksWords → List Hold → World → World → ToolError → Type 0
-AreNamesRefusedWith words holders was is e =
+abbrev pub AreNamesRefusedWith : (Said → Type 0) → Type 0 → LocksWords → List Hold → World → World → ToolError → Type 0
+AreNamesRefusedWith said failed words holders was is e =
     ((is.err ≡ was.err)
-    × AreNamesRefusedIn words holders was.files is.files was.input is.input was.out is.out e)
+    × AreNamesRefusedIn said failed words holders was.files is.files was.input is.input was.out is.out e)
     ⊎ ((end : NamesService)
     × AreNamesServedIn words holders end was.files is.files was.input is.input was.out is.out
     × IsUntold end.inner.numbered.inner.segment.named.locks was.err is.err e)
@@ -170,11 +175,11 @@ AreNamesRefusedWith words holders was is e =
 -- Which refusals `locks` with a pool may meet: that of the list that is named, and that of the file
 -- of the holders, where nothing has changed at all; and those of the names that start with these
 -- holders.
-abbrev pub IsNamesRefusal : LocksWords → World → World → ToolError → Type 0
-IsNamesRefusal words was is e =
+abbrev pub IsNamesRefusal : (Said → Type 0) → Type 0 → LocksWords → World → World → ToolError → Type 0
+IsNamesRefusal said failed words was is e =
     ((is ≡ was) × IsNoPooledListFor (list_of words) e)
     ⊎ (IsPooledListIf (list_of words)
-    × (((is ≡ was) × HasNoHolders was.files (holders_word words) e)
+    × (((is ≡ was) × HasNoHolders said was.files (holders_word words) e)
     ⊎ ((holders : List Hold)
     × AreHoldersOf was.files (holders_word words) holders
-    × AreNamesRefusedWith words holders was is e)))
+    × AreNamesRefusedWith said failed words holders was is e)))

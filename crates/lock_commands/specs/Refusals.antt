@@ -1,4 +1,6 @@
 -- The program's names for what is refused of locks (this project's own).
+use Rattle.disks.specs.Said.{Said}
+use Rattle.line_service.specs.Segments.{IsFileSaid}
 use Rattle.std.specs.Prelude.{◌≡◌, ℕ, List, codes, Option, None, Some}
 use Rattle.ring_state.specs.declared.sizes.ParamsError.{ParamsError}
 use Rattle.ring_state.specs.declared.sizes.ParamsError.TheVariants as params
@@ -77,6 +79,13 @@ IsBeginName folder end.OutOfMemory tool.OutOfMemory = Unit {0}
 IsBeginName folder end.File (tool.Save named) = named.now ≡ folder
 IsBeginName folder end.Full (tool.Save named) = named.now ≡ folder
 IsBeginName folder _ _ = ⊥
+
+-- the same, for a reason that is so: a call said why its file is not had
+abbrev pub IsBeginRefusal : (Said → Type 0) → List ℕ → ℕ → ToolError → Type 0
+IsBeginRefusal said folder number e =
+    (why : EndFault)
+    × IsBeginName folder why e
+    × (why ≡ end.File → IsFileSaid said folder number)
 
 -- the refusal for a fault while lines were served
 abbrev pub IsLoopName : List ℕ → LoopFault → ToolError → Type 0

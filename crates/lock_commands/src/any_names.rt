@@ -22,7 +22,7 @@ use crate::locks::terms_of;
 use crate::refusals::{begin_refusal, list_refusal, serving_refusal, start_refusal};
 use crate::serving::serve_all;
 use crate::totals::tell_totals;
-use disks::Disk;
+use disks::{Disk, Source};
 use folder_of_locks::{NameStart, NamedHold, read_folder_word, start_names};
 use held_locks::LOCK_LIMIT;
 use line_replica::{Replica, Restorable};
@@ -35,7 +35,7 @@ use name_service::{NameService, NameTerms, named_text};
 use ring_state::Params;
 use segment_files::DIGEST_DIGITS;
 use std::alloc::Global;
-use std::io::{Read, Write};
+use std::io::Write;
 use tool_parts::faults::ToolError;
 use tool_parts::locking::lock_folder;
 use tool_parts::requests::LocksWords;
@@ -85,7 +85,7 @@ fn end_first<'a, D: Disk>(
         (moment_at D.Grown.contents service.new (D.holds disk.new) next)) }
     ensures open { OnOk result (names_by_segments.is_due service.new ≡ false) }
     ensures named { IfOk result (λ next. IsNamed rules.entry.folder.now next) }
-    ensures err { IfErr result (λ e. IsUnended rules.entry.folder.now
+    ensures err { IfErr result (λ e. IsUnended D.said rules.entry.folder.now
         (moment_at D.Grown.contents service.old (D.holds disk.old) first) (D.holds disk.new) e) }
     ensures whole { IfOk result (λ next. StaysWhole D.keeps_written rules.entry.synced
         (D.holds disk.old) D.Grown.contents D.Grown.lasting first next) }
@@ -124,7 +124,7 @@ fn begin_after<'a, D: Disk>(
         service.old (D.holds disk.old)
         (moment_at D.Grown.contents service.new (D.holds disk.new) first)) }
     ensures named { IfOk result (λ first. IsNamed rules.entry.folder.now first) }
-    ensures err { IfErr result (λ e. HasNotBegunAfter rules.entry.folder.now number front.now
+    ensures err { IfErr result (λ e. HasNotBegunAfter D.said rules.entry.folder.now number front.now
         service.old (D.holds disk.old) (D.holds disk.new) e) }
     ensures whole { IfOk result (λ first. IsWholeSince D.keeps_written rules.entry.synced
         (D.holds disk.old) (D.holds disk.new) D.Grown.contents D.Grown.lasting first) }
@@ -200,7 +200,7 @@ fn begin<'a, D: Disk>(
         (option_map (λ bytes. bytes.items) front) service.old (D.holds disk.old)
         (moment_at D.Grown.contents service.new (D.holds disk.new) first)) }
     ensures named { IfOk result (λ first. IsNamed rules.entry.folder.now first) }
-    ensures err { IfErr result (λ e. HasNotBegunFrom rules.entry.folder.now number behind
+    ensures err { IfErr result (λ e. HasNotBegunFrom D.said rules.entry.folder.now number behind
         (option_map (λ bytes. bytes.items) front) service.old (D.holds disk.old)
         (D.holds disk.new) e) }
     ensures whole { IfOk result (λ first. IsWholeSince D.keeps_written rules.entry.synced
@@ -219,7 +219,7 @@ fn begin<'a, D: Disk>(
 }
 
 /// Serves from where the names start, in a folder that is locked, and settles the last segment.
-fn serve_from<'a, D: Disk, I: Read, W: Write>(
+fn serve_from<'a, D: Disk, I: Source, W: Write>(
     alloc: Global,
     disk: &mut D,
     start: NameStart,
@@ -233,7 +233,7 @@ fn serve_from<'a, D: Disk, I: Read, W: Write>(
         IsNamesRun words.now (name_place_of start) end (D.holds disk.old) (D.holds disk.new)
         (I.remaining input.old) (I.remaining input.new) (W.contents out.old) (W.contents out.new)) }
     ensures err { IfErr result (λ e.
-        IsNamesRunRefused words.now (name_place_of start) (D.holds disk.old) (D.holds disk.new)
+        IsNamesRunRefused D.said I.Source.failed words.now (name_place_of start) (D.holds disk.old) (D.holds disk.new)
         (I.remaining input.old) (I.remaining input.new) (W.contents out.old) (W.contents out.new)
         e) }
     ensures lasts { outlives D.keeps_written words.now.synced ≡ true → IsSome (D.holds disk.old)
@@ -273,7 +273,7 @@ fn serve_from<'a, D: Disk, I: Read, W: Write>(
 }
 
 /// The names of a folder, when all lines have been served. The folder is locked from before it is listed, and stays so.
-fn run_in_folder<'a, D: Disk, I: Read, W: Write>(
+fn run_in_folder<'a, D: Disk, I: Source, W: Write>(
     alloc: Global,
     disk: &mut D,
     words: &LocksWords<'a>,
@@ -286,7 +286,7 @@ fn run_in_folder<'a, D: Disk, I: Read, W: Write>(
         (D.holds disk.new) (I.remaining input.old) (I.remaining input.new) (W.contents out.old)
         (W.contents out.new)) }
     ensures err { IfErr result (λ e.
-        AreNamesRefusedIn words.now (map hold_of holders.now) (D.holds disk.old)
+        AreNamesRefusedIn D.said I.Source.failed words.now (map hold_of holders.now) (D.holds disk.old)
         (D.holds disk.new) (I.remaining input.old) (I.remaining input.new) (W.contents out.old)
         (W.contents out.new) e) }
     ensures lasts { outlives D.keeps_written words.now.synced ≡ true → IsSome (D.holds disk.old)
@@ -340,7 +340,7 @@ fn check_named<'a>(alloc: Global, word: Option<&str>) -> Result<(), ToolError<'a
 
 /// `locks`, from its words, with a list that has a pool: the names of the folder, with the open holds of the clients that the file of
 /// the holders names, answer the lines of `input` on `out`; when all have been, the sums over the rings are reported on `err`.
-pub fn run<'a, D: Disk, I: Read, W: Write, E: Write>(
+pub fn run<'a, D: Disk, I: Source, W: Write, E: Write>(
     alloc: Global,
     disk: &mut D,
     words: &LocksWords<'a>,
@@ -353,7 +353,7 @@ pub fn run<'a, D: Disk, I: Read, W: Write, E: Write>(
         (world (D.holds disk.new) (I.remaining input.new) (W.contents out.new)
         (E.contents err.new))) }
     ensures err { IfErr result (λ e.
-        IsNamesRefusal words.now
+        IsNamesRefusal D.said I.Source.failed words.now
         (world (D.holds disk.old) (I.remaining input.old) (W.contents out.old) (E.contents err.old))
         (world (D.holds disk.new) (I.remaining input.new) (W.contents out.new)
         (E.contents err.new)) e) }

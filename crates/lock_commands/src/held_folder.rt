@@ -79,7 +79,7 @@ fn read_segment<'a, D: Disk>(
         × IsHeld (D.holds disk.now) (segment_file folder.now number) bytes
         × IsReadWith (so_far before) bytes last (so_far new)) }
     ensures err { IfErr result
-        (λ e. IsUnheld (D.holds disk.now) folder.now number (so_far before).holds last e) }
+        (λ e. IsUnheld D.said (D.holds disk.now) folder.now number (so_far before).holds last e) }
 {
     let bytes = match segment_bytes(alloc, disk, folder, number) {
         Ok(bytes) => bytes,
@@ -103,7 +103,7 @@ fn read_before_last<'a, D: Disk>(
     requires up { numbers.first ≤ numbers.last }
     ensures ok { IfOk result (λ found.
         HoldLeads (D.holds disk.now) folder.now numbers.first numbers.last (so_far found)) }
-    ensures err { IfErr result (λ e. IsFileUnheld (D.holds disk.now) folder.now numbers e) }
+    ensures err { IfErr result (λ e. IsFileUnheld D.said (D.holds disk.now) folder.now numbers e) }
 {
     let mut found = nothing_read(alloc);
     for number in numbers.first..numbers.last {
@@ -125,7 +125,7 @@ fn read_all<'a, D: Disk>(
     requires up { numbers.first ≤ numbers.last }
     ensures ok { IfOk result (λ found.
         HoldEnds (D.holds disk.now) folder.now numbers.first numbers.last (so_far found)) }
-    ensures err { IfErr result (λ e. IsFileUnheld (D.holds disk.now) folder.now numbers e) }
+    ensures err { IfErr result (λ e. IsFileUnheld D.said (D.holds disk.now) folder.now numbers e) }
 {
     let before = match read_before_last(alloc, disk, folder, numbers) {
         Ok(before) => before,
@@ -159,7 +159,7 @@ fn files_holds<'a, D: Disk>(
     requires up { numbers.first ≤ numbers.last }
     ensures ok { IfOk result (λ found. AreFilesHolds (D.holds disk.now) folder.now numbers
         (map (λ v. v.items) found.locks.items) found.said.items) }
-    ensures err { IfErr result (λ e. AreFilesUnheld (D.holds disk.now) folder.now numbers e) }
+    ensures err { IfErr result (λ e. AreFilesUnheld D.said (D.holds disk.now) folder.now numbers e) }
 {
     let ReadFiles { holds, said } = match read_all(alloc, disk, folder, numbers) {
         Ok(found) => found,
@@ -188,7 +188,7 @@ fn chain_holds<'a, D: Disk>(
     requires up { numbers.first ≤ numbers.last }
     ensures ok { IfOk result (λ found. AreFilesHolds (D.holds disk.now) folder.now numbers
         (map (λ v. v.items) found.locks.items) found.said.items) }
-    ensures err { IfErr result (λ e. IsUnheldChain (D.holds disk.now) folder.now numbers e) }
+    ensures err { IfErr result (λ e. IsUnheldChain D.said (D.holds disk.now) folder.now numbers e) }
 {
     let fault = match files_holds(alloc, disk, folder, numbers) {
         Ok(found) => return Ok(found),
@@ -221,7 +221,7 @@ pub(crate) fn folder_holds<'a, D: Disk>(
     requires { IsFolder (D.holds disk.now) folder.now entries.now }
     ensures ok { IfOk result (λ found. AreFolderHolds folder.now (D.holds disk.now)
         (called found.names) (map (λ v. v.items) found.locks.items)) }
-    ensures err { IfErr result (λ e. IsFolderUnheld folder.now (D.holds disk.now) e) }
+    ensures err { IfErr result (λ e. IsFolderUnheld D.said folder.now (D.holds disk.now) e) }
 {
     let numbers = match folder_numbers(alloc, folder, entries) {
         Ok(numbers) => numbers,

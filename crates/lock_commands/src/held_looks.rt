@@ -21,10 +21,10 @@ fn look_again<'a, D: Disk>(
 ) -> Result<FoundHolds, ToolError<'a>>
     requires ok { IfOk found (λ found. AreFolderHolds folder.now (D.holds disk.now)
         (called found.names) (map (λ v. v.items) found.locks.items)) }
-    requires err { IfErr found (λ e. IsFolderUnheld folder.now (D.holds disk.now) e) }
+    requires err { IfErr found (λ e. IsFolderUnheld D.said folder.now (D.holds disk.now) e) }
     ensures ok { IfOk result (λ found. AreFolderHolds folder.now (D.holds disk.now)
         (called found.names) (map (λ v. v.items) found.locks.items)) }
-    ensures err { IfErr result (λ e. IsFolderUnheld folder.now (D.holds disk.now) e) }
+    ensures err { IfErr result (λ e. IsFolderUnheld D.said folder.now (D.holds disk.now) e) }
 {
     match found {
         Ok(found) => Ok(found),
@@ -55,7 +55,7 @@ pub(crate) fn holds_in<'a, D: Disk>(
     requires { IsFolder (D.holds disk.now) folder.now entries.now }
     ensures ok { IfOk result (λ found. AreFolderHolds folder.now (D.holds disk.now)
         (called found.names) (map (λ v. v.items) found.locks.items)) }
-    ensures err { IfErr result (λ e. IsFolderUnheld folder.now (D.holds disk.now) e) }
+    ensures err { IfErr result (λ e. IsFolderUnheld D.said folder.now (D.holds disk.now) e) }
 {
     let mut found = folder_holds(alloc, disk, folder, entries);
     for _ in 0..MOST_LOOKS {

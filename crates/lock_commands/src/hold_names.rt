@@ -80,7 +80,7 @@ fn listed_names<D: Disk>(
 ) -> Result<HoldNames, StartFault>
     ensures ok { IfOk result
         (λ names. AreListed (D.holds disk.now) folder.now rings said.items (called names)) }
-    ensures err { IfErr result (λ why. IsListRefused (D.holds disk.now) folder.now rings why) }
+    ensures err { IfErr result (λ why. IsListRefused D.said (D.holds disk.now) folder.now rings why) }
 {
     let bytes = match list_bytes(alloc, disk, folder) {
         Ok(bytes) => bytes,
@@ -123,7 +123,7 @@ pub(crate) fn names_in<'a, D: Disk>(
     ensures ok { IfOk result
         (λ names. AreNamesIn (D.holds disk.now) folder.now has rings said.items (called names)) }
     ensures err { IfErr result
-        (λ e. AreNoNamesIn (D.holds disk.now) folder.now has rings e) }
+        (λ e. AreNoNamesIn D.said (D.holds disk.now) folder.now has rings e) }
 {
     if !has {
         return Ok(HoldNames::none(alloc));

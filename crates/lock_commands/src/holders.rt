@@ -45,7 +45,7 @@ pub(crate) fn holders_of<'a, D: Disk>(
 ) -> Result<Vec<NamedHold>, ToolError<'a>>
     ensures ok { IfOk result (λ holders. AreHoldersOf (D.holds disk.now)
         (option_map (λ w. w.now) file.entry) (map hold_of holders.items)) }
-    ensures err { IfErr result (λ e. HasNoHolders (D.holds disk.now)
+    ensures err { IfErr result (λ e. HasNoHolders D.said (D.holds disk.now)
         (option_map (λ w. w.now) file.entry) e) }
 {
     let Some(file) = file else {

@@ -13,9 +13,9 @@ use crate::held_looks::holds_in;
 use crate::hold_lines::put_holds;
 use crate::hold_names::HoldNames;
 use chain_readers::{ChainHoldError, Choice, Hold, count_labels, holds_of_saved, put_labels};
-use disks::{Disk, FolderEntry};
+use disks::{Disk, FolderEntry, Source};
 use std::alloc::Global;
-use std::io::{Read, Write};
+use std::io::Write;
 use text_commands::names::check_names;
 use tool_parts::chain::entries_of;
 use tool_parts::faults::ToolError;
@@ -39,7 +39,7 @@ fn choice_of(words: &HoldsWords<'_>) -> Choice
 ///
 /// Those of reading what the word names; those of a text that is not legal; `NoHold` with the first ring that has not the history
 /// of a lock, and the first place there; `OutOfMemory`.
-fn text_holds<'a, D: Disk, I: Read>(
+fn text_holds<'a, D: Disk, I: Source>(
     alloc: Global,
     disk: &D,
     file: &'a str,
@@ -47,7 +47,7 @@ fn text_holds<'a, D: Disk, I: Read>(
 ) -> Result<Vec<Vec<Hold>>, ToolError<'a>>
     ensures ok { IfOk result (λ found. AreTextHolds file.now (D.holds disk.now)
         (I.remaining input.old) (I.remaining input.new) (map (λ v. v.items) found.items)) }
-    ensures err { IfErr result (λ e. IsTextUnheld file.now (D.holds disk.now)
+    ensures err { IfErr result (λ e. IsTextUnheld D.said I.Source.failed file.now (D.holds disk.now)
         (I.remaining input.old) (I.remaining input.new) e) }
     ensures unread { names_stream file.now ≡ false → input.new ≡ input.old }
 {
@@ -83,8 +83,8 @@ fn judged_holds<'a, D: Disk>(
     ensures ok { IfOk result (λ found. AreFolderHolds folder.now (D.holds disk.now)
         (called found.names) (map (λ v. v.items) found.locks.items)
         × IsFolderNamed folder.now (D.holds disk.now)) }
-    ensures err { IfErr result (λ e. IsFolderUnheld folder.now (D.holds disk.now) e
-        ⊎ IsFolderMisnamed folder.now (D.holds disk.now) e) }
+    ensures err { IfErr result (λ e. IsFolderUnheld D.said folder.now (D.holds disk.now) e
+        ⊎ IsFolderMisnamed D.said folder.now (D.holds disk.now) e) }
 {
     let found = match holds_in(alloc, disk, folder, entries) {
         Ok(found) => found,
@@ -102,7 +102,7 @@ fn judged_holds<'a, D: Disk>(
 /// # Errors
 ///
 /// Those of [`judged_holds`] and [`text_holds`].
-fn named_holds<'a, D: Disk, I: Read>(
+fn named_holds<'a, D: Disk, I: Source>(
     alloc: Global,
     disk: &D,
     file: &'a str,
@@ -112,7 +112,7 @@ fn named_holds<'a, D: Disk, I: Read>(
         (world (D.holds disk.now) (I.remaining input.old) None None)
         (world (D.holds disk.now) (I.remaining input.new) None None)
         (called found.names) (map (λ v. v.items) found.locks.items)) }
-    ensures err { IfErr result (λ e. IsNamedUnheld file.now
+    ensures err { IfErr result (λ e. IsNamedUnheld D.said I.Source.failed file.now
         (world (D.holds disk.now) (I.remaining input.old) None None)
         (world (D.holds disk.now) (I.remaining input.new) None None) e) }
     ensures unread { names_stream file.now ≡ false → input.new ≡ input.old }
@@ -188,7 +188,7 @@ fn tell_holds<'a, W: Write>(
 /// place there; if there are none, `UnreadLocks`, `BadLocks` or `ManyLocks` for a folder's file of locks, or `OtherRing` with the
 /// first ring for which it has no lock. Nothing is written then. `Write` where the writer fails: the bytes written until then are a
 /// prefix of the lines. Where a file is named, standard input stays as it was.
-pub fn run<'a, D: Disk, I: Read, W: Write>(
+pub fn run<'a, D: Disk, I: Source, W: Write>(
     alloc: Global,
     disk: &D,
     words: &HoldsWords<'a>,
@@ -198,7 +198,7 @@ pub fn run<'a, D: Disk, I: Read, W: Write>(
     ensures ok { OnOk result (IsHoldsAnswer words.now
         (world (D.holds disk.now) (I.remaining input.old) (W.contents out.old) None)
         (world (D.holds disk.now) (I.remaining input.new) (W.contents out.new) None)) }
-    ensures err { IfErr result (λ e. IsHoldsRefusal words.now
+    ensures err { IfErr result (λ e. IsHoldsRefusal D.said I.Source.failed words.now
         (world (D.holds disk.now) (I.remaining input.old) (W.contents out.old) None)
         (world (D.holds disk.now) (I.remaining input.new) (W.contents out.new) None) e) }
     ensures nothing { IfErr result (λ e. e ≢ ToolError.Write → out.new ≡ out.old) }

@@ -10,11 +10,11 @@ ghost use Rattle.lock_commands.specs.Lending.{unknown_of, IsUnknown, IsListRefus
 use crate::holders::{holders_of, name_of};
 use crate::refusals::{folder_refusal, list_refusal, start_refusal};
 use crate::{any_names, locks};
-use disks::Disk;
+use disks::{Disk, Source};
 use folder_of_locks::{StartFault, has_pool};
 use line_service::numbers_among;
 use std::alloc::Global;
-use std::io::{Read, Write};
+use std::io::Write;
 use tool_parts::faults::ToolError;
 use tool_parts::locking::lock_folder;
 use tool_parts::requests::LocksWords;
@@ -43,7 +43,7 @@ fn unknown_of(why: StartFault) -> Unknown
 fn wants_pool<D: Disk>(alloc: Global, disk: &D, words: &LocksWords<'_>) -> Result<bool, Unknown>
     ensures ok { IfOk result
         (λ has. IsPoolSaid (D.holds disk.now) (folder_of words.now) (list_of words.now) has) }
-    ensures err { IfErr result (λ why. IsUnknown words.now (D.holds disk.now) why) }
+    ensures err { IfErr result (λ why. IsUnknown D.said words.now (D.holds disk.now) why) }
 {
     match has_pool(alloc, disk, words.journal, words.locks) {
         Ok(has) => Ok(has),
@@ -78,7 +78,7 @@ fn refused_unknown<'a, D: Disk>(
     words: &LocksWords<'a>,
     why: StartFault,
 ) -> ToolError<'a>
-    ensures { IsRefusedUnknown words.now (D.holds disk.old) (D.holds disk.new) why result }
+    ensures { IsRefusedUnknown D.said words.now (D.holds disk.old) (D.holds disk.new) why result }
 {
     match holders_of(alloc, disk, words.holders) {
         Ok(_holders) => {}
@@ -93,7 +93,7 @@ fn refused_unknown<'a, D: Disk>(
 
 /// `locks`, from its words: as [`locks::run`]; or as [`any_names::run`], if the list that is named has a pool, or that of the
 /// folder.
-pub fn run<'a, D: Disk, I: Read, W: Write, E: Write>(
+pub fn run<'a, D: Disk, I: Source, W: Write, E: Write>(
     alloc: Global,
     disk: &mut D,
     words: &LocksWords<'a>,
@@ -106,7 +106,7 @@ pub fn run<'a, D: Disk, I: Read, W: Write, E: Write>(
         (world (D.holds disk.new) (I.remaining input.new) (W.contents out.new)
         (E.contents err.new))) }
     ensures err { IfErr result (λ e.
-        IsLendingRefusal words.now
+        IsLendingRefusal D.said I.Source.failed words.now
         (world (D.holds disk.old) (I.remaining input.old) (W.contents out.old) (E.contents err.old))
         (world (D.holds disk.new) (I.remaining input.new) (W.contents out.new)
         (E.contents err.new)) e) }

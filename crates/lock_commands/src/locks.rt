@@ -20,7 +20,7 @@ use crate::holders::{holders_of, name_of};
 use crate::refusals::{begin_refusal, list_refusal, start_refusal};
 use crate::serving::serve_all;
 use crate::totals::tell_totals;
-use disks::Disk;
+use disks::{Disk, Source};
 use folder_of_locks::{NamedHold, Start, read_list_word, start_locks};
 use held_locks::Locks;
 use line_replica::{Replica, Restorable};
@@ -28,7 +28,7 @@ use line_service::{SegmentRules, begin_segment};
 use lock_protocol::LockNames;
 use lock_service::{LockService, Terms};
 use std::alloc::Global;
-use std::io::{Read, Write};
+use std::io::Write;
 use tool_parts::faults::ToolError;
 use tool_parts::locking::lock_folder;
 use tool_parts::requests::LocksWords;
@@ -63,7 +63,7 @@ fn service_of<'a>(
 }
 
 /// Serves from where the locks start, in a folder that is locked, and settles the last segment.
-fn serve_from<'a, D: Disk, I: Read, W: Write>(
+fn serve_from<'a, D: Disk, I: Source, W: Write>(
     alloc: Global,
     disk: &mut D,
     start: Start,
@@ -79,7 +79,7 @@ fn serve_from<'a, D: Disk, I: Read, W: Write>(
         IsRun words.now (place_of start) end (D.holds disk.old) (D.holds disk.new)
         (I.remaining input.old) (I.remaining input.new) (W.contents out.old) (W.contents out.new)) }
     ensures err { IfErr result (λ e.
-        IsRunRefused words.now (place_of start) (D.holds disk.old) (D.holds disk.new)
+        IsRunRefused D.said I.Source.failed words.now (place_of start) (D.holds disk.old) (D.holds disk.new)
         (I.remaining input.old) (I.remaining input.new) (W.contents out.old) (W.contents out.new)
         e) }
     ensures lasts { outlives D.keeps_written words.now.synced ≡ true → IsSome (D.holds disk.old)
@@ -115,7 +115,7 @@ fn serve_from<'a, D: Disk, I: Read, W: Write>(
 }
 
 /// The locks of a folder, when all lines have been served. The folder is locked from before it is listed, and stays so.
-fn run_in_folder<'a, D: Disk, I: Read, W: Write>(
+fn run_in_folder<'a, D: Disk, I: Source, W: Write>(
     alloc: Global,
     disk: &mut D,
     words: &LocksWords<'a>,
@@ -128,7 +128,7 @@ fn run_in_folder<'a, D: Disk, I: Read, W: Write>(
         (I.remaining input.old) (I.remaining input.new) (W.contents out.old)
         (W.contents out.new)) }
     ensures err { IfErr result (λ e.
-        IsRefusedIn words.now (map hold_of holders.now) (D.holds disk.old) (D.holds disk.new)
+        IsRefusedIn D.said I.Source.failed words.now (map hold_of holders.now) (D.holds disk.old) (D.holds disk.new)
         (I.remaining input.old) (I.remaining input.new) (W.contents out.old)
         (W.contents out.new) e) }
     ensures lasts { outlives D.keeps_written words.now.synced ≡ true → IsSome (D.holds disk.old)
@@ -172,7 +172,7 @@ fn check_named<'a>(alloc: Global, word: Option<&str>) -> Result<(), ToolError<'a
 
 /// `locks`, from its words: the locks of the folder, with the open holds of the clients that the file of the holders names, answer
 /// the lines of `input` on `out`; when all have been, the sums over the locks are reported on `err`.
-pub fn run<'a, D: Disk, I: Read, W: Write, E: Write>(
+pub fn run<'a, D: Disk, I: Source, W: Write, E: Write>(
     alloc: Global,
     disk: &mut D,
     words: &LocksWords<'a>,
@@ -185,7 +185,7 @@ pub fn run<'a, D: Disk, I: Read, W: Write, E: Write>(
         (world (D.holds disk.new) (I.remaining input.new) (W.contents out.new)
         (E.contents err.new))) }
     ensures err { IfErr result (λ e.
-        IsLocksRefusal words.now
+        IsLocksRefusal D.said I.Source.failed words.now
         (world (D.holds disk.old) (I.remaining input.old) (W.contents out.old) (E.contents err.old))
         (world (D.holds disk.new) (I.remaining input.new) (W.contents out.new)
         (E.contents err.new)) e) }

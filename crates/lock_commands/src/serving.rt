@@ -1,20 +1,21 @@
 //! All lines of an input are served, from an open segment on.
 
 ghost use Rattle.std.specs.Prelude.{◌≡◌, ℕ, List, Option, false, OnOk, IfErr};
+ghost use Rattle.line_service.specs.Segmenting.{over};
 ghost use Rattle.line_service.specs.Segments.{IsNamed, moment_at};
 ghost use Rattle.line_service.specs.Notes.{ToldLinesAreNoted};
 ghost use Rattle.line_service.specs.Lasting.{EachSegmentLasts, WhereLasting};
 ghost use Rattle.lock_commands.specs.Serving.{AreAllServed, AreNotAllServed};
 
 use crate::refusals::serving_refusal;
-use disks::Disk;
+use disks::{Disk, Source};
 use line_service::{OpenSegment, SegmentRules, Segmented, close_segment, serve_segments};
 use std::alloc::Global;
-use std::io::{Read, Write};
+use std::io::Write;
 use tool_parts::faults::ToolError;
 
 /// Serves all lines from an open segment on, and settles the last one.
-pub(crate) fn serve_all<'a, S: Segmented, D: Disk, I: Read, W: Write>(
+pub(crate) fn serve_all<'a, S: Segmented, D: Disk, I: Source, W: Write>(
     alloc: Global,
     service: &mut S,
     disk: &mut D,
@@ -24,17 +25,17 @@ pub(crate) fn serve_all<'a, S: Segmented, D: Disk, I: Read, W: Write>(
     out: &mut W,
 ) -> Result<(), ToolError<'a>>
     requires { IsNamed rules.folder.now first }
-    ensures ok { OnOk result (AreAllServed S.is_answered S.segmenting rules.entry.folder.now
+    ensures ok { OnOk result (AreAllServed S.is_answered (over S.segmenting D.said) rules.entry.folder.now
         (moment_at D.Grown.contents service.old (D.holds disk.old) first) service.new
         (D.holds disk.new) (I.remaining input.old) (I.remaining input.new) (W.contents out.old)
         (W.contents out.new)) }
-    ensures err { IfErr result (λ e. AreNotAllServed S.is_answered S.segmenting
+    ensures err { IfErr result (λ e. AreNotAllServed I.Source.failed S.is_answered (over S.segmenting D.said)
         rules.entry.folder.now (moment_at D.Grown.contents service.old (D.holds disk.old) first)
         (D.holds disk.new) (I.remaining input.old) (I.remaining input.new) (W.contents out.old)
         (W.contents out.new) e) }
 
     // Wherever serving ended: what was delivered is noted.
-    ensures noted { (journal : Option (List ℕ)) × ToldLinesAreNoted S.is_answered S.segmenting
+    ensures noted { (journal : Option (List ℕ)) × ToldLinesAreNoted S.is_answered (over S.segmenting D.said)
         rules.entry.folder.now (moment_at D.Grown.contents service.old (D.holds disk.old) first)
         service.new (I.remaining input.old) (I.remaining input.new) (W.contents out.old)
         (W.contents out.new) journal }
@@ -42,7 +43,7 @@ pub(crate) fn serve_all<'a, S: Segmented, D: Disk, I: Read, W: Write>(
     // Where answers change no file: whatever is left has what was delivered.
     ensures lasts { S.changes_files service.old ≡ false → WhereLasting D.keeps_written
         rules.entry.synced (D.holds disk.old) D.Grown.contents D.Grown.lasting first
-        (EachSegmentLasts S.is_answered S.segmenting rules.entry.folder.now
+        (EachSegmentLasts S.is_answered (over S.segmenting D.said) rules.entry.folder.now
         (moment_at D.Grown.contents service.old (D.holds disk.old) first) service.new
         (I.remaining input.old) (I.remaining input.new) (W.contents out.old) (W.contents out.new)
         (D.leaves disk.new)) }

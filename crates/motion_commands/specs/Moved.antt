@@ -1,4 +1,5 @@
 -- The answers and the refusals of `picture --animate`.
+use Rattle.disks.specs.Said.{Said}
 use Rattle.std.specs.Prelude.{◌≡◌, ℕ, ◌-◌, ◌<◌, ◌≤◌, min, List, length, slice_get, true, false, Option, Some, ◌⊎◌}
 use Rattle.std.specs.Io.KnownBytes.{Appends}
 use Rattle.disks.specs.Held.{Held, Replaces}
@@ -71,9 +72,9 @@ IsSaved words text before after =
     × Replaces before after words.picture.now (Some text)
 
 -- a file that cannot be made, or has to stay as it is
-abbrev pub IsSaveFault : PictureWords → ToolError → Type 0
-IsSaveFault words e =
-    IsApartRefusal (Some words.picture.now) e ⊎ IsSaveRefusal words.picture.now e
+abbrev pub IsSaveFault : (Said → Type 0) → PictureWords → ToolError → Type 0
+IsSaveFault said words e =
+    IsApartRefusal said (Some words.picture.now) e ⊎ IsSaveRefusal said words.picture.now e
 
 -- The picture is in its file, and the line of the sums is printed; or, for the dash, the picture is
 -- printed, and no file has changed.
@@ -86,10 +87,10 @@ pub record IsHanded (words : PictureWords) (m : Moving) (was is : World) : Type 
 
 -- What keeps them from there: the file, with every file as it was and nothing printed; or a writer
 -- that got a prefix of what was to be printed, when the file was in its place.
-pub record IsHandFault (words : PictureWords) (m : Moving) (was is : World) (e : ToolError) : Type 0
+pub record IsHandFault (said : Said → Type 0) (words : PictureWords) (m : Moving) (was is : World) (e : ToolError) : Type 0
   where
     pub to_file : names_stream words.picture.now ≡ false
-        → (IsSaveFault words e × (is.files ≡ was.files) × (is.out ≡ was.out))
+        → (IsSaveFault said words e × (is.files ≡ was.files) × (is.out ≡ was.out))
         ⊎ ((e ≡ tool.Write)
         × IsSaved words m.text.items was.files is.files
         × AppendsFront was.out is.out (legal_line m.sums))
@@ -114,16 +115,16 @@ IsAsBefore was is = (is.files ≡ was.files) × (is.out ≡ was.out)
 
 -- Which refusals there may be: more events than a picture may have, those of reading what the word
 -- names, and those of the bytes that it gave, each with nothing made; and those of handing it over.
-abbrev pub IsAnimateRefusal : PictureWords → World → World → Refusal → Type 0
-IsAnimateRefusal words was is e =
+abbrev pub IsAnimateRefusal : (Said → Type 0) → Type 0 → PictureWords → World → World → Refusal → Type 0
+IsAnimateRefusal said failed words was is e =
     ((e ≡ refusal.Tool tool.ManyDrawn) × (most_events < words.events) × IsAsBefore was is)
     ⊎ (((fault : ToolError)
     × (e ≡ refusal.Tool fault)
-    × IsNamedRefusal words.file.now was.files was.input is.input fault
+    × IsNamedRefusal said failed words.file.now was.files was.input is.input fault
     × IsAsBefore was is)
     ⊎ ((bytes : List ℕ)
     × IsNamed words.file.now was.files was.input is.input bytes
     × ((IsMovingRefusal words bytes e × IsAsBefore was is)
     ⊎ ((m : Moving)
     × IsMoving words bytes m
-    × ((fault : ToolError) × (e ≡ refusal.Tool fault) × IsHandFault words m was is fault)))))
+    × ((fault : ToolError) × (e ≡ refusal.Tool fault) × IsHandFault said words m was is fault)))))

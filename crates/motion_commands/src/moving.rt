@@ -7,12 +7,12 @@ ghost use Rattle.motion_commands.specs.Moved.{IsSaved, IsSaveFault, IsHanded, Is
 
 use crate::drawings::{MOST_EVENTS, Moving, moving_of};
 use crate::refusals::Refusal;
-use disks::{Contents, ContentsFault, Disk, replace};
+use disks::{Contents, ContentsFault, Disk, Source};
 use std::alloc::Global;
-use std::io::{Read, Write};
+use std::io::Write;
 use text_lines::put;
 use tool_parts::faults::ToolError;
-use tool_parts::handing::save_fault;
+use tool_parts::handing;
 use tool_parts::legal::tell_sums;
 use tool_parts::reading::{keep_apart, names_stream, read_named};
 use tool_parts::requests::PictureWords;
@@ -47,16 +47,16 @@ fn save<'a, D: Disk>(
     words: &PictureWords<'a>,
 ) -> Result<(), ToolError<'a>>
     ensures ok { OnOk result (IsSaved words.now text.now (D.holds disk.old) (D.holds disk.new)) }
-    ensures err { IfErr result (λ e. IsSaveFault words.now e) }
+    ensures err { IfErr result (λ e. IsSaveFault D.said words.now e) }
     ensures kept { OnErr result (D.holds disk.new ≡ D.holds disk.old) }
 {
     match keep_apart(disk, words.file, words.picture) {
         Ok(()) => {}
         Err(fault) => return Err(fault),
     }
-    match replace(alloc, disk, words.picture, &PictureText { text }) {
+    match handing::save(alloc, disk, &PictureText { text }, words.picture) {
         Ok(()) => Ok(()),
-        Err(fault) => Err(save_fault(fault, words.picture)),
+        Err(fault) => Err(fault),
     }
 }
 
@@ -75,7 +75,7 @@ fn hand_over<'a, D: Disk, W: Write>(
     ensures ok { OnOk result (IsHanded words.now moving.now
         (world (D.holds disk.old) None (W.contents out.old) None)
         (world (D.holds disk.new) None (W.contents out.new) None)) }
-    ensures err { IfErr result (λ e. IsHandFault words.now moving.now
+    ensures err { IfErr result (λ e. IsHandFault D.said words.now moving.now
         (world (D.holds disk.old) None (W.contents out.old) None)
         (world (D.holds disk.new) None (W.contents out.new) None) e) }
 {
@@ -104,7 +104,7 @@ fn hand_over<'a, D: Disk, W: Write>(
 /// `Truncated` where its bytes are not a saved text, `Bad` where they are one that is not legal; `NoRing` where that has no such ring,
 /// `ManyMachines` where it has more than are drawn on a circle, and `NoPlace` where it has fewer events than are before the first to be
 /// drawn. No file is made then, and nothing is printed. And those of the file and of the writer.
-pub fn run<'a, D: Disk, I: Read, W: Write>(
+pub fn run<'a, D: Disk, I: Source, W: Write>(
     alloc: Global,
     disk: &mut D,
     words: &PictureWords<'a>,
@@ -114,7 +114,7 @@ pub fn run<'a, D: Disk, I: Read, W: Write>(
     ensures ok { OnOk result (IsAnimateAnswer words.now
         (world (D.holds disk.old) (I.remaining input.old) (W.contents out.old) None)
         (world (D.holds disk.new) (I.remaining input.new) (W.contents out.new) None)) }
-    ensures err { IfErr result (λ e. IsAnimateRefusal words.now
+    ensures err { IfErr result (λ e. IsAnimateRefusal D.said I.Source.failed words.now
         (world (D.holds disk.old) (I.remaining input.old) (W.contents out.old) None)
         (world (D.holds disk.new) (I.remaining input.new) (W.contents out.new) None) e) }
     ensures unread { names_stream words.now.file.now ≡ false → input.new ≡ input.old }

@@ -5,7 +5,7 @@ ghost use Rattle.text_lines.specs.Writing.{Writes};
 ghost use Rattle.disks.specs.Held.{Replaces};
 ghost use Rattle.repair_commands.specs.Repaired.{IsFileRefusal, is_of_passes, of_passes, shapes_of, page_of, picture_of};
 
-use disks::{Contents, ContentsFault, Disk, replace};
+use disks::{Contents, ContentsFault, Disk};
 use repair_picture::{Shape, growth_shapes, put_growth, put_spread, spread_shapes};
 use repair_requests::Refusal;
 use repair_texts::Row;
@@ -13,7 +13,7 @@ use std::alloc::{AllocError, Global};
 use std::io::Write;
 use text_lines::WriteFault;
 use tool_parts::faults::ToolError;
-use tool_parts::handing::save_fault;
+use tool_parts::handing::save;
 use tool_parts::reading::names_stream;
 
 /// Whether a row is of passes, and not of rounds.
@@ -116,8 +116,8 @@ pub(crate) fn save_picture<'a, D: Disk>(
         rows: passes.as_slice(),
         shapes: shapes.as_slice(),
     };
-    match replace(alloc, disk, name, &contents) {
+    match save(alloc, disk, &contents, name) {
         Ok(()) => Ok(()),
-        Err(fault) => Err(Refusal::Tool(save_fault(fault, name))),
+        Err(fault) => Err(Refusal::Tool(fault)),
     }
 }

@@ -8,14 +8,14 @@ ghost use Rattle.repair_commands.specs.Repaired.{IsFileRefusal};
 ghost use Rattle.repair_requests.specs.declared.refusals.Refusal.TheVariants as refusal;
 ghost use Rattle.tool_parts.specs.declared.faults.ToolError.TheVariants as tool;
 
-use disks::{Contents, ContentsFault, Disk, replace};
+use disks::{Contents, ContentsFault, Disk};
 use repair_requests::Refusal;
 use repair_texts::{Row, heading, record};
 use std::alloc::{AllocError, Global};
 use std::io::Write;
 use text_lines::put;
 use tool_parts::faults::ToolError;
-use tool_parts::handing::save_fault;
+use tool_parts::handing::save;
 use tool_parts::reading::names_stream;
 
 /// The text of the table of these rows.
@@ -73,8 +73,8 @@ pub(crate) fn save_table<'a, D: Disk>(
     let contents = TableText {
         text: text.as_slice(),
     };
-    match replace(alloc, disk, name, &contents) {
+    match save(alloc, disk, &contents, name) {
         Ok(()) => Ok(()),
-        Err(fault) => Err(Refusal::Tool(save_fault(fault, name))),
+        Err(fault) => Err(Refusal::Tool(fault)),
     }
 }

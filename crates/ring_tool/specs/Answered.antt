@@ -1,4 +1,5 @@
 -- What each command answers to its words: by the world that it met, and the one that it leaves.
+use Rattle.disks.specs.Said.{Said}
 use Rattle.std.specs.Prelude.{◌≡◌, ◌≢◌, true, false, None, Result, OnOk, IfErr}
 use Rattle.run_commands.specs.Stepped.{IsStepAnswer, IsStepWordsRefusal}
 use Rattle.run_commands.specs.Saved.{IsRunAnswer}
@@ -47,26 +48,26 @@ IsAnswer (request.Recover words) was is = IsRecoverAnswer words was is
 IsAnswer (request.Join words) was is = IsJoinAnswer words was is
 
 -- a refusal of it
-abbrev pub IsRefusal : Request → World → World → ToolError → Type 0
-IsRefusal (request.Step words) was is e =
+abbrev pub IsRefusal : (Said → Type 0) → Type 0 → Request → World → World → ToolError → Type 0
+IsRefusal calls failed (request.Step words) was is e =
     IsStepWordsRefusal words was.out is.out e × (is.files ≡ was.files)
-IsRefusal (request.Run words) was is e = IsRunRefusal words (unheard was) (unheard is) e
-IsRefusal (request.Check words) was is e =
-    IsCheckRunRefusal words (unheard was) (unheard is) e × (is.files ≡ was.files)
-IsRefusal (request.CheckAll words) was is e =
-    IsCheckAllRefusal words (unheard was) (unheard is) e × (is.files ≡ was.files)
-IsRefusal (request.Report words) was is e =
-    IsReportRefusal words (unheard was) (unheard is) e × (is.files ≡ was.files)
-IsRefusal (request.Picture words) was is e = IsPictureRefusal words was is e
-IsRefusal (request.Upgrade words) was is e = IsUpgradeRefusal words was is e
-IsRefusal (request.New words) was is e =
+IsRefusal calls failed (request.Run words) was is e = IsRunRefusal calls failed words (unheard was) (unheard is) e
+IsRefusal calls failed (request.Check words) was is e =
+    IsCheckRunRefusal calls failed words (unheard was) (unheard is) e × (is.files ≡ was.files)
+IsRefusal calls failed (request.CheckAll words) was is e =
+    IsCheckAllRefusal calls failed words (unheard was) (unheard is) e × (is.files ≡ was.files)
+IsRefusal calls failed (request.Report words) was is e =
+    IsReportRefusal calls failed words (unheard was) (unheard is) e × (is.files ≡ was.files)
+IsRefusal calls failed (request.Picture words) was is e = IsPictureRefusal calls failed words was is e
+IsRefusal calls failed (request.Upgrade words) was is e = IsUpgradeRefusal calls failed words was is e
+IsRefusal calls failed (request.New words) was is e =
     IsNewRefusal words was.out is.out e × (is.files ≡ was.files)
-IsRefusal (request.Serve words) was is e = IsServeRefusal words was is e
-IsRefusal (request.Locks words) was is e = IsLendingRefusal words was is e
-IsRefusal (request.Holds words) was is e =
-    IsHoldsRefusal words (unheard was) (unheard is) e × (is.files ≡ was.files)
-IsRefusal (request.Recover words) was is e = IsRecoverRefusal words was is e
-IsRefusal (request.Join words) was is e = IsJoinRefusal words was is e
+IsRefusal calls failed (request.Serve words) was is e = IsServeRefusal calls failed words was is e
+IsRefusal calls failed (request.Locks words) was is e = IsLendingRefusal calls failed words was is e
+IsRefusal calls failed (request.Holds words) was is e =
+    IsHoldsRefusal calls failed words (unheard was) (unheard is) e × (is.files ≡ was.files)
+IsRefusal calls failed (request.Recover words) was is e = IsRecoverRefusal calls failed words was is e
+IsRefusal calls failed (request.Join words) was is e = IsJoinRefusal calls words was is e
 
 -- it serves lines, which may change files before it is refused
 abbrev pub IsOfLines : Request → Type 0
@@ -135,10 +136,10 @@ IsSilent (request.Join words) = names_stream words.new.now ≡ false
 -- How a request is done: it is answered, or refused. After a refusal but that of the output every file
 -- is as it was, unless lines were served; if no file is named that is made, every file is as it was
 -- anyhow. Standard error and standard input stay as they are where the words say so.
-pub record HasAnswered {I E : Type 0} (request : Request) (result : Result (Unit {0}) ToolError)
+pub record HasAnswered (calls : Said → Type 0) (failed : Type 0) {I E : Type 0} (request : Request) (result : Result (Unit {0}) ToolError)
     (was is : World) (input rest : I) (err said : E) : Type 0 where
   pub answered : OnOk result (IsAnswer request was is)
-  pub refused : IfErr result (λ e. IsRefusal request was is e)
+  pub refused : IfErr result (λ e. IsRefusal calls failed request was is e)
   pub kept : (IsOfLines request → ⊥) → IfErr result (λ e. e ≢ tool.Write → is.files ≡ was.files)
   pub made : MakesNoFile request → is.files ≡ was.files
   pub silent : IsSilent request → said ≡ err

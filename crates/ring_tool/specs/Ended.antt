@@ -1,4 +1,5 @@
 -- How what is wanted ends: its status, exactly by what was done.
+use Rattle.disks.specs.Said.{Said}
 use Rattle.std.specs.Prelude.{◌≡◌, ◌≢◌, ◌≤◌, ℕ, List, Bool, false, Option, ◌⊎◌}
 use Rattle.std.specs.Io.KnownBytes.{Keeps}
 use Rattle.tool_parts.specs.Faults.{is_bad_list}
@@ -35,11 +36,11 @@ IsDoneInPart asked told was is =
 
 -- It was refused for this cause, and standard error has its line. Every file is as it was, but if
 -- the output failed or lines were served.
-abbrev pub IsRefused : Wanted → ToolError → Bool → World → World → Type 0
-IsRefused asked e told was is =
+abbrev pub IsRefused : (Said → Type 0) → Type 0 → Wanted → ToolError → Bool → World → World → Type 0
+IsRefused calls failed asked e told was is =
     (printed : Option (List ℕ))
     × (said : Option (List ℕ))
-    × IsRefusing asked was (before_leaving is printed said) e
+    × IsRefusing calls failed asked was (before_leaving is printed said) e
     × (LeavesError asked → said ≡ was.err)
     × HasFront printed is.out
     × HasLine e told said is.err
@@ -48,13 +49,13 @@ IsRefused asked e told was is =
 -- Status 0: it was answered, with every byte. Status 1: with a byte missing, or it was refused for
 -- a cause that is not an unread list. Status 2: a list cannot be read, and every file is as it was.
 -- If no file is named that is made, every file is as it was anyhow.
-pub record HasEnded (asked : Wanted) (status : ℕ) (told : Bool) (was is : World) : Type 0 where
+pub record HasEnded (calls : Said → Type 0) (failed : Type 0) (asked : Wanted) (status : ℕ) (told : Bool) (was is : World) : Type 0 where
   pub most : status ≤ 2
   pub done : status ≡ 0 → IsDone asked was is
   pub failed : status ≡ 1
       → IsDoneInPart asked told was is
-      ⊎ ((e : ToolError) × (is_bad_list e ≡ false) × IsRefused asked e told was is)
+      ⊎ ((e : ToolError) × (is_bad_list e ≡ false) × IsRefused calls failed asked e told was is)
   pub unread : status ≡ 2
-      → IsRefused asked tool.BadList told was is × (is.files ≡ was.files)
+      → IsRefused calls failed asked tool.BadList told was is × (is.files ≡ was.files)
   pub kept : LeavesInput asked → is.input ≡ was.input
   pub made : LeavesFiles asked → is.files ≡ was.files

@@ -1,4 +1,5 @@
 -- How `picture --animate` ends: its status, exactly by what was done.
+use Rattle.disks.specs.Said.{Said}
 use Rattle.std.specs.Prelude.{◌≡◌, ◌<◌, ◌≤◌, ℕ, List, Bool, false, Option, None, ◌⊎◌}
 use Rattle.std.specs.Io.KnownBytes.{Keeps}
 use Rattle.motion_commands.specs.Moved.{IsAnimateAnswer, IsAnimateRefusal}
@@ -43,20 +44,20 @@ IsMovedInPart words told was is =
     × HasLine tool.Write told was.err is.err
 
 -- it was refused for this cause, and standard error has its line
-abbrev pub IsUnmoved : PictureWords → Refusal → Bool → World → World → Type 0
-IsUnmoved words e told was is =
+abbrev pub IsUnmoved : (Said → Type 0) → Type 0 → PictureWords → Refusal → Bool → World → World → Type 0
+IsUnmoved calls failed words e told was is =
     (printed : Option (List ℕ))
-    × IsAnimateRefusal words (read_with was was.out) (read_with is printed) e
+    × IsAnimateRefusal calls failed words (read_with was was.out) (read_with is printed) e
     × HasFront printed is.out
     × HasMotionLine e told was.err is.err
 
 -- Status 0: it was answered, with every byte. Another: with a byte missing, which is status 1, or it
 -- was refused, and has the status of that. Standard input is read only for the dash.
-pub record HasMoved (words : PictureWords) (status : ℕ) (told : Bool) (was is : World) : Type 0
+pub record HasMoved (calls : Said → Type 0) (failed : Type 0) (words : PictureWords) (status : ℕ) (told : Bool) (was is : World) : Type 0
   where
     pub most : status ≤ 2
     pub done : status ≡ 0 → IsMoved words was is
     pub failed : 0 < status
         → ((status ≡ 1) × IsMovedInPart words told was is)
-        ⊎ ((e : Refusal) × (status ≡ status_of e) × IsUnmoved words e told was is)
+        ⊎ ((e : Refusal) × (status ≡ status_of e) × IsUnmoved calls failed words e told was is)
     pub unread : names_stream words.file.now ≡ false → is.input ≡ was.input

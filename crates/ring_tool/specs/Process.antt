@@ -1,4 +1,5 @@
 -- The run of a process: what its words were read as is run over what it is given.
+use Rattle.disks.specs.Said.{Said}
 use Rattle.std.specs.Prelude.{◌≡◌, ℕ, Bool, List, Option, Some, None, ◌⊎◌, codes}
 use Rattle.tool_parts.specs.Worlds.{World}
 use Rattle.tool_parts.specs.declared.faults.ToolError.TheVariants as tool
@@ -7,14 +8,14 @@ use Rattle.ring_tool.specs.Left.{HasFront, HasText, HasLine}
 use Rattle.ring_tool.specs.Run.{HasRun, IsIdle}
 
 -- What is run is what the words of the process were read as, and the run has ended with this status.
-pub record IsRunOf (Words : Option (List (List ℕ)) → Type 0)
+pub record IsRunOf (calls : Said → Type 0) (failed : Type 0) (Words : Option (List (List ℕ)) → Type 0)
     (Reads : List (List ℕ) → Asked → Type 0) (status : ℕ) (told : Bool) (was is : World) : Type 0
   where
     pub words : List (List ℕ)
     pub given : Words (Some words)
     pub asked : Asked
     pub read : Reads words asked
-    pub run : HasRun asked status told was is
+    pub run : HasRun calls failed asked status told was is
 
 -- what standard error gets if a word is not UTF-8
 abbrev pub not_utf8 : List ℕ
@@ -30,7 +31,7 @@ IsNotRun Words status told was is =
     ⊎ ((status ≡ 1) × HasLine tool.OutOfMemory told was.err is.err))
 
 -- What the words were read as was run; or nothing was.
-abbrev pub HasRunAs : (Option (List (List ℕ)) → Type 0) → (List (List ℕ) → Asked → Type 0) → ℕ
+abbrev pub HasRunAs : (Said → Type 0) → Type 0 → (Option (List (List ℕ)) → Type 0) → (List (List ℕ) → Asked → Type 0) → ℕ
     → Bool → World → World → Type 0
-HasRunAs Words Reads status told was is =
-    IsRunOf Words Reads status told was is ⊎ IsNotRun Words status told was is
+HasRunAs calls failed Words Reads status told was is =
+    IsRunOf calls failed Words Reads status told was is ⊎ IsNotRun Words status told was is

@@ -1,5 +1,6 @@
 -- How a run of the program ends, by what its words ask for: the world that it met, and the one that
 -- it leaves.
+use Rattle.disks.specs.Said.{Said}
 use Rattle.std.specs.Prelude.{◌≡◌, ◌≤◌, ◌⊎◌, ℕ, Bool, None, Result, Ok, Err, string_bytes}
 use Rattle.std.specs.Io.KnownBytes.{append_known}
 use Rattle.clap.specs.Values.{kind_of}
@@ -47,23 +48,23 @@ without_input w = world w.files None w.out w.err
 -- What is wanted ends as its command does, with strict settings and in motion too; `repairs` reads
 -- no input. The help and the version are printed. Words that cannot be read have status 2, and
 -- standard error has the text.
-abbrev pub HasRun : Asked → ℕ → Bool → World → World → Type 0
-HasRun (asked.Command wanted) status told was is = HasEnded wanted status told was is
-HasRun (asked.Repairs words) status told was is =
+abbrev pub HasRun : (Said → Type 0) → Type 0 → Asked → ℕ → Bool → World → World → Type 0
+HasRun calls failed (asked.Command wanted) status told was is = HasEnded calls failed wanted status told was is
+HasRun calls failed (asked.Repairs words) status told was is =
     HasRepaired words status told (without_input was) (without_input is)
     × (is.input ≡ was.input)
-HasRun (asked.Strict words) status told was is = HasRunStrictly words status told was is
-HasRun (asked.Motion words) status told was is = HasMoved words status told was is
-HasRun (asked.Text text) status told was is =
+HasRun calls failed (asked.Strict words) status told was is = HasRunStrictly calls failed words status told was is
+HasRun calls failed (asked.Motion words) status told was is = HasMoved calls failed words status told was is
+HasRun calls failed (asked.Text text) status told was is =
     (status ≤ 1)
     × HasEndedAnswered status told (append_known was.out (string_bytes text)) is.out was.err is.err
     × IsIdle was is
-HasRun (asked.Unread text) status told was is =
+HasRun calls failed (asked.Unread text) status told was is =
     (status ≡ 2)
     × HasText (string_bytes text) told was.err is.err
     × HasFront was.out is.out
     × IsIdle was is
-HasRun asked.OutOfMemory status told was is =
+HasRun calls failed asked.OutOfMemory status told was is =
     (status ≡ 1)
     × HasLine tool.OutOfMemory told was.err is.err
     × HasFront was.out is.out

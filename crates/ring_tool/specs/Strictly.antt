@@ -1,4 +1,5 @@
 -- How `run` ends with settings that are read strictly.
+use Rattle.disks.specs.Said.{Said}
 use Rattle.std.specs.Prelude.{◌≡◌, ◌⊎◌, ℕ, List, ◌++◌, Bool, false, codes, Option, None, Some}
 use Rattle.command_line.specs.declared.words.StrictWords.{StrictWords}
 use Rattle.strict_settings.specs.Strict.{IsStrictly, IsStrictRefusal}
@@ -30,20 +31,20 @@ IsWantedOver words (wanted.RunInTurn over) =
 IsWantedOver words _ = ⊥
 
 -- what the words want has ended as it does where these bytes are standard input
-abbrev pub HasEndedOver : StrictWords → List ℕ → ℕ → Bool → World → World → Type 0
-HasEndedOver words bytes status told was is =
+abbrev pub HasEndedOver : (Said → Type 0) → Type 0 → StrictWords → List ℕ → ℕ → Bool → World → World → Type 0
+HasEndedOver calls failed words bytes status told was is =
     (over : Wanted)
     × (rest : Option (List ℕ))
     × IsWantedOver words over
-    × HasEnded over status told
+    × HasEnded calls failed over status told
     (world was.files (Some bytes) was.out was.err) (world is.files rest is.out is.err)
 
 -- each member of the settings is read, and what the words want has ended over them
-abbrev pub IsStrictRun : StrictWords → ℕ → Bool → World → World → Type 0
-IsStrictRun words status told was is =
+abbrev pub IsStrictRun : (Said → Type 0) → Type 0 → StrictWords → ℕ → Bool → World → World → Type 0
+IsStrictRun calls failed words status told was is =
     (bytes : List ℕ)
     × IsStrictly words.run was.files was.input is.input bytes
-    × HasEndedOver words bytes status told was is
+    × HasEndedOver calls failed words bytes status told was is
 
 -- the status of a refusal
 abbrev pub status_of : StrictRefusal → ℕ
@@ -65,10 +66,10 @@ HasStrictLine (strict.Unread name) told old new =
 
 -- the settings are refused before they are run, standard error has the line of that, and every file is
 -- as it was
-abbrev pub IsStrictlyRefused : StrictWords → ℕ → Bool → World → World → Type 0
-IsStrictlyRefused words status told was is =
+abbrev pub IsStrictlyRefused : (Said → Type 0) → Type 0 → StrictWords → ℕ → Bool → World → World → Type 0
+IsStrictlyRefused calls failed words status told was is =
     (e : StrictRefusal)
-    × IsStrictRefusal words.run was.files was.input is.input e
+    × IsStrictRefusal calls failed words.run was.files was.input is.input e
     × (status ≡ status_of e)
     × HasStrictLine e told was.err is.err
     × HasFront was.out is.out
@@ -76,7 +77,7 @@ IsStrictlyRefused words status told was is =
 
 -- The settings are run, if each member of them is read, or refused. If a file is named for them, standard
 -- input stays as it is.
-pub record HasRunStrictly (words : StrictWords) (status : ℕ) (told : Bool) (was is : World) : Type 0
+pub record HasRunStrictly (calls : Said → Type 0) (failed : Type 0) (words : StrictWords) (status : ℕ) (told : Bool) (was is : World) : Type 0
   where
-    pub ended : IsStrictRun words status told was is ⊎ IsStrictlyRefused words status told was is
+    pub ended : IsStrictRun calls failed words status told was is ⊎ IsStrictlyRefused calls failed words status told was is
     pub kept : names_stream words.run.settings.now ≡ false → is.input ≡ was.input

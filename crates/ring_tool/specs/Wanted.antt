@@ -1,4 +1,5 @@
 -- What is done of what words want: by the world that it met, and the one that it leaves.
+use Rattle.disks.specs.Said.{Said}
 use Rattle.std.specs.Prelude.{◌≡◌, ◌≢◌, false, None, Result, OnOk, IfErr}
 use Rattle.run_commands.specs.Ran.{history_file}
 use Rattle.run_commands.specs.InTurn.{IsTurnsAnswer, IsTurnsRunRefusal}
@@ -32,19 +33,19 @@ IsDoing (wanted.Settings words) was is =
     IsSettingsAnswer words was.out is.out × (is.files ≡ was.files)
 
 -- or it is refused
-abbrev pub IsRefusing : Wanted → World → World → ToolError → Type 0
-IsRefusing (wanted.Tool request) was is e = IsRefusal request was is e
-IsRefusing (wanted.RunInTurn words) was is e =
-    IsTurnsRunRefusal words.run words.seed (unheard was) (unheard is) e
-IsRefusing (wanted.ReportRepairs words) was is e =
-    IsRepairsRefusal words (unheard was) (unheard is) e × (is.files ≡ was.files)
-IsRefusing (wanted.States words) was is e =
-    IsStatesRefusal words (unheard was) (unheard is) e × (is.files ≡ was.files)
-IsRefusing (wanted.StepStates words) was is e =
+abbrev pub IsRefusing : (Said → Type 0) → Type 0 → Wanted → World → World → ToolError → Type 0
+IsRefusing calls failed (wanted.Tool request) was is e = IsRefusal calls failed request was is e
+IsRefusing calls failed (wanted.RunInTurn words) was is e =
+    IsTurnsRunRefusal calls failed words.run words.seed (unheard was) (unheard is) e
+IsRefusing calls failed (wanted.ReportRepairs words) was is e =
+    IsRepairsRefusal calls failed words (unheard was) (unheard is) e × (is.files ≡ was.files)
+IsRefusing calls failed (wanted.States words) was is e =
+    IsStatesRefusal calls failed words (unheard was) (unheard is) e × (is.files ≡ was.files)
+IsRefusing calls failed (wanted.StepStates words) was is e =
     IsStepStatesRefusal words was.out is.out e × (is.files ≡ was.files)
-IsRefusing (wanted.Drawn words) was is e =
+IsRefusing calls failed (wanted.Drawn words) was is e =
     IsDrawnRefusal words was.out is.out e × (is.files ≡ was.files)
-IsRefusing (wanted.Settings words) was is e =
+IsRefusing calls failed (wanted.Settings words) was is e =
     IsSettingsRefusal words was.out is.out e × (is.files ≡ was.files)
 
 -- it serves lines, which may change files before it is refused
@@ -90,10 +91,10 @@ LeavesError (wanted.Settings words) = Unit {0}
 -- How it is done: it is answered, or refused. After a refusal but that of the output every file is as
 -- it was, unless lines were served; if no file is named that is made, every file is as it was anyhow.
 -- Standard error and standard input stay as they are where the words say so.
-pub record HasDone {I E : Type 0} (asked : Wanted) (result : Result (Unit {0}) ToolError)
+pub record HasDone (calls : Said → Type 0) (failed : Type 0) {I E : Type 0} (asked : Wanted) (result : Result (Unit {0}) ToolError)
     (was is : World) (input rest : I) (err said : E) : Type 0 where
   pub answered : OnOk result (IsDoing asked was is)
-  pub refused : IfErr result (λ e. IsRefusing asked was is e)
+  pub refused : IfErr result (λ e. IsRefusing calls failed asked was is e)
   pub kept : (ServesLines asked → ⊥) → IfErr result (λ e. e ≢ tool.Write → is.files ≡ was.files)
   pub made : LeavesFiles asked → is.files ≡ was.files
   pub silent : LeavesError asked → said ≡ err

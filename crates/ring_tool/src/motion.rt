@@ -9,10 +9,10 @@ ghost use Rattle.ring_tool.specs.Moved.{HasMoved, HasMotionLine};
 ghost use Rattle.tool_parts.specs.Worlds.{world};
 
 use crate::ends::{Ending, NO_MEMORY, done, emptied, put_whole, tell};
-use disks::Disk;
+use disks::{Disk, Source};
 use motion_commands::{Refusal, moving};
 use std::alloc::Global;
-use std::io::{BufWriter, Read, Write};
+use std::io::{BufWriter, Write};
 use tool_parts::requests::PictureWords;
 
 /// The line of a refusal, with its end; `None` if there is no memory for it.
@@ -65,7 +65,7 @@ fn fail_motion<O: Write + Drop, E: Write>(
 /// that is read and the one for the picture are of `disk`.
 ///
 /// The status is 0 if it was done and every byte that is printed is in the writer below, and else 1.
-pub fn do_motion<D: Disk, I: Read, O: Write + Drop, E: Write>(
+pub fn do_motion<D: Disk, I: Source, O: Write + Drop, E: Write>(
     alloc: Global,
     disk: &mut D,
     words: &PictureWords<'_>,
@@ -73,7 +73,7 @@ pub fn do_motion<D: Disk, I: Read, O: Write + Drop, E: Write>(
     mut out: BufWriter<O>,
     err: &mut E,
 ) -> Ending<O>
-    ensures { HasMoved words.now result.status result.told
+    ensures { HasMoved D.said I.Source.failed words.now result.status result.told
         (world (D.holds disk.old) (I.remaining input.old) (writer_contents O.contents out)
         (E.contents err.old))
         (world (D.holds disk.new) (I.remaining input.new) (O.contents result.out)

@@ -10,9 +10,9 @@ ghost use Rattle.tool_parts.specs.Worlds.{world};
 use crate::asked::{Asked, read_asked};
 use crate::ends::{Ending, fail, refuse};
 use crate::program::run_asked;
-use disks::Disk;
+use disks::{Disk, Source};
 use std::alloc::{AllocError, Global};
-use std::io::{BufWriter, ErrorKind, Read, Write};
+use std::io::{BufWriter, ErrorKind, Write};
 use std::rt::Env;
 use std::sync::Wait;
 use std::thread::Threads;
@@ -97,7 +97,7 @@ pub fn run_process<
     D: Disk,
     P: Process,
     A: ReadsWords,
-    I: Read,
+    I: Source,
     O: Write + Drop,
     E: Write,
 >(
@@ -110,7 +110,7 @@ pub fn run_process<
     err: &mut E,
 ) -> Ending<O>
     ensures status { result.status ≤ 2 }
-    ensures ran { HasRunAs (P.has_words process.now) A.reads result.status result.told
+    ensures ran { HasRunAs D.said I.Source.failed (P.has_words process.now) A.reads result.status result.told
         (world (D.holds disk.old) (I.remaining input.old)
         (writer_contents O.contents out) (E.contents err.old))
         (world (D.holds disk.new) (I.remaining input.new)

@@ -11,8 +11,8 @@ use crate::motion::do_motion;
 use crate::repairs::do_repairs;
 use crate::strict::do_strictly;
 use crate::wanted::do_wanted;
-use disks::Disk;
-use std::io::{BufWriter, Read, Write};
+use disks::{Disk, Source};
+use std::io::{BufWriter, Write};
 use std::sync::Wait;
 use std::thread::Threads;
 use tool_parts::faults::ToolError;
@@ -27,7 +27,7 @@ use tool_parts::faults::ToolError;
 pub fn run_asked<
     R: AllocGlobal + Threads + Wait + Sync,
     D: Disk,
-    I: Read,
+    I: Source,
     O: Write + Drop,
     E: Write,
 >(
@@ -39,7 +39,7 @@ pub fn run_asked<
     err: &mut E,
 ) -> Ending<O>
     ensures status { result.status ≤ 2 }
-    ensures ended { HasRun asked.entry result.status result.told
+    ensures ended { HasRun D.said I.Source.failed asked.entry result.status result.told
         (world (D.holds disk.old) (I.remaining input.old)
         (writer_contents O.contents out) (E.contents err.old))
         (world (D.holds disk.new) (I.remaining input.new)

@@ -3,12 +3,12 @@
 ghost use Rattle.ring_tool.specs.Answered.{HasAnswered};
 ghost use Rattle.tool_parts.specs.Worlds.{world};
 
-use disks::Disk;
+use disks::{Disk, Source};
 use folder_commands::{join, recover};
 use lock_commands::{holds, lending};
 use run_commands::{fresh, run, step};
 use serve_commands::serve;
-use std::io::{Read, Write};
+use std::io::Write;
 use std::sync::Wait;
 use std::thread::Threads;
 use text_commands::{check, check_all, picture, report, upgrade};
@@ -22,7 +22,7 @@ use tool_parts::requests::Request;
 ///
 /// The refusals of the command. Except for the fault of `out`, every file is as it was then, unless lines were served. If no file is
 /// named that is made, every file is as it was anyhow.
-pub fn answer<'a, R: AllocGlobal + Threads + Wait + Sync, D: Disk, I: Read, O: Write, E: Write>(
+pub fn answer<'a, R: AllocGlobal + Threads + Wait + Sync, D: Disk, I: Source, O: Write, E: Write>(
     rt: &R,
     disk: &mut D,
     request: &Request<'a>,
@@ -30,7 +30,7 @@ pub fn answer<'a, R: AllocGlobal + Threads + Wait + Sync, D: Disk, I: Read, O: W
     out: &mut O,
     err: &mut E,
 ) -> Result<(), ToolError<'a>>
-    ensures { HasAnswered request.now result
+    ensures { HasAnswered D.said I.Source.failed request.now result
         (world (D.holds disk.old) (I.remaining input.old) (O.contents out.old) (E.contents err.old))
         (world (D.holds disk.new) (I.remaining input.new) (O.contents out.new) (E.contents err.new))
         input.old input.new err.old err.new }

@@ -9,9 +9,9 @@ ghost use Rattle.tool_parts.specs.Worlds.{world};
 use crate::ends::{Ending, NO_MEMORY, emptied, put_whole, tell};
 use crate::wanted::do_wanted;
 use command_line::StrictWords;
-use disks::Disk;
+use disks::{Disk, Source};
 use std::alloc::Global;
-use std::io::{BufWriter, Read, Write};
+use std::io::{BufWriter, Write};
 use std::sync::Wait;
 use std::thread::Threads;
 use strict_settings::{StrictRefusal, strict_bytes};
@@ -100,7 +100,7 @@ fn run_bytes<R: AllocGlobal + Threads + Wait + Sync, D: Disk, O: Write + Drop, E
     err: &mut E,
 ) -> Ending<O>
     ensures status { result.status ≤ 2 }
-    ensures ended { HasEndedOver words.now bytes.now result.status result.told
+    ensures ended { HasEndedOver D.said I.Source.failed words.now bytes.now result.status result.told
         (world (D.holds disk.old) None (writer_contents O.contents out) (E.contents err.old))
         (world (D.holds disk.new) None (O.contents result.out) (E.contents err.new)) }
 {
@@ -116,7 +116,7 @@ fn run_bytes<R: AllocGlobal + Threads + Wait + Sync, D: Disk, O: Write + Drop, E
 pub fn do_strictly<
     R: AllocGlobal + Threads + Wait + Sync,
     D: Disk,
-    I: Read,
+    I: Source,
     O: Write + Drop,
     E: Write,
 >(
@@ -128,7 +128,7 @@ pub fn do_strictly<
     err: &mut E,
 ) -> Ending<O>
     ensures status { result.status ≤ 2 }
-    ensures ended { HasRunStrictly words.now result.status result.told
+    ensures ended { HasRunStrictly D.said I.Source.failed words.now result.status result.told
         (world (D.holds disk.old) (I.remaining input.old)
         (writer_contents O.contents out) (E.contents err.old))
         (world (D.holds disk.new) (I.remaining input.new)

@@ -8,11 +8,11 @@ ghost use Rattle.tool_parts.specs.Worlds.{world};
 
 use crate::ends::{Ending, done, fail};
 use crate::requests::answer;
-use disks::Disk;
+use disks::{Disk, Source};
 use history_commands::{repairs, states, step};
 use run_commands::in_turn;
 use setup_commands::{drawn, settings};
-use std::io::{BufWriter, Read, Write};
+use std::io::{BufWriter, Write};
 use std::sync::Wait;
 use std::thread::Threads;
 use tool_parts::faults::ToolError;
@@ -24,7 +24,7 @@ use tool_requests::Wanted;
 ///
 /// The refusals of the command. Except for the fault of `out`, every file is as it was then, unless lines were served. If no file is
 /// named that is made, every file is as it was anyhow.
-pub fn do_it<'a, R: AllocGlobal + Threads + Wait + Sync, D: Disk, I: Read, O: Write, E: Write>(
+pub fn do_it<'a, R: AllocGlobal + Threads + Wait + Sync, D: Disk, I: Source, O: Write, E: Write>(
     rt: &R,
     disk: &mut D,
     wanted: &Wanted<'a>,
@@ -32,7 +32,7 @@ pub fn do_it<'a, R: AllocGlobal + Threads + Wait + Sync, D: Disk, I: Read, O: Wr
     out: &mut O,
     err: &mut E,
 ) -> Result<(), ToolError<'a>>
-    ensures { HasDone wanted.now result
+    ensures { HasDone D.said I.Source.failed wanted.now result
         (world (D.holds disk.old) (I.remaining input.old) (O.contents out.old) (E.contents err.old))
         (world (D.holds disk.new) (I.remaining input.new) (O.contents out.new) (E.contents err.new))
         input.old input.new err.old err.new }
@@ -59,7 +59,7 @@ pub fn do_wanted<
     'a,
     R: AllocGlobal + Threads + Wait + Sync,
     D: Disk,
-    I: Read,
+    I: Source,
     O: Write + Drop,
     E: Write,
 >(
@@ -71,7 +71,7 @@ pub fn do_wanted<
     err: &mut E,
 ) -> Ending<O>
     ensures status { result.status ≤ 2 }
-    ensures ended { HasEnded wanted.now result.status result.told
+    ensures ended { HasEnded D.said I.Source.failed wanted.now result.status result.told
         (world (D.holds disk.old) (I.remaining input.old)
         (writer_contents O.contents out) (E.contents err.old))
         (world (D.holds disk.new) (I.remaining input.new)

@@ -1,4 +1,5 @@
 -- The answers of `run --in-turn`: those of `run`, of the outcome that the settings and the seed have.
+use Rattle.disks.specs.Said.{Said}
 use Rattle.std.specs.Prelude.{◌≡◌, ◌⊎◌, ℕ, IsSome, List, Option, Ok, Err}
 use Rattle.std.specs.Io.KnownBytes.{Appends}
 use Rattle.ring_settings.specs.Contents.{SettingsData}
@@ -50,13 +51,13 @@ IsTurnsNamed words seed files was is o =
     × IsTurnsOn seed bytes o
 
 -- Which refusals come before there is an outcome.
-abbrev pub IsTurnsNamedRefusal : RunWords → Option Held → Option (List ℕ) → Option (List ℕ)
+abbrev pub IsTurnsNamedRefusal : (Said → Type 0) → Type 0 → RunWords → Option Held → Option (List ℕ) → Option (List ℕ)
     → ToolError → Type 0
-IsTurnsNamedRefusal words files was is e =
-    IsNamedRefusal words.settings.now files was is e
+IsTurnsNamedRefusal said failed words files was is e =
+    IsNamedRefusal said failed words.settings.now files was is e
     ⊎ ((bytes : List ℕ)
     × IsNamed words.settings.now files was is bytes
-    × (IsApartRefusal (history_file words) e ⊎ IsTurnsRefusal bytes e))
+    × (IsApartRefusal said (history_file words) e ⊎ IsTurnsRefusal bytes e))
 
 -- The outcome in turns of the farm whose settings the word names is printed as the words say; where
 -- its history is asked for, its saved text is legal, and the file for it, if one is named, holds
@@ -70,9 +71,9 @@ IsTurnsAnswer words seed was is =
     × (IsSome words.history → IsSavedLegal outcome)
 
 -- Which refusals it may meet.
-abbrev pub IsTurnsRunRefusal : RunWords → ℕ → World → World → ToolError → Type 0
-IsTurnsRunRefusal words seed was is e =
-    IsTurnsNamedRefusal words was.files was.input is.input e
+abbrev pub IsTurnsRunRefusal : (Said → Type 0) → Type 0 → RunWords → ℕ → World → World → ToolError → Type 0
+IsTurnsRunRefusal said failed words seed was is e =
+    IsTurnsNamedRefusal said failed words was.files was.input is.input e
     ⊎ ((outcome : Outcome)
     × IsTurnsNamed words seed was.files was.input is.input outcome
-    × IsOutcomeRefusal words outcome was.files is.files was.out is.out e)
+    × IsOutcomeRefusal said words outcome was.files is.files was.out is.out e)

@@ -1,4 +1,5 @@
 -- The answers of `run`: the outcome of a farm, and the refusals.
+use Rattle.disks.specs.Said.{Said}
 use Rattle.std.specs.Prelude.{◌≡◌, ℕ, Bool, true, false, cond, List, Option, None, Some, Ok, Err, ◌⊎◌}
 use Rattle.std.specs.Option.{option_map}
 use Rattle.ring_settings.specs.Contents.{SettingsData}
@@ -83,26 +84,26 @@ IsFarmNamed words files was is o =
 
 -- Which refusals come before there is an outcome: those of reading the settings, of a history that
 -- would go over them, and of their farm.
-abbrev pub IsFarmNamedRefusal : RunWords → Option Held → Option (List ℕ) → Option (List ℕ)
+abbrev pub IsFarmNamedRefusal : (Said → Type 0) → Type 0 → RunWords → Option Held → Option (List ℕ) → Option (List ℕ)
     → ToolError → Type 0
-IsFarmNamedRefusal words files was is e =
-    IsNamedRefusal words.settings.now files was is e
+IsFarmNamedRefusal said failed words files was is e =
+    IsNamedRefusal said failed words.settings.now files was is e
     ⊎ ((bytes : List ℕ)
     × IsNamed words.settings.now files was is bytes
-    × (IsApartRefusal (history_file words) e ⊎ IsFarmRefusal bytes e))
+    × (IsApartRefusal said (history_file words) e ⊎ IsFarmRefusal bytes e))
 
 -- so with an outcome and the words of `run`
-abbrev pub IsOutcomeRefusal : RunWords → Outcome → Option Held → Option Held → Option (List ℕ)
+abbrev pub IsOutcomeRefusal : (Said → Type 0) → RunWords → Outcome → Option Held → Option Held → Option (List ℕ)
     → Option (List ℕ) → ToolError → Type 0
-IsOutcomeRefusal words o before after old new e =
-    IsHandOutRefusal (history_file words) (text (saved_of o)) (output_text words o) before after old
+IsOutcomeRefusal said words o before after old new e =
+    IsHandOutRefusal said (history_file words) (text (saved_of o)) (output_text words o) before after old
     new e
 
 -- Which refusals `run` may meet: those of the farm whose settings its word names, and those of the
 -- outcome of such a farm.
-abbrev pub IsRunRefusal : RunWords → World → World → ToolError → Type 0
-IsRunRefusal words was is e =
-    IsFarmNamedRefusal words was.files was.input is.input e
+abbrev pub IsRunRefusal : (Said → Type 0) → Type 0 → RunWords → World → World → ToolError → Type 0
+IsRunRefusal said failed words was is e =
+    IsFarmNamedRefusal said failed words was.files was.input is.input e
     ⊎ ((outcome : Outcome)
     × IsFarmNamed words was.files was.input is.input outcome
-    × IsOutcomeRefusal words outcome was.files is.files was.out is.out e)
+    × IsOutcomeRefusal said words outcome was.files is.files was.out is.out e)

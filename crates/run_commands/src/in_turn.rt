@@ -7,12 +7,12 @@ ghost use Rattle.run_commands.specs.Ran.{history_file};
 ghost use Rattle.run_commands.specs.InTurn.{IsTurnsOn, IsTurnsRefusal, IsTurnsNamed, IsTurnsNamedRefusal, IsTurnsAnswer, IsTurnsRunRefusal};
 
 use crate::run::{hand_out, keep_history_apart};
-use disks::Disk;
+use disks::{Disk, Source};
 use farm_in_turn::run_in_turn;
 use ring_farm::{FarmError, Outcome};
 use ring_settings::read_settings;
 use std::alloc::Global;
-use std::io::{Read, Write};
+use std::io::Write;
 use tool_parts::faults::ToolError;
 use tool_parts::reading::read_named;
 use tool_parts::requests::RunWords;
@@ -40,7 +40,7 @@ fn run_settings<'a>(alloc: Global, bytes: Vec<u8>, seed: u64) -> Result<Outcome,
 /// # Errors
 ///
 /// Those of reading what the word names, of a history that would go over the settings, and of [`run_settings`].
-fn farm_of_words<'a, D: Disk, I: Read>(
+fn farm_of_words<'a, D: Disk, I: Source>(
     alloc: Global,
     disk: &D,
     words: &RunWords<'a>,
@@ -49,7 +49,7 @@ fn farm_of_words<'a, D: Disk, I: Read>(
 ) -> Result<Outcome, ToolError<'a>>
     ensures ok { IfOk result (λ outcome. IsTurnsNamed words.now seed (D.holds disk.now)
         (I.remaining input.old) (I.remaining input.new) outcome) }
-    ensures err { IfErr result (λ e. IsTurnsNamedRefusal words.now (D.holds disk.now)
+    ensures err { IfErr result (λ e. IsTurnsNamedRefusal D.said I.Source.failed words.now (D.holds disk.now)
         (I.remaining input.old) (I.remaining input.new) e) }
     ensures unread { names_stream words.now.settings.now ≡ false → input.new ≡ input.old }
 {
@@ -70,7 +70,7 @@ fn farm_of_words<'a, D: Disk, I: Read>(
 /// # Errors
 ///
 /// Those of [`run`](crate::run::run) that do not come from threads.
-pub fn run<'a, D: Disk, I: Read, W: Write>(
+pub fn run<'a, D: Disk, I: Source, W: Write>(
     alloc: Global,
     disk: &mut D,
     words: &RunWords<'a>,
@@ -82,7 +82,7 @@ pub fn run<'a, D: Disk, I: Read, W: Write>(
         (world (D.holds disk.old) (I.remaining input.old) (W.contents out.old) None)
         (world (D.holds disk.new) (I.remaining input.new) (W.contents out.new) None)) }
     ensures err { IfErr result (λ e.
-        IsTurnsRunRefusal words.now seed
+        IsTurnsRunRefusal D.said I.Source.failed words.now seed
         (world (D.holds disk.old) (I.remaining input.old) (W.contents out.old) None)
         (world (D.holds disk.new) (I.remaining input.new) (W.contents out.new) None) e) }
     ensures kept { IfErr result (λ e. e ≢ ToolError.Write → D.holds disk.new ≡ D.holds disk.old) }

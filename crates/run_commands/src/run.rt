@@ -17,18 +17,18 @@ ghost use Rattle.tool_parts.specs.Reading.{names_stream};
 ghost use Rattle.run_commands.specs.Saved.{IsLegalOfFarm, IsRunAnswer};
 ghost use Rattle.tool_parts.specs.Worlds.{world};
 
-use disks::{Contents, ContentsFault, Disk, replace};
+use disks::{Contents, ContentsFault, Disk, Source};
 use ring_farm::{FarmError, Open, Outcome, run_farm};
 use ring_settings::read_settings;
 use ring_text::{write_outcome, write_report, write_total};
 use saved_history::texts_read_back;
 use std::alloc::Global;
-use std::io::{Read, Write};
+use std::io::Write;
 use std::sync::Wait;
 use std::thread::Threads;
 use text_lines::WriteFault;
 use tool_parts::faults::ToolError;
-use tool_parts::handing::save_fault;
+use tool_parts::handing::save;
 use tool_parts::reading::{keep_apart, names_stream, read_named};
 use tool_parts::requests::RunWords;
 
@@ -78,7 +78,7 @@ pub(crate) fn keep_history_apart<'a, D: Disk>(
 ) -> Result<(), ToolError<'a>>
     ensures ok { OnOk result
         (IsApart (D.holds disk.now) words.now.settings.now (history_file words.now)) }
-    ensures err { IfErr result (λ e. IsApartRefusal (history_file words.now) e) }
+    ensures err { IfErr result (λ e. IsApartRefusal D.said (history_file words.now) e) }
 {
     match words.history {
         Some(file) if !names_stream(file) => keep_apart(disk, words.settings, file),
@@ -91,7 +91,7 @@ pub(crate) fn keep_history_apart<'a, D: Disk>(
 /// # Errors
 ///
 /// Those of reading what the word names, of a history that would go over the settings, and of [`run_settings`].
-fn farm_of_words<'a, R: Threads + Wait + Sync, D: Disk, I: Read>(
+fn farm_of_words<'a, R: Threads + Wait + Sync, D: Disk, I: Source>(
     rt: &R,
     alloc: Global,
     disk: &D,
@@ -100,7 +100,7 @@ fn farm_of_words<'a, R: Threads + Wait + Sync, D: Disk, I: Read>(
 ) -> Result<Outcome, ToolError<'a>>
     ensures ok { IfOk result (λ outcome. IsFarmNamed words.now (D.holds disk.now)
         (I.remaining input.old) (I.remaining input.new) outcome) }
-    ensures err { IfErr result (λ e. IsFarmNamedRefusal words.now (D.holds disk.now)
+    ensures err { IfErr result (λ e. IsFarmNamedRefusal D.said I.Source.failed words.now (D.holds disk.now)
         (I.remaining input.old) (I.remaining input.new) e) }
     ensures unread { names_stream words.now.settings.now ≡ false → input.new ≡ input.old }
 {
@@ -174,12 +174,12 @@ fn save_outcome<'a, D: Disk>(
     ensures stored { OnOk result (Replaces (D.holds disk.old) (D.holds disk.new) file.now
         (Some (text (saved_of outcome.now)))) }
     ensures legal { OnOk result (IsLegalOfFarm outcome.now) }
-    ensures err { IfErr result (λ e. IsSaveRefusal file.now e) }
+    ensures err { IfErr result (λ e. IsSaveRefusal D.said file.now e) }
     ensures kept { OnErr result (D.holds disk.new ≡ D.holds disk.old) }
 {
-    match replace(alloc, disk, file, &OutcomeText { outcome }) {
+    match save(alloc, disk, &OutcomeText { outcome }, file) {
         Ok(()) => Ok(()),
-        Err(fault) => Err(save_fault(fault, file)),
+        Err(fault) => Err(fault),
     }
 }
 
@@ -222,7 +222,7 @@ pub fn save_and_report<'a, D: Disk, W: Write>(
     ensures told { OnOk result
         (Appends (W.contents out.old) (W.contents out.new) (report_text quiet outcome.now)) }
     ensures err { IfErr result (λ e.
-        IsHandOutRefusal (Some file.now) (text (saved_of outcome.now))
+        IsHandOutRefusal D.said (Some file.now) (text (saved_of outcome.now))
         (report_text quiet outcome.now) (D.holds disk.old) (D.holds disk.new)
         (W.contents out.old) (W.contents out.new) e) }
     ensures kept { IfErr result (λ e. e ≢ ToolError.Write → D.holds disk.new ≡ D.holds disk.old) }
@@ -254,7 +254,7 @@ pub(crate) fn hand_out<'a, D: Disk, W: Write>(
     ensures legal { OnOk result (IsSome words.now.history → IsLegalOfFarm outcome.now) }
     ensures told { OnOk result
         (Appends (W.contents out.old) (W.contents out.new) (output_text words.now outcome.now)) }
-    ensures err { IfErr result (λ e. IsOutcomeRefusal words.now outcome.now (D.holds disk.old)
+    ensures err { IfErr result (λ e. IsOutcomeRefusal D.said words.now outcome.now (D.holds disk.old)
         (D.holds disk.new) (W.contents out.old) (W.contents out.new) e) }
     ensures kept { IfErr result (λ e. e ≢ ToolError.Write → D.holds disk.new ≡ D.holds disk.old) }
     ensures printed { history_file words.now ≡ None → disk.new ≡ disk.old }
@@ -283,7 +283,7 @@ pub(crate) fn hand_out<'a, D: Disk, W: Write>(
 /// of these; the refusal of the farm; `Save` for the other file, and `OutOfMemory`. Every file is as it was then, and nothing is
 /// written to `out`. `Write` where that writer fails, when the file is in its place: the bytes written to it until then are a
 /// prefix of the output. Where a file is named for the settings, `input` stays as it was.
-pub fn run<'a, R: AllocGlobal + Threads + Wait + Sync, D: Disk, I: Read, W: Write>(
+pub fn run<'a, R: AllocGlobal + Threads + Wait + Sync, D: Disk, I: Source, W: Write>(
     rt: &R,
     disk: &mut D,
     words: &RunWords<'a>,
@@ -294,7 +294,7 @@ pub fn run<'a, R: AllocGlobal + Threads + Wait + Sync, D: Disk, I: Read, W: Writ
         (world (D.holds disk.old) (I.remaining input.old) (W.contents out.old) None)
         (world (D.holds disk.new) (I.remaining input.new) (W.contents out.new) None)) }
     ensures err { IfErr result (λ e.
-        IsRunRefusal words.now
+        IsRunRefusal D.said I.Source.failed words.now
         (world (D.holds disk.old) (I.remaining input.old) (W.contents out.old) None)
         (world (D.holds disk.new) (I.remaining input.new) (W.contents out.new) None) e) }
     ensures kept { IfErr result (λ e. e ≢ ToolError.Write → D.holds disk.new ≡ D.holds disk.old) }

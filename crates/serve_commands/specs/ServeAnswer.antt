@@ -1,4 +1,5 @@
 -- The answer of `serve`: without a journal, with a journal in a file, or in a folder of segments.
+use Rattle.disks.specs.Said.{Said}
 use Rattle.std.specs.Prelude.{◌≡◌, ℕ, ◌⊎◌, ◌≤◌, ◌^◌, List, length, Option, Some}
 use Rattle.std.specs.Io.KnownBytes.{Appends}
 use Rattle.disks.specs.Held.{Held, LeadsToFolder}
@@ -39,14 +40,14 @@ pub record IsServeAnswer (words : ServeWords) (was is : World) : Type 0 where
 
 -- the lines were not served, or not to their end: in segments only if the journal's name was a
 -- folder's
-abbrev pub IsRefusedTo : ServeWords → Option Held → Option Held → Option Saved → Option (List ℕ)
+abbrev pub IsRefusedTo : (Said → Type 0) → Type 0 → ServeWords → Option Held → Option Held → Option Saved → Option (List ℕ)
     → Option (List ℕ) → Option (List ℕ) → Option (List ℕ) → ToolError → Type 0
-IsRefusedTo words before after saved was is old new e =
-    IsRefusedFrom (permits_of words) before after (journal_of words) saved was is old new e
+IsRefusedTo said failed words before after saved was is old new e =
+    IsRefusedFrom said failed (permits_of words) before after (journal_of words) saved was is old new e
     ⊎ ((folder : List ℕ)
     × (journal_of words ≡ Some folder)
     × LeadsToFolder before folder
-    × IsRefusedIn words folder saved before after was is old new e)
+    × IsRefusedIn said failed words folder saved before after was is old new e)
 
 -- All lines were served, and what adds up over the rings is not reported: there are 2^32 rings or
 -- more, or one of the sums has more than 64 bits, and nothing is written; or standard error failed,
@@ -60,14 +61,14 @@ IsUntold end early late _ = ⊥
 
 -- Which refusals `serve` may meet: those of the history, before a line is read and with every file
 -- as it was, those that come with it, and those that come when all lines have been served.
-abbrev pub IsServeRefusal : ServeWords → World → World → ToolError → Type 0
-IsServeRefusal words was is e =
+abbrev pub IsServeRefusal : (Said → Type 0) → Type 0 → ServeWords → World → World → ToolError → Type 0
+IsServeRefusal said failed words was is e =
     (IsUnserved was.input is.input was.out is.out
     × (is.files ≡ was.files)
-    × IsGivenRefusal was.files (history_of words) e)
+    × IsGivenRefusal said was.files (history_of words) e)
     ⊎ ((saved : Option Saved)
     × IsGivenHistory was.files (history_of words) saved
-    × (IsRefusedTo words was.files is.files saved was.input is.input was.out is.out e
+    × (IsRefusedTo said failed words was.files is.files saved was.input is.input was.out is.out e
     ⊎ ((end : List Standing)
     × IsServedTo words saved end was.files is.files was.input is.input was.out is.out
     × IsUntold end was.err is.err e)))

@@ -1,4 +1,6 @@
 -- The answer of `serve`.
+use Rattle.disks.specs.Said.{Said, NotCreated, NotAdded, NotClosed}
+use Rattle.line_service.specs.Service.{IsJournalSaid}
 use Rattle.std.specs.Prelude.{◌≡◌, ℕ, ◌≤◌, ◌<◌, ◌^◌, ◌⊎◌, List, [], length, codes, Bool, true, Option, None, Some, IfSome, Err, ⊤}
 use Rattle.std.specs.Option.{option_map}
 use Rattle.disks.specs.Held.{Held, HaveFolders, bytes_of, LeadsToNoFolder, Creates, Grows, LetsGo, Replaces, IsHeld}
@@ -172,15 +174,15 @@ IsUngiven saved tool.NoHistory = saved ≡ None
 IsUngiven saved _ = ⊥
 
 -- the history is refused: its file cannot be read, or does not hold a legal saved text
-abbrev pub IsHistoryRefusal : Option Held → List ℕ → ToolError → Type 0
-IsHistoryRefusal files name e =
-    IsFileRefusal files name e
+abbrev pub IsHistoryRefusal : (Said → Type 0) → Option Held → List ℕ → ToolError → Type 0
+IsHistoryRefusal said files name e =
+    IsFileRefusal said files name e
     ⊎ ((bytes : List ℕ) × IsHeld files name bytes × IsSavedTextRefusal bytes e)
 
 -- the given one is
-abbrev pub IsGivenRefusal : Option Held → Option (List ℕ) → ToolError → Type 0
-IsGivenRefusal files None e = ⊥
-IsGivenRefusal files (Some name) e = IsHistoryRefusal files name e
+abbrev pub IsGivenRefusal : (Said → Type 0) → Option Held → Option (List ℕ) → ToolError → Type 0
+IsGivenRefusal said files None e = ⊥
+IsGivenRefusal said files (Some name) e = IsHistoryRefusal said files name e
 
 -- these rings do not resume: one has more events than a ring can resume, or there is no memory
 abbrev pub IsStartRefusal : List SavedRing → ToolError → Type 0
@@ -194,9 +196,15 @@ IsFirstRefusal saved e =
     IsUngiven saved e
     ⊎ ((from : Saved) × (saved ≡ Some from) × IsStartRefusal from.rings.items e)
 
--- it cannot be kept: it cannot be opened, or not be begun anew
-abbrev pub IsUnkept : List ℕ → ToolError → Type 0
-IsUnkept name e = IsUnopenedJournal name e ⊎ IsSaveRefusal name e
+-- the file of this name cannot be made, as a call said
+abbrev pub IsUncreated : (Said → Type 0) → List ℕ → ToolError → Type 0
+IsUncreated said name (tool.Save named) = (named.now ≡ name) × said (NotCreated name)
+IsUncreated said name _ = ⊥
+
+-- it cannot be kept: it cannot be made, or opened, or not be begun anew
+abbrev pub IsUnkept : (Said → Type 0) → List ℕ → ToolError → Type 0
+IsUnkept said name e =
+    IsUncreated said name e ⊎ (IsUnopenedJournal said name e ⊎ IsSaveRefusal said name e)
 
 -- nothing is recovered of the journal in the file of this name, which held these bytes, for the
 -- right reason
@@ -207,38 +215,44 @@ IsUnrecovered name bytes _ = ⊥
 
 -- the journal in a file that is there is refused: the file cannot be kept or read, or it holds
 -- nothing and no history is given, or nothing is recovered of its bytes
-abbrev pub IsJournalRefusal : Option Held → List ℕ → Option Saved → ToolError → Type 0
-IsJournalRefusal files name saved e =
-    IsUnkept name e
-    ⊎ (IsFileRefusal files name e
+abbrev pub IsJournalRefusal : (Said → Type 0) → Option Held → List ℕ → Option Saved → ToolError → Type 0
+IsJournalRefusal said files name saved e =
+    IsUnkept said name e
+    ⊎ (IsFileRefusal said files name e
     ⊎ ((IsHeld files name [] × IsUngiven saved e)
     ⊎ ((bytes : List ℕ) × IsHeld files name bytes × IsUnrecovered name bytes e)))
 
 -- it is not begun anew: it is refused, or the rings where it ends do not resume
-abbrev pub IsUnbegun : Option Held → List ℕ → Option Saved → ToolError → Type 0
-IsUnbegun files name saved e =
-    IsJournalRefusal files name saved e
+abbrev pub IsUnbegun : (Said → Type 0) → Option Held → List ℕ → Option Saved → ToolError → Type 0
+IsUnbegun said files name saved e =
+    IsJournalRefusal said files name saved e
     ⊎ ((from : Saved) × IsNoted files name saved from × IsStartRefusal from.rings.items e)
 
 -- the journal is not begun: its file cannot be kept; or it is there, or was made, empty, and the
 -- journal is not begun anew
-abbrev pub IsMadeJournalRefusal : Option Held → List ℕ → Option Saved → ToolError → Type 0
-IsMadeJournalRefusal files name saved e =
-    IsUnkept name e
+abbrev pub IsMadeJournalRefusal : (Said → Type 0) → Option Held → List ℕ → Option Saved → ToolError → Type 0
+IsMadeJournalRefusal said files name saved e =
+    IsUnkept said name e
     ⊎ ((there : Option Held)
     × (made : Bool)
     × Creates files there name made
-    × IsUnbegun there name saved e)
+    × IsUnbegun said there name saved e)
+
+-- a call said that the journal in the file of this name, or in segments in its folder, is not written
+abbrev pub IsUnwritten : (Said → Type 0) → List ℕ → Type 0
+IsUnwritten said journal =
+    said NotAdded ⊎ (said (NotClosed journal) ⊎ IsJournalSaid said journal)
 
 -- the causes that end it while lines are served, or when all have been: standard input, the journal
--- kept, standard output or memory fails
-abbrev pub IsServingFault : Option (List ℕ) → ToolError → Type 0
-IsServingFault journal (tool.Read named) = named.now ≡ codes "-"
-IsServingFault journal (tool.TooLarge named) = named.now ≡ codes "-"
-IsServingFault journal (tool.Save named) = Some named.now ≡ journal
-IsServingFault journal tool.Write = Unit {0}
-IsServingFault journal tool.OutOfMemory = Unit {0}
-IsServingFault journal _ = ⊥
+-- kept, each as a call said, standard output or memory fails
+abbrev pub IsServingFault : (Said → Type 0) → Type 0 → Option (List ℕ) → ToolError → Type 0
+IsServingFault said failed journal (tool.Read named) = (named.now ≡ codes "-") × failed
+IsServingFault said failed journal (tool.TooLarge named) = named.now ≡ codes "-"
+IsServingFault said failed journal (tool.Save named) =
+    (Some named.now ≡ journal) × IsUnwritten said named.now
+IsServingFault said failed journal tool.Write = Unit {0}
+IsServingFault said failed journal tool.OutOfMemory = Unit {0}
+IsServingFault said failed journal _ = ⊥
 
 -- the journal's file, if one is kept, was let go with these bytes; no other has changed
 abbrev pub LetsJournalGo : Option (List ℕ) → Option Held → Option Held → Option (List ℕ) → Type 0
@@ -260,11 +274,11 @@ pub record IsServedPart (terms : Terms) (start : List Standing) (before after : 
 
 -- A journal in the file of this name, which had been begun with these rings, was not served to the
 -- end: no line was read, since it cannot be opened; or serving was broken off.
-abbrev pub IsBegunPart : Permits → List ℕ → List Standing → Option Held → Option Held
+abbrev pub IsBegunPart : (Said → Type 0) → Type 0 → Permits → List ℕ → List Standing → Option Held → Option Held
     → Option (List ℕ) → Option (List ℕ) → Option (List ℕ) → Option (List ℕ) → ToolError → Type 0
-IsBegunPart permits name start begun after was is old new e =
-    (IsUnserved was is old new × IsUnopenedJournal name e × (after ≡ begun))
-    ⊎ (IsServingFault (Some name) e
+IsBegunPart said failed permits name start begun after was is old new e =
+    (IsUnserved was is old new × IsUnopenedJournal said name e × (after ≡ begun))
+    ⊎ (IsServingFault said failed (Some name) e
     × (first : Option (List ℕ))
     × Grows begun name first
     × IsServedPart (terms_of (Some name) permits) start begun after first was is old new)
@@ -281,51 +295,51 @@ pub record IsNotedPart (permits : Permits) (name : List ℕ) (start : List Stand
   pub kept : IfSome before (λ _. IsHeld part.between name (journal_head (content_of start)))
 
 -- Rings that began without a journal were not served to the end.
-abbrev pub IsPlainPart : Permits → List Standing → Option Held → Option Held → Option (List ℕ)
+abbrev pub IsPlainPart : (Said → Type 0) → Type 0 → Permits → List Standing → Option Held → Option Held → Option (List ℕ)
     → Option (List ℕ) → Option (List ℕ) → Option (List ℕ) → ToolError → Type 0
-IsPlainPart permits start before after was is old new e =
-    IsServingFault None e
+IsPlainPart said failed permits start before after was is old new e =
+    IsServingFault said failed None e
     × ((first : Option (List ℕ))
     × IsServedPart (terms_of None permits) start before after first was is old new)
 
 -- These rings of a history were not served to the end without a journal: no line was read, since
 -- they do not resume; or serving was broken off.
-abbrev pub IsResumedPart : Permits → List SavedRing → Option Held → Option Held → Option (List ℕ)
+abbrev pub IsResumedPart : (Said → Type 0) → Type 0 → Permits → List SavedRing → Option Held → Option Held → Option (List ℕ)
     → Option (List ℕ) → Option (List ℕ) → Option (List ℕ) → ToolError → Type 0
-IsResumedPart permits rings before after was is old new e =
+IsResumedPart said failed permits rings before after was is old new e =
     (IsUnserved was is old new × (after ≡ before) × IsStartRefusal rings e)
     ⊎ ((start : List Standing)
     × AreResumed start rings
-    × IsPlainPart permits start before after was is old new e)
+    × IsPlainPart said failed permits start before after was is old new e)
 
 -- Rings that began with a journal in the file of this name were not served to the end: it was put
 -- there with the rings as they began, and cannot be opened; or serving was broken off.
-abbrev pub IsBrokenOff : Permits → List ℕ → List Standing → Option Held → Option Held
+abbrev pub IsBrokenOff : (Said → Type 0) → Type 0 → Permits → List ℕ → List Standing → Option Held → Option Held
     → Option (List ℕ) → Option (List ℕ) → Option (List ℕ) → Option (List ℕ) → ToolError → Type 0
-IsBrokenOff permits name start before after was is old new e =
+IsBrokenOff said failed permits name start before after was is old new e =
     (IsUnserved was is old new
-    × IsUnopenedJournal name e
+    × IsUnopenedJournal said name e
     × Replaces before after name (Some (journal_head (content_of start))))
-    ⊎ (IsServingFault (Some name) e × IsNotedPart permits name start before after was is old new)
+    ⊎ (IsServingFault said failed (Some name) e × IsNotedPart permits name start before after was is old new)
 
 -- With this history no line is read, and no file has changed, but that an empty journal may be
 -- left: the history or the journal is refused, or the rings do not resume. Or the rings that begin
 -- where they have to are not served to the end.
-abbrev pub IsRefusedFrom : Permits → Option Held → Option Held → Option (List ℕ) → Option Saved
+abbrev pub IsRefusedFrom : (Said → Type 0) → Type 0 → Permits → Option Held → Option Held → Option (List ℕ) → Option Saved
     → Option (List ℕ) → Option (List ℕ) → Option (List ℕ) → Option (List ℕ) → ToolError → Type 0
-IsRefusedFrom permits before after None saved was is old new e =
+IsRefusedFrom said failed permits before after None saved was is old new e =
     (IsUnserved was is old new × (after ≡ before) × IsFirstRefusal saved e)
     ⊎ ((from : Saved)
     × (saved ≡ Some from)
     × (start : List Standing)
     × AreResumed start from.rings.items
-    × IsPlainPart permits start before after was is old new e)
-IsRefusedFrom permits before after (Some name) saved was is old new e =
+    × IsPlainPart said failed permits start before after was is old new e)
+IsRefusedFrom said failed permits before after (Some name) saved was is old new e =
     (IsUnserved was is old new
     × IsUntouched before after name
-    × IsMadeJournalRefusal before name saved e)
+    × IsMadeJournalRefusal said before name saved e)
     ⊎ ((from : Saved)
     × IsNoted before name saved from
     × (start : List Standing)
     × AreResumed start from.rings.items
-    × IsBrokenOff permits name start before after was is old new e)
+    × IsBrokenOff said failed permits name start before after was is old new e)

@@ -1,4 +1,8 @@
 -- `serve` with a journal that is a folder of segments.
+use Rattle.disks.specs.Said.{Said, NotListed}
+use Rattle.line_service.specs.Segments.{IsFileSaid}
+use Rattle.line_service.specs.declared.segmented.EndFault.{EndFault}
+use Rattle.line_service.specs.declared.segmented.EndFault.TheVariants as end
 use Rattle.std.specs.Prelude.{◌≡◌, ◌≢◌, ℕ, ◌⊎◌, max, List, Bool, true, false, Option, None, Some, IfSome, IsSome, Ok, Err, codes}
 use Rattle.std.specs.List.{AllByRecursion, list_any}
 use Rattle.std.specs.Result.{is_ok}
@@ -170,9 +174,9 @@ IsListless folder _ = ⊥
 
 -- the segment of this number cannot be read, or its bytes are refused: they are no such segment, or
 -- one of locks with a pool
-abbrev pub IsLastRefusal : Option Held → List ℕ → ℕ → ToolError → Type 0
-IsLastRefusal files folder last e =
-    IsUnreadSegment files folder last e
+abbrev pub IsLastRefusal : (Said → Type 0) → Option Held → List ℕ → ℕ → ToolError → Type 0
+IsLastRefusal said files folder last e =
+    IsUnreadSegment said files folder last e
     ⊎ ((bytes : List ℕ)
     × IsHeld files (segment_file folder last) bytes
     × (IsLastFault folder last bytes e
@@ -180,14 +184,14 @@ IsLastRefusal files folder last e =
 
 -- it is not known where the rings are: a name among these in the folder is refused, the last
 -- segment is, or, where there is none, the history
-abbrev pub IsUnknownAmong : Option Held → List ℕ → List FolderEntry → Option Saved → ToolError
+abbrev pub IsUnknownAmong : (Said → Type 0) → Option Held → List ℕ → List FolderEntry → Option Saved → ToolError
     → Type 0
-IsUnknownAmong files folder entries saved e =
+IsUnknownAmong said files folder entries saved e =
     ((error : FolderError) × IsRightNumbers entries (Err error) × IsFolderFault folder error e)
     ⊎ ((IsRightNumbers entries (Ok None) × IsFirstRefusal saved e)
     ⊎ ((r : SegmentNumbers)
     × IsRightNumbers entries (Ok (Some r))
-    × IsLastRefusal files folder r.last e))
+    × IsLastRefusal said files folder r.last e))
 
 -- a name is refused: that of the file that a folder of locks has
 abbrev pub IsListFault : List ℕ → ToolError → Type 0
@@ -195,13 +199,13 @@ IsListFault folder (tool.Foreign named name) = (named.now ≡ folder) × (shown 
 IsListFault folder _ = ⊥
 
 -- the same, or the folder cannot be listed, or is one of locks
-abbrev pub IsUnknown : Option Held → List ℕ → Option Saved → ToolError → Type 0
-IsUnknown files folder saved e =
-    IsFolderFault folder names.Unlisted e
+abbrev pub IsUnknown : (Said → Type 0) → Option Held → List ℕ → Option Saved → ToolError → Type 0
+IsUnknown said files folder saved e =
+    (IsFolderFault folder names.Unlisted e × said (NotListed folder))
     ⊎ ((entries : List FolderEntry)
     × Lists files folder entries
     × (((is_among (names_of entries) list_name ≡ true) × IsListFault folder e)
-    ⊎ IsUnknownAmong files folder entries saved e))
+    ⊎ IsUnknownAmong said files folder entries saved e))
 
 -- the folder that lines may save in is that of the journal
 abbrev pub IsSavesRefusal : ServeWords → ToolError → Type 0
@@ -209,10 +213,10 @@ IsSavesRefusal words (tool.SavesInJournal named) = words.saves ≡ Some named
 IsSavesRefusal words _ = ⊥
 
 -- The folder is not locked: lines may save in it, and no file has changed; or its lock is not had.
-abbrev pub IsUnlocked : ServeWords → List ℕ → Option Held → Option Held → ToolError → Type 0
-IsUnlocked words folder before after e =
+abbrev pub IsUnlocked : (Said → Type 0) → ServeWords → List ℕ → Option Held → Option Held → ToolError → Type 0
+IsUnlocked said words folder before after e =
     ((after ≡ before) × IsSavesRefusal words e)
-    ⊎ (IsLockLeft before after folder × IsUnkeptFolder folder e)
+    ⊎ (IsLockLeft before after folder × IsUnkeptFolder said folder e)
 
 -- From a place on some lines were delivered, or all of them. The file of the segment that was being
 -- written has the notes of each delivered line in it, and the rings that are recovered of it have
@@ -229,29 +233,38 @@ pub record IsRunPart (s : ChainRules) (start : Place) (before after : Option Hel
       × ServesSegments IsServed segmenting (folder_of s) first last was is old new
       × LetsGo last.files after (segment_file (folder_of s) last.number) last.journal)
 
+-- a segment of this number cannot be begun: there is no room or no memory, or a call said why its file
+-- is not had
+abbrev pub IsBeginRefusal : (Said → Type 0) → List ℕ → ℕ → ToolError → Type 0
+IsBeginRefusal said folder number (tool.Save named) =
+    (named.now ≡ folder)
+    × ((why : EndFault) × (why ≡ end.File → IsFileSaid said folder number))
+IsBeginRefusal said folder number tool.OutOfMemory = Unit {0}
+IsBeginRefusal said folder number _ = ⊥
+
 -- The segment with which they began cannot be begun, and no line is read: the files are as they
 -- were, or its whole file was put there. Or serving was broken off.
-abbrev pub IsRunRefused : ChainRules → Place → Option Held → Option Held → Option (List ℕ)
+abbrev pub IsRunRefused : (Said → Type 0) → Type 0 → ChainRules → Place → Option Held → Option Held → Option (List ℕ)
     → Option (List ℕ) → Option (List ℕ) → Option (List ℕ) → ToolError → Type 0
-IsRunRefused s start before after was is old new e =
+IsRunRefused said failed s start before after was is old new e =
     (IsUnserved was is old new
     × IsFileUnbegun (folder_of s) start.number
     (segment_text start.number start.behind start.rings) before after
-    × IsUnkeptFolder (folder_of s) e)
-    ⊎ (IsServingFault (Some (folder_of s)) e × IsRunPart s start before after was is old new)
+    × IsBeginRefusal said (folder_of s) start.number e)
+    ⊎ (IsServingFault said failed (Some (folder_of s)) e × IsRunPart s start before after was is old new)
 
 -- The folder is not locked, and no line is read. Or it is, no line is read, and no other file has
 -- changed, since it is not known where the rings are. Or the rings began at their place in it, and
 -- that was broken off.
-abbrev pub IsRefusedIn : ServeWords → List ℕ → Option Saved → Option Held → Option Held
+abbrev pub IsRefusedIn : (Said → Type 0) → Type 0 → ServeWords → List ℕ → Option Saved → Option Held → Option Held
     → Option (List ℕ) → Option (List ℕ) → Option (List ℕ) → Option (List ℕ) → ToolError → Type 0
-IsRefusedIn words folder saved before after was is old new e =
-    (IsUnserved was is old new × IsUnlocked words folder before after e)
+IsRefusedIn said failed words folder saved before after was is old new e =
+    (IsUnserved was is old new × IsUnlocked said words folder before after e)
     ⊎ ((there : Option Held)
     × IsLocked before there folder
-    × ((IsUnserved was is old new × (after ≡ there) × IsUnknown there folder saved e)
+    × ((IsUnserved was is old new × (after ≡ there) × IsUnknown said there folder saved e)
     ⊎ ((rules : ChainRules)
     × (start : Place)
     × AreRules rules words folder
     × StandsIn there folder saved start
-    × IsRunRefused rules start there after was is old new e)))
+    × IsRunRefused said failed rules start there after was is old new e)))

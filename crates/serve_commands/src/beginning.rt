@@ -10,13 +10,13 @@ ghost use Rattle.tool_parts.specs.Handed.{IsSaveRefusal};
 ghost use Rattle.serve_commands.specs.Served.{CanBegin, CanBeginWith, IsNoted, IsUnbegun, IsMadeJournalRefusal, IsUntouched};
 
 use crate::resuming::{resume_rings, value_to_resume};
-use disks::{Contents, ContentsFault, Disk, replace};
+use disks::{Contents, ContentsFault, Disk};
 use ring_service::{Served, put_beginning};
 use saved_history::Saved;
 use std::alloc::Global;
 use std::io::Write;
 use tool_parts::faults::ToolError;
-use tool_parts::handing::save_fault;
+use tool_parts::handing::save;
 use tool_parts::locking::hold_journal;
 
 /// The beginning of a journal of these rings, which its file is to hold.
@@ -53,11 +53,11 @@ fn save_beginning<'a, D: Disk>(
     ensures ok { OnOk result (Replaces (D.holds disk.old) (D.holds disk.new) name.now
         (Some (journal_head (content_of served.now)))) }
     ensures kept { OnErr result (D.holds disk.new ≡ D.holds disk.old) }
-    ensures err { IfErr result (λ e. IsSaveRefusal name.now e) }
+    ensures err { IfErr result (λ e. IsSaveRefusal D.said name.now e) }
 {
-    match replace(alloc, disk, name, &Beginning { served }) {
+    match save(alloc, disk, &Beginning { served }, name) {
         Ok(()) => Ok(()),
-        Err(fault) => Err(save_fault(fault, name)),
+        Err(fault) => Err(fault),
     }
 }
 
@@ -76,7 +76,7 @@ fn begin_locked<'a, D: Disk>(
         × Replaces (D.holds disk.old) (D.holds disk.new) name.now
         (Some (journal_head (content_of begun.1)))) }
     ensures kept { OnErr result (D.holds disk.new ≡ D.holds disk.old) }
-    ensures err { IfErr result (λ e. IsUnbegun (D.holds disk.old) name.now saved e) }
+    ensures err { IfErr result (λ e. IsUnbegun D.said (D.holds disk.old) name.now saved e) }
 {
     let lock = match hold_journal(disk, name) {
         Ok(lock) => lock,
@@ -128,7 +128,7 @@ pub(crate) fn begin_journal<'a, D: Disk>(
         × Replaces (D.holds disk.old) (D.holds disk.new) name.now
         (Some (journal_head (content_of begun.1)))) }
     ensures kept { OnErr result (IsUntouched (D.holds disk.old) (D.holds disk.new) name.now) }
-    ensures err { IfErr result (λ e. IsMadeJournalRefusal (D.holds disk.old) name.now saved e) }
+    ensures err { IfErr result (λ e. IsMadeJournalRefusal D.said (D.holds disk.old) name.now saved e) }
 {
     let Ok(made) = disk.create(name) else {
         return Err(ToolError::Save(name));

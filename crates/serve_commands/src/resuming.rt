@@ -38,7 +38,7 @@ pub(crate) fn history<'a, D: Disk>(
 ) -> Result<Saved, ToolError<'a>>
     ensures ok { IfOk result (λ saved. IsHistory (D.holds disk.now) name.now saved) }
     ensures rings { IfOk result (λ saved. CanBegin (length saved.rings.items)) }
-    ensures err { IfErr result (λ e. IsHistoryRefusal (D.holds disk.now) name.now e) }
+    ensures err { IfErr result (λ e. IsHistoryRefusal D.said (D.holds disk.now) name.now e) }
 {
     if names_stream(name) {
         // standard input has the lines
@@ -63,7 +63,7 @@ pub(crate) fn given_history<'a, D: Disk>(
     ensures ok { IfOk result (λ saved. IsGivenHistory (D.holds disk.now)
         (option_map (λ n. n.now) name.entry) saved) }
     ensures rings { IfOk result (λ saved. CanBeginWith saved) }
-    ensures err { IfErr result (λ e. IsGivenRefusal (D.holds disk.now)
+    ensures err { IfErr result (λ e. IsGivenRefusal D.said (D.holds disk.now)
         (option_map (λ n. n.now) name.entry) e) }
 {
     match name {
@@ -100,7 +100,7 @@ pub(crate) fn value_to_resume<'a, D: Disk>(
     requires rings { CanBeginWith saved }
     ensures ok { IfOk result (λ now. IsNoted (D.holds disk.now) name.now saved now) }
     ensures rings { IfOk result (λ now. CanBegin (length now.rings.items)) }
-    ensures err { IfErr result (λ e. IsJournalRefusal (D.holds disk.now) name.now saved e) }
+    ensures err { IfErr result (λ e. IsJournalRefusal D.said (D.holds disk.now) name.now saved e) }
 {
     let bytes = match read_file(alloc, disk, name) {
         Ok(bytes) => bytes,

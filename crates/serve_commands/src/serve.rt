@@ -19,13 +19,13 @@ ghost use Rattle.tool_parts.specs.Worlds.{world};
 use crate::beginning::begin_journal;
 use crate::resuming::{given_history, needed, resume_rings};
 use crate::serve_folder::run_in_folder;
-use disks::Disk;
+use disks::{Disk, Source};
 use line_service::LoopFault;
 use ring_service::{Journal, Permits, Served, serve};
 use ring_text::put_total_line;
 use saved_history::Saved;
 use std::alloc::Global;
-use std::io::{Read, Write};
+use std::io::Write;
 use tool_parts::faults::ToolError;
 use tool_parts::locking::open_journal;
 use tool_parts::reading::names_stream;
@@ -33,7 +33,7 @@ use tool_parts::requests::ServeWords;
 
 /// Returns the refusal for a fault while lines were served.
 pub(crate) fn serving_refusal<'a>(fault: LoopFault, journal: Option<&'a str>) -> ToolError<'a>
-    ensures { IsServingFault (option_map (λ name. name.now) journal.entry) result }
+    ensures { IsServingFault D.said I.Source.failed (option_map (λ name. name.now) journal.entry) result }
 {
     match (fault, journal) {
         (LoopFault::Read, _) => ToolError::Read("-"),
@@ -75,7 +75,7 @@ pub(crate) fn permits_of<'a>(words: &ServeWords<'a>) -> Permits<'a>
 }
 
 /// Serves without a journal.
-fn serve_plain<'a, D: Disk, I: Read, W: Write>(
+fn serve_plain<'a, D: Disk, I: Source, W: Write>(
     alloc: Global,
     disk: &mut D,
     served: &mut Served,
@@ -86,7 +86,7 @@ fn serve_plain<'a, D: Disk, I: Read, W: Write>(
     ensures ok { OnOk result (IsServedPlain permits.entry served.old served.new (D.holds disk.old)
         (D.holds disk.new) (I.remaining input.old) (I.remaining input.new) (W.contents out.old)
         (W.contents out.new)) }
-    ensures err { IfErr result (λ e. IsPlainPart permits.entry served.old (D.holds disk.old)
+    ensures err { IfErr result (λ e. IsPlainPart D.said I.Source.failed permits.entry served.old (D.holds disk.old)
         (D.holds disk.new) (I.remaining input.old) (I.remaining input.new) (W.contents out.old)
         (W.contents out.new) e) }
 {
@@ -111,7 +111,7 @@ fn settle_journal<'a, D: Disk>(
     requires named { string_bytes file ≡ name.now }
     ensures ok { OnOk result (Replaces (D.holds disk.old) (D.holds disk.new) name.now
         (D.Grown.contents writer)) }
-    ensures err { IfErr result (λ e. IsServingFault (Some name.now) e) }
+    ensures err { IfErr result (λ e. IsServingFault D.said I.Source.failed (Some name.now) e) }
     ensures held { OnErr result (LetsGo (D.holds disk.old) (D.holds disk.new) name.now
         (D.Grown.contents writer)) }
     ensures lasts { OnOk result (Leaves (D.leaves disk.old) (D.leaves disk.new) name.now
@@ -129,7 +129,7 @@ fn settle_journal<'a, D: Disk>(
 }
 
 /// Serves with a journal in the file of this name, which has been begun. `file` is the name too, for a file that is let go.
-fn serve_with_journal<'a, D: Disk, I: Read, W: Write>(
+fn serve_with_journal<'a, D: Disk, I: Source, W: Write>(
     alloc: Global,
     disk: &mut D,
     served: &mut Served,
@@ -144,7 +144,7 @@ fn serve_with_journal<'a, D: Disk, I: Read, W: Write>(
     ensures ok { OnOk result (IsServedOn permits.entry name.now served.old served.new
         (D.holds disk.old) (D.holds disk.new) (D.Grown.contents journal) (I.remaining input.old)
         (I.remaining input.new) (W.contents out.old) (W.contents out.new)) }
-    ensures err { IfErr result (λ e. IsServingFault (Some name.now) e
+    ensures err { IfErr result (λ e. IsServingFault D.said I.Source.failed (Some name.now) e
         × IsServedPart (terms_of (Some name.now) permits.entry) served.old (D.holds disk.old)
         (D.holds disk.new) (D.Grown.contents journal) (I.remaining input.old)
         (I.remaining input.new) (W.contents out.old) (W.contents out.new)) }
@@ -176,7 +176,7 @@ fn serve_with_journal<'a, D: Disk, I: Read, W: Write>(
 }
 
 /// Serves with the journal in the file of this name, which holds just the start of a journal of the rings.
-fn serve_begun<'a, D: Disk, I: Read, W: Write>(
+fn serve_begun<'a, D: Disk, I: Source, W: Write>(
     alloc: Global,
     disk: &mut D,
     served: &mut Served,
@@ -190,7 +190,7 @@ fn serve_begun<'a, D: Disk, I: Read, W: Write>(
     ensures ok { OnOk result (IsServedBegun (permits_of words.now) name.now served.old served.new
         (D.holds disk.old) (D.holds disk.new) (I.remaining input.old) (I.remaining input.new)
         (W.contents out.old) (W.contents out.new)) }
-    ensures err { IfErr result (λ e. IsBegunPart (permits_of words.now) name.now served.old
+    ensures err { IfErr result (λ e. IsBegunPart D.said I.Source.failed (permits_of words.now) name.now served.old
         (D.holds disk.old) (D.holds disk.new) (I.remaining input.old) (I.remaining input.new)
         (W.contents out.old) (W.contents out.new) e) }
     ensures lasts { outlives D.keeps_written words.now.synced ≡ true → (first : List ℕ)
@@ -220,7 +220,7 @@ fn serve_begun<'a, D: Disk, I: Read, W: Write>(
 }
 
 /// The rings of a value that are served without a journal, when all lines have been.
-fn run_plain<'a, D: Disk, I: Read, W: Write>(
+fn run_plain<'a, D: Disk, I: Source, W: Write>(
     alloc: Global,
     disk: &mut D,
     saved: &Saved,
@@ -232,7 +232,7 @@ fn run_plain<'a, D: Disk, I: Read, W: Write>(
         × AreResumed start saved.now.rings.items
         × IsServedPlain permits.entry start end (D.holds disk.old) (D.holds disk.new)
         (I.remaining input.old) (I.remaining input.new) (W.contents out.old) (W.contents out.new)) }
-    ensures err { IfErr result (λ e. IsResumedPart permits.entry saved.now.rings.items
+    ensures err { IfErr result (λ e. IsResumedPart D.said I.Source.failed permits.entry saved.now.rings.items
         (D.holds disk.old) (D.holds disk.new) (I.remaining input.old) (I.remaining input.new)
         (W.contents out.old) (W.contents out.new) e) }
 {
@@ -247,7 +247,7 @@ fn run_plain<'a, D: Disk, I: Read, W: Write>(
 }
 
 /// The given rings that are served without a journal, when all lines have been.
-fn run_without<'a, D: Disk, I: Read, W: Write>(
+fn run_without<'a, D: Disk, I: Source, W: Write>(
     alloc: Global,
     disk: &mut D,
     saved: Option<Saved>,
@@ -262,7 +262,7 @@ fn run_without<'a, D: Disk, I: Read, W: Write>(
         × IsServedPlain permits.entry start end (D.holds disk.old) (D.holds disk.new)
         (I.remaining input.old) (I.remaining input.new) (W.contents out.old) (W.contents out.new)) }
     ensures err { IfErr result (λ e.
-        IsRefusedFrom permits.entry (D.holds disk.old) (D.holds disk.new) None saved
+        IsRefusedFrom D.said I.Source.failed permits.entry (D.holds disk.old) (D.holds disk.new) None saved
         (I.remaining input.old) (I.remaining input.new) (W.contents out.old) (W.contents out.new)
         e) }
 {
@@ -277,7 +277,7 @@ fn run_without<'a, D: Disk, I: Read, W: Write>(
 }
 
 /// The rings that are served with a journal in the file of this name, when all lines have been. That is locked until then.
-fn run_with_journal<'a, D: Disk, I: Read, W: Write>(
+fn run_with_journal<'a, D: Disk, I: Source, W: Write>(
     alloc: Global,
     disk: &mut D,
     saved: Option<Saved>,
@@ -295,7 +295,7 @@ fn run_with_journal<'a, D: Disk, I: Read, W: Write>(
         (D.holds disk.new) (I.remaining input.old) (I.remaining input.new) (W.contents out.old)
         (W.contents out.new)) }
     ensures err { IfErr result (λ e.
-        IsRefusedFrom (permits_of words.now) (D.holds disk.old) (D.holds disk.new) (Some name.now)
+        IsRefusedFrom D.said I.Source.failed (permits_of words.now) (D.holds disk.old) (D.holds disk.new) (Some name.now)
         saved (I.remaining input.old) (I.remaining input.new) (W.contents out.old)
         (W.contents out.new) e) }
     ensures lasts { outlives D.keeps_written words.now.synced ≡ true → IsSome (D.holds disk.old)
@@ -320,7 +320,7 @@ fn run_with_journal<'a, D: Disk, I: Read, W: Write>(
 }
 
 /// The rings that are served with a journal, when all lines have been: in the segments of a folder, if the name leads to one.
-fn run_kept<'a, D: Disk, I: Read, W: Write>(
+fn run_kept<'a, D: Disk, I: Source, W: Write>(
     alloc: Global,
     disk: &mut D,
     words: &ServeWords<'a>,
@@ -335,7 +335,7 @@ fn run_kept<'a, D: Disk, I: Read, W: Write>(
         IsServedTo words.now saved end (D.holds disk.old) (D.holds disk.new)
         (I.remaining input.old) (I.remaining input.new) (W.contents out.old) (W.contents out.new)) }
     ensures err { IfErr result (λ e.
-        IsRefusedTo words.now (D.holds disk.old) (D.holds disk.new) saved (I.remaining input.old)
+        IsRefusedTo D.said I.Source.failed words.now (D.holds disk.old) (D.holds disk.new) saved (I.remaining input.old)
         (I.remaining input.new) (W.contents out.old) (W.contents out.new) e) }
     ensures lasts { outlives D.keeps_written words.now.synced ≡ true → IsSome (D.holds disk.old)
         → KeptLasts words.now name.now saved (D.holds disk.old) (I.remaining input.old)
@@ -357,7 +357,7 @@ fn run_kept<'a, D: Disk, I: Read, W: Write>(
 }
 
 /// The rings that are served, when all lines have been, with a journal if one is kept.
-fn run_on<'a, D: Disk, I: Read, W: Write>(
+fn run_on<'a, D: Disk, I: Source, W: Write>(
     alloc: Global,
     disk: &mut D,
     words: &ServeWords<'a>,
@@ -370,7 +370,7 @@ fn run_on<'a, D: Disk, I: Read, W: Write>(
         IsServedTo words.now saved end (D.holds disk.old) (D.holds disk.new)
         (I.remaining input.old) (I.remaining input.new) (W.contents out.old) (W.contents out.new)) }
     ensures err { IfErr result (λ e.
-        IsRefusedTo words.now (D.holds disk.old) (D.holds disk.new) saved (I.remaining input.old)
+        IsRefusedTo D.said I.Source.failed words.now (D.holds disk.old) (D.holds disk.new) saved (I.remaining input.old)
         (I.remaining input.new) (W.contents out.old) (W.contents out.new) e) }
     ensures lasts { outlives D.keeps_written words.now.synced ≡ true → IsSome (D.holds disk.old)
         → CallsLast words.now (journal_of words.now) saved (D.holds disk.old)
@@ -399,7 +399,7 @@ fn run_on<'a, D: Disk, I: Read, W: Write>(
 /// `Full`, `OutOfMemory`: no line was read then, unless memory or the journal's file failed while lines were served. `Read` if
 /// standard input fails, `Write` if standard output does. `Write` if standard error fails, and `TotalsTooLarge`, when all lines
 /// have been served.
-pub fn run<'a, D: Disk, I: Read, W: Write, E: Write>(
+pub fn run<'a, D: Disk, I: Source, W: Write, E: Write>(
     alloc: Global,
     disk: &mut D,
     words: &ServeWords<'a>,
@@ -412,7 +412,7 @@ pub fn run<'a, D: Disk, I: Read, W: Write, E: Write>(
         (world (D.holds disk.new) (I.remaining input.new) (W.contents out.new)
         (E.contents err.new))) }
     ensures err { IfErr result (λ e.
-        IsServeRefusal words.now
+        IsServeRefusal D.said I.Source.failed words.now
         (world (D.holds disk.old) (I.remaining input.old) (W.contents out.old) (E.contents err.old))
         (world (D.holds disk.new) (I.remaining input.new) (W.contents out.new)
         (E.contents err.new)) e) }

@@ -20,7 +20,7 @@ ghost use Rattle.tool_parts.specs.Locking.{IsUnkeptFolder, IsLocked, IsLockLeft}
 
 use crate::resuming::{needed, resume_rings};
 use crate::serve::{permits_of, serving_refusal};
-use disks::{Disk, FolderEntry};
+use disks::{Disk, FolderEntry, Source};
 use line_service::{
     EndFault, SegmentNumbers, SegmentRules, begin_segment, close_segment, has_list, list_name,
     serve_segments,
@@ -29,7 +29,7 @@ use ring_service::{ChainRules, RingService, Served};
 use saved_history::Saved;
 use segment_files::{DIGEST_DIGITS, LastSegment, SegmentError, read_end, split_line};
 use std::alloc::{AllocError, Global};
-use std::io::{Read, Write};
+use std::io::Write;
 use text_lines::fixed_word;
 use tool_parts::chain::{folder_numbers, segment_bytes};
 use tool_parts::faults::ToolError;
@@ -157,7 +157,7 @@ fn last_place<'a, D: Disk>(
         (λ place. IsLast (D.holds disk.now) folder.now number (place_of place)) }
     ensures fits { IfOk result (λ place. DigestFits place.behind) }
     ensures some { IfOk result (λ place. 0 < place.number) }
-    ensures err { IfErr result (λ e. IsLastRefusal (D.holds disk.now) folder.now number e) }
+    ensures err { IfErr result (λ e. IsLastRefusal D.said (D.holds disk.now) folder.now number e) }
 {
     let bytes = match segment_bytes(alloc, disk, folder, number) {
         Ok(bytes) => bytes,
@@ -216,7 +216,7 @@ fn place_among<'a, D: Disk>(
     ensures fits { IfOk result (λ place. DigestFits place.behind) }
     ensures some { IfOk result (λ place. 0 < place.number) }
     ensures err { IfErr result
-        (λ e. IsUnknownAmong (D.holds disk.now) folder.now entries.now saved e) }
+        (λ e. IsUnknownAmong D.said (D.holds disk.now) folder.now entries.now saved e) }
 {
     match range_among(alloc, folder, entries) {
         Ok(None) => match first_place(alloc, saved) {
@@ -247,7 +247,7 @@ fn place_in<'a, D: Disk>(
         (λ place. StandsIn (D.holds disk.now) folder.now saved (place_of place)) }
     ensures fits { IfOk result (λ place. DigestFits place.behind) }
     ensures some { IfOk result (λ place. 0 < place.number) }
-    ensures err { IfErr result (λ e. IsUnknown (D.holds disk.now) folder.now saved e) }
+    ensures err { IfErr result (λ e. IsUnknown D.said (D.holds disk.now) folder.now saved e) }
 {
     let Ok(entries) = disk.list(folder) else {
         return Err(ToolError::Read(folder));
@@ -286,7 +286,7 @@ fn keep_saves_apart<'a, D: Disk>(
 
 /// Returns the refusal for a segment that cannot be begun.
 fn begin_refusal<'a>(why: EndFault, folder: &'a str) -> ToolError<'a>
-    ensures { IsUnkeptFolder folder.now result }
+    ensures { IsUnkeptFolder D.said folder.now result }
 {
     match why {
         EndFault::OutOfMemory => ToolError::OutOfMemory,
@@ -295,7 +295,7 @@ fn begin_refusal<'a>(why: EndFault, folder: &'a str) -> ToolError<'a>
 }
 
 /// Serves from this place on, in a folder that is locked, and settles the last segment.
-fn serve_from<'a, D: Disk, I: Read, W: Write>(
+fn serve_from<'a, D: Disk, I: Source, W: Write>(
     alloc: Global,
     disk: &mut D,
     place: Start,
@@ -310,7 +310,7 @@ fn serve_from<'a, D: Disk, I: Read, W: Write>(
         × (last : Moment ServiceView)
         × IsRun rules.entry (place_of place) first last end (D.holds disk.old) (D.holds disk.new)
         (I.remaining input.old) (I.remaining input.new) (W.contents out.old) (W.contents out.new)) }
-    ensures err { IfErr result (λ e. IsRunRefused rules.entry (place_of place) (D.holds disk.old)
+    ensures err { IfErr result (λ e. IsRunRefused D.said I.Source.failed rules.entry (place_of place) (D.holds disk.old)
         (D.holds disk.new) (I.remaining input.old) (I.remaining input.new) (W.contents out.old)
         (W.contents out.new) e) }
     ensures lasts { outlives D.keeps_written rules.entry.files.synced ≡ true
@@ -341,7 +341,7 @@ fn serve_from<'a, D: Disk, I: Read, W: Write>(
 
 /// The rings that are served with a journal in the segments of a folder, when all lines have been. The folder is locked from before
 /// it is listed, and stays so.
-pub(crate) fn run_in_folder<'a, D: Disk, I: Read, W: Write>(
+pub(crate) fn run_in_folder<'a, D: Disk, I: Source, W: Write>(
     alloc: Global,
     disk: &mut D,
     words: &ServeWords<'a>,
@@ -354,7 +354,7 @@ pub(crate) fn run_in_folder<'a, D: Disk, I: Read, W: Write>(
         IsServedIn words.now folder.now saved end (D.holds disk.old) (D.holds disk.new)
         (I.remaining input.old) (I.remaining input.new) (W.contents out.old) (W.contents out.new)) }
     ensures err { IfErr result (λ e.
-        IsRefusedIn words.now folder.now saved (D.holds disk.old) (D.holds disk.new)
+        IsRefusedIn D.said I.Source.failed words.now folder.now saved (D.holds disk.old) (D.holds disk.new)
         (I.remaining input.old) (I.remaining input.new) (W.contents out.old) (W.contents out.new)
         e) }
     ensures lasts { outlives D.keeps_written words.now.synced ≡ true → IsSome (D.holds disk.old)

@@ -1,4 +1,5 @@
 -- Settings that are read strictly.
+use Rattle.disks.specs.Said.{Said}
 use Rattle.std.specs.Prelude.{◌≡◌, ◌⊎◌, ℕ, List, Option, None, Some, option_and_then, if◌then◌else◌, string_bytes}
 use Rattle.std.specs.Option.{option_map}
 use Rattle.std.specs.Str.{is_utf8}
@@ -37,12 +38,12 @@ IsShort _ = ⊥
 
 -- Which refusals such settings may meet: those of their source, of a history that would go over them,
 -- and out of memory; or the first member of them that nothing reads.
-abbrev pub IsStrictRefusal : RunWords → Option Held → Option (List ℕ) → Option (List ℕ)
+abbrev pub IsStrictRefusal : (Said → Type 0) → Type 0 → RunWords → Option Held → Option (List ℕ) → Option (List ℕ)
     → StrictRefusal → Type 0
-IsStrictRefusal words files was is (strict.Tool e) =
-    IsNamedRefusal words.settings.now files was is e
-    ⊎ (IsApartRefusal (made_file words) e ⊎ IsShort e)
-IsStrictRefusal words files was is (strict.Unread name) =
+IsStrictRefusal said failed words files was is (strict.Tool e) =
+    IsNamedRefusal said failed words.settings.now files was is e
+    ⊎ (IsApartRefusal said (made_file words) e ⊎ IsShort e)
+IsStrictRefusal said failed words files was is (strict.Unread name) =
     (bytes : List ℕ)
     × IsNamed words.settings.now files was is bytes
     × (unread_of bytes ≡ Some (string_bytes name))

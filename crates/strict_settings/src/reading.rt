@@ -7,10 +7,9 @@ ghost use Rattle.strict_settings.specs.Strict.{unread_of, made_file, IsStrictly,
 
 use crate::members::first_unread;
 use crate::refusals::StrictRefusal;
-use disks::Disk;
+use disks::{Disk, Source};
 use json::{Error, Scratch, Value};
 use std::alloc::{AllocError, Global};
-use std::io::Read;
 use tool_parts::faults::ToolError;
 use tool_parts::reading::{keep_apart, names_stream, read_named};
 use tool_parts::requests::RunWords;
@@ -45,7 +44,7 @@ pub fn unread_of(alloc: Global, bytes: &[u8]) -> Result<Option<String>, AllocErr
 fn keep_history_apart<'a, D: Disk>(disk: &D, words: &RunWords<'a>) -> Result<(), ToolError<'a>>
     ensures ok { OnOk result
         (IsApart (D.holds disk.now) words.now.settings.now (made_file words.now)) }
-    ensures err { IfErr result (λ e. IsApartRefusal (made_file words.now) e) }
+    ensures err { IfErr result (λ e. IsApartRefusal D.said (made_file words.now) e) }
 {
     match words.history {
         Some(file) if !names_stream(file) => keep_apart(disk, words.settings, file),
@@ -59,7 +58,7 @@ fn keep_history_apart<'a, D: Disk>(disk: &D, words: &RunWords<'a>) -> Result<(),
 ///
 /// `Unread` with the name of the first member, in the order of the text, that nothing reads. Those of reading the source that the
 /// word names, and of a history that would go over the settings. `OutOfMemory`.
-pub fn strict_bytes<'a, D: Disk, I: Read>(
+pub fn strict_bytes<'a, D: Disk, I: Source>(
     alloc: Global,
     disk: &D,
     words: &RunWords<'a>,
@@ -67,7 +66,7 @@ pub fn strict_bytes<'a, D: Disk, I: Read>(
 ) -> Result<Vec<u8>, StrictRefusal<'a>>
     ensures ok { IfOk result (λ bytes. IsStrictly words.now (D.holds disk.now)
         (I.remaining input.old) (I.remaining input.new) bytes.items) }
-    ensures err { IfErr result (λ e. IsStrictRefusal words.now (D.holds disk.now)
+    ensures err { IfErr result (λ e. IsStrictRefusal D.said I.Source.failed words.now (D.holds disk.now)
         (I.remaining input.old) (I.remaining input.new) e) }
     ensures unread { names_stream words.now.settings.now ≡ false → input.new ≡ input.old }
 {

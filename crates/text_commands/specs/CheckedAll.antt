@@ -1,4 +1,5 @@
 -- The answer of `check --all`.
+use Rattle.disks.specs.Said.{Said}
 use Rattle.std.specs.Prelude.{◌≡◌, ℕ, List, Option, ◌⊎◌}
 use Rattle.std.specs.Io.KnownBytes.{Appends}
 use Rattle.ring_check.specs.declared.answers.Kind.{Kind}
@@ -44,9 +45,9 @@ IsCheckAllAnswer words was is = IsTextChecked words was is
 
 -- Which refusals `check --all` may meet: those of reading what the word names, and those of the
 -- bytes that it gave.
-abbrev pub IsCheckAllRefusal : CheckWords → World → World → ToolError → Type 0
-IsCheckAllRefusal words was is e =
-    IsNamedRefusal words.file.now was.files was.input is.input e
+abbrev pub IsCheckAllRefusal : (Said → Type 0) → Type 0 → CheckWords → World → World → ToolError → Type 0
+IsCheckAllRefusal said failed words was is e =
+    IsNamedRefusal said failed words.file.now was.files was.input is.input e
     ⊎ ((bytes : List ℕ)
     × IsNamed words.file.now was.files was.input is.input bytes
     × IsCheckAllBytesRefusal bytes was.out is.out e)

@@ -1,5 +1,6 @@
 -- What `check` says of a folder with a file of locks: if the list has a pool, its files are judged
 -- (this project's own).
+use Rattle.disks.specs.Said.{Said}
 use Rattle.std.specs.Prelude.{◌≡◌, ℕ, ◌+◌, ◌==◌, Bool, true, false, List, [], ◌∷◌, length, Option, Some, None, Ok, ◌⊎◌}
 use Rattle.std.specs.Str.{IsUtf8}
 use Rattle.disks.specs.Held.{Held, IsHeld}
@@ -12,7 +13,7 @@ use Rattle.segment_files.specs.declared.errors.SegmentError.{SegmentError}
 use Rattle.segment_files.specs.declared.sums.ChainSums.{ChainSums}
 use Rattle.folder_of_locks.specs.declared.locks.ListError.{ListError}
 use Rattle.folder_of_locks.specs.declared.locks.ListError.TheVariants as lists
-use Rattle.folder_of_locks.specs.Folders.{locks_file}
+use Rattle.folder_of_locks.specs.Folders.{locks_file, IsUnreadFile}
 use Rattle.folder_of_locks.specs.Lists.{names_of}
 use Rattle.folder_of_locks.specs.Pools.{Pooled, IsPooledFile, IsPooledFileFault}
 use Rattle.name_check.specs.Entries.{Judged}
@@ -116,10 +117,10 @@ IsJudgeFault name n refused.OutOfMemory tool.OutOfMemory = Unit {0}
 IsJudgeFault name n _ _ = ⊥
 
 -- the file of this segment cannot be read, or is refused
-abbrev pub IsUnjudged : Option Held → List ℕ → List (List ℕ) → ℕ → Option Judged → Bool
+abbrev pub IsUnjudged : (Said → Type 0) → Option Held → List ℕ → List (List ℕ) → ℕ → Option Judged → Bool
     → ToolError → Type 0
-IsUnjudged files name fixed n before last e =
-    IsUnreadSegment files name n e
+IsUnjudged said files name fixed n before last e =
+    IsUnreadSegment said files name n e
     ⊎ ((bytes : List ℕ)
     × (why : JudgeError)
     × IsHeld files (segment_file name n) bytes
@@ -127,13 +128,13 @@ IsUnjudged files name fixed n before last e =
     × IsJudgeFault name n why e)
 
 -- after files that are accepted the next one is refused
-abbrev pub AreFilesUnjudged : Option Held → List ℕ → List (List ℕ) → SegmentNumbers → ToolError
+abbrev pub AreFilesUnjudged : (Said → Type 0) → Option Held → List ℕ → List (List ℕ) → SegmentNumbers → ToolError
     → Type 0
-AreFilesUnjudged files name fixed r e =
+AreFilesUnjudged said files name fixed r e =
     (next : ℕ)
     × (before : Option Judged)
     × JudgeLeads files name fixed r.first next before
-    × IsUnjudged files name fixed next before (next == r.last) e
+    × IsUnjudged said files name fixed next before (next == r.last) e
 
 -- the bytes of the file of locks are those of no list, or of too many locks; memory aside
 abbrev pub IsNoList : List ℕ → List ℕ → ToolError → Type 0
@@ -144,57 +145,58 @@ IsNoList name bytes tool.ManyLocks = IsPooledFileFault bytes lists.Many
 IsNoList name bytes tool.OutOfMemory = Unit {0}
 IsNoList name bytes _ = ⊥
 
--- it cannot be read; memory aside
-abbrev pub IsUnreadList : List ℕ → ToolError → Type 0
-IsUnreadList name (tool.UnreadLocks named) = named.now ≡ name
-IsUnreadList name tool.OutOfMemory = Unit {0}
-IsUnreadList name _ = ⊥
+-- it cannot be read, as a call said, or has more bytes than are read; memory aside
+abbrev pub IsUnreadList : (Said → Type 0) → Option Held → List ℕ → ToolError → Type 0
+IsUnreadList said files name (tool.UnreadLocks named) =
+    (named.now ≡ name) × IsUnreadFile said files (locks_file name)
+IsUnreadList said files name tool.OutOfMemory = Unit {0}
+IsUnreadList said files name _ = ⊥
 
-abbrev pub IsListRefused : Option Held → List ℕ → ToolError → Type 0
-IsListRefused files name e =
-    IsUnreadList name e
+abbrev pub IsListRefused : (Said → Type 0) → Option Held → List ℕ → ToolError → Type 0
+IsListRefused said files name e =
+    IsUnreadList said files name e
     ⊎ ((bytes : List ℕ) × IsHeld files (locks_file name) bytes × IsNoList name bytes e)
 
 -- the names of the entries are refused, or the files are; memory aside
-abbrev pub AreEntriesUnjudged : Option Held → List ℕ → List FolderEntry → List (List ℕ)
+abbrev pub AreEntriesUnjudged : (Said → Type 0) → Option Held → List ℕ → List FolderEntry → List (List ℕ)
     → ToolError → Type 0
-AreEntriesUnjudged files name entries fixed e =
+AreEntriesUnjudged said files name entries fixed e =
     (e ≡ tool.OutOfMemory)
     ⊎ (AreNamesRefused name entries e
     ⊎ ((r : SegmentNumbers)
     × IsRightNumbers entries (Ok (Some r))
-    × AreFilesUnjudged files name fixed r e))
+    × AreFilesUnjudged said files name fixed r e))
 
 -- the list has a pool
-abbrev pub IsPoolRefused : Option Held → List ℕ → List FolderEntry → Pooled → ToolError → Type 0
-IsPoolRefused files name entries l e =
-    (¬ (l.pool ≡ None)) × AreEntriesUnjudged files name entries (names_of l.locks) e
+abbrev pub IsPoolRefused : (Said → Type 0) → Option Held → List ℕ → List FolderEntry → Pooled → ToolError → Type 0
+IsPoolRefused said files name entries l e =
+    (¬ (l.pool ≡ None)) × AreEntriesUnjudged said files name entries (names_of l.locks) e
 
 -- The list of a folder is refused, or what its files say of names.
-abbrev pub AreNamesWrong : List ℕ → Option Held → ToolError → Type 0
-AreNamesWrong name files e =
+abbrev pub AreNamesWrong : (Said → Type 0) → List ℕ → Option Held → ToolError → Type 0
+AreNamesWrong said name files e =
     (entries : List FolderEntry)
     × IsFolder files name entries
     × (has_locks entries ≡ true)
-    × (IsListRefused files name e
-    ⊎ ((l : Pooled) × IsOfList files name l × IsPoolRefused files name entries l e))
+    × (IsListRefused said files name e
+    ⊎ ((l : Pooled) × IsOfList files name l × IsPoolRefused said files name entries l e))
 
 -- the names are refused of a folder whose segments are a legal chain
-abbrev pub IsFolderMisnamed : List ℕ → Option Held → ToolError → Type 0
-IsFolderMisnamed name files e =
+abbrev pub IsFolderMisnamed : (Said → Type 0) → List ℕ → Option Held → ToolError → Type 0
+IsFolderMisnamed said name files e =
     (sums : ChainSums)
     × (digest : List ℕ)
     × AreFolderSums name files sums digest
-    × AreNamesWrong name files e
+    × AreNamesWrong said name files e
 
-abbrev pub IsFolderUnchecked : List ℕ → Option Held → Option (List ℕ) → Option (List ℕ)
+abbrev pub IsFolderUnchecked : (Said → Type 0) → List ℕ → Option Held → Option (List ℕ) → Option (List ℕ)
     → ToolError → Type 0
-IsFolderUnchecked name files old new e =
-    IsFolderRefusal name files old new e ⊎ IsFolderMisnamed name files e
+IsFolderUnchecked said name files old new e =
+    IsFolderRefusal said name files old new e ⊎ IsFolderMisnamed said name files e
 
 -- Which refusals `check` may meet: those of a text or of a chain; or those of the names of a folder.
-abbrev pub IsCheckRunRefusal : CheckWords → World → World → ToolError → Type 0
-IsCheckRunRefusal words was is e =
-    IsChainRefusal words was is e
+abbrev pub IsCheckRunRefusal : (Said → Type 0) → Type 0 → CheckWords → World → World → ToolError → Type 0
+IsCheckRunRefusal said failed words was is e =
+    IsChainRefusal said failed words was is e
     ⊎ ((names_stream words.file.now ≡ false)
-    × IsFolderMisnamed words.file.now was.files e)
+    × IsFolderMisnamed said words.file.now was.files e)

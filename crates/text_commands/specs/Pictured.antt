@@ -1,4 +1,5 @@
 -- The drawings of `picture`, its answers to its words, and its refusals.
+use Rattle.disks.specs.Said.{Said}
 use Rattle.std.specs.Prelude.{◌≡◌, ℕ, ◌-◌, ◌<◌, ◌≤◌, min, List, length, slice_get, true, false, Option, Some, ◌⊎◌}
 use Rattle.saved_history.specs.Content.{Content, Block, block_of}
 use Rattle.saved_history.specs.Spelling.{Fits, text}
@@ -65,11 +66,11 @@ IsDrawingRefusal words bytes e = IsSavedTextRefusal bytes e
 
 -- The causes that may keep the picture of a drawing, and the line of the sums, from where the word
 -- says: as with each text, and a file that is the one that was read.
-pub record IsPutRefusal (words : PictureWords) (d : Drawing) (was is : World) (e : ToolError)
+pub record IsPutRefusal (said : Said → Type 0) (words : PictureWords) (d : Drawing) (was is : World) (e : ToolError)
     : Type 0 where
   pub to_file : names_stream words.picture.now ≡ false
-      → IsApartRefusal (Some words.picture.now) e
-      ⊎ IsHandOutRefusal (Some words.picture.now) (picture_of words d) (legal_line d.sums) was.files
+      → IsApartRefusal said (Some words.picture.now) e
+      ⊎ IsHandOutRefusal said (Some words.picture.now) (picture_of words d) (legal_line d.sums) was.files
       is.files was.out is.out e
   pub to_output : names_stream words.picture.now ≡ true
       → IsPrintRefusal (picture_of words d) (legal_line d.sums) was.out is.out was.err is.err e
@@ -92,13 +93,13 @@ IsPictureAnswer words was is =
 
 -- Which refusals `picture` may meet: more events than a picture may have, those of reading what its
 -- word names, those of the bytes that it gave, and those of their drawing.
-abbrev pub IsPictureRefusal : PictureWords → World → World → ToolError → Type 0
-IsPictureRefusal words was is e =
+abbrev pub IsPictureRefusal : (Said → Type 0) → Type 0 → PictureWords → World → World → ToolError → Type 0
+IsPictureRefusal said failed words was is e =
     ((e ≡ tool.ManyDrawn) × (most_drawn < words.events))
-    ⊎ (IsNamedRefusal words.file.now was.files was.input is.input e
+    ⊎ (IsNamedRefusal said failed words.file.now was.files was.input is.input e
     ⊎ ((bytes : List ℕ)
     × IsNamed words.file.now was.files was.input is.input bytes
     × (IsDrawingRefusal words bytes e
     ⊎ ((d : Drawing)
     × IsDrawing words bytes d
-    × IsPutRefusal words d was is e))))
+    × IsPutRefusal said words d was is e))))

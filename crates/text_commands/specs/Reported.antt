@@ -1,4 +1,5 @@
 -- The answer of `report`.
+use Rattle.disks.specs.Said.{Said}
 use Rattle.std.specs.Prelude.{◌≡◌, ℕ, ◌<◌, List, length, slice_get, Some, Option, ◌⊎◌}
 use Rattle.std.specs.Io.KnownBytes.{Appends}
 use Rattle.ring_model.specs.Limits.{event_limit}
@@ -46,9 +47,9 @@ IsReportAnswer words was is =
 
 -- Which refusals `report` may meet: those of reading what the word names, and those of the bytes
 -- that it gave.
-abbrev pub IsReportRefusal : ReportWords → World → World → ToolError → Type 0
-IsReportRefusal words was is e =
-    IsNamedRefusal words.file.now was.files was.input is.input e
+abbrev pub IsReportRefusal : (Said → Type 0) → Type 0 → ReportWords → World → World → ToolError → Type 0
+IsReportRefusal said failed words was is e =
+    IsNamedRefusal said failed words.file.now was.files was.input is.input e
     ⊎ ((bytes : List ℕ)
     × IsNamed words.file.now was.files was.input is.input bytes
     × IsReportBytesRefusal bytes was.out is.out e)

@@ -1,4 +1,5 @@
 -- The answer of `upgrade`.
+use Rattle.disks.specs.Said.{Said}
 use Rattle.std.specs.Prelude.{◌≡◌, ℕ, List, ◌⊎◌}
 use Rattle.saved_history.specs.Content.{Content, upgraded}
 use Rattle.saved_history.specs.Spelling.{Fits, text}
@@ -41,9 +42,9 @@ IsOutputsRefusal file _ = ⊥
 -- Which refusals `upgrade` may meet: those of reading what its word names; that an output goes into
 -- the file that is to be made; those of `check` of the bytes that it gave; and those of handing out
 -- their upgrade.
-abbrev pub IsUpgradeRefusal : UpgradeWords → World → World → ToolError → Type 0
-IsUpgradeRefusal words was is e =
-    IsNamedRefusal words.file.now was.files was.input is.input e
+abbrev pub IsUpgradeRefusal : (Said → Type 0) → Type 0 → UpgradeWords → World → World → ToolError → Type 0
+IsUpgradeRefusal said failed words was is e =
+    IsNamedRefusal said failed words.file.now was.files was.input is.input e
     ⊎ (IsOutputsRefusal words.new.now e
     ⊎ ((bytes : List ℕ)
     × IsNamed words.file.now was.files was.input is.input bytes
@@ -51,4 +52,4 @@ IsUpgradeRefusal words was is e =
     ⊎ ((c : Content)
     × (sums : Summary)
     × IsUpgradeOf bytes c sums
-    × IsHandRefusal words.new.now (text c) (legal_line sums) was is e))))
+    × IsHandRefusal said words.new.now (text c) (legal_line sums) was is e))))

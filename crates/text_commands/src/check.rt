@@ -14,10 +14,10 @@ ghost use Rattle.tool_parts.specs.Reading.{names_stream};
 ghost use Rattle.tool_parts.specs.Worlds.{world};
 
 use crate::names::check_names;
-use disks::{Disk, FolderEntry};
+use disks::{Disk, FolderEntry, Source};
 use line_service::has_list;
 use std::alloc::Global;
-use std::io::{Read, Write};
+use std::io::Write;
 use tool_parts::chain::{check_folder, entries_of, tell_chain};
 use tool_parts::faults::ToolError;
 use tool_parts::legal::{legal_saved, tell_sums};
@@ -53,7 +53,7 @@ pub fn check_bytes<'a, W: Write>(
 /// # Errors
 ///
 /// Those of reading the source that the word names, and those of [`check_bytes`].
-fn check_text<'a, D: Disk, I: Read, W: Write>(
+fn check_text<'a, D: Disk, I: Source, W: Write>(
     alloc: Global,
     disk: &D,
     words: &CheckWords<'a>,
@@ -64,7 +64,7 @@ fn check_text<'a, D: Disk, I: Read, W: Write>(
         (world (D.holds disk.now) (I.remaining input.old) (W.contents out.old) None)
         (world (D.holds disk.now) (I.remaining input.new) (W.contents out.new) None)) }
     ensures err { IfErr result (λ e.
-        IsTextRefusal words.now
+        IsTextRefusal D.said I.Source.failed words.now
         (world (D.holds disk.now) (I.remaining input.old) (W.contents out.old) None)
         (world (D.holds disk.now) (I.remaining input.new) (W.contents out.new) None) e) }
     ensures nothing { IfErr result (λ e. e ≢ ToolError.Write → out.new ≡ out.old) }
@@ -94,7 +94,7 @@ fn check_locks<'a, D: Disk, W: Write>(
     requires { IsFolder (D.holds disk.now) folder.now entries.now }
     ensures ok { OnOk result (IsFolderChecked folder.now (D.holds disk.now) (W.contents out.old)
         (W.contents out.new)) }
-    ensures err { IfErr result (λ e. IsFolderUnchecked folder.now (D.holds disk.now)
+    ensures err { IfErr result (λ e. IsFolderUnchecked D.said folder.now (D.holds disk.now)
         (W.contents out.old) (W.contents out.new) e) }
     ensures nothing { IfErr result (λ e. e ≢ ToolError.Write → out.new ≡ out.old) }
 {
@@ -127,7 +127,7 @@ fn check_named<'a, D: Disk, W: Write>(
     requires { IsFolder (D.holds disk.now) folder.now entries.now }
     ensures ok { OnOk result (IsFolderChecked folder.now (D.holds disk.now) (W.contents out.old)
         (W.contents out.new)) }
-    ensures err { IfErr result (λ e. IsFolderUnchecked folder.now (D.holds disk.now)
+    ensures err { IfErr result (λ e. IsFolderUnchecked D.said folder.now (D.holds disk.now)
         (W.contents out.old) (W.contents out.new) e) }
     ensures nothing { IfErr result (λ e. e ≢ ToolError.Write → out.new ≡ out.old) }
 {
@@ -148,7 +148,7 @@ fn check_named<'a, D: Disk, W: Write>(
 ///
 /// Those of [`check_folder`], and, if there are none of these, those of the names; those of reading the source that the word names,
 /// and those of [`check_bytes`]. Where a file is named, standard input stays as it was.
-pub fn run<'a, D: Disk, I: Read, W: Write>(
+pub fn run<'a, D: Disk, I: Source, W: Write>(
     alloc: Global,
     disk: &D,
     words: &CheckWords<'a>,
@@ -159,7 +159,7 @@ pub fn run<'a, D: Disk, I: Read, W: Write>(
         (world (D.holds disk.now) (I.remaining input.old) (W.contents out.old) None)
         (world (D.holds disk.now) (I.remaining input.new) (W.contents out.new) None)) }
     ensures err { IfErr result (λ e.
-        IsCheckRunRefusal words.now
+        IsCheckRunRefusal D.said I.Source.failed words.now
         (world (D.holds disk.now) (I.remaining input.old) (W.contents out.old) None)
         (world (D.holds disk.now) (I.remaining input.new) (W.contents out.new) None) e) }
     ensures nothing { IfErr result (λ e. e ≢ ToolError.Write → out.new ≡ out.old) }

@@ -14,11 +14,11 @@ ghost use Rattle.tool_parts.specs.Reading.{names_stream};
 ghost use Rattle.tool_parts.specs.Worlds.{world};
 
 use bad_lines::{bad_lines, put_bad_lines};
-use disks::Disk;
+use disks::{Disk, Source};
 use ring_check::{CheckError, check_saved};
 use saved_history::{Saved, read_saved};
 use std::alloc::{AllocError, Global};
-use std::io::{Read, Write};
+use std::io::Write;
 use text_lines::put;
 use tool_parts::faults::ToolError;
 use tool_parts::legal::tell_sums;
@@ -85,7 +85,7 @@ pub fn check_all_bytes<'a, W: Write>(
 ///
 /// Those of reading the source that the word names, and those of [`check_all_bytes`]. Where a file is named, standard input stays
 /// as it was.
-pub fn run<'a, D: Disk, I: Read, W: Write>(
+pub fn run<'a, D: Disk, I: Source, W: Write>(
     alloc: Global,
     disk: &D,
     words: &CheckWords<'a>,
@@ -96,7 +96,7 @@ pub fn run<'a, D: Disk, I: Read, W: Write>(
         (world (D.holds disk.now) (I.remaining input.old) (W.contents out.old) None)
         (world (D.holds disk.now) (I.remaining input.new) (W.contents out.new) None)) }
     ensures err { IfErr result (λ e.
-        IsCheckAllRefusal words.now
+        IsCheckAllRefusal D.said I.Source.failed words.now
         (world (D.holds disk.now) (I.remaining input.old) (W.contents out.old) None)
         (world (D.holds disk.now) (I.remaining input.new) (W.contents out.new) None) e) }
     ensures nothing { IfErr result (λ e. IsUntold e → out.new ≡ out.old) }

@@ -54,7 +54,7 @@ fn judge_segment<'a, D: Disk>(
         × IsHeld (D.holds disk.now) (segment_file folder.now number) bytes
         × IsAccepted (map string_bytes fixed.now) before bytes new) }
     ensures end { IfOk result (λ new. last ≡ true → MayEnd new) }
-    ensures err { IfErr result (λ e. IsUnjudged (D.holds disk.now) folder.now
+    ensures err { IfErr result (λ e. IsUnjudged D.said (D.holds disk.now) folder.now
         (map string_bytes fixed.now) number before last e) }
 {
     let bytes = match segment_bytes(alloc, disk, folder, number) {
@@ -78,7 +78,7 @@ fn judge_before_last<'a, D: Disk>(
     requires up { numbers.first ≤ numbers.last }
     ensures ok { IfOk result (λ s. JudgeLeads (D.holds disk.now) folder.now
         (map string_bytes fixed.now) numbers.first numbers.last s) }
-    ensures err { IfErr result (λ e. AreFilesUnjudged (D.holds disk.now) folder.now
+    ensures err { IfErr result (λ e. AreFilesUnjudged D.said (D.holds disk.now) folder.now
         (map string_bytes fixed.now) numbers e) }
 {
     let mut judged = FolderJudge::new();
@@ -102,7 +102,7 @@ fn judge_files<'a, D: Disk>(
     requires up { numbers.first ≤ numbers.last }
     ensures ok { OnOk result (AreFilesJudged (D.holds disk.now) folder.now numbers
         (map string_bytes fixed.now)) }
-    ensures err { IfErr result (λ e. AreFilesUnjudged (D.holds disk.now) folder.now
+    ensures err { IfErr result (λ e. AreFilesUnjudged D.said (D.holds disk.now) folder.now
         (map string_bytes fixed.now) numbers e) }
 {
     let before = match judge_before_last(alloc, disk, folder, fixed, numbers) {
@@ -137,7 +137,7 @@ fn judge_pool<'a, D: Disk>(
 ) -> Result<(), ToolError<'a>>
     ensures ok { OnOk result (AreEntriesJudged (D.holds disk.now) folder.now entries.now
         (names_of (map listed locks.now))) }
-    ensures err { IfErr result (λ e. AreEntriesUnjudged (D.holds disk.now) folder.now entries.now
+    ensures err { IfErr result (λ e. AreEntriesUnjudged D.said (D.holds disk.now) folder.now entries.now
         (names_of (map listed locks.now)) e) }
 {
     let numbers = match folder_numbers(alloc, folder, entries) {
@@ -164,7 +164,7 @@ fn judge_list<'a, D: Disk>(
     ensures ok { OnOk result
         (IsPoolRight (D.holds disk.now) folder.now entries.now (pooled list.now)) }
     ensures err { IfErr result
-        (λ e. IsPoolRefused (D.holds disk.now) folder.now entries.now (pooled list.now) e) }
+        (λ e. IsPoolRefused D.said (D.holds disk.now) folder.now entries.now (pooled list.now) e) }
 {
     match &list.pool {
         None => Ok(()),
@@ -183,7 +183,7 @@ fn bytes_of_list<'a, D: Disk>(
 ) -> Result<Vec<u8>, ToolError<'a>>
     ensures ok { IfOk result
         (λ bytes. IsHeld (D.holds disk.now) (locks_file folder.now) bytes.items) }
-    ensures err { IfErr result (λ e. IsUnreadList folder.now e) }
+    ensures err { IfErr result (λ e. IsUnreadList D.said folder.now e) }
 {
     match list_bytes(alloc, disk, folder) {
         Ok(bytes) => Ok(bytes),
@@ -225,7 +225,7 @@ fn judge_folder<'a, D: Disk>(
 ) -> Result<(), ToolError<'a>>
     requires { IsFolder (D.holds disk.now) folder.now entries.now }
     ensures ok { OnOk result (IsFolderNamed folder.now (D.holds disk.now)) }
-    ensures err { IfErr result (λ e. AreNamesWrong folder.now (D.holds disk.now) e) }
+    ensures err { IfErr result (λ e. AreNamesWrong D.said folder.now (D.holds disk.now) e) }
 {
     if !has_list(entries) {
         return Ok(());
@@ -252,9 +252,9 @@ fn look_again<'a, D: Disk>(
     found: Result<(), ToolError<'a>>,
 ) -> Result<(), ToolError<'a>>
     requires ok { OnOk found (IsFolderNamed folder.now (D.holds disk.now)) }
-    requires err { IfErr found (λ e. AreNamesWrong folder.now (D.holds disk.now) e) }
+    requires err { IfErr found (λ e. AreNamesWrong D.said folder.now (D.holds disk.now) e) }
     ensures ok { OnOk result (IsFolderNamed folder.now (D.holds disk.now)) }
-    ensures err { IfErr result (λ e. AreNamesWrong folder.now (D.holds disk.now) e) }
+    ensures err { IfErr result (λ e. AreNamesWrong D.said folder.now (D.holds disk.now) e) }
 {
     match found {
         Ok(()) => Ok(()),
@@ -284,7 +284,7 @@ pub fn check_names<'a, D: Disk>(
 ) -> Result<(), ToolError<'a>>
     requires { IsFolder (D.holds disk.now) folder.now entries.now }
     ensures ok { OnOk result (IsFolderNamed folder.now (D.holds disk.now)) }
-    ensures err { IfErr result (λ e. AreNamesWrong folder.now (D.holds disk.now) e) }
+    ensures err { IfErr result (λ e. AreNamesWrong D.said folder.now (D.holds disk.now) e) }
 {
     let mut found = judge_folder(alloc, disk, folder, entries);
     for _ in 0..MOST_LOOKS {

@@ -13,14 +13,14 @@ ghost use Rattle.tool_parts.specs.Reading.{names_stream};
 ghost use Rattle.tool_parts.specs.Written.{AppendsFront};
 ghost use Rattle.tool_parts.specs.Worlds.{world};
 
-use disks::{Contents, ContentsFault, Disk, replace};
+use disks::{Contents, ContentsFault, Disk, Source};
 use history_picture::{PictureFault, write_picture};
 use ring_check::Summary;
 use saved_history::{Saved, SavedRing};
 use std::alloc::Global;
-use std::io::{Read, Write};
+use std::io::Write;
 use tool_parts::faults::ToolError;
-use tool_parts::handing::save_fault;
+use tool_parts::handing::save;
 use tool_parts::legal::{legal_saved, tell_sums};
 use tool_parts::reading::{keep_apart, names_stream, read_named};
 use tool_parts::requests::PictureWords;
@@ -154,7 +154,7 @@ fn save_drawing<'a, D: Disk>(
     ensures stored { OnOk result (Replaces (D.holds disk.old) (D.holds disk.new)
         words.now.picture.now (Some (picture_of words.now drawing.now))) }
     ensures err { IfErr result (λ e.
-        IsApartRefusal (Some words.now.picture.now) e ⊎ IsSaveRefusal words.now.picture.now e) }
+        IsApartRefusal D.said (Some words.now.picture.now) e ⊎ IsSaveRefusal D.said words.now.picture.now e) }
     ensures kept { OnErr result (D.holds disk.new ≡ D.holds disk.old) }
 {
     keep_apart(disk, words.file, words.picture)?;
@@ -163,9 +163,9 @@ fn save_drawing<'a, D: Disk>(
         drawing,
         words,
     };
-    match replace(alloc, disk, words.picture, &text) {
+    match save(alloc, disk, &text, words.picture) {
         Ok(()) => Ok(()),
-        Err(fault) => Err(save_fault(fault, words.picture)),
+        Err(fault) => Err(fault),
     }
 }
 
@@ -189,8 +189,8 @@ fn save_and_tell<'a, D: Disk, W: Write>(
         words.now.picture.now (Some (picture_of words.now drawing.now))) }
     ensures told { OnOk result
         (Appends (W.contents out.old) (W.contents out.new) (legal_line drawing.now.sums)) }
-    ensures err { IfErr result (λ e. IsApartRefusal (Some words.now.picture.now) e
-        ⊎ IsHandOutRefusal (Some words.now.picture.now) (picture_of words.now drawing.now)
+    ensures err { IfErr result (λ e. IsApartRefusal D.said (Some words.now.picture.now) e
+        ⊎ IsHandOutRefusal D.said (Some words.now.picture.now) (picture_of words.now drawing.now)
         (legal_line drawing.now.sums) (D.holds disk.old) (D.holds disk.new) (W.contents out.old)
         (W.contents out.new) e) }
     ensures kept { IfErr result (λ e. e ≢ ToolError.Write → D.holds disk.new ≡ D.holds disk.old) }
@@ -256,7 +256,7 @@ pub fn hand_over<'a, D: Disk, W: Write, E: Write>(
         (world (D.holds disk.old) None (W.contents out.old) (E.contents err.old))
         (world (D.holds disk.new) None (W.contents out.new) (E.contents err.new))) }
     ensures err { IfErr result (λ e.
-        IsPutRefusal words.now drawing.now
+        IsPutRefusal D.said words.now drawing.now
         (world (D.holds disk.old) None (W.contents out.old) (E.contents err.old))
         (world (D.holds disk.new) None (W.contents out.new) (E.contents err.new)) e) }
     ensures kept { IfErr result (λ e. e ≢ ToolError.Write → D.holds disk.new ≡ D.holds disk.old) }
@@ -280,7 +280,7 @@ pub fn hand_over<'a, D: Disk, W: Write, E: Write>(
 /// `Truncated` where its bytes are not a saved text, `Bad` where they are one that is not legal; `NoRing` where that has no such
 /// ring, and `NoPlace` where the ring has fewer events than are before the first to be drawn. No file is made then. And those
 /// of [`hand_over`].
-pub fn run<'a, D: Disk, I: Read, W: Write, E: Write>(
+pub fn run<'a, D: Disk, I: Source, W: Write, E: Write>(
     alloc: Global,
     disk: &mut D,
     words: &PictureWords<'a>,
@@ -292,7 +292,7 @@ pub fn run<'a, D: Disk, I: Read, W: Write, E: Write>(
         (world (D.holds disk.old) (I.remaining input.old) (W.contents out.old) (E.contents err.old))
         (world (D.holds disk.new) (I.remaining input.new) (W.contents out.new)
         (E.contents err.new))) }
-    ensures err { IfErr result (λ e. IsPictureRefusal words.now
+    ensures err { IfErr result (λ e. IsPictureRefusal D.said I.Source.failed words.now
         (world (D.holds disk.old) (I.remaining input.old) (W.contents out.old) (E.contents err.old))
         (world (D.holds disk.new) (I.remaining input.new) (W.contents out.new)
         (E.contents err.new)) e) }

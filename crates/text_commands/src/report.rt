@@ -6,10 +6,10 @@ ghost use Rattle.tool_parts.specs.Reading.{names_stream};
 ghost use Rattle.text_commands.specs.Reported.{IsReportOf, IsReportTextRefusal, IsReportBytesRefusal, IsReportAnswer, IsReportRefusal};
 ghost use Rattle.tool_parts.specs.Worlds.{world};
 
-use disks::Disk;
+use disks::{Disk, Source};
 use ring_text::{ReportFault, report};
 use std::alloc::Global;
-use std::io::{Read, Write};
+use std::io::Write;
 use text_lines::put;
 use tool_parts::faults::ToolError;
 use tool_parts::legal::legal_saved;
@@ -63,7 +63,7 @@ pub fn print_report<'a, W: Write>(
 ///
 /// Those of reading the source that the word names, and those of [`print_report`]. Where a file is named, standard input stays
 /// as it was.
-pub fn run<'a, D: Disk, I: Read, W: Write>(
+pub fn run<'a, D: Disk, I: Source, W: Write>(
     alloc: Global,
     disk: &D,
     words: &ReportWords<'a>,
@@ -74,7 +74,7 @@ pub fn run<'a, D: Disk, I: Read, W: Write>(
         (world (D.holds disk.now) (I.remaining input.old) (W.contents out.old) None)
         (world (D.holds disk.now) (I.remaining input.new) (W.contents out.new) None)) }
     ensures err { IfErr result (λ e.
-        IsReportRefusal words.now
+        IsReportRefusal D.said I.Source.failed words.now
         (world (D.holds disk.now) (I.remaining input.old) (W.contents out.old) None)
         (world (D.holds disk.now) (I.remaining input.new) (W.contents out.new) None) e) }
     ensures nothing { IfErr result (λ e. e ≢ ToolError.Write → out.new ≡ out.old) }

@@ -10,11 +10,11 @@ ghost use Rattle.tool_parts.specs.Reading.{names_stream};
 ghost use Rattle.text_commands.specs.Upgraded.{IsUpgradeOf, IsUpgradeAnswer, IsUpgradeRefusal, IsOutputsRefusal};
 ghost use Rattle.tool_parts.specs.Worlds.{world};
 
-use disks::Disk;
+use disks::{Disk, Source};
 use ring_check::{Summary, upgrade_is_legal};
 use saved_history::{Saved, upgrade};
 use std::alloc::Global;
-use std::io::{Read, Write};
+use std::io::Write;
 use tool_parts::faults::ToolError;
 use tool_parts::handing::hand_over;
 use tool_parts::legal::legal_saved;
@@ -65,7 +65,7 @@ fn keep_from_outputs<'a, D: Disk>(disk: &D, word: &'a str) -> Result<(), ToolErr
 /// `Save` with the other name where that cannot be made, written or put in its place, and `OutOfMemory`. Every file is as it was
 /// then, and nothing is written. `Write` where a writer fails, when the new file is in its place: the bytes written until then
 /// are a prefix.
-pub fn run<'a, D: Disk, I: Read, W: Write, E: Write>(
+pub fn run<'a, D: Disk, I: Source, W: Write, E: Write>(
     alloc: Global,
     disk: &mut D,
     words: &UpgradeWords<'a>,
@@ -77,7 +77,7 @@ pub fn run<'a, D: Disk, I: Read, W: Write, E: Write>(
         (world (D.holds disk.old) (I.remaining input.old) (W.contents out.old) (E.contents err.old))
         (world (D.holds disk.new) (I.remaining input.new) (W.contents out.new)
         (E.contents err.new))) }
-    ensures err { IfErr result (λ e. IsUpgradeRefusal words.now
+    ensures err { IfErr result (λ e. IsUpgradeRefusal D.said I.Source.failed words.now
         (world (D.holds disk.old) (I.remaining input.old) (W.contents out.old) (E.contents err.old))
         (world (D.holds disk.new) (I.remaining input.new) (W.contents out.new)
         (E.contents err.new)) e) }
