@@ -4,7 +4,7 @@ use Rattle.std.specs.Int.{bit_at, w64, trailing_zeros}
 use Rattle.std.proofs.lemmas.Bool.{cases_lt, cases_Bool, cond-true, cond-false, eq-eqb, ne_eqb}
 use Rattle.std.proofs.lemmas.List.{append-nil, append_assoc, length-set, take_more_set}
 use Rattle.std.proofs.lemmas.Nat.{shr-shr}
-use Rattle.std.proofs.lemmas.Nat.Bits.{bit_at_and, bit_at-lt}
+use Rattle.std.proofs.lemmas.Nat.Bits.{bit_at_and, bit_at-lt, bit_at-zero, bit_at_cat_low, bit_at_cat_high}
 use Rattle.rand_pcg.specs.Lcg.{Lcg}
 use Rattle.rand_pcg.specs.Pcg.{pcg32}
 use Rattle.ring_model.specs.Numbers.{bit, count_below}
@@ -16,7 +16,7 @@ use Rattle.machine_masks.specs.Privileges.{AreMarked}
 use Rattle.machine_masks.proofs.Marks.{marked_in, marked_out}
 use Rattle.machine_masks.proofs.Ones.{AreLeft, all_left, one_gone, nth_left, ones_count, count_split}
 use Rattle.drawn_groups.specs.Drawn.{Drawing, drawing_with, bits_for, members_with, drawing, drawn}
-use Rattle.drawn_groups.specs.Blocks.{blocks, machines_of}
+use Rattle.drawn_groups.specs.Blocks.{machines_of, below_block, IsBlock}
 
 -- ---- the machines of a block
 
@@ -64,7 +64,7 @@ machines_same w first low m l e = machines_clear w first low m l (λ b lb bm. el
 -- after j bits: those that are left of the word, and the machines that are put for the others
 pub record ArePut (w first count j left : ℕ) (before machines : List ℕ) : Type 0 where
   pub rest : AreLeft w left j
-  pub members : (b : ℕ) → b ≤ 32 → count_below (is_set w) b ≡ j → take (count + j) machines ≡ take count before ++ machines_of w first b
+  pub members : (b : ℕ) → b ≤ 64 → count_below (is_set w) b ≡ j → take (count + j) machines ≡ take count before ++ machines_of w first b
   pub same : length machines ≡ length before
 
 pub put_none : (w first count : ℕ) (machines : List ℕ) → w < 2 ^ 64 → ArePut w first count 0 w machines machines
@@ -104,13 +104,58 @@ put_more w first count j left i v before machines put more room ev ei =
       same = length-set machines (count + j) v ∙ put.same;
     }
 
-pub ones_few : (w : ℕ) → w < 2 ^ 32 → count_ones w ≤ 32
-ones_few w l = let all = ones_count 32 w l in let few = count_le (is_set w) 32 in omega arith
+pub ones_few : (w : ℕ) → w < 2 ^ 64 → count_ones w ≤ 64
+ones_few w l = let all = ones_count 64 w l in let few = count_le (is_set w) 64 in omega arith
 
-pub put_all : (w first count j left : ℕ) (before machines : List ℕ) → ArePut w first count j left before machines → j ≡ count_ones w → w < 2 ^ 32 →
-    take (count + count_ones w) machines ≡ take count before ++ machines_of w first 32
+pub put_all : (w first count j left : ℕ) (before machines : List ℕ) → ArePut w first count j left before machines → j ≡ count_ones w → w < 2 ^ 64 →
+    take (count + count_ones w) machines ≡ take count before ++ machines_of w first 64
 put_all w first count j left before machines put e l =
-    ap (λ (x : ℕ). take (count + x) machines) (sym e) ∙ put.members 32 (omega arith) (sym (ones_count 32 w l) ∙ sym e)
+    ap (λ (x : ℕ). take (count + x) machines) (sym e) ∙ put.members 64 (omega arith) (sym (ones_count 64 w l) ∙ sym e)
+
+-- ---- two blocks in one word
+
+machines_as : (v w first m : ℕ) → ((b : ℕ) → b < m → is_set v b ≡ is_set w b) → machines_of v first m ≡ machines_of w first m
+machines_as v w first zero same = machines_none v first ∙ sym (machines_none w first)
+machines_as v w first (suc m) same =
+    let ih : machines_of v first m ≡ machines_of w first m = machines_as v w first m (λ b l. same b (omega arith)) in
+    elim (cases_Bool (is_set w m)) [
+      | inl on ↦
+          machines_on v first m (same m (omega arith) ∙ on) ∙ ap (λ (x : List ℕ). x ++ (first + m) ∷ []) ih ∙ sym (machines_on w first m on)
+      | inr off ↦ machines_off v first m (same m (omega arith) ∙ off) ∙ ih ∙ sym (machines_off w first m off)
+    ]
+
+machines_past : (v w first m : ℕ) → ((b : ℕ) → b < m → is_set v (32 + b) ≡ is_set w b) →
+    machines_of v first (32 + m) ≡ machines_of v first 32 ++ machines_of w (first + 32) m
+machines_past v w first zero same =
+    let here : 32 + 0 ≡ 32 = omega arith in
+    let before : List ℕ = machines_of v first 32 in
+    ap (machines_of v first) here ∙ sym (append-nil before) ∙ ap (λ (x : List ℕ). before ++ x) (sym (machines_none w (first + 32)))
+machines_past v w first (suc m) same =
+    let next : 32 + suc m ≡ suc (32 + m) = omega arith in
+    let place : first + (32 + m) ≡ first + 32 + m = omega arith in
+    let before : List ℕ = machines_of v first 32 in
+    let ih : machines_of v first (32 + m) ≡ before ++ machines_of w (first + 32) m = machines_past v w first m (λ b l. same b (omega arith)) in
+    ap (machines_of v first) next ∙ elim (cases_Bool (is_set w m)) [
+      | inl on ↦
+          machines_on v first (32 + m) (same m (omega arith) ∙ on)
+          ∙ ap (λ (x : List ℕ). x ++ (first + (32 + m)) ∷ []) ih
+          ∙ ap (λ (x : ℕ). (before ++ machines_of w (first + 32) m) ++ x ∷ []) place
+          ∙ append_assoc before (machines_of w (first + 32) m) ((first + 32 + m) ∷ [])
+          ∙ ap (λ (x : List ℕ). before ++ x) (sym (machines_on w (first + 32) m on))
+      | inr off ↦
+          machines_off v first (32 + m) (same m (omega arith) ∙ off) ∙ ih
+          ∙ ap (λ (x : List ℕ). before ++ x) (sym (machines_off w (first + 32) m off))
+    ]
+
+-- the machines of a word that has the bits of one block and, after them, those of the next
+joined : (high low first : ℕ) → low < 2 ^ 32 → machines_of (high * 2 ^ 32 + low) first 64 ≡ machines_of low first 32 ++ machines_of high (first + 32) 32
+joined high low first l =
+    let v : ℕ = high * 2 ^ 32 + low in
+    let rest : List ℕ = machines_of high (first + 32) 32 in
+    machines_past v high first 32 (λ b lb.
+    (let place : 32 + b - 32 ≡ b = omega arith in
+    ap (λ (x : ℕ). x == 1) (bit_at_cat_high high 32 low (32 + b) l (omega arith) ∙ ap (bit_at high) place)))
+    ∙ ap (λ (x : List ℕ). x ++ rest) (machines_as v low first 32 (λ b lb. ap (λ (x : ℕ). x == 1) (bit_at_cat_low high 32 low b lb)))
 
 -- ---- the members of a drawing
 
@@ -125,9 +170,9 @@ both_bits (suc (suc a)) b la lb = absurd (omega arith)
 and_set : (v w b : ℕ) → is_set (bit_and v w) b ≡ (is_set v b && is_set w b)
 and_set v w b = ap (λ (x : ℕ). x == 1) (bit_at_and v w b) ∙ both_bits (bit_at v b) (bit_at w b) (bit_at-lt v b) (bit_at-lt w b)
 
--- a word has the bits of a block
-abbrev pub IsBlock : List ℕ → ℕ → ℕ → Type 0
-IsBlock privileged block v = (b : ℕ) → b < 32 → is_set v b ≡ is_in privileged (32 * block + b)
+-- a word has the bits that a set has for a block
+abbrev pub AreBitsOf : List ℕ → ℕ → ℕ → Type 0
+AreBitsOf privileged block v = (b : ℕ) → b < 32 → is_set v b ≡ is_in privileged (32 * block + b)
 
 -- the machines of a block, its first `b` ones, of which the bits are drawn as the word w, with v after it
 record AreDrawn (s : List ℕ) (g : Lcg) (block x w : ℕ) (v : Lcg) (b : ℕ) : Type 0 where
@@ -163,7 +208,7 @@ block_bits s g block x w v (suc b) l e drawn =
     ∙ ap with_words (drawn.bits (omega arith)) ∙ ap with_bits (drawn.words (omega arith))
 
 -- each further machine of a block, as long as it is one of the ring
-drawn_in_block : (s words : List ℕ) (g : Lcg) (block y w : ℕ) (v : Lcg) (b : ℕ) → AreMarked s words → length s ≤ machine_limit → IsBlock words block y →
+drawn_in_block : (s words : List ℕ) (g : Lcg) (block y w : ℕ) (v : Lcg) (b : ℕ) → AreMarked s words → length s ≤ machine_limit → AreBitsOf words block y →
     ◌≡◌ {A = ℕ × Lcg} (w, v) (pcg32 (drawing s g (32 * block)).words) → b ≤ 32 → 32 * block + b ≤ length s → AreDrawn s g block (bit_and y w) w v b
 drawn_in_block s words g block y w v zero marked few is e lb ln =
     let here : 32 * block + 0 ≡ 32 * block = omega arith in
@@ -203,18 +248,57 @@ drawn_in_block s words g block y w v (suc b) marked few is e lb ln =
     }
 
 -- past the ring no machine is a member
-block_out : (s words : List ℕ) (block y w from : ℕ) → AreMarked s words → block < 32 → IsBlock words block y → 32 * block + from ≡ length s → from ≤ 32 →
+block_out : (s words : List ℕ) (block y w from : ℕ) → AreMarked s words → block < 32 → AreBitsOf words block y → 32 * block + from ≡ length s → from ≤ 32 →
     machines_of (bit_and y w) (32 * block) 32 ≡ machines_of (bit_and y w) (32 * block) from
 block_out s words block y w from marked lb is end l = machines_clear (bit_and y w) (32 * block) from 32 l (λ b low high.
     and_set y w b ∙ ap (λ (p : Bool). p && is_set w b) (is b high ∙ marked_out s words (32 * block + b) marked (omega arith) (omega arith)))
 
+-- ---- the blocks of a drawing
+
+-- a block of which the ring has a machine
+pub block_drawn : (s words : List ℕ) (g : Lcg) (block y w : ℕ) (u v : Lcg) → AreMarked s words → length s ≤ machine_limit → 32 * block < length s →
+    AreBitsOf words block y → ◌≡◌ {A = ℕ × Lcg} (w, v) (pcg32 u) → u ≡ (drawing s g (below_block s block)).words → IsBlock s g block (bit_and y w) v
+block_drawn s words g block y w u v marked few inside is e eu =
+    let here : below_block s block ≡ 32 * block = omega arith in
+    let end : ℕ = below_block s (block + 1) in
+    let size : ℕ = end - 32 * block in
+    let to : end ≡ 32 * block + size = omega arith in
+    let x : ℕ = bit_and y w in
+    let e' : ◌≡◌ {A = ℕ × Lcg} (w, v) (pcg32 (drawing s g (32 * block)).words) =
+    e ∙ ap pcg32 (eu ∙ ap (λ (n : ℕ). (drawing s g n).words) here) in
+    let all = drawn_in_block s words g block y w v size marked few is e' (omega arith) (omega arith) in
+    let whole : machines_of x (32 * block) 32 ≡ machines_of x (32 * block) size = elim (cases_lt size 32) [
+      | inl short ↦ block_out s words block y w size marked (omega arith) is (omega arith) (omega arith)
+      | inr long ↦ (let same : 32 ≡ size = omega arith in ap (machines_of x (32 * block)) same)
+    ] in
+    record {
+      members =
+          ap (λ (n : ℕ). (drawing s g n).members) to ∙ all.members
+          ∙ ap (λ (l : List ℕ). (drawing s g (32 * block)).members ++ l) (sym whole)
+          ∙ ap (λ (n : ℕ). (drawing s g n).members ++ machines_of x (32 * block) 32) (sym here);
+      words = sym (all.words (omega arith)) ∙ ap (λ (n : ℕ). (drawing s g n).words) (sym to);
+    }
+
+-- one past the ring
+pub block_past : (s : List ℕ) (g : Lcg) (block : ℕ) (u : Lcg) → length s ≤ 32 * block → u ≡ (drawing s g (below_block s block)).words → IsBlock s g block 0 u
+block_past s g block u past eu =
+    let same : below_block s (block + 1) ≡ below_block s block = omega arith in
+    let before : List ℕ = (drawing s g (below_block s block)).members in
+    let none : machines_of 0 (32 * block) 32 ≡ [] =
+    machines_clear 0 (32 * block) 0 32 (omega arith) (λ b low high. ap (λ (x : ℕ). x == 1) (bit_at-zero b)) ∙ machines_none 0 (32 * block) in
+    record {
+      members =
+          ap (λ (n : ℕ). (drawing s g n).members) same ∙ sym (append-nil before) ∙ ap (λ (l : List ℕ). before ++ l) (sym none);
+      words = eu ∙ ap (λ (n : ℕ). (drawing s g n).words) (sym same);
+    }
+
 -- ---- the loop of a drawing
 
--- what is drawn of the first blocks
-pub record IsDrawn (s : List ℕ) (g : Lcg) (block count : ℕ) (v : Lcg) (machines : List ℕ) : Type 0 where
-  pub members : take count machines ≡ (drawing s g (min (32 * block) (length s))).members
-  pub words : v ≡ (drawing s g (min (32 * block) (length s))).words
-  pub few : count ≤ 32 * block
+-- what is drawn of the first pairs of blocks
+pub record IsDrawn (s : List ℕ) (g : Lcg) (pair count : ℕ) (v : Lcg) (machines : List ℕ) : Type 0 where
+  pub members : take count machines ≡ (drawing s g (below_block s (2 * pair))).members
+  pub words : v ≡ (drawing s g (below_block s (2 * pair))).words
+  pub few : count ≤ 64 * pair
 
 nothing_drawn : (s : List ℕ) (g : Lcg) → drawing s g 0 ≡ drawing_with [] 0 g
 unfolding drawing
@@ -222,7 +306,7 @@ nothing_drawn s g = refl
 
 pub drawn_none : (s : List ℕ) (g : Lcg) (machines : List ℕ) → IsDrawn s g 0 0 g machines
 drawn_none s g machines =
-    let at : min (32 * 0) (length s) ≡ 0 = omega arith in
+    let at : below_block s (2 * 0) ≡ 0 = omega arith in
     let none = ap (drawing s g) at ∙ nothing_drawn s g in
     record {
       members = sym (ap (λ (d : Drawing). d.members) none);
@@ -230,36 +314,37 @@ drawn_none s g machines =
       few = omega arith;
     }
 
--- one block more
-pub drawn_more : (s words : List ℕ) (g : Lcg) (block count count' y w x : ℕ) (u v : Lcg) (machines machines' : List ℕ) → IsDrawn s g block count u machines →
-    AreMarked s words → length s ≤ machine_limit → 32 * block < length s → IsBlock words block y → ◌≡◌ {A = ℕ × Lcg} (w, v) (pcg32 u) → x ≡ bit_and y w →
-    take count' machines' ≡ take count machines ++ machines_of x (32 * block) 32 → count' ≤ count + 32 →
-    IsDrawn s g (block + 1) count' v machines'
-drawn_more s words g block count count' y w x u v machines machines' drawn marked few inside is e ex em lc =
-    let here : min (32 * block) (length s) ≡ 32 * block = omega arith in
-    let end : ℕ = min (32 * (block + 1)) (length s) in
-    let size : ℕ = end - 32 * block in
-    let to : end ≡ 32 * block + size = omega arith in
+-- one pair more
+pub drawn_more : (s : List ℕ) (g : Lcg) (pair count count' low high x first : ℕ) (u v w : Lcg) (machines machines' : List ℕ) →
+    IsDrawn s g pair count u machines → IsBlock s g (2 * pair) low v → IsBlock s g (2 * pair + 1) high w → low < 2 ^ 32 →
+    x ≡ high * 2 ^ 32 + low → first ≡ 64 * pair → take count' machines' ≡ take count machines ++ machines_of x first 64 → count' ≤ count + 64 →
+    IsDrawn s g (pair + 1) count' w machines'
+drawn_more s g pair count count' low high x first u v w machines machines' drawn one two l ex ef em lc =
     let few' = drawn.few in
-    let e' : ◌≡◌ {A = ℕ × Lcg} (w, v) (pcg32 (drawing s g (32 * block)).words) =
-    e ∙ ap pcg32 (drawn.words ∙ ap (λ (n : ℕ). (drawing s g n).words) here) in
-    let all = drawn_in_block s words g block y w v size marked few is e' (omega arith) (omega arith) in
-    let whole : machines_of (bit_and y w) (32 * block) 32 ≡ machines_of (bit_and y w) (32 * block) size = elim (cases_lt size 32) [
-      | inl short ↦ block_out s words block y w size marked (omega arith) is (omega arith) (omega arith)
-      | inr long ↦ (let same : 32 ≡ size = omega arith in ap (machines_of (bit_and y w) (32 * block)) same)
-    ] in
+    let next : 2 * (pair + 1) ≡ 2 * pair + 1 + 1 = omega arith in
+    let at : 32 * (2 * pair) ≡ 64 * pair = omega arith in
+    let at' : 32 * (2 * pair + 1) ≡ 64 * pair + 32 = omega arith in
+    let before : List ℕ = (drawing s g (below_block s (2 * pair))).members in
+    let lows : List ℕ = machines_of low (64 * pair) 32 in
+    let highs : List ℕ = machines_of high (64 * pair + 32) 32 in
+    let middle : (drawing s g (below_block s (2 * pair + 1))).members ≡ before ++ lows =
+    one.members ∙ ap (λ (n : ℕ). before ++ machines_of low n 32) at in
+    let after : (drawing s g (below_block s (2 * pair + 1 + 1))).members ≡ (before ++ lows) ++ highs =
+    two.members ∙ ap (λ (n : ℕ). (drawing s g (below_block s (2 * pair + 1))).members ++ machines_of high n 32) at'
+    ∙ ap (λ (l : List ℕ). l ++ highs) middle in
     record {
       members =
-          em ∙ ap (λ (l : List ℕ). l ++ machines_of x (32 * block) 32) (drawn.members ∙ ap (λ (n : ℕ). (drawing s g n).members) here)
-          ∙ ap (λ (l : List ℕ). (drawing s g (32 * block)).members ++ l) (ap (λ (n : ℕ). machines_of n (32 * block) 32) ex ∙ whole)
-          ∙ sym all.members ∙ ap (λ (n : ℕ). (drawing s g n).members) (sym to);
-      words = sym (all.words (omega arith)) ∙ ap (λ (n : ℕ). (drawing s g n).words) (sym to);
+          em ∙ ap (λ (l : List ℕ). l ++ machines_of x first 64) drawn.members
+          ∙ ap (λ (n : ℕ). before ++ machines_of n first 64) ex ∙ ap (λ (n : ℕ). before ++ machines_of (high * 2 ^ 32 + low) n 64) ef
+          ∙ ap (λ (l : List ℕ). before ++ l) (joined high low (64 * pair) l)
+          ∙ sym (append_assoc before lows highs) ∙ sym after ∙ ap (λ (n : ℕ). (drawing s g (below_block s n)).members) (sym next);
+      words = two.words ∙ ap (λ (n : ℕ). (drawing s g (below_block s n)).words) (sym next);
       few = omega arith;
     }
 
--- all blocks
-pub drawn_all : (s : List ℕ) (g : Lcg) (block count : ℕ) (v : Lcg) (machines : List ℕ) → IsDrawn s g block count v machines → length s ≤ 32 * block →
+-- all pairs
+pub drawn_all : (s : List ℕ) (g : Lcg) (pair count : ℕ) (v : Lcg) (machines : List ℕ) → IsDrawn s g pair count v machines → length s ≤ 64 * pair →
     (take count machines ≡ (drawn s g).members) × (v ≡ (drawn s g).words)
-drawn_all s g block count v machines is l =
-    let at : min (32 * block) (length s) ≡ length s = omega arith in
+drawn_all s g pair count v machines is l =
+    let at : below_block s (2 * pair) ≡ length s = omega arith in
     (is.members ∙ ap (λ (n : ℕ). (drawing s g n).members) at, is.words ∙ ap (λ (n : ℕ). (drawing s g n).words) at)

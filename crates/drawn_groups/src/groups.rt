@@ -1,7 +1,7 @@
 //! The members of groups, one after the other.
 ghost use Rattle.std.specs.Prelude.{◌≡◌, ◌+◌, ◌*◌, ◌<◌, ◌≤◌, length, slice_index, drop};
 ghost use Rattle.machine_masks.specs.Privileges.{AreMarked};
-ghost use Rattle.drawn_groups.specs.Blocks.{blocks};
+ghost use Rattle.drawn_groups.specs.Blocks.{pairs};
 ghost use Rattle.drawn_groups.specs.Groups.{members_left};
 ghost use Rattle.drawn_groups.specs.Turns.{left_in, IsPlace};
 
@@ -32,7 +32,7 @@ pub(crate) fn next_group(
     machines: &mut [u32],
 ) -> Place
     requires marked { AreMarked ring.now.values privileged.now }
-    requires room { 32 * blocks (length ring.now.values) ≤ length machines.old }
+    requires room { 64 * pairs (length ring.now.values) ≤ length machines.old }
     requires is { IsPlace machines.old place }
     ensures is { IsPlace machines.new result }
     ensures left { left_in machines.new result

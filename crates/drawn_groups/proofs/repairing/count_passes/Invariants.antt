@@ -2,7 +2,7 @@ use Rattle.std.proofs.Common.{◌≡◌, length}
 use Rattle.machine_masks.specs.Privileges.{AreMarked}
 use Rattle.drawn_groups.specs.Turns.{left_in, IsPlace}
 use Rattle.drawn_groups.proofs.Choices.{Repairs}
-use Rattle.drawn_groups.proofs.repairing.repair_in_groups.Given as goal
+use Rattle.drawn_groups.proofs.repairing.count_passes.Given as goal
 
 abbrev pub invariant-loop : goal.invariant-loop
 invariant-loop l = record {
