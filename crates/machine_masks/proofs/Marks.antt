@@ -1,26 +1,22 @@
 -- The privileged machines in a set: how many they are, and which they are after a move.
-use Rattle.std.proofs.Common.{◌≡◌, ◌≢◌, ℕ, suc, ◌+◌, ◌-◌, ◌<◌, ◌≤◌, ◌&&◌, Bool, false, List, length, refl, sym, ◌∙◌, ap, subst, inl, inr, arith}
+use Rattle.std.proofs.Common.{◌≡◌, ◌≢◌, ℕ, suc, ◌+◌, ◌-◌, ◌/◌, ◌%◌, ◌<◌, ◌≤◌, ◌&&◌, Bool, true, false, List, length, set, replicate, slice_index, eqb, cond, refl, sym, ◌∙◌, ap, inl, inr, arith}
 use Rattle.std.specs.Prelude.{nat_lt}
+use Rattle.std.specs.Int.{bit_at}
 use Rattle.std.proofs.lemmas.Bool.{cases_lt, cases_eq, le-leb, lt-leb}
+use Rattle.std.proofs.lemmas.List.{get_or-set_same, get_or-set_other}
+use Rattle.std.proofs.lemmas.Nat.Bits.{bit_at-zero}
 use Rattle.ring_model.specs.Numbers.{bit, count_below}
 use Rattle.ring_model.specs.Limits.{machine_limit}
 use Rattle.ring_model.specs.Ring.{Ring, is_privileged, privileged_count, right_neighbour}
 use Rattle.ring_model.specs.Closure.{IsClosed}
-use Rattle.ring_model.proofs.Below.{sum_same, sum_zero}
+use Rattle.ring_model.proofs.Below.{sum_same, sum_zero, bit_le}
 use Rattle.ring_model.proofs.Moves.{next_is}
-use Rattle.machine_masks.specs.Members.{is_in, members_below, members}
+use Rattle.machine_masks.specs.Members.{is_set, is_in, members_below, members}
 use Rattle.machine_masks.specs.Privileges.{AreMarked}
 use Rattle.machine_masks.proofs.Ones.{count_split}
-use Rattle.machine_masks.proofs.Sets.{members_is}
+use Rattle.machine_masks.proofs.Sets.{members_is, word_at, nobody_in}
 
 -- ---- the set
-
--- of the machines below m just the privileged ones are in the set, and no other
-abbrev pub AreMarkedTo : List ℕ → List ℕ → ℕ → Type 0
-AreMarkedTo s words m = (i : ℕ) → i < machine_limit → is_in words i ≡ (nat_lt i m && is_privileged s i)
-
-pub none_marked : (s words : List ℕ) → ((i : ℕ) → is_in words i ≡ false) → AreMarkedTo s words 0
-none_marked s words none i l = none i ∙ sym (ap (λ (b : Bool). b && is_privileged s i) (lt-leb (suc i) 0 (omega arith)))
 
 same_side : (i m : ℕ) → i ≢ m → nat_lt i m ≡ nat_lt i (m + 1)
 same_side i m ne = elim (cases_lt i m) [
@@ -30,18 +26,6 @@ same_side i m ne = elim (cases_lt i m) [
     | inr same ↦ absurd (ne (omega arith))
   ]
 ]
-
-pub one_marked : (s words more : List ℕ) (m : ℕ) → AreMarkedTo s words m → is_in more m ≡ is_privileged s m →
-    ((i : ℕ) → i < machine_limit → i ≢ m → is_in more i ≡ is_in words i) → AreMarkedTo s more (m + 1)
-one_marked s words more m marked at others = λ i l. elim (cases_eq i m) [
-  | inl same ↦
-      ap (is_in more) same ∙ at ∙ ap (is_privileged s) (sym same)
-      ∙ sym (ap (λ (b : Bool). b && is_privileged s i) (le-leb (suc i) (m + 1) (omega arith)))
-  | inr other ↦ others i l other ∙ marked i l ∙ ap (λ (b : Bool). b && is_privileged s i) (same_side i m other)
-]
-
-pub whole_marked : (s words : List ℕ) (m : ℕ) → AreMarkedTo s words m → m ≡ length s → AreMarked s words
-whole_marked s words m marked e = subst (λ (n : ℕ). AreMarkedTo s words n) e marked
 
 within : (s : List ℕ) (i : ℕ) → i < length s → (nat_lt i (length s) && is_privileged s i) ≡ is_privileged s i
 within s i l = ap (λ (b : Bool). b && is_privileged s i) (le-leb (suc i) (length s) (omega arith))
@@ -78,6 +62,67 @@ all_marked s words m all few is =
 
 pub members_marked : (s words : List ℕ) → AreMarked s words → length s ≤ machine_limit → members words ≡ privileged_count s
 members_marked s words all few = all_marked s words machine_limit all few refl
+
+-- ---- a start
+
+-- the first m machines as the bits of a word, and how many of them are privileged
+pub record AreBits (s : List ℕ) (word count m : ℕ) : Type 0 where
+  pub bits : (b : ℕ) → b < 64 → is_set word b ≡ (nat_lt b m && is_privileged s b)
+  pub counts : count ≡ count_below (is_privileged s) m
+  pub few : count ≤ m
+
+pub no_bits : (s : List ℕ) → AreBits s 0 0 0
+no_bits s = record {
+  bits = λ b l.
+      ap (λ (x : ℕ). eqb x 1) (bit_at-zero b) ∙ sym (ap (λ (p : Bool). p && is_privileged s b) (lt-leb (suc b) 0 (omega arith)));
+  counts = refl;
+  few = omega arith;
+}
+
+pub bits_more : (s : List ℕ) (word more count one m : ℕ) → AreBits s word count m → is_set more m ≡ is_privileged s m →
+    ((b : ℕ) → b < 64 → b ≢ m → is_set more b ≡ is_set word b) → one ≡ bit (is_privileged s m) → AreBits s more (count + one) (m + 1)
+bits_more s word more count one m are at others e =
+    let before = are.counts in
+    let few' = are.few in
+    let one' = bit_le (is_privileged s m) in
+    let next : m + 1 ≡ suc m = omega arith in
+    let counts : count_below (is_privileged s) (m + 1) ≡ count_below (is_privileged s) (suc m) = ap (count_below (is_privileged s)) next in
+    record {
+      bits = λ b l. elim (cases_eq b m) [
+        | inl same ↦
+            ap (is_set more) same ∙ at ∙ ap (is_privileged s) (sym same)
+            ∙ sym (ap (λ (p : Bool). p && is_privileged s b) (le-leb (suc b) (m + 1) (omega arith)))
+        | inr other ↦ others b l other ∙ are.bits b l ∙ ap (λ (p : Bool). p && is_privileged s b) (same_side b m other)
+      ];
+      counts = omega arith;
+      few = omega arith;
+    }
+
+-- of a ring with few machines these are all
+pub few_marked : (s : List ℕ) (word count m : ℕ) → AreBits s word count m → m ≡ length s → length s ≤ 64 → AreMarked s (set (replicate {A = ℕ} 16 0) 0 word)
+few_marked s word count m are e few = λ i l. elim (cases_lt i 64) [
+  | inl first ↦
+      word_at (set (replicate {A = ℕ} 16 0) 0 word) 0 i i first (omega arith)
+      ∙ ap (λ (x : ℕ). is_set x i) (get_or-set_same (replicate {A = ℕ} 16 0) 0 word 0 (let long : length (replicate {A = ℕ} 16 0) ≡ 16 = refl in omega arith))
+      ∙ are.bits i first
+      ∙ ap (λ (x : ℕ). nat_lt i x && is_privileged s i) e
+  | inr over ↦
+      ap (λ (x : ℕ). is_set x (i % 64)) (get_or-set_other (replicate {A = ℕ} 16 0) 0 (i / 64) word 0 (λ q. absurd (omega arith)))
+      ∙ nobody_in 16 i ∙ sym (past s i (omega arith))
+]
+
+pub few_counted : (s : List ℕ) (word count m : ℕ) → AreBits s word count m → m ≡ length s → length s ≤ 64 → count ≡ members (set (replicate {A = ℕ} 16 0) 0 word)
+few_counted s word count m are e few =
+    are.counts ∙ ap (count_below (is_privileged s)) e ∙ sym (members_marked s (set (replicate {A = ℕ} 16 0) 0 word) (few_marked s word count m are e few) (omega arith))
+
+is_one : (b : Bool) → eqb (cond {A = ℕ} b 1 0) 1 ≡ b
+is_one true = refl
+is_one false = refl
+
+-- a mask, which has a bit for each machine, is the set
+pub mask_marked : (s words : List ℕ) → ((i : ℕ) → i < machine_limit → bit_at (slice_index words (i / 64)) (i % 64)
+    ≡ cond {A = ℕ} (nat_lt i (length s) && is_privileged s i) 1 0) → AreMarked s words
+mask_marked s words mask = λ i l. ap (λ (x : ℕ). eqb x 1) (mask i l) ∙ is_one (nat_lt i (length s) && is_privileged s i)
 
 -- ---- a move
 

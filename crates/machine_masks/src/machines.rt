@@ -37,6 +37,15 @@ impl Machines {
         }
     }
 
+    /// The set that has these words, of `count` machines.
+    #[inline]
+    pub(crate) fn of_words(words: [u64; 16], count: u32) -> Machines
+        requires { count ≡ members words }
+        ensures { result ≡ words }
+    {
+        Machines { words, count }
+    }
+
     /// How many machines are in the set.
     #[inline]
     pub fn count(&self) -> u32

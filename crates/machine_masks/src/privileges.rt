@@ -1,21 +1,54 @@
 //! The privileged machines of a ring, from pass to pass.
-ghost use Rattle.std.specs.Prelude.{◌≡◌, ◌+◌, ◌<◌, true, length};
+ghost use Rattle.std.specs.Prelude.{◌≡◌, ◌+◌, ◌<◌, ◌≤◌, true, length};
 ghost use Rattle.ring_model.specs.Ring.{is_privileged, moved};
 ghost use Rattle.machine_masks.specs.Privileges.{AreMarked};
 
+use crate::bits::with_bit;
 use crate::machines::Machines;
 use ring_state::RingState;
+
+// The most machines that one word has bits for.
+const FEW: u32 = 64;
+
+/// The privileged machines of a ring that has few, of which one after the other is asked.
+#[inline]
+fn found_in_turn(ring: &RingState) -> Machines
+    requires { length ring.now.values ≤ 64 }
+    ensures { AreMarked ring.now.values result }
+{
+    let mut word = 0;
+    let mut count = 0;
+    for machine in 0..ring.params().n() {
+        let on = ring.is_privileged(machine);
+        word = with_bit(word, machine, on);
+        count += u32::from(on);
+    }
+    let mut words = [0; 16];
+    words[0] = word;
+    Machines::of_words(words, count)
+}
+
+/// The privileged machines, of which all are asked at once.
+fn found_at_once(ring: &RingState) -> Machines
+    ensures { AreMarked ring.now.values result }
+{
+    ring.params(); // says: it is a ring
+    let mut words = [0; 16];
+    ring.mask(&mut words);
+    Machines::of_words(words, ring.privileged())
+}
 
 /// The privileged machines.
 #[inline]
 pub fn privileged_machines(ring: &RingState) -> Machines
     ensures { AreMarked ring.now.values result }
 {
-    let mut privileged = Machines::new();
-    for machine in 0..ring.params().n() {
-        privileged.set(machine, ring.is_privileged(machine));
+    // To ask all at once takes as long for few as for many.
+    if ring.params().n() <= FEW {
+        found_in_turn(ring)
+    } else {
+        found_at_once(ring)
     }
-    privileged
 }
 
 /// The machine to the right of one of `n` machines.
