@@ -126,9 +126,10 @@ fn whose_turn(asked: u64, n: u32) -> u32
     }
 }
 
-/// The first privileged machine that is met from the one whose turn it is.
-#[inline]
-fn machine_in_turn(asked: &mut u64, ring: &RingState, privileged: &Machines) -> u32
+/// The first privileged machine that is met from the one whose turn it is, in whichever round.
+// Apart from its caller, so that the steps of a round have the processor's registers for themselves.
+#[inline(never)]
+fn machine_past_round(asked: &mut u64, ring: &RingState, privileged: &Machines) -> u32
     requires asked { asked.old + 2 ^ 16 < 2 ^ 64 }
     requires marked { AreMarked ring.now.values privileged.now }
     ensures machine { result
@@ -143,6 +144,48 @@ fn machine_in_turn(asked: &mut u64, ring: &RingState, privileged: &Machines) -> 
     let machine = next_privileged(ring, privileged, from);
     *asked += asked_until(n, from, machine) as u64;
     machine
+}
+
+/// The same in the first round, in which as many machines were asked as are below the one whose turn it is.
+#[inline]
+fn machine_in_round(asked: &mut u64, ring: &RingState, privileged: &Machines) -> u32
+    requires round { asked.old < length ring.now.values }
+    requires marked { AreMarked ring.now.values privileged.now }
+    ensures machine { result
+        ≡ next_privileged ring.now.values (asked.old % length ring.now.values) }
+    ensures asked { asked.new ≡ asked.old + asked_until (length ring.now.values)
+        (asked.old % length ring.now.values)
+        (next_privileged ring.now.values (asked.old % length ring.now.values)) }
+    ensures most { asked.new ≤ asked.old + length ring.now.values }
+{
+    let n = ring.params().n();
+    let machine = privileged.first_from(*asked as u32, n);
+    if machine < n {
+        *asked = machine as u64 + 1;
+        machine
+    } else {
+        machine_past_round(asked, ring, privileged)
+    }
+}
+
+/// The first privileged machine that is met from the one whose turn it is.
+#[inline]
+fn machine_in_turn(asked: &mut u64, ring: &RingState, privileged: &Machines) -> u32
+    requires asked { asked.old + 2 ^ 16 < 2 ^ 64 }
+    requires marked { AreMarked ring.now.values privileged.now }
+    ensures machine { result
+        ≡ next_privileged ring.now.values (asked.old % length ring.now.values) }
+    ensures asked { asked.new ≡ asked.old + asked_until (length ring.now.values)
+        (asked.old % length ring.now.values)
+        (next_privileged ring.now.values (asked.old % length ring.now.values)) }
+    ensures most { asked.new ≤ asked.old + length ring.now.values }
+{
+    // One round is enough where each starts with machine 0.
+    if *asked < ring.params().n() as u64 {
+        machine_in_round(asked, ring, privileged)
+    } else {
+        machine_past_round(asked, ring, privileged)
+    }
 }
 
 /// The rest after the move of a machine. The ring is as it was then.
@@ -165,9 +208,10 @@ fn slowest(ring: &mut RingState) -> u32
     ensures same { ring.new ≡ ring.old }
 {
     let n = ring.params().n();
-    let mut slowest = ring.first();
-    let mut most = rest_after(ring, slowest);
-    for machine in 0..n {
+    let first = ring.first();
+    let mut slowest = first;
+    let mut most = rest_after(ring, first);
+    for machine in first + 1..n {
         if ring.is_privileged(machine) {
             let left = rest_after(ring, machine);
             if most < left {
