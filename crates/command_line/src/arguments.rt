@@ -1,6 +1,7 @@
-//! The arguments of a command as data, and what makes `clap`'s command of them.
+//! Commands and their arguments as data, and what makes `clap`'s commands of them.
 
 use clap::builder::{ValueParser, ValueRange};
+use clap::error::ErrorKind;
 use clap::{Arg, ArgAction, Command, Error, value_parser};
 use std::alloc::Global;
 
@@ -59,6 +60,18 @@ pub(crate) struct Argument {
     pub(crate) presence: Presence,
     /// Its line in help.
     pub(crate) help: &'static str,
+}
+
+/// A command, as a small value: what `clap` makes of it is large, so few functions move that.
+#[derive(Clone, Copy)]
+pub(crate) struct CommandText {
+    pub(crate) name: &'static str,
+    /// The first line of its help.
+    pub(crate) about: &'static str,
+    /// What its help has after the arguments.
+    pub(crate) after_help: &'static str,
+    /// Its arguments, in the order of its help.
+    pub(crate) arguments: &'static [Argument],
 }
 
 /// What `clap` does with a use of the argument.
@@ -126,19 +139,32 @@ fn arg_of<'a>(alloc: Global, argument: &Argument) -> Result<Arg<'a>, Error> {
     }
 }
 
-/// The command of this name. Its help has `about`, then the arguments in their order, then `after_help`.
-pub(crate) fn command_of<'a>(
-    alloc: Global,
-    name: &'static str,
-    about: &'static str,
-    after_help: &'static str,
-    arguments: &[Argument],
-) -> Result<Command<'a>, Error> {
-    let mut command = Command::new(alloc, name)
-        .about(about)
-        .after_help(after_help);
+/// The arguments as `clap` has them.
+fn args_of<'a>(alloc: Global, arguments: &[Argument]) -> Result<Vec<Arg<'a>>, Error> {
+    let mut args = Vec::new(alloc);
     for argument in arguments {
-        command = command.arg(arg_of(alloc, argument)?)?;
+        args.push(arg_of(alloc, argument)?)?;
     }
+    Ok(args)
+}
+
+/// The command as `clap` has it.
+pub(crate) fn command_of<'a>(alloc: Global, text: CommandText) -> Result<Command<'a>, Error> {
+    let args = args_of(alloc, text.arguments)?;
+    let command = Command::new(alloc, text.name)
+        .about(text.about)
+        .after_help(text.after_help)
+        .args(args)?;
     Ok(command)
+}
+
+/// The error of a command for a word that it refuses, with this text. `called` is how its usage begins.
+pub(crate) fn wrong_word(
+    alloc: Global,
+    text: CommandText,
+    called: &str,
+    message: &str,
+) -> Result<Error, Error> {
+    let mut command = command_of(alloc, text)?.bin_name(called)?;
+    Ok(command.error(ErrorKind::ValueValidation, message)?)
 }

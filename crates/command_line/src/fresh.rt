@@ -1,8 +1,7 @@
 //! The words of `new`.
 
-use crate::arguments::{Argument, Presence, Takes, command_of};
-use clap::error::ErrorKind;
-use clap::{ArgMatches, Command, Error};
+use crate::arguments::{Argument, CommandText, Presence, Takes, wrong_word};
+use clap::{ArgMatches, Error};
 use std::alloc::Global;
 use tool_parts::requests::{NewWords, Request, RingSize};
 use tool_requests::{DrawnWords, Wanted};
@@ -52,8 +51,13 @@ static NEW_ARGUMENTS: [Argument; 2] = [
 ];
 
 /// The command `new`.
-pub(crate) fn new_command<'a>(alloc: Global) -> Result<Command<'a>, Error> {
-    command_of(alloc, "new", ABOUT, HELP, &NEW_ARGUMENTS)
+pub(crate) fn new_command() -> CommandText {
+    CommandText {
+        name: "new",
+        about: ABOUT,
+        after_help: HELP,
+        arguments: &NEW_ARGUMENTS,
+    }
 }
 
 /// The number that a text spells without sign and leading zeros, below 2 to the power 32.
@@ -75,11 +79,10 @@ fn read_size(word: &str) -> Option<RingSize> {
 
 /// The error for a word that spells no size.
 fn no_size(alloc: Global, word: &str) -> Result<Error, Error> {
-    let mut command = new_command(alloc)?.bin_name("ring_tool new")?;
     let text = format!(in alloc;
         "invalid value '{word}' for '<N:K>...': two decimals with a colon between are wanted"
     )?;
-    Ok(command.error(ErrorKind::ValueValidation, text.as_str())?)
+    wrong_word(alloc, new_command(), "ring_tool new", text.as_str())
 }
 
 /// `new` for these rings: with drawn values, if a seed is given.

@@ -1,8 +1,7 @@
 //! The words of `holds`.
 
-use crate::arguments::{Argument, Presence, Takes, command_of};
-use clap::{ArgMatches, Command, Error};
-use std::alloc::Global;
+use crate::arguments::{Argument, CommandText, Presence, Takes};
+use clap::ArgMatches;
 use tool_parts::requests::{HoldsWords, Request};
 
 const ABOUT: &str = "Lists who held which lock, from the history of the locks";
@@ -65,8 +64,13 @@ static HOLDS_ARGUMENTS: [Argument; 4] = [
 ];
 
 /// The command `holds`.
-pub(crate) fn holds_command<'a>(alloc: Global) -> Result<Command<'a>, Error> {
-    command_of(alloc, "holds", ABOUT, HELP, &HOLDS_ARGUMENTS)
+pub(crate) fn holds_command() -> CommandText {
+    CommandText {
+        name: "holds",
+        about: ABOUT,
+        after_help: HELP,
+        arguments: &HOLDS_ARGUMENTS,
+    }
 }
 
 /// `holds`, where its file is there.

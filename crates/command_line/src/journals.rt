@@ -1,8 +1,7 @@
 //! The words of the commands on journals.
 
-use crate::arguments::{Argument, Presence, Takes, command_of};
-use clap::{ArgMatches, Command, Error};
-use std::alloc::Global;
+use crate::arguments::{Argument, CommandText, Presence, Takes};
+use clap::ArgMatches;
 use tool_parts::requests::{JoinWords, RecoverWords, Request, ServeWords};
 
 /// How many lines a segment has if none are given.
@@ -180,8 +179,13 @@ static SERVE_ARGUMENTS: [Argument; 8] = [
 ];
 
 /// The command `serve`.
-pub(crate) fn serve_command<'a>(alloc: Global) -> Result<Command<'a>, Error> {
-    command_of(alloc, "serve", SERVE_ABOUT, SERVE_HELP, &SERVE_ARGUMENTS)
+pub(crate) fn serve_command() -> CommandText {
+    CommandText {
+        name: "serve",
+        about: SERVE_ABOUT,
+        after_help: SERVE_HELP,
+        arguments: &SERVE_ARGUMENTS,
+    }
 }
 
 /// The file for a history that is made.
@@ -216,14 +220,13 @@ static RECOVER_ARGUMENTS: [Argument; 3] = [
 ];
 
 /// The command `recover`.
-pub(crate) fn recover_command<'a>(alloc: Global) -> Result<Command<'a>, Error> {
-    command_of(
-        alloc,
-        "recover",
-        RECOVER_ABOUT,
-        RECOVER_HELP,
-        &RECOVER_ARGUMENTS,
-    )
+pub(crate) fn recover_command() -> CommandText {
+    CommandText {
+        name: "recover",
+        about: RECOVER_ABOUT,
+        after_help: RECOVER_HELP,
+        arguments: &RECOVER_ARGUMENTS,
+    }
 }
 
 /// The arguments of `join`.
@@ -240,8 +243,13 @@ static JOIN_ARGUMENTS: [Argument; 2] = [
 ];
 
 /// The command `join`.
-pub(crate) fn join_command<'a>(alloc: Global) -> Result<Command<'a>, Error> {
-    command_of(alloc, "join", JOIN_ABOUT, JOIN_HELP, &JOIN_ARGUMENTS)
+pub(crate) fn join_command() -> CommandText {
+    CommandText {
+        name: "join",
+        about: JOIN_ABOUT,
+        after_help: JOIN_HELP,
+        arguments: &JOIN_ARGUMENTS,
+    }
 }
 
 /// `recover`, where both its words are there.

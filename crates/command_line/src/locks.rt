@@ -1,9 +1,8 @@
 //! The words of the command on locks.
 
-use crate::arguments::{Argument, Presence, Takes, command_of};
+use crate::arguments::{Argument, CommandText, Presence, Takes};
 use crate::journals::{FAULTS, LINES, NO_SYNC, SEGMENT, STRICT, SYNC};
-use clap::{ArgMatches, Command, Error};
-use std::alloc::Global;
+use clap::ArgMatches;
 use tool_parts::requests::{LocksWords, Request};
 
 /// How many names of a pool are held at once at most, if it is not said.
@@ -105,8 +104,13 @@ static LOCKS_ARGUMENTS: [Argument; 9] = [
 ];
 
 /// The command `locks`.
-pub(crate) fn locks_command<'a>(alloc: Global) -> Result<Command<'a>, Error> {
-    command_of(alloc, "locks", LOCKS_ABOUT, LOCKS_HELP, &LOCKS_ARGUMENTS)
+pub(crate) fn locks_command() -> CommandText {
+    CommandText {
+        name: "locks",
+        about: LOCKS_ABOUT,
+        after_help: LOCKS_HELP,
+        arguments: &LOCKS_ARGUMENTS,
+    }
 }
 
 /// `locks`, where the folder is there.

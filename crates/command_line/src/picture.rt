@@ -1,9 +1,8 @@
 //! The words of `picture`.
 
-use crate::arguments::{Argument, Presence, Takes, command_of};
+use crate::arguments::{Argument, CommandText, Presence, Takes};
 use crate::words::{SAVED_HISTORY, Words};
-use clap::{ArgMatches, Command, Error};
-use std::alloc::Global;
+use clap::ArgMatches;
 use tool_parts::requests::{PictureWords, Request};
 use tool_requests::Wanted;
 
@@ -77,8 +76,13 @@ static PICTURE_ARGUMENTS: [Argument; 6] = [
 ];
 
 /// The command `picture`.
-pub(crate) fn picture_command<'a>(alloc: Global) -> Result<Command<'a>, Error> {
-    command_of(alloc, "picture", ABOUT, HELP, &PICTURE_ARGUMENTS)
+pub(crate) fn picture_command() -> CommandText {
+    CommandText {
+        name: "picture",
+        about: ABOUT,
+        after_help: HELP,
+        arguments: &PICTURE_ARGUMENTS,
+    }
 }
 
 /// `picture`, where its files are there.

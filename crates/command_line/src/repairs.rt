@@ -1,15 +1,17 @@
 //! The words of `repairs`.
 
-use crate::arguments::{Argument, Presence, Takes, command_of};
+use crate::arguments::{Argument, CommandText, Presence, Takes, wrong_word};
 use crate::fresh::read_number;
 use crate::sizes::sizes_of;
 use crate::words::Words;
-use clap::error::ErrorKind;
-use clap::{ArgMatches, Command, Error};
+use clap::{ArgMatches, Error};
 use repair_report::Lines;
 use repair_requests::{Made, RepairsWords};
 use ring_repairs::{Daemon, Start};
 use std::alloc::Global;
+
+/// How the usage of `repairs` begins.
+const CALLED: &str = "ring_tool repairs";
 
 const ABOUT: &str = "Repairs many rings, and counts how many passes each repair takes";
 
@@ -123,8 +125,13 @@ static REPAIRS_ARGUMENTS: [Argument; 10] = [
 ];
 
 /// The command `repairs`.
-pub(crate) fn repairs_command<'a>(alloc: Global) -> Result<Command<'a>, Error> {
-    command_of(alloc, "repairs", ABOUT, HELP, &REPAIRS_ARGUMENTS)
+pub(crate) fn repairs_command() -> CommandText {
+    CommandText {
+        name: "repairs",
+        about: ABOUT,
+        after_help: HELP,
+        arguments: &REPAIRS_ARGUMENTS,
+    }
 }
 
 /// Where a trial starts, by its word.
@@ -176,9 +183,8 @@ fn made_of<'a>(words: &ArgMatches<'a>) -> Made<'a> {
 
 /// The error for a word that spells no value of this argument.
 fn no_value(alloc: Global, word: &str, argument: &str, wanted: &str) -> Result<Error, Error> {
-    let mut command = repairs_command(alloc)?.bin_name("ring_tool repairs")?;
     let text = format!(in alloc; "invalid value '{word}' for '{argument}': {wanted}")?;
-    Ok(command.error(ErrorKind::ValueValidation, text.as_str())?)
+    wrong_word(alloc, repairs_command(), CALLED, text.as_str())
 }
 
 /// `repairs`, if a size is there.
@@ -190,8 +196,7 @@ pub(crate) fn repairs_words<'a>(
     alloc: Global,
     words: &ArgMatches<'a>,
 ) -> Result<Option<Words<'a>>, Error> {
-    let command = repairs_command(alloc)?.bin_name("ring_tool repairs")?;
-    let Some(sizes) = sizes_of(alloc, command, words)? else {
+    let Some(sizes) = sizes_of(alloc, repairs_command(), CALLED, words)? else {
         return Ok(None);
     };
     let from = words.get_str("from").unwrap_or("any");

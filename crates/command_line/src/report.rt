@@ -1,9 +1,8 @@
 //! The words of `report`.
 
-use crate::arguments::{Argument, Presence, Takes, command_of};
+use crate::arguments::{Argument, CommandText, Presence, Takes};
 use crate::words::SAVED_HISTORY;
-use clap::{ArgMatches, Command, Error};
-use std::alloc::Global;
+use clap::ArgMatches;
 use tool_parts::requests::{ReportWords, Request};
 use tool_requests::Wanted;
 
@@ -47,8 +46,13 @@ static REPORT_ARGUMENTS: [Argument; 2] = [
 ];
 
 /// The command `report`.
-pub(crate) fn report_command<'a>(alloc: Global) -> Result<Command<'a>, Error> {
-    command_of(alloc, "report", ABOUT, HELP, &REPORT_ARGUMENTS)
+pub(crate) fn report_command() -> CommandText {
+    CommandText {
+        name: "report",
+        about: ABOUT,
+        after_help: HELP,
+        arguments: &REPORT_ARGUMENTS,
+    }
 }
 
 /// `report`, where its word is there.

@@ -1,8 +1,8 @@
 //! The words of `settings`.
 
-use crate::arguments::{Argument, Presence, Takes, command_of};
+use crate::arguments::{Argument, CommandText, Presence, Takes};
 use crate::sizes::sizes_of;
-use clap::{ArgMatches, Command, Error};
+use clap::{ArgMatches, Error};
 use std::alloc::Global;
 use tool_parts::requests::RingSize;
 use tool_requests::{SettingsWords, Wanted};
@@ -75,8 +75,13 @@ static SETTINGS_ARGUMENTS: [Argument; 6] = [
 ];
 
 /// The command `settings`.
-pub(crate) fn settings_command<'a>(alloc: Global) -> Result<Command<'a>, Error> {
-    command_of(alloc, "settings", ABOUT, HELP, &SETTINGS_ARGUMENTS)
+pub(crate) fn settings_command() -> CommandText {
+    CommandText {
+        name: "settings",
+        about: ABOUT,
+        after_help: HELP,
+        arguments: &SETTINGS_ARGUMENTS,
+    }
 }
 
 /// `settings`, where its numbers are there.
@@ -100,8 +105,7 @@ pub(crate) fn settings_words<'a>(
     alloc: Global,
     words: &ArgMatches<'a>,
 ) -> Result<Option<Wanted<'a>>, Error> {
-    let command = settings_command(alloc)?.bin_name("ring_tool settings")?;
-    match sizes_of(alloc, command, words)? {
+    match sizes_of(alloc, settings_command(), "ring_tool settings", words)? {
         None => Ok(None),
         Some(rings) => match settings_of(words, rings) {
             None => Ok(None),

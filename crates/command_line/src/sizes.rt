@@ -1,8 +1,8 @@
 //! Sizes of rings, as `repairs` and `settings` take them.
 
+use crate::arguments::{CommandText, wrong_word};
 use crate::fresh::read_number;
-use clap::error::ErrorKind;
-use clap::{ArgMatches, Command, Error};
+use clap::{ArgMatches, Error};
 use std::alloc::Global;
 use tool_parts::requests::RingSize;
 
@@ -19,21 +19,22 @@ fn read_size(word: &str) -> Option<RingSize> {
 }
 
 /// The error of a command for a word that spells no size.
-fn no_size(alloc: Global, mut command: Command<'_>, word: &str) -> Result<Error, Error> {
+fn no_size(alloc: Global, command: CommandText, called: &str, word: &str) -> Result<Error, Error> {
     let text = format!(in alloc;
         "invalid value '{word}' for '<N[:K]>...': a decimal, or two with a colon between, are wanted"
     )?;
-    Ok(command.error(ErrorKind::ValueValidation, text.as_str())?)
+    wrong_word(alloc, command, called, text.as_str())
 }
 
-/// The sizes that are given to a command, if a word is there.
+/// The sizes that are given to a command, if a word is there. `called` is how its usage begins.
 ///
 /// # Errors
 ///
 /// The first word that spells no size, or out of memory.
 pub(crate) fn sizes_of(
     alloc: Global,
-    command: Command<'_>,
+    command: CommandText,
+    called: &str,
     words: &ArgMatches<'_>,
 ) -> Result<Option<Vec<RingSize>>, Error> {
     let Some(given) = words.get_strs("RINGS") else {
@@ -42,7 +43,7 @@ pub(crate) fn sizes_of(
     let mut sizes = Vec::new(alloc);
     for word in given {
         let Some(size) = read_size(word) else {
-            return Err(no_size(alloc, command, word)?);
+            return Err(no_size(alloc, command, called, word)?);
         };
         sizes.push(size)?;
     }

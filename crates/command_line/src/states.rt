@@ -1,9 +1,8 @@
 //! The words of `states`.
 
-use crate::arguments::{Argument, Presence, Takes, command_of};
+use crate::arguments::{Argument, CommandText, Presence, Takes};
 use crate::words::SAVED_HISTORY;
-use clap::{ArgMatches, Command, Error};
-use std::alloc::Global;
+use clap::ArgMatches;
 use tool_requests::{StatesWords, Wanted};
 
 const ABOUT: &str = "Prints the state of each ring of a saved history after each event";
@@ -61,8 +60,13 @@ static STATES_ARGUMENTS: [Argument; 4] = [
 ];
 
 /// The command `states`.
-pub(crate) fn states_command<'a>(alloc: Global) -> Result<Command<'a>, Error> {
-    command_of(alloc, "states", ABOUT, HELP, &STATES_ARGUMENTS)
+pub(crate) fn states_command() -> CommandText {
+    CommandText {
+        name: "states",
+        about: ABOUT,
+        after_help: HELP,
+        arguments: &STATES_ARGUMENTS,
+    }
 }
 
 /// `states`, where its file is there.

@@ -1,6 +1,6 @@
 //! The program's command line, as `clap` reads it.
 
-use crate::arguments::{Argument, Presence, Takes, command_of};
+use crate::arguments::{Argument, CommandText, Presence, Takes, command_of};
 use crate::fresh::{new_command, new_words};
 use crate::holds::{holds_command, holds_words};
 use crate::journals::{
@@ -236,8 +236,13 @@ static STEP_ARGUMENTS: [Argument; 5] = [
 ];
 
 /// The command `step`.
-fn step_command<'a>(alloc: Global) -> Result<Command<'a>, Error> {
-    command_of(alloc, "step", STEP_ABOUT, STEP_HELP, &STEP_ARGUMENTS)
+fn step_command() -> CommandText {
+    CommandText {
+        name: "step",
+        about: STEP_ABOUT,
+        after_help: STEP_HELP,
+        arguments: &STEP_ARGUMENTS,
+    }
 }
 
 /// The arguments of `run`.
@@ -285,8 +290,13 @@ static RUN_ARGUMENTS: [Argument; 5] = [
 ];
 
 /// The command `run`.
-fn run_command<'a>(alloc: Global) -> Result<Command<'a>, Error> {
-    command_of(alloc, "run", RUN_ABOUT, RUN_HELP, &RUN_ARGUMENTS)
+fn run_command() -> CommandText {
+    CommandText {
+        name: "run",
+        about: RUN_ABOUT,
+        after_help: RUN_HELP,
+        arguments: &RUN_ARGUMENTS,
+    }
 }
 
 /// The arguments of `check`.
@@ -303,8 +313,13 @@ static CHECK_ARGUMENTS: [Argument; 2] = [
 ];
 
 /// The command `check`.
-fn check_command<'a>(alloc: Global) -> Result<Command<'a>, Error> {
-    command_of(alloc, "check", CHECK_ABOUT, CHECK_HELP, &CHECK_ARGUMENTS)
+fn check_command() -> CommandText {
+    CommandText {
+        name: "check",
+        about: CHECK_ABOUT,
+        after_help: CHECK_HELP,
+        arguments: &CHECK_ARGUMENTS,
+    }
 }
 
 /// The arguments of `upgrade`.
@@ -328,55 +343,56 @@ static UPGRADE_ARGUMENTS: [Argument; 2] = [
 ];
 
 /// The command `upgrade`.
-fn upgrade_command<'a>(alloc: Global) -> Result<Command<'a>, Error> {
-    command_of(
-        alloc,
-        "upgrade",
-        UPGRADE_ABOUT,
-        UPGRADE_HELP,
-        &UPGRADE_ARGUMENTS,
-    )
-}
-
-/// The command of this name.
-fn command_named<'a>(alloc: Global, name: CommandName) -> Result<Command<'a>, Error> {
-    match name {
-        CommandName::Step => step_command(alloc),
-        CommandName::Run => run_command(alloc),
-        CommandName::Check => check_command(alloc),
-        CommandName::Report => report_command(alloc),
-        CommandName::States => states_command(alloc),
-        CommandName::Picture => picture_command(alloc),
-        CommandName::Upgrade => upgrade_command(alloc),
-        CommandName::New => new_command(alloc),
-        CommandName::Settings => settings_command(alloc),
-        CommandName::Repairs => repairs_command(alloc),
-        CommandName::Serve => serve_command(alloc),
-        CommandName::Locks => locks_command(alloc),
-        CommandName::Holds => holds_command(alloc),
-        CommandName::Recover => recover_command(alloc),
-        CommandName::Join => join_command(alloc),
+fn upgrade_command() -> CommandText {
+    CommandText {
+        name: "upgrade",
+        about: UPGRADE_ABOUT,
+        after_help: UPGRADE_HELP,
+        arguments: &UPGRADE_ARGUMENTS,
     }
 }
 
-/// The program, with no command yet.
-fn program_line<'a>(alloc: Global) -> Result<Command<'a>, Error> {
+/// The command of this name.
+fn command_named(name: CommandName) -> CommandText {
+    match name {
+        CommandName::Step => step_command(),
+        CommandName::Run => run_command(),
+        CommandName::Check => check_command(),
+        CommandName::Report => report_command(),
+        CommandName::States => states_command(),
+        CommandName::Picture => picture_command(),
+        CommandName::Upgrade => upgrade_command(),
+        CommandName::New => new_command(),
+        CommandName::Settings => settings_command(),
+        CommandName::Repairs => repairs_command(),
+        CommandName::Serve => serve_command(),
+        CommandName::Locks => locks_command(),
+        CommandName::Holds => holds_command(),
+        CommandName::Recover => recover_command(),
+        CommandName::Join => join_command(),
+    }
+}
+
+/// All commands as `clap` has them, in the order in which help lists them.
+fn commands_of<'a>(alloc: Global) -> Result<Vec<Command<'a>>, Error> {
+    let mut commands = Vec::new(alloc);
+    for name in &COMMANDS {
+        commands.push(command_of(alloc, command_named(*name))?)?;
+    }
+    Ok(commands)
+}
+
+/// All that the program understands.
+fn command_line<'a>(alloc: Global) -> Result<Command<'a>, Error> {
+    let commands = commands_of(alloc)?;
     let program = Command::new(alloc, "ring_tool")
         .about(ABOUT)
         .version(VERSION)
         .after_help(STATUSES)
         .no_binary_name(true)
-        .subcommand_required(true);
-    Ok(program.bin_name("ring_tool")?)
-}
-
-/// All that the program understands.
-fn command_line<'a>(alloc: Global) -> Result<Command<'a>, Error> {
-    let mut program = program_line(alloc)?;
-    for name in &COMMANDS {
-        program = program.subcommand(command_named(alloc, *name)?)?;
-    }
-    Ok(program)
+        .subcommand_required(true)
+        .bin_name("ring_tool")?;
+    Ok(program.subcommands(commands)?)
 }
 
 /// `step`, where all its words are there.
@@ -480,6 +496,17 @@ fn words_of<'a>(alloc: Global, matches: &ArgMatches<'a>) -> Result<Option<Words<
     }
 }
 
+/// The words, matched.
+fn matches_of<'a>(alloc: Global, words: &'a [String]) -> Result<ArgMatches<'a>, Error> {
+    command_line(alloc)?.try_get_matches_from(words)
+}
+
+/// The error for words without a command.
+fn no_command(alloc: Global) -> Result<Error, Error> {
+    let mut program = command_line(alloc)?;
+    Ok(program.error(ErrorKind::MissingSubcommand, "a command is required")?)
+}
+
 /// Returns what the words ask for. The program's name is not among them.
 ///
 /// # Errors
@@ -487,11 +514,10 @@ fn words_of<'a>(alloc: Global, matches: &ArgMatches<'a>) -> Result<Option<Words<
 /// The answer of `clap`: a text with the mistake, or with the help that was asked for, or a word
 /// that there was no memory.
 pub fn read_words<'a>(alloc: Global, words: &'a [String]) -> Result<Words<'a>, Error> {
-    let mut command = command_line(alloc)?;
-    let matches = command.try_get_matches_from_mut(words)?;
-    if let Some(asked) = words_of(alloc, &matches)? {
-        return Ok(asked);
+    let matches = matches_of(alloc, words)?;
+    match words_of(alloc, &matches)? {
+        Some(asked) => Ok(asked),
+        // No words lead here, since `clap` asks for a command and for its words.
+        None => Err(no_command(alloc)?),
     }
-    // No words lead here, since `clap` asks for a command and for its words.
-    Err(command.error(ErrorKind::MissingSubcommand, "a command is required")?)
 }
