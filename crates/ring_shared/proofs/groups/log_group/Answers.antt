@@ -15,6 +15,19 @@ returns-in-Err-clause-refused g c =
       unchanged = search rules;
     }
 
+pub returns-clause-refused : goal.returns-clause-refused
+returns-clause-refused g c =
+    let e = c.in-Ok.ensures in
+    record {
+      whole = λ q. inl (e.whole.1 q);
+      whole_only = λ q. e.whole.0 q;
+      unprivileged = λ m ne without. inl ((e.unprivileged m).1 (ne, without));
+      unprivileged_only = λ m q. (e.unprivileged m).0 q;
+      full = λ can past. inl (e.full.1 (can, past));
+      full_only = λ q. e.full.0 q;
+      unchanged = search rules;
+    }
+
 pub log_events-requires-clause-room : goal.log_events-requires-clause-room
 log_events-requires-clause-room g c =
     let n = group_receipts g.R.Resource.works c.args.book.now c.pass_group.new.self c.number-number.result c.args.order c.args.machines.now c.in-Ok.receipt c.in-Ok.ensures.ok in

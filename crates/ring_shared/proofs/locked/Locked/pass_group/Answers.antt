@@ -1,10 +1,64 @@
-use Rattle.std.proofs.Common.{List, ◌++◌, subst, ap, ◌∙◌, sym, drop, arith}
+use Rattle.std.proofs.Common.{rules, ◌≡◌, ℕ, ◌+◌, List, ◌++◌, length, length-append, subst, ap, ◌∙◌, sym, drop, arith}
 use mathlib.Core.List.{IsPrefix}
+use Rattle.ring_model.specs.Groups.{IsWhole}
+use Rattle.ring_model.specs.History.{Works, opening, IsLegal}
+use Rattle.ring_model.specs.Ring.{Ring}
 use Rattle.ring_model.specs.declared.events.Event.{Event}
+use Rattle.ring_book.specs.BookView.{BookView}
 use Rattle.ring_shared.specs.Client.{Client}
+use Rattle.ring_shared.specs.Holding.{IsHeld}
 use Rattle.ring_logs.specs.Seats.{receipts_from, AreOfSeats}
-use Rattle.ring_shared.proofs.GroupLogs.{group_receipts, group_held, group_grown, group_longer, group_logged, held_size}
+use Rattle.ring_shared.proofs.GroupLogs.{group_count, group_receipts, group_held, group_grown, group_longer, group_logged, held_size}
 use Rattle.ring_shared.proofs.locked.Locked.pass_group.Goals as goal
+
+pub returns-in_default-clause-size : goal.returns-in_default-clause-size
+returns-in_default-clause-size g c = rw (← c.self.view_is) (held_size g.R.Resource.works g.R.Resource.first g.N.Name.start g.N.Name.seats g.N.Name.legal c.self.inside.book c.self.invariant.0)
+
+pub returns-in_err-receipt-clause-size : goal.returns-in_err-receipt-clause-size
+returns-in_err-receipt-clause-size g c = rw (← c.self.view_is) (held_size g.R.Resource.works g.R.Resource.first g.N.Name.start g.N.Name.seats g.N.Name.legal c.self.inside.book c.self.invariant.0)
+
+pub returns-clause-size : goal.returns-clause-size
+returns-clause-size g c = rw (← c.self.view_is) (held_size g.R.Resource.works g.R.Resource.first g.N.Name.start g.N.Name.seats g.N.Name.legal c.self.inside.book c.self.invariant.0)
+
+pub log_group-requires-clause-rising : goal.log_group-requires-clause-rising
+log_group-requires-clause-rising g c = rw (held_size g.R.Resource.works g.R.Resource.first g.N.Name.start g.N.Name.seats g.N.Name.legal c.self.inside.book c.self.invariant.0) c.requires.rising
+
+-- the history of a book that is held is legal
+held_legal : {C : Type 0} (w : Works C) (first : C) (start : Ring) (seats : ℕ) (legal : List Event → Type 0) (b : BookView C) → IsHeld w first start seats legal b → legal b.history
+held_legal w first start seats legal b k =
+    (k.means_legal b.history).1 (subst (λ (s : Ring). IsLegal w (opening s first) b.history × IsWhole (length s.values) b.history) k.begins (k.book.legal, k.book.whole))
+
+pub surely_add_all-requires-clause-legal : goal.surely_add_all-requires-clause-legal
+surely_add_all-requires-clause-legal g c =
+    let ok = c.in_ok-receipt.ensures.ok in
+    let held = group_held g.R.Resource.works g.R.Resource.first g.N.Name.start g.N.Name.seats g.N.Name.legal c.self.inside.book c.log_group.new.book c.args.seat.now.number c.args.order c.args.machines.now
+    c.self.invariant.0 c.in_ok-receipt.ensures.book c.in_ok-receipt.ensures.within ok.moved in
+    let grown = group_grown g.R.Resource.works c.self.inside.book c.log_group.new.book c.args.seat.now.number c.args.order c.args.machines.now c.in_ok-receipt.receipt c.self.inside.front c.history.result.now
+    ok c.self.invariant.1 c.history.ensures.is in
+    subst g.N.Name.legal grown (held_legal g.R.Resource.works g.R.Resource.first g.N.Name.start g.N.Name.seats g.N.Name.legal c.log_group.new.book held)
+
+pub surely_add_all-requires-clause-room : goal.surely_add_all-requires-clause-room
+surely_add_all-requires-clause-room g c =
+    let ok = c.in_ok-receipt.ensures.ok in
+    let n = group_receipts g.R.Resource.works c.self.inside.book c.log_group.new.book c.args.seat.now.number c.args.order c.args.machines.now c.in_ok-receipt.receipt ok in
+    let m = group_count g.R.Resource.works c.self.inside.book c.log_group.new.book c.args.seat.now.number c.args.order c.args.machines.now c.in_ok-receipt.receipt ok in
+    let long : length c.log_group.new.book.history ≡ length c.self.inside.book.history + length ok.moved.events = ap (λ (h : List Event). length h) ok.moved.grown ∙ length-append c.self.inside.book.history ok.moved.events in
+    let front : length c.self.inside.front ≡ length c.self.inside.book.history = ap (λ (h : List Event). length h) c.self.invariant.1 in
+    let most = c.in_ok-receipt.ensures.book.bounded in
+    rw c.history.ensures.is (omega (arith, n, m, long, front, most))
+
+pub returns-clause-refused : goal.returns-clause-refused
+returns-clause-refused g c =
+    let r = c.in_ok-receipt.ensures.refused in
+    rw (← c.self.view_is) (record {
+      whole = r.whole;
+      whole_only = r.whole_only;
+      unprivileged = r.unprivileged;
+      unprivileged_only = r.unprivileged_only;
+      full = r.full;
+      full_only = r.full_only;
+      unchanged = search rules;
+    })
 
 pub surely_add_all-requires-clause-of_seats : goal.surely_add_all-requires-clause-of_seats
 surely_add_all-requires-clause-of_seats g c =
