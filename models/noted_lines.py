@@ -1,7 +1,7 @@
 """Notes of lines and what a start does with them, once more, in Python: the sum, the note of a line, and what comes back of the bytes
 after a segment's beginning. It shares nothing with `crates/noted_lines` and `crates/line_replay`. Words: how many dialogues are
 tried, 1,000 if there are none, and a seed. Each dialogue has random lines for a machine that counts. What they leave is cut at each
-byte, ended by random bytes, and damaged; what comes back is compared with the lines themselves, and runs over one folder, each
+byte, ended by random bytes, and damaged; remarks, which another service notes, are between them. What comes back is compared with the lines themselves, and runs over one folder, each
 ended at a random byte, with one machine that does their lines one after the other. It prints how much was tried; the status is 1
 if something differs. Only the standard library is used."""
 
@@ -55,8 +55,14 @@ class Counter:
         return self.value, self.armed
 
 
+def is_remark(line):
+    return line[:1] == b"!" and line[-1:] == b"\n"
+
+
 def leave(machine, count, line):
-    """A line is done: what it leaves, and the count."""
+    """A line is done, or a remark noted: what it leaves, and the count."""
+    if is_remark(line):
+        return line, count, b""
     changed, notes, answer = machine.do(line)
     return (note(count + 1, line) + notes if changed else b""), count + changed, answer
 
@@ -79,6 +85,9 @@ def replay(machine, count, data):
     place = 0
     while True:
         end = data.find(b"\n", place) + 1
+        if end and is_remark(data[place:end]):
+            place = end
+            continue
         read = read_note(data[place:end]) if end else None
         if not read or read[0] != count + 1:
             break
@@ -97,7 +106,7 @@ def replay(machine, count, data):
     return count, place, b""
 
 
-WORDS = (b"up\n", b"up now\n", b"arm\n", b"zero\n", b"look\n", b"\n")
+WORDS = (b"up\n", b"up now\n", b"arm\n", b"zero\n", b"look\n", b"\n", b"!a\n", b"!\n")
 
 
 class Tried:
@@ -113,18 +122,20 @@ class Tried:
         return [self.random.choice(WORDS) for _ in range(self.random.randrange(most))]
 
     def dialogue(self):
-        machine, count, left, steps = Counter(), 0, b"", [(0, 0, 0, (0, False))]
+        machine, count, left, steps, marks = Counter(), 0, b"", [(0, 0, 0, (0, False))], set()
         for line in self.lines(12):
             was = len(left)
             block, count, _ = leave(machine, count, line)
             left += block
             if block:
-                steps.append((was + len(note(count, line)), len(left), count, machine.state()))
+                steps.append((len(left) if is_remark(line) else was + len(note(count, line)), len(left), count, machine.state()))
+            if is_remark(line):
+                marks.update(range(was + 1, len(left)))
         for cut in range(len(left) + 1):
             self.cut(left, steps, cut)
         for _ in range(6):
             self.end(left, steps)
-        self.damage(left, steps)
+        self.damage(left, steps, marks)
 
     def cut(self, left, steps, cut):
         self.cuts += 1
@@ -150,13 +161,14 @@ class Tried:
         alone = replay(other, 0, left[:cut])
         self.check(back[0] == alone[0] and machine.state() == other.state(), left, cut, torn)
 
-    def damage(self, left, steps):
+    def damage(self, left, steps, marks):
         """A byte before the last note is changed: it is refused, and not taken for another line. The LF just before a note stays: without
-        it the note is on no line of its own, and cannot be seen."""
-        if len(steps) < 3:
+        it the note is on no line of its own, and cannot be seen. So does what a remark says."""
+        ends = [was[1] for was, step in zip(steps, steps[1:]) if step[2] > was[2]]
+        if not ends or ends[-1] < 2:
             return
-        place = self.random.randrange(steps[-2][1] - 1)
-        if left[place:place + 2] == b"\n#":
+        place = self.random.randrange(ends[-1] - 1)
+        if left[place:place + 2] == b"\n#" or place in marks:
             return
         self.damages += 1
         text = left[:place] + bytes((left[place] ^ 1 << self.random.randrange(7),)) + left[place + 1:]

@@ -1,5 +1,6 @@
 mod Starting
 mod Looking
+mod Remarks
 mod Redoing
 mod Going
 mod Stepping

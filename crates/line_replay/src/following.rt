@@ -3,7 +3,9 @@
 ghost use Rattle.std.specs.Prelude.{◌≡◌, ◌++◌, ◌+◌, ◌<◌, ◌≤◌, ℕ, suc, List, true, false, IfSome, IsNone, MatchOption};
 ghost use Rattle.line_service.specs.Answering.{IsLine, HasNoEnd};
 ghost use Rattle.line_replay.specs.Following.{BeginsWithNote, Follows, CanFollow};
+ghost use Rattle.line_replay.specs.Redone.{BeginsWithRemark, HasNoRemark, AreRemarks};
 
+use crate::machine::DoesLines;
 use memchr::memchr;
 use noted_lines::read_note;
 
@@ -65,6 +67,34 @@ pub(crate) fn next_note(noted: u64, bytes: &[u8]) -> Option<(&[u8], &[u8])>
         }
         None => None,
     }
+}
+
+/// The first line, if it is a remark, and the bytes after it.
+fn first_remark<'b, S: DoesLines>(service: &S, bytes: &'b [u8]) -> Option<(&'b [u8], &'b [u8])>
+    ensures { MatchOption result (HasNoRemark S.machine bytes.now)
+        (λ r. BeginsWithRemark S.machine r.0.now r.1.now bytes.now) }
+{
+    match first_line(bytes) {
+        Some((line, after)) => {
+            if service.is_remark(line) {
+                return Some((line, after));
+            }
+            None
+        }
+        None => None,
+    }
+}
+
+/// The bytes after the remarks with which they begin.
+pub(crate) fn after_remarks<'b, S: DoesLines>(service: &S, bytes: &'b [u8]) -> &'b [u8]
+    ensures over { (lines : List (List ℕ)) × AreRemarks S.machine lines bytes.now result.now }
+    ensures all { HasNoRemark S.machine result.now }
+{
+    let mut rest = bytes;
+    'remarks: while let Some((_, after)) = first_remark(service, rest) {
+        rest = after;
+    }
+    rest
 }
 
 /// Whether the bytes begin with a note that can follow.

@@ -1,7 +1,7 @@
 //! What does lines.
 
 ghost use Rattle.std.specs.Prelude.{◌≡◌, ◌++◌, ℕ, List, IfOk};
-ghost use Rattle.line_replay.specs.Machines.{Machine, StaysUnchanged};
+ghost use Rattle.line_replay.specs.Machines.{Machine, StaysUnchanged, NoNoteIsRemark};
 
 use line_service::Pending;
 use std::alloc::AllocError;
@@ -29,6 +29,13 @@ pub trait DoesLines {
         ensures changed { IfOk result (λ changed.
             changed ≡ machine.changes (state self.old) line.now) };
 
+    /// Whether a line of a journal is a remark, which something else noted.
+    fn is_remark(&self, line: &[u8]) -> bool
+        ensures { result ≡ machine.is_remark line.now };
+
     /// A line that changes nothing leaves the state as it is.
     ghost unchanged: { StaysUnchanged machine };
+
+    /// No note of a line is a remark.
+    ghost plain: { NoNoteIsRemark machine };
 }

@@ -1,7 +1,7 @@
 //! A line is done, and what it leaves in a journal is added.
 
 ghost use Rattle.std.specs.Prelude.{◌≡◌, ◌++◌, ℕ, suc, [], ◌∷◌, IfOk};
-ghost use Rattle.line_replay.specs.Machines.{trace};
+ghost use Rattle.line_replay.specs.Machines.{Given, trace};
 
 use crate::machine::DoesLines;
 use line_service::Pending;
@@ -28,7 +28,7 @@ pub fn note_line<S: DoesLines>(
         ≡ pending.old.answers.items ++ S.machine.says (S.state service.old) line.now) }
     ensures trace { IfOk result (λ changed. (n : ℕ) → count ≡ suc n
         → pending.new.notes.items
-        ≡ pending.old.notes.items ++ trace S.machine n (S.state service.old) (line.now ∷ [])) }
+        ≡ pending.old.notes.items ++ trace S.machine n (S.state service.old) (Given line.now ∷ [])) }
 {
     let length = pending.notes.len();
     put_note(&mut pending.notes, count, line)?;

@@ -4,7 +4,7 @@ ghost use Rattle.std.specs.Prelude.{◌≡◌, ◌++◌, ◌≤◌, ℕ, List, l
 ghost use Rattle.line_replay.specs.Following.{BeginApart};
 ghost use Rattle.line_replay.specs.Redone.{IsReplayed, IsRefused, EndsSo, EndIsRefused};
 
-use crate::following::{can_follow, next_note};
+use crate::following::{after_remarks, can_follow, next_note};
 use crate::machine::DoesLines;
 use line_service::Pending;
 use std::alloc::Global;
@@ -73,7 +73,8 @@ fn ended(
     }
 }
 
-/// Does the lines again whose notes are in these bytes, which come after a segment's beginning, where `noted` lines had been noted.
+/// Does the lines again whose notes are in these bytes, which come after a segment's beginning, where `noted` lines had been noted. Remarks
+/// between them are passed over.
 ///
 /// # Errors
 ///
@@ -89,7 +90,7 @@ pub fn redo_lines<S: DoesLines>(
     ensures err { IfErr result (λ e. IsRefused S.machine noted (S.state service.old) bytes.now e) }
 {
     let mut count = noted;
-    let mut rest = bytes;
+    let mut rest = after_remarks(&*service, bytes);
     let mut pending = Pending {
         answers: Vec::new(alloc),
         notes: Vec::new(alloc),
@@ -108,7 +109,7 @@ pub fn redo_lines<S: DoesLines>(
         if same < pending.notes.len() {
             return ended(alloc, count, bytes, more, &pending.notes[same..]);
         }
-        rest = more;
+        rest = after_remarks(&*service, more);
     }
     ended(alloc, count, bytes, rest, &[])
 }

@@ -1,7 +1,7 @@
 -- A machine that counts up to nine, and can be armed (this project's own).
 use Rattle.std.specs.Prelude.{◌≡◌, ℕ, ◌+◌, ◌==◌, Bool, true, false, not, cond, nat_lt, List, [], ◌∷◌, ◌++◌, codes, refl}
 use Rattle.std.proofs.lemmas.Bool.{true≢false}
-use Rattle.line_replay.specs.Machines.{Machine, StaysUnchanged}
+use Rattle.line_replay.specs.Machines.{Machine, StaysUnchanged, NoNoteIsRemark}
 
 -- how far it has counted, and whether it is armed
 abbrev pub Counted : Type 0
@@ -28,6 +28,12 @@ notes s (b ∷ bs) =
     cond {A = List ℕ} (b == 117)
     (cond {A = List ℕ} (nat_lt s.0 9) (count_text (s.0 + 1)) []) []
 
+-- a line that begins with ! is a remark
+abbrev pub is_mark : List ℕ → Bool
+is_mark [] = false
+is_mark (b ∷ bs) = b == 33
+
+-- where a segment begins it may have counted to another number
 abbrev pub counter : Machine
 counter = record {
   State = Counted;
@@ -36,6 +42,9 @@ counter = record {
   notes = notes;
   changes = changes;
   restarts = λ s. (s.0, false);
+  Change = ℕ;
+  begins = λ s value. (value, s.1);
+  is_remark = is_mark;
 }
 
 -- ---- a line that changes nothing leaves it as it is
@@ -53,3 +62,8 @@ by_byte false false room s e = refl
 pub quiet : StaysUnchanged counter
 quiet s [] e = refl
 quiet s (b ∷ bs) e = by_byte (b == 117) (b == 97) (nat_lt s.0 9) s e
+
+-- ---- no note is a remark
+
+pub plain : NoNoteIsRemark counter
+plain count line = refl

@@ -24,7 +24,7 @@ fn put_count(text: &mut Vec<u8>, value: u8) -> Result<(), AllocError>
 }
 
 impl DoesLines for Counter {
-    ghost use Rattle.replay_tests.specs.Counters.{counter, quiet};
+    ghost use Rattle.replay_tests.specs.Counters.{counter, quiet, plain};
 
     ghost machine = { counter };
 
@@ -50,5 +50,14 @@ impl DoesLines for Counter {
         }
     }
 
+    fn is_remark(&self, line: &[u8]) -> bool {
+        match line {
+            [b'!', ..] => true,
+            _ => false,
+        }
+    }
+
     ghost unchanged = { quiet };
+
+    ghost plain = { plain };
 }

@@ -120,8 +120,40 @@ fn torn_ends_are_left_out(rt: HostRuntime) -> Result<(), AllocError> {
     Ok(())
 }
 
+/// Texts with remarks: how many bytes are kept, the count of lines, and how many bytes are missing.
+const REMARKED: [(&[u8], usize, u64, usize); 6] = [
+    (b"!a\n", 3, 0, 0),
+    (
+        b"!a\n# do 1 2842856361 up\nat 1\nend\n!b\n!c\n# do 2 714458255 arm\n!d\n",
+        63,
+        2,
+        0,
+    ),
+    (b"# do 1 2842856361 up\nat 1\nend\n!b", 30, 1, 0),
+    (b"# do 1 2842856361 up\nat 1\nend\nb\n!c\n", 30, 1, 0),
+    (b"# do 1 2842856361 up\nat 1\n!b\nend\n", 26, 1, 4),
+    (b"# do 1 2842856361 up\nat 1", 25, 1, 5),
+];
+
+// Remarks between the notes of lines are kept, and no others: half a remark is torn, and one amid a line's notes is none.
+#[test]
+fn remarks_are_passed_over(rt: HostRuntime) {
+    for (text, kept, count, missing) in &REMARKED {
+        let (_, result) = replayed(rt.alloc(), *text);
+        let Ok(back) = result else {
+            panic!(rt; "remarks are no damage");
+        };
+        assert!(rt; back.kept == *kept && back.count == *count);
+        assert!(rt; back.missing.len() == *missing);
+    }
+}
+
 /// Texts that are refused, and why.
-const REFUSED: [(&[u8], ReplayError); 7] = [
+const REFUSED: [(&[u8], ReplayError); 8] = [
+    (
+        b"!a\nb\n# do 1 2842856361 up\n",
+        ReplayError::Damaged(3),
+    ),
     (
         b"# do 1 2842856361 down\n# do 2 2340141008 up\n",
         ReplayError::Damaged(0),
