@@ -1,0 +1,4 @@
+mod Marking
+mod Asking
+mod Leaving
+mod Doing
